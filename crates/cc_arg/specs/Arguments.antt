@@ -1,0 +1,57 @@
+-- What an argument is as it is made, and what it counts as where nothing was given.
+use Rattle.std.specs.Prelude.{ℕ, List, [], length, max, Bool, true, false, cond, Option, Some, None, unwrap_or, is_some, ◌||◌, ◌&&◌, not, ◌==◌, nat_lt}
+use Rattle.cc_arg.specs.declared.arg.Arg.{Arg}
+use Rattle.cc_arg.specs.declared.range.ValueRange.{ValueRange}
+use Rattle.cc_arg.specs.declared.action.ArgAction.{ArgAction}
+use Rattle.cc_arg.specs.declared.action.ArgAction.TheVariants.{Set, Append, SetTrue}
+use Rattle.cc_arg.specs.Action.{action_takes_values}
+
+-- an argument of which only the id was given
+abbrev pub new_arg : List ℕ → Arg
+new_arg id = record {
+  id = id;
+  short = None;
+  short_aliases = [];
+  visible_short_aliases = [];
+  long = None;
+  aliases = [];
+  visible_aliases = [];
+  help = None;
+  action = None;
+  num_args = None;
+  value_names = [];
+  index = None;
+  display_order = None;
+}
+
+-- a positional has neither a short nor a long
+abbrev pub is_positional : Arg → Bool
+is_positional arg = not (is_some arg.short || is_some arg.long)
+
+-- exactly this many values
+abbrev pub exactly : ℕ → ValueRange
+exactly count = record { least = count; greatest = count }
+
+-- the range where none was given: none for an action without values, else one value for each value
+-- name, and at least one
+abbrev pub range_by_action : Option ArgAction → ℕ → ValueRange
+range_by_action None names = exactly (max names 1)
+range_by_action (Some action) names = exactly (cond (action_takes_values action) (max names 1) 0)
+
+-- the range that counts: the given one, or the one that the action and the value names imply
+abbrev pub range_of : Arg → ValueRange
+range_of arg = unwrap_or arg.num_args (range_by_action arg.action (length arg.value_names))
+
+-- an argument takes values where its range allows one
+abbrev pub takes_values : Arg → Bool
+takes_values arg = nat_lt 0 (range_of arg).greatest
+
+-- the action that counts: the given one; else the flag's where there are no values, and for a
+-- positional without a bound the one that keeps every use
+abbrev pub action_of : Arg → ArgAction
+action_of arg = unwrap_or arg.action (cond ((range_of arg).greatest == 0) SetTrue
+  (cond (is_positional arg && ((range_of arg).greatest == 18446744073709551615)) Append Set))
+
+-- the argument with its range and its action filled in
+abbrev pub filled : Arg → Arg
+filled arg = record arg { num_args = Some (range_of arg); action = Some (action_of arg) }

@@ -1,0 +1,3 @@
+pub mod Action
+pub mod Aliases
+pub mod Arguments

@@ -1,0 +1,350 @@
+//! An argument: its builders and getters.
+
+ghost use Rattle.std.specs.Prelude.{◌≡◌, List, ℕ, [], ◌∷◌, ◌++◌, Some, None, Option, unwrap_or, IfOk, IfErr};
+ghost use Rattle.std.specs.Option.{option_map, option_copied};
+ghost use Rattle.std.specs.String.{string_bytes};
+ghost use Rattle.cc_arg.specs.Aliases.{shorts_left, longs_left};
+ghost use Rattle.cc_arg.specs.Arguments.{new_arg, is_positional, range_of, action_of, takes_values, filled};
+
+use crate::action::ArgAction;
+use crate::aliases::{LongAndVisibleAliases, ShortAndVisibleAliases};
+use crate::range::ValueRange;
+use cc_base::{Error, Items, Text};
+use std::alloc::Global;
+
+/// An argument of a command. It is a positional where it has neither a short nor a long, and else
+/// an option or a flag, as it takes values or not.
+///
+/// Builders take the argument and answer the changed one; those that grow a list may be refused
+/// memory, and then drop it. An alias counts only where its short (long) stands.
+#[derive(Drop)]
+pub struct Arg {
+    id: Text,
+    short: Option<char>,
+    short_aliases: Items<char>,
+    visible_short_aliases: Items<char>,
+    long: Option<Text>,
+    aliases: Items<Text>,
+    visible_aliases: Items<Text>,
+    help: Option<Text>,
+    action: Option<ArgAction>,
+    num_args: Option<ValueRange>,
+    value_names: Items<Text>,
+    index: Option<usize>,
+    display_order: Option<usize>,
+}
+
+impl Arg {
+    /// An argument with this id and nothing else; its lists grow by `alloc`.
+    pub fn new(alloc: Global, id: String) -> Arg
+        ensures { result ≡ new_arg (string_bytes id) }
+    {
+        Arg {
+            id: Text::from(id),
+            short: None,
+            short_aliases: Items::new(alloc),
+            visible_short_aliases: Items::new(alloc),
+            long: None,
+            aliases: Items::new(alloc),
+            visible_aliases: Items::new(alloc),
+            help: None,
+            action: None,
+            num_args: None,
+            value_names: Items::new(alloc),
+            index: None,
+            display_order: None,
+        }
+    }
+
+    /// Sets the short, the `c` of `-c`.
+    pub fn short(mut self, short: char) -> Arg
+        ensures { result ≡ record self { short = Some short } }
+    {
+        self.short = Some(short);
+        self
+    }
+
+    /// Sets the long, the `name` of `--name`.
+    pub fn long(mut self, long: String) -> Arg
+        ensures { result ≡ record self { long = Some (string_bytes long) } }
+    {
+        self.long = Some(Text::from(long));
+        self
+    }
+
+    /// Adds a short that works and is not shown.
+    pub fn short_alias(mut self, alias: char) -> Result<Arg, Error>
+        ensures ok { IfOk result (λ arg.
+            arg ≡ record self { short_aliases = self.short_aliases ++ alias ∷ [] }) }
+        ensures memory { IfErr result (λ error. error ≡ Error.Memory) }
+    {
+        self.short_aliases.push(alias)?;
+        Ok(self)
+    }
+
+    /// Adds a short that is shown.
+    pub fn visible_short_alias(mut self, alias: char) -> Result<Arg, Error>
+        ensures ok { IfOk result (λ arg. arg ≡
+            record self { visible_short_aliases = self.visible_short_aliases ++ alias ∷ [] }) }
+        ensures memory { IfErr result (λ error. error ≡ Error.Memory) }
+    {
+        self.visible_short_aliases.push(alias)?;
+        Ok(self)
+    }
+
+    /// Adds a long that works and is not shown.
+    pub fn alias(mut self, alias: String) -> Result<Arg, Error>
+        ensures ok { IfOk result (λ arg.
+            arg ≡ record self { aliases = self.aliases ++ string_bytes alias ∷ [] }) }
+        ensures memory { IfErr result (λ error. error ≡ Error.Memory) }
+    {
+        self.aliases.push(Text::from(alias))?;
+        Ok(self)
+    }
+
+    /// Adds a long that is shown.
+    pub fn visible_alias(mut self, alias: String) -> Result<Arg, Error>
+        ensures ok { IfOk result (λ arg. arg ≡
+            record self { visible_aliases = self.visible_aliases ++ string_bytes alias ∷ [] }) }
+        ensures memory { IfErr result (λ error. error ≡ Error.Memory) }
+    {
+        self.visible_aliases.push(Text::from(alias))?;
+        Ok(self)
+    }
+
+    /// Sets the help.
+    pub fn help(mut self, help: String) -> Arg
+        ensures { result ≡ record self { help = Some (string_bytes help) } }
+    {
+        self.help = Some(Text::from(help));
+        self
+    }
+
+    /// Sets what the argument does.
+    pub fn action(mut self, action: ArgAction) -> Arg
+        ensures { result ≡ record self { action = Some action } }
+    {
+        self.action = Some(action);
+        self
+    }
+
+    /// Sets how many values one use takes.
+    pub fn num_args(mut self, range: ValueRange) -> Arg
+        ensures { result ≡ record self { num_args = Some range } }
+    {
+        self.num_args = Some(range);
+        self
+    }
+
+    /// Adds the name of a further value.
+    pub fn value_name(mut self, name: String) -> Result<Arg, Error>
+        ensures ok { IfOk result (λ arg.
+            arg ≡ record self { value_names = self.value_names ++ string_bytes name ∷ [] }) }
+        ensures memory { IfErr result (λ error. error ≡ Error.Memory) }
+    {
+        self.value_names.push(Text::from(name))?;
+        Ok(self)
+    }
+
+    /// The id.
+    pub fn get_id(&self) -> &str
+        ensures { result.now ≡ self.now.id }
+    {
+        self.id.as_str()
+    }
+
+    /// The short.
+    pub fn get_short(&self) -> Option<char>
+        ensures { result ≡ self.now.short }
+    {
+        self.short
+    }
+
+    /// The shorts that are shown besides the short.
+    pub fn get_visible_short_aliases(&self) -> &[char]
+        ensures { result.now ≡ self.now.visible_short_aliases }
+    {
+        self.visible_short_aliases.as_slice()
+    }
+
+    /// The short, then its visible aliases; `None` without a short.
+    pub fn get_short_and_visible_aliases(&self) -> Option<ShortAndVisibleAliases<'_>>
+        ensures { option_map shorts_left result
+            ≡ option_map (λ short. short ∷ self.now.visible_short_aliases) self.now.short }
+    {
+        let short = self.short?;
+        let aliases = self.visible_short_aliases.as_slice();
+        Some(ShortAndVisibleAliases::new(short, aliases))
+    }
+
+    /// The long.
+    pub fn get_long(&self) -> Option<&str>
+        ensures { option_copied result ≡ self.now.long }
+    {
+        match &self.long {
+            Some(long) => Some(long.as_str()),
+            None => None,
+        }
+    }
+
+    /// The longs that are shown besides the long.
+    pub fn get_visible_aliases(&self) -> &[Text]
+        ensures { result.now ≡ self.now.visible_aliases }
+    {
+        self.visible_aliases.as_slice()
+    }
+
+    /// The longs that work and are not shown.
+    pub fn get_aliases(&self) -> &[Text]
+        ensures { result.now ≡ self.now.aliases }
+    {
+        self.aliases.as_slice()
+    }
+
+    /// The long, then its visible aliases; `None` without a long.
+    pub fn get_long_and_visible_aliases(&self) -> Option<LongAndVisibleAliases<'_>>
+        ensures { option_map longs_left result
+            ≡ option_map (λ long. long ∷ self.now.visible_aliases) self.now.long }
+    {
+        let long = self.get_long()?;
+        let aliases = self.visible_aliases.as_slice();
+        Some(LongAndVisibleAliases::new(long, aliases))
+    }
+
+    /// The help.
+    pub fn get_help(&self) -> Option<&str>
+        ensures { option_copied result ≡ self.now.help }
+    {
+        match &self.help {
+            Some(help) => Some(help.as_str()),
+            None => None,
+        }
+    }
+
+    /// What the argument does; `Set` where nothing was said.
+    pub fn get_action(&self) -> ArgAction
+        ensures { result ≡ unwrap_or self.now.action ArgAction.Set }
+    {
+        self.action.unwrap_or(ArgAction::Set)
+    }
+
+    /// How many values one use takes, where it was said or the argument is built.
+    pub fn get_num_args(&self) -> Option<ValueRange>
+        ensures { result ≡ self.now.num_args }
+    {
+        self.num_args
+    }
+
+    /// The names of the values.
+    pub fn get_value_names(&self) -> &[Text]
+        ensures { result.now ≡ self.now.value_names }
+    {
+        self.value_names.as_slice()
+    }
+
+    /// The place of a positional, counted from 1, once the command is built.
+    pub fn get_index(&self) -> Option<usize>
+        ensures { result ≡ self.now.index }
+    {
+        self.index
+    }
+
+    /// The place in lists; 999 where none was given.
+    pub fn get_display_order(&self) -> usize
+        ensures { result ≡ unwrap_or self.now.display_order 999 }
+    {
+        self.display_order.unwrap_or(999)
+    }
+
+    /// Whether the argument has neither a short nor a long.
+    pub fn is_positional(&self) -> bool
+        ensures { result ≡ is_positional self.now }
+    {
+        self.short.is_none() && self.long.is_none()
+    }
+
+    /// Whether the argument takes values. One that is not built counts by its action and by its
+    /// value names.
+    pub fn takes_values(&self) -> bool
+        ensures { result ≡ takes_values self.now }
+    {
+        self.counted_range().takes_values()
+    }
+
+    /// An equal argument.
+    pub fn try_clone(&self, alloc: Global) -> Result<Arg, Error>
+        ensures equal { IfOk result (λ copy. copy ≡ self.now) }
+        ensures memory { IfErr result (λ error. error ≡ Error.Memory) }
+    {
+        Ok(Arg {
+            id: self.id.try_clone(alloc)?,
+            short: self.short,
+            short_aliases: Items::copy_of(alloc, self.short_aliases.as_slice())?,
+            visible_short_aliases: Items::copy_of(alloc, self.visible_short_aliases.as_slice())?,
+            long: Text::copy_of_some(alloc, self.get_long())?,
+            aliases: Items::copy_of_texts(alloc, self.aliases.as_slice())?,
+            visible_aliases: Items::copy_of_texts(alloc, self.visible_aliases.as_slice())?,
+            help: Text::copy_of_some(alloc, self.get_help())?,
+            action: self.action,
+            num_args: self.num_args,
+            value_names: Items::copy_of_texts(alloc, self.value_names.as_slice())?,
+            index: self.index,
+            display_order: self.display_order,
+        })
+    }
+
+    /// Fills in the range and the action where none was given, as building a command does.
+    pub fn fill(&mut self)
+        ensures { self.new ≡ filled self.old }
+    {
+        let range = self.counted_range();
+        let action = self.counted_action();
+        self.num_args = Some(range);
+        self.action = Some(action);
+    }
+
+    /// Sets the index where the argument has none, as building a command does for a positional.
+    pub fn fill_index(&mut self, index: usize)
+        ensures { self.new ≡ record self.old { index = Some (unwrap_or self.old.index index) } }
+    {
+        self.index = Some(self.index.unwrap_or(index));
+    }
+
+    /// Sets the display order where the argument has none, as adding it to a command does.
+    pub fn fill_display_order(&mut self, order: usize)
+        ensures { self.new ≡
+            record self.old { display_order = Some (unwrap_or self.old.display_order order) } }
+    {
+        self.display_order = Some(self.display_order.unwrap_or(order));
+    }
+
+    // The range that counts: the given one, or the one that the action and the value names imply.
+    fn counted_range(&self) -> ValueRange
+        ensures { result ≡ range_of self.now }
+    {
+        if let Some(range) = self.num_args {
+            return range;
+        }
+        if let Some(action) = self.action && !action.takes_values() {
+            return ValueRange::exactly(0);
+        }
+        ValueRange::exactly(self.value_names.as_slice().len().max(1))
+    }
+
+    // The action that counts: the given one, or the one that the range and the kind imply.
+    fn counted_action(&self) -> ArgAction
+        ensures { result ≡ action_of self.now }
+    {
+        if let Some(action) = self.action {
+            return action;
+        }
+        let greatest = self.counted_range().max_values();
+        if greatest == 0 {
+            ArgAction::SetTrue
+        } else if self.is_positional() && greatest == usize::MAX {
+            ArgAction::Append
+        } else {
+            ArgAction::Set
+        }
+    }
+}

@@ -1,0 +1,66 @@
+//! The library's error.
+
+ghost use Rattle.std.specs.Prelude.{◌≡◌, Some};
+ghost use Rattle.cc_base.specs.ErrorText.{error_text};
+ghost use Rattle.cc_base.specs.declared.error.Error.TheVariants.{Memory as MemoryRefused};
+
+use crate::text::Text;
+use std::alloc::{AllocError, AllocFailed};
+use std::fmt;
+use std::io::ErrorKind;
+
+/// Why a call of this library was refused.
+#[derive(Debug, Drop)]
+pub enum Error {
+    /// A growth of memory was refused.
+    Memory,
+    /// The writer, or the file written to, failed in this call.
+    Write(ErrorKind),
+    /// Two commands would share this label of a bash script.
+    LabelClash(Text),
+    /// The index of the word to complete is not in range.
+    NoCompletion,
+    /// The list of arguments is empty.
+    NoArguments,
+    /// No shell has the name that was asked for; this is the whole message.
+    UnknownShell(Text),
+    /// No shell is written as this text; this is the whole message.
+    InvalidVariant(Text),
+}
+
+impl fmt::Display for Error {
+    ghost output = { λ error. Some (error_text error) };
+
+    fn fmt<W: fmt::Write>(&self, f: &mut fmt::Formatter<W>) -> fmt::Result {
+        match self {
+            Error::Memory => f.write_str("out of memory"),
+            Error::Write(_) => f.write_str("write failed"),
+            Error::LabelClash(label) => {
+                let label = label.as_str();
+                write!(f, "two commands share the label {label}")
+            }
+            Error::NoCompletion => f.write_str("no completion generated"),
+            Error::NoArguments => f.write_str("no arguments"),
+            Error::UnknownShell(text) => f.write_str(text.as_str()),
+            Error::InvalidVariant(text) => f.write_str(text.as_str()),
+        }
+    }
+}
+
+impl std::error::Error for Error {}
+
+impl From<AllocError> for Error {
+    ghost from_gives = { λ _ error. error ≡ MemoryRefused };
+
+    fn from(_refused: AllocError) -> Error {
+        Error::Memory
+    }
+}
+
+impl<T: Drop> From<AllocFailed<T>> for Error {
+    ghost from_gives = { λ _ error. error ≡ MemoryRefused };
+
+    fn from(_refused: AllocFailed<T>) -> Error {
+        Error::Memory
+    }
+}

@@ -1,0 +1,2 @@
+pub mod BuiltAgain
+pub mod Forests

@@ -1,0 +1,5 @@
+use Rattle.cc_command.proofs.BuiltAgain.{built_tree-again}
+use Rattle.cc_command.proofs.command.Command.build.Goals as goal
+
+pub returns-clause-whole : goal.returns-clause-whole
+returns-clause-whole c = rw c.in_ok-self.ensures.ok (built_tree-again c.in_ok-bin_name.bin_name c.args.self.now)

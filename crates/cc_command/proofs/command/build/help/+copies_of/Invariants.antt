@@ -1,0 +1,8 @@
+use Rattle.std.proofs.Common.{◌≡◌, take}
+use Rattle.cc_command.specs.Tree.{forest_of}
+use Rattle.cc_command.specs.Generated.{copies}
+use Rattle.cc_command.proofs.command.build.help.+copies_of.Given as goal
+
+-- the siblings that were passed over are copied
+abbrev pub invariant-loop-place : goal.invariant-loop-place
+invariant-loop-place l = forest_of l.made.items ≡ copies l.parent 0 (forest_of (take l.place l.siblings))

@@ -1,0 +1,67 @@
+-- The tree that building makes.
+use Rattle.std.specs.Prelude.{ℕ, suc, List, [], ◌∷◌, ◌++◌, Bool, true, not, cond, ◌&&◌, Option, Some, is_some, map}
+use Rattle.cc_arg.specs.declared.arg.Arg.{Arg}
+use Rattle.cc_arg.specs.Arguments.{filled, is_positional}
+use Rattle.cc_command.specs.declared.node.Node.{Node}
+use Rattle.cc_command.specs.Tree.{Forest, none, more, join, Tree}
+use Rattle.cc_command.specs.Names.{has_id, full_name, joined_name}
+use Rattle.cc_command.specs.Generated.{generated_arguments, help_child}
+
+-- the arguments, and behind them each of the others whose id is missing by then
+abbrev pub with_missing : List Arg → List Arg → List Arg
+with_missing arguments [] = arguments
+with_missing arguments (other ∷ others) =
+  with_missing (cond (has_id arguments other.id) arguments (arguments ++ other ∷ [])) others
+
+-- the argument is a positional whose place is not given
+abbrev pub lacks_index : Arg → Bool
+lacks_index argument = is_positional argument && not (is_some argument.index)
+
+-- the argument at this place, if it lacks one
+abbrev pub with_index : ℕ → Arg → Arg
+with_index place argument = cond (lacks_index argument) (record argument { index = Some place }) argument
+
+-- the place that is free behind an argument
+abbrev pub place_behind : ℕ → Arg → ℕ
+place_behind place argument = cond (lacks_index argument) (suc place) place
+
+-- the positionals that lack a place get those from this one on, in order
+abbrev pub indexed : ℕ → List Arg → List Arg
+indexed place [] = []
+indexed place (argument ∷ arguments) = with_index place argument ∷ indexed (place_behind place argument) arguments
+
+-- what a node inherits: nothing, where building made it
+abbrev pub inherited_by : Node → List Arg → List Arg
+inherited_by node inherited = cond node.generated [] inherited
+
+-- a node's arguments: its own, then those that it inherits, then `help`, then `version`, each with
+-- its range, its action and its place
+abbrev pub built_arguments : List Arg → Node → List Arg
+built_arguments inherited node =
+  indexed 1 (map filled (with_missing node.arguments (inherited_by node inherited ++ generated_arguments node)))
+
+-- a node as building leaves it, under this bin name
+abbrev pub built_node : List Arg → Option (List ℕ) → Node → Node
+built_node inherited bin_name node =
+  record node { bin_name = bin_name; arguments = built_arguments inherited node; built = true }
+
+-- siblings as building leaves them, under a parent of this full name: each is named after it, and
+-- its children are its own, then the generated `help`
+abbrev pub built_forest : List Arg → List ℕ → Forest → Forest
+built_forest inherited parent none = none
+built_forest inherited parent (more node below rest) =
+  more (built_node inherited (Some (joined_name parent node.name)) node)
+    (join (built_forest inherited (joined_name parent node.name) below) (help_child (joined_name parent node.name) node below))
+    (built_forest inherited parent rest)
+
+-- a tree as building leaves it, under this bin name, where there is one
+abbrev pub built_under : Option (List ℕ) → Tree → Tree
+built_under bin_name tree = record {
+  node = built_node [] bin_name tree.node;
+  children = join (built_forest [] (full_name (record tree.node { bin_name = bin_name })) tree.children)
+    (help_child (full_name (record tree.node { bin_name = bin_name })) tree.node tree.children);
+}
+
+-- a tree as building leaves it; its root keeps its bin name
+abbrev pub built_tree : Tree → Tree
+built_tree tree = built_under tree.node.bin_name tree

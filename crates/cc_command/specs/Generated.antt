@@ -1,0 +1,79 @@
+-- What building adds to a tree: the arguments `help` and `version`, and the child `help`.
+use Rattle.std.specs.Prelude.{ℕ, suc, List, [], ◌∷◌, ◌++◌, Bool, true, false, not, cond, ◌&&◌, Option, Some, None, is_some, codes}
+use Rattle.cc_arg.specs.declared.arg.Arg.{Arg}
+use Rattle.cc_arg.specs.declared.action.ArgAction.TheVariants.{Help, Version}
+use Rattle.cc_arg.specs.Arguments.{new_arg}
+use Rattle.cc_command.specs.declared.node.TheConstants.{HELP, HELP_HELP, HELP_ABOUT, VERSION, VERSION_HELP}
+use Rattle.cc_command.specs.declared.node.Node.{Node}
+use Rattle.cc_command.specs.Tree.{Forest, none, more, join}
+use Rattle.cc_command.specs.Names.{has_child, joined_name}
+
+-- the flag that shows the help
+unfoldable pub help_argument : Arg
+help_argument = record (new_arg HELP.now) {
+  short = Some 104; long = Some HELP.now; help = Some HELP_HELP.now; action = Some Help; display_order = Some 999 }
+
+-- the flag that shows the version
+unfoldable pub version_argument : Arg
+version_argument = record (new_arg VERSION.now) {
+  short = Some 86; long = Some VERSION.now; help = Some VERSION_HELP.now; action = Some Version; display_order = Some 999 }
+
+-- the flag `help`, unless it is disabled
+abbrev pub generated_help : Node → List Arg
+generated_help node = cond node.disable_help_flag [] (help_argument ∷ [])
+
+-- the flag `version`, where there is a version and the flag is not disabled
+abbrev pub generated_version : Node → List Arg
+generated_version node = cond (is_some node.version && not node.disable_version_flag) (version_argument ∷ []) []
+
+-- the flags that building adds where no argument has their ids
+abbrev pub generated_arguments : Node → List Arg
+generated_arguments node = generated_help node ++ generated_version node
+
+-- a node that building makes: a name, a text about it and a place, and nothing else
+abbrev pub generated_node : List ℕ → List ℕ → Option (List ℕ) → ℕ → Bool → Node
+generated_node name bin_name about order hide = record {
+  name = name;
+  bin_name = Some bin_name;
+  about = about;
+  version = None;
+  aliases = [];
+  visible_aliases = [];
+  subcommand_help_heading = None;
+  display_order = Some order;
+  next_order = 0;
+  arguments = [];
+  hide = hide;
+  disable_help_flag = true;
+  disable_version_flag = true;
+  disable_help_subcommand = true;
+  generated = true;
+  built = true;
+}
+
+-- the copies of some siblings and of all below them, under a parent of this full name, numbered from
+-- this place on
+abbrev pub copies : List ℕ → ℕ → Forest → Forest
+copies parent place none = none
+copies parent place (more node below rest) =
+  more (generated_node node.name (joined_name parent node.name) node.about place node.hide)
+    (copies (joined_name parent node.name) 0 below) (copies parent (suc place) rest)
+
+-- a generated `help` under a parent of this full name, with these children
+abbrev pub help_command : List ℕ → Forest → Forest
+help_command parent children =
+  more (generated_node HELP.now (joined_name parent HELP.now) (Some HELP_ABOUT.now) 999 false) children none
+
+-- the child `help` is missing: there are children, none of them answers to `help`, and it is not
+-- disabled
+abbrev pub needs_help_child : Node → Forest → Bool
+needs_help_child node none = false
+needs_help_child node (more child below rest) =
+  not node.disable_help_subcommand && not (has_child (more child below rest) HELP.now)
+
+-- the generated child `help`, where it is missing: copies of the children, and last a `help`
+abbrev pub help_child : List ℕ → Node → Forest → Forest
+help_child parent node children =
+  cond (needs_help_child node children)
+    (help_command parent (join (copies (joined_name parent HELP.now) 0 children) (help_command (joined_name parent HELP.now) none)))
+    none

@@ -1,0 +1,47 @@
+-- A command as it is made, and the trees that its builders make of others.
+use Rattle.std.specs.Prelude.{ℕ, suc, List, [], ◌∷◌, ◌++◌, Bool, true, false, cond, Option, Some, None, unwrap_or, is_some, min, ◌+◌}
+use Rattle.cc_arg.specs.declared.arg.Arg.{Arg}
+use Rattle.cc_arg.specs.Arguments.{is_positional}
+use Rattle.cc_command.specs.declared.node.Node.{Node}
+use Rattle.cc_command.specs.Tree.{Forest, none, Tree}
+
+-- a node of which only the name was given
+abbrev pub new_node : List ℕ → Node
+new_node name = record {
+  name = name;
+  bin_name = None;
+  about = None;
+  version = None;
+  aliases = [];
+  visible_aliases = [];
+  subcommand_help_heading = None;
+  display_order = None;
+  next_order = 0;
+  arguments = [];
+  hide = false;
+  disable_help_flag = false;
+  disable_version_flag = false;
+  disable_help_subcommand = false;
+  generated = false;
+  built = false;
+}
+
+-- a tree of one node of which only the name was given
+abbrev pub new_tree : List ℕ → Tree
+new_tree name = record { node = new_node name; children = none }
+
+-- the place behind a place; none is behind the greatest
+abbrev pub next_place : ℕ → ℕ
+next_place place = min (place + 1) 18446744073709551615
+
+-- the argument at this place, if it has no place of its own
+abbrev pub ordered : ℕ → Arg → Arg
+ordered place argument = record argument { display_order = Some (unwrap_or argument.display_order place) }
+
+-- the node with one more argument. One that is no positional takes the next place, unless it has a
+-- place of its own; the place is used up all the same.
+abbrev pub with_argument : Node → Arg → Node
+with_argument node argument = cond (is_positional argument)
+  (record node { arguments = node.arguments ++ argument ∷ []; built = false })
+  (record node { arguments = node.arguments ++ ordered node.next_order argument ∷ [];
+    next_order = next_place node.next_order; built = false })

@@ -1,0 +1,32 @@
+-- The names of commands and arguments: who answers to a word, and what a name in full is.
+use Rattle.std.specs.Prelude.{ℕ, List, [], ◌∷◌, ◌++◌, Bool, false, ◌||◌, unwrap_or, codes}
+use Rattle.std.specs.List.{list_any}
+use Rattle.std.specs.Str.{bytes_eq}
+use Rattle.cc_arg.specs.declared.arg.Arg.{Arg}
+use Rattle.cc_command.specs.declared.node.Node.{Node}
+use Rattle.cc_command.specs.Tree.{Forest, none, more}
+
+-- one of the names is the word
+abbrev pub contains_name : List (List ℕ) → List ℕ → Bool
+contains_name names word = list_any (λ name. bytes_eq name word) names
+
+-- the node's name, a visible alias or a hidden alias of it is the word
+abbrev pub answers_to : Node → List ℕ → Bool
+answers_to node word = bytes_eq node.name word || contains_name node.visible_aliases word || contains_name node.aliases word
+
+-- one of the siblings answers to the word
+abbrev pub has_child : Forest → List ℕ → Bool
+has_child none word = false
+has_child (more node below rest) word = answers_to node word || has_child rest word
+
+-- one of the arguments has the id
+abbrev pub has_id : List Arg → List ℕ → Bool
+has_id arguments id = list_any (λ argument. bytes_eq argument.id id) arguments
+
+-- the bin name where there is one, else the name
+abbrev pub full_name : Node → List ℕ
+full_name node = unwrap_or node.bin_name node.name
+
+-- the name of a child in full: its parent's, one space, its own
+abbrev pub joined_name : List ℕ → List ℕ → List ℕ
+joined_name parent name = parent ++ codes " " ++ name

@@ -1,0 +1,39 @@
+-- What a command means: a tree of nodes, each with its children in order.
+use Rattle.std.specs.Prelude.{ℕ, ◌+◌, ◌≤◌, List, [], ◌∷◌}
+use Rattle.std.proofs.Common.{arith}
+use denote.Param.Weighed.{most}
+use Rattle.cc_command.specs.declared.node.Node.{Node}
+
+-- some nodes side by side: a node, what is below it, and those behind it
+pub data Forest : Type 0 where
+  none : Forest
+  more : Node → Forest → Forest → Forest
+
+-- a node with its children
+pub record Tree : Type 0 where
+  pub node : Node
+  pub children : Forest
+
+-- the forest of some trees, in their order
+abbrev pub forest_of : List Tree → Forest
+forest_of [] = none
+forest_of (tree ∷ trees) = more tree.node tree.children (forest_of trees)
+
+-- two forests side by side
+abbrev pub join : Forest → Forest → Forest
+join none behind = behind
+join (more node below rest) behind = more node below (join rest behind)
+
+-- how many nodes a forest has
+abbrev pub forest_size : Forest → ℕ
+forest_size none = 0
+forest_size (more node below rest) = 1 + forest_size below + forest_size rest
+
+-- how many nodes stand below the root
+abbrev pub tree_size : Tree → ℕ
+tree_size tree = forest_size tree.children
+
+-- a tree of several is smaller than all of them
+pub most_le-forest_size : (trees : List Tree) → most (λ tree. tree_size tree + 1) trees ≤ forest_size (forest_of trees)
+most_le-forest_size [] = omega arith
+most_le-forest_size (tree ∷ trees) = omega (arith, most_le-forest_size trees)

@@ -1,0 +1,108 @@
+//! Building a command: what is missing is added and filled in, all the way down.
+
+ghost use Rattle.std.specs.Prelude.{◌≡◌, [], Some, IfOk, IfErr, OnOk, OnErr};
+ghost use Rattle.std.specs.Option.{option_copied};
+ghost use Rattle.std.specs.String.{string_bytes};
+ghost use Rattle.cc_command.specs.Tree.{forest_of, join};
+ghost use Rattle.cc_command.specs.Generated.{help_child};
+ghost use Rattle.cc_command.specs.Names.{joined_name};
+ghost use Rattle.cc_command.specs.Built.{built_forest, built_tree, built_under};
+
+mod arguments;
+mod help;
+
+use crate::command::Command;
+use crate::command::build::arguments::built_node;
+use crate::command::build::help::{help_command, needs_help_child};
+use cc_base::{Error, Text};
+use std::alloc::Global;
+
+impl Command {
+    /// Builds the command and all below it: adds the arguments `help` and `version` and the child
+    /// `help` where they are missing and not disabled, fills in ranges, actions and places, and
+    /// names every child in full. Building a built command changes nothing.
+    ///
+    /// Refused only for want of memory; the command is then unchanged.
+    pub fn build(&mut self, alloc: Global) -> Result<(), Error>
+        ensures ok { OnOk result (self.new ≡ built_tree self.old) }
+        ensures whole { OnOk result (built_tree self.new ≡ self.new) }
+        ensures err { OnErr result (self.new ≡ self.old) }
+        ensures memory { IfErr result (λ error. error ≡ Error.Memory) }
+    {
+        let bin_name = Text::copy_of_some(alloc, self.get_bin_name())?;
+        *self = self.built_under(alloc, bin_name)?;
+        Ok(())
+    }
+
+    /// Sets the bin name and builds the command, both or neither.
+    ///
+    /// Refused only for want of memory; the command is then unchanged.
+    pub fn build_as(&mut self, alloc: Global, bin_name: String) -> Result<(), Error>
+        ensures ok { OnOk result (self.new ≡ built_under (Some (string_bytes bin_name)) self.old) }
+        ensures whole { OnOk result (built_tree self.new ≡ self.new) }
+        ensures err { OnErr result (self.new ≡ self.old) }
+        ensures memory { IfErr result (λ error. error ≡ Error.Memory) }
+    {
+        *self = self.built_under(alloc, Some(Text::from(bin_name)))?;
+        Ok(())
+    }
+
+    // The command as building leaves it, under this bin name.
+    #[cycle(build)]
+    fn built_under(&self, alloc: Global, bin_name: Option<Text>) -> Result<Command, Error>
+        ensures ok { IfOk result (λ command. command ≡ built_under bin_name self.now) }
+        ensures memory { IfErr result (λ error. error ≡ Error.Memory) }
+    {
+        let name = match &bin_name {
+            Some(name) => name.as_str(),
+            None => self.node.name.as_str(),
+        };
+        let children = self.built_children(alloc, name)?;
+        let node = built_node(&self.node, alloc, bin_name)?;
+        Ok(Command { node, children })
+    }
+
+    // The children as building leaves them, where this is the command's full name.
+    #[cycle(build)]
+    fn built_children(&self, alloc: Global, name: &str) -> Result<Vec<Command>, Error>
+        ensures ok { IfOk result (λ built. forest_of built.items
+            ≡ join (built_forest [] name.now self.now.children)
+                (help_child name.now self.now.node self.now.children)) }
+        ensures memory { IfErr result (λ error. error ≡ Error.Memory) }
+    {
+        let mut children = built_siblings(&self.children, alloc, name)?;
+        if !needs_help_child(&self.node, &self.children) {
+            return Ok(children);
+        }
+        children.push(help_command(&self.children, alloc, name)?)?;
+        Ok(children)
+    }
+}
+
+// Siblings as building leaves them, under a parent of this full name.
+#[cycle(build)]
+fn built_siblings(siblings: &[Command], alloc: Global, parent: &str) -> Result<Vec<Command>, Error>
+    ensures ok { IfOk result (λ built.
+        forest_of built.items ≡ built_forest [] parent.now (forest_of siblings.now)) }
+    ensures memory { IfErr result (λ error. error ≡ Error.Memory) }
+{
+    let mut built = Vec::new(alloc);
+    for sibling in siblings {
+        let bin_name = joined_name(alloc, parent, sibling.node.name.as_str())?;
+        built.push(sibling.built_under(alloc, Some(bin_name))?)?;
+    }
+    Ok(built)
+}
+
+// The name of a child in full.
+fn joined_name(alloc: Global, parent: &str, name: &str) -> Result<Text, Error>
+    ensures ok { IfOk result (λ text. text ≡ joined_name parent.now name.now) }
+    ensures memory { IfErr result (λ error. error ≡ Error.Memory) }
+{
+    let length = parent.len().saturating_add(name.len()).saturating_add(1);
+    let mut text = String::with_capacity(alloc, length)?;
+    text.push_str(parent)?;
+    text.push_str(" ")?;
+    text.push_str(name)?;
+    Ok(Text::from(text))
+}

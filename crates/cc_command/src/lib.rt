@@ -1,0 +1,7 @@
+//! The described command: a tree of nodes, its builders and getters, and the step that builds it.
+#![tactic(auto)]
+
+mod command;
+mod node;
+
+pub use crate::command::Command;
