@@ -1,1 +1,4 @@
+pub mod Collected
+pub mod Counted
 pub mod ErrorText
+pub mod Sink

@@ -3,5 +3,7 @@ pub mod Generated
 pub mod Made
 pub mod Marked
 pub mod Names
+pub mod Plain
+pub mod PlainName
 pub mod Tree
 pub mod TreeCode

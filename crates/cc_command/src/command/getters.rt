@@ -2,6 +2,7 @@
 
 ghost use Rattle.std.specs.Prelude.{◌≡◌, ◌&&◌, is_some};
 ghost use Rattle.std.specs.Option.{option_copied};
+ghost use Rattle.cc_command.specs.Tree.{forest_of};
 ghost use Rattle.cc_command.specs.Names.{answers_to, contains_name};
 
 use crate::command::Command;
@@ -56,6 +57,13 @@ impl Command {
         ensures { result ≡ (self.now.node.built && is_some self.now.node.bin_name) }
     {
         self.node.built && self.node.bin_name.is_some()
+    }
+
+    /// The children in the order in which they were added.
+    pub fn get_subcommands(&self) -> &[Command]
+        ensures { forest_of result.now ≡ self.now.children }
+    {
+        &self.children
     }
 
     /// Whether the word is the name or an alias, visible or hidden.

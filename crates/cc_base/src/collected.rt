@@ -1,0 +1,91 @@
+//! A sink in memory.
+
+ghost use Rattle.std.specs.Prelude.{◌≡◌, ◌≤◌, [], ◌++◌, take, length, if◌then◌else◌, IfOk, IfErr, OnErr};
+ghost use Rattle.cc_base.specs.Sink.{is_failure, raised};
+ghost use Rattle.cc_base.specs.Collected.{collected_bytes, collected_failures};
+
+use crate::sink::Sink;
+use std::alloc::Global;
+use std::io::ErrorKind;
+
+/// A sink that keeps what it takes in memory. A put takes the whole slice, or fails with
+/// `OutOfMemory` and takes nothing.
+#[derive(Drop)]
+pub struct Collected {
+    bytes: Vec<u8>,
+    failures: u64,
+}
+
+impl Collected {
+    /// A sink that has taken nothing, which grows by `alloc`.
+    pub fn new(alloc: Global) -> Collected
+        ensures bytes { collected_bytes result ≡ [] }
+        ensures failures { collected_failures result ≡ 0 }
+    {
+        Collected {
+            bytes: Vec::new(alloc),
+            failures: 0,
+        }
+    }
+
+    /// The bytes taken.
+    pub fn as_slice(&self) -> &[u8]
+        ensures { result.now ≡ collected_bytes self.now }
+    {
+        self.bytes.as_slice()
+    }
+
+    /// The bytes taken, without memory.
+    pub fn into_vec(self) -> Vec<u8>
+        ensures { result.items ≡ collected_bytes self }
+    {
+        self.bytes
+    }
+}
+
+impl Sink for Collected {
+    ghost taken = { collected_bytes };
+
+    ghost failed = { collected_failures };
+
+    #[tactic(auto, unfolding(crate::specs::Sink::raised))]
+    fn put(&mut self, bytes: &[u8]) -> Result<usize, ErrorKind>
+        ensures within { IfOk result (λ count. count ≤ length bytes.now) }
+        ensures ok { IfOk result
+            (λ count. collected_bytes self.new ≡ collected_bytes self.old ++ take count bytes.now) }
+        ensures failures { collected_failures self.new
+            ≡ (if is_failure result bytes.now then raised (collected_failures self.old)
+            else collected_failures self.old) }
+        ensures whole { IfOk result (λ count. count ≡ length bytes.now) }
+        ensures err { OnErr result (collected_bytes self.new ≡ collected_bytes self.old) }
+        ensures kind { IfErr result (λ kind. kind ≡ ErrorKind.OutOfMemory) }
+    {
+        if self.bytes.extend_from_slice(bytes).is_err() {
+            self.failures = self.failures.saturating_add(1);
+            return Err(ErrorKind::OutOfMemory);
+        }
+        Ok(bytes.len())
+    }
+
+    fn failures(&self) -> u64 {
+        self.failures
+    }
+}
+
+#[cfg(test)]
+mod tests {
+    use super::*;
+    use crate::sink::put_all;
+    use std::test::Fail;
+
+    #[test]
+    fn keeps_the_bytes(rt: HostRuntime) -> Result<(), Fail> {
+        let mut sink = Collected::new(rt.alloc());
+        put_all(&mut sink, b"ab")?;
+        put_all(&mut sink, b"c")?;
+        assert_eq!(rt; sink.failures(), 0);
+        assert_eq!(rt; sink.as_slice(), b"abc".as_slice());
+        assert_eq!(rt; sink.into_vec().as_slice(), b"abc".as_slice());
+        Ok(())
+    }
+}

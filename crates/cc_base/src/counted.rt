@@ -1,0 +1,218 @@
+//! A writer of the standard library as a sink.
+
+ghost use Rattle.std.specs.Prelude.{◌≡◌, ◌≤◌, [], ◌++◌, take, length, if◌then◌else◌, IfOk, IfErr};
+ghost use Rattle.std.specs.Io.KnownBytes.{Keeps, WriteAppends};
+ghost use Rattle.cc_base.specs.Sink.{is_failure, raised, Counts, IsWrite};
+ghost use Rattle.cc_base.specs.Counted.{counted_writer, counted_bytes, counted_failures};
+
+use crate::error::Error;
+use crate::history::History;
+use crate::sink::Sink;
+use std::io::{self, ErrorKind};
+
+/// A sink over any writer, which counts the failures. A put is one `write`; one that is
+/// interrupted failed like any other.
+///
+/// The list of the bytes taken is kept for proofs alone and has no size. That they are passed on
+/// to the writer is shown by the short body of `put` and by a test; the contract of `put` says it
+/// only of a writer whose own contract tells what it holds.
+#[derive(Drop)]
+pub struct Counted<W> {
+    writer: W,
+    failures: u64,
+    history: History,
+}
+
+impl<W> Counted<W> {
+    /// The writer as a sink that has taken nothing and has not failed.
+    pub fn new(writer: W) -> Counted<W>
+        ensures writer { counted_writer result ≡ writer }
+        ensures bytes { counted_bytes result ≡ [] }
+        ensures failures { counted_failures result ≡ 0 }
+    {
+        Counted {
+            writer,
+            failures: 0,
+            history: History::new(),
+        }
+    }
+
+    /// The writer.
+    pub fn get_ref(&self) -> &W
+        ensures { result.now ≡ counted_writer self.now }
+    {
+        &self.writer
+    }
+
+    /// Hands the writer back. It is not flushed.
+    pub fn into_inner(self) -> W
+        ensures { result ≡ counted_writer self }
+    {
+        self.writer
+    }
+
+    #[tactic(auto, unfolding(crate::specs::Sink::raised))]
+    fn count_failure(&mut self)
+        ensures writer { counted_writer self.new ≡ counted_writer self.old }
+        ensures bytes { counted_bytes self.new ≡ counted_bytes self.old }
+        ensures failures { counted_failures self.new ≡ raised (counted_failures self.old) }
+    {
+        self.failures = self.failures.saturating_add(1);
+    }
+}
+
+impl<W: io::Write> Counted<W> {
+    /// Flushes the writer. A flush that fails is a failed write: it is counted, and answered as
+    /// `Write`.
+    pub fn flush(&mut self) -> Result<(), Error>
+        ensures bytes { counted_bytes self.new ≡ counted_bytes self.old }
+        ensures failures { Counts result (counted_failures self.old) (counted_failures self.new) }
+        ensures write_only { IfErr result IsWrite }
+        ensures kept { Keeps (W.contents (counted_writer self.old)) (W.contents (counted_writer self.new)) }
+    {
+        match self.writer.flush() {
+            Ok(()) => Ok(()),
+            Err(error) => {
+                self.count_failure();
+                Err(Error::Write(error.kind()))
+            }
+        }
+    }
+}
+
+impl<W: io::Write> Sink for Counted<W> {
+    ghost taken = { counted_bytes };
+
+    ghost failed = { counted_failures };
+
+    fn put(&mut self, bytes: &[u8]) -> Result<usize, ErrorKind>
+        ensures within { IfOk result (λ count. count ≤ length bytes.now) }
+        ensures ok { IfOk result
+            (λ count. counted_bytes self.new ≡ counted_bytes self.old ++ take count bytes.now) }
+        ensures failures { counted_failures self.new
+            ≡ (if is_failure result bytes.now then raised (counted_failures self.old)
+            else counted_failures self.old) }
+        ensures passed_on { WriteAppends (W.contents (counted_writer self.old))
+            (W.contents (counted_writer self.new)) result bytes.now }
+    {
+        match self.writer.write(bytes) {
+            Ok(count) => {
+                if count == 0 && !bytes.is_empty() {
+                    self.count_failure();
+                }
+                self.history.append(&bytes[..count]);
+                Ok(count)
+            }
+            Err(error) => {
+                self.count_failure();
+                Err(error.kind())
+            }
+        }
+    }
+
+    fn failures(&self) -> u64 {
+        self.failures
+    }
+}
+
+#[cfg(test)]
+mod tests {
+    use super::*;
+    use crate::sink::put_all;
+    use std::test::Fail;
+
+    // Takes at most `at_once` bytes a call. Once it holds `room` bytes it fails with `refusal`,
+    // or takes nothing where there is none.
+    #[derive(Drop)]
+    struct Limited {
+        held: Vec<u8>,
+        at_once: usize,
+        room: usize,
+        refusal: Option<ErrorKind>,
+    }
+
+    impl io::Write for Limited {
+        fn write(&mut self, buf: &[u8]) -> io::Result<usize> {
+            let left = self.room.saturating_sub(self.held.len());
+            if left == 0 && !buf.is_empty() {
+                return match self.refusal {
+                    Some(kind) => Err(io::Error::from(kind)),
+                    None => Ok(0),
+                };
+            }
+            let count = buf.len().min(left).min(self.at_once);
+            self.held.extend_from_slice(&buf[..count])?;
+            Ok(count)
+        }
+
+        fn flush(&mut self) -> io::Result<()> {
+            match self.refusal {
+                Some(kind) => Err(io::Error::from(kind)),
+                None => Ok(()),
+            }
+        }
+    }
+
+    #[test]
+    fn passes_the_bytes_on(rt: HostRuntime) -> Result<(), Fail> {
+        let mut sink = Counted::new(Vec::new(rt.alloc()));
+        put_all(&mut sink, b"ab")?;
+        put_all(&mut sink, b"")?;
+        put_all(&mut sink, b"c")?;
+        sink.flush()?;
+        assert_eq!(rt; sink.failures(), 0);
+        assert_eq!(rt; sink.get_ref().as_slice(), b"abc".as_slice());
+        assert_eq!(rt; sink.into_inner().as_slice(), b"abc".as_slice());
+        Ok(())
+    }
+
+    #[test]
+    fn puts_one_byte_a_call(rt: HostRuntime) -> Result<(), Fail> {
+        let mut sink = Counted::new(Limited {
+            held: Vec::new(rt.alloc()),
+            at_once: 1,
+            room: 3,
+            refusal: None,
+        });
+        put_all(&mut sink, b"abc")?;
+        assert_eq!(rt; sink.failures(), 0);
+        assert_eq!(rt; sink.get_ref().held.as_slice(), b"abc".as_slice());
+        Ok(())
+    }
+
+    #[test]
+    fn counts_each_failure(rt: HostRuntime) {
+        for kind in [ErrorKind::BrokenPipe, ErrorKind::Interrupted] {
+            for room in 0..3 {
+                let mut sink = Counted::new(Limited {
+                    held: Vec::new(rt.alloc()),
+                    at_once: 2,
+                    room,
+                    refusal: Some(kind),
+                });
+                let put = put_all(&mut sink, b"abc");
+                assert!(rt; matches!(put, Err(Error::Write(answer)) if answer == kind));
+                assert_eq!(rt; sink.failures(), 1);
+                let flushed = sink.flush();
+                assert!(rt; matches!(flushed, Err(Error::Write(answer)) if answer == kind));
+                assert_eq!(rt; sink.failures(), 2);
+                assert_eq!(rt; sink.get_ref().held.len(), room);
+            }
+        }
+    }
+
+    #[test]
+    fn takes_nothing(rt: HostRuntime) {
+        let mut sink = Counted::new(Limited {
+            held: Vec::new(rt.alloc()),
+            at_once: 2,
+            room: 0,
+            refusal: None,
+        });
+        assert!(rt; put_all(&mut sink, b"").is_ok());
+        assert_eq!(rt; sink.failures(), 0);
+        let put = put_all(&mut sink, b"a");
+        assert!(rt; matches!(put, Err(Error::Write(ErrorKind::WriteZero))));
+        assert_eq!(rt; sink.failures(), 1);
+    }
+}

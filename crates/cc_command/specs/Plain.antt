@@ -1,0 +1,67 @@
+-- Which trees are plain: those whose names a script can hold as they are.
+use Rattle.std.specs.Prelude.{ℕ, List, [], ◌∷◌, ◌++◌, Bool, true, false, not, ◌&&◌, ◌||◌, ◌==◌, Option, Some, None, is_some}
+use Rattle.std.specs.List.{list_all, list_any}
+use Rattle.std.specs.Char.{is_ascii_alphanumeric}
+use Rattle.cc_arg.specs.declared.arg.Arg.{Arg}
+use Rattle.cc_command.specs.declared.node.Node.{Node}
+use Rattle.cc_command.specs.Tree.{Forest, none, more, Tree}
+use Rattle.cc_command.specs.PlainName.{is_plain_name}
+use Rattle.cc_command.specs.Names.{contains_name, has_child}
+
+-- the value, where there is one, passes
+abbrev pub passes_if_some : {A : Type 0} → (A → Bool) → Option A → Bool
+passes_if_some passes None = true
+passes_if_some passes (Some value) = passes value
+
+-- no byte is a quote
+abbrev pub has_no_quote : List ℕ → Bool
+has_no_quote text = list_all (λ byte. not (byte == 39)) text
+
+-- shorts are letters or digits, longs are plain names, and the id and the value names hold no quote
+abbrev pub is_plain_argument : Arg → Bool
+is_plain_argument argument =
+  has_no_quote argument.id &&
+  (list_all has_no_quote argument.value_names &&
+  (passes_if_some is_ascii_alphanumeric argument.short &&
+  (list_all is_ascii_alphanumeric argument.visible_short_aliases &&
+  (list_all is_ascii_alphanumeric argument.short_aliases &&
+  (passes_if_some is_plain_name argument.long &&
+  (list_all is_plain_name argument.visible_aliases &&
+  list_all is_plain_name argument.aliases))))))
+
+-- the name and the aliases are plain names, and the arguments are plain
+abbrev pub is_plain_node : Node → Bool
+is_plain_node node =
+  is_plain_name node.name &&
+  (list_all is_plain_name node.visible_aliases &&
+  (list_all is_plain_name node.aliases &&
+  list_all is_plain_argument node.arguments))
+
+-- every name by which a command is called
+abbrev pub names_of : Node → List (List ℕ)
+names_of node = node.name ∷ (node.visible_aliases ++ node.aliases)
+
+-- no text stands twice
+abbrev pub all_differ : List (List ℕ) → Bool
+all_differ [] = true
+all_differ (name ∷ names) = not (contains_name names name) && all_differ names
+
+-- no two names or aliases of siblings are the same, those of one command among themselves too
+abbrev pub siblings_differ : Forest → Bool
+siblings_differ none = true
+siblings_differ (more node below rest) =
+  all_differ (names_of node) &&
+  (list_all (λ name. not (has_child rest name)) (names_of node) &&
+  siblings_differ rest)
+
+-- every node of the forest is plain, and below each the names of siblings differ
+abbrev pub is_plain_forest : Forest → Bool
+is_plain_forest none = true
+is_plain_forest (more node below rest) =
+  is_plain_node node && (siblings_differ below && (is_plain_forest below && is_plain_forest rest))
+
+-- the tree is plain, and its bin name, where there is one, is a plain name
+abbrev pub is_plain_tree : Tree → Bool
+is_plain_tree tree =
+  passes_if_some is_plain_name tree.node.bin_name &&
+  (is_plain_node tree.node && (siblings_differ tree.children && is_plain_forest tree.children))

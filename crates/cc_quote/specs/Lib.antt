@@ -1,0 +1,4 @@
+pub mod ElvishQuote
+pub mod ElvishTokens
+pub mod QuotedWord
+pub mod Tokens

@@ -1,0 +1,8 @@
+//! Writers and readers of quoted words: a writer escapes a text so that the shell's own quoting
+//! keeps it, and the reader of the same shell gives the text back. No reader expands anything.
+#![tactic(auto)]
+
+mod elvish;
+mod word;
+
+pub use crate::elvish::{elvish_escape, elvish_word};
