@@ -1,3 +1,4 @@
+pub mod ArgumentLists
 pub mod Built
 pub mod Generated
 pub mod Made

@@ -35,7 +35,7 @@ kept_byte byte signs pieces text h = by_tests (byte == 39) (is_blank byte) h
 -- within quotes the escape of a byte is read as that byte, a line feed as a space
 escaped_byte : (byte : ℕ) (rest : List ℕ) (pieces : List Piece) (text : List ℕ)
     → cut (in_quotes pieces text) (map sign (elvish_escaped_byte byte ++ rest)) ≡ cut (in_quotes pieces (text ++ space_for_line_feed byte ∷ [])) (map sign rest)
-unfolding elvish_escaped_byte space_for_line_feed sign is_blank cut
+unfolding sign cut
 escaped_byte byte rest pieces text = by_tests (byte == 39) (byte == 10) refl refl
   where
     by_tests : (q l : Bool) → byte == 39 ≡ q → byte == 10 ≡ l
@@ -80,7 +80,6 @@ quoted_text (byte ∷ kept) rest pieces text h =
 -- an escaped text, within quotes
 pub escaped_text : (help rest : List ℕ) (pieces : List Piece) (text : List ℕ)
     → cut (in_quotes pieces text) (map sign (elvish_escaped help ++ rest)) ≡ cut (in_quotes pieces (text ++ line_feeds_as_spaces help)) (map sign rest)
-unfolding elvish_escaped line_feeds_as_spaces
 escaped_text [] rest pieces text = ap (λ t. cut (in_quotes pieces t) (map sign rest)) (sym (append-nil text))
 escaped_text (byte ∷ help) rest pieces text =
     ap (λ t. cut (in_quotes pieces text) (map sign t)) (append_assoc (elvish_escaped_byte byte) (elvish_escaped help) rest)

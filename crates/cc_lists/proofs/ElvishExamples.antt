@@ -1,0 +1,62 @@
+-- Texts and scripts that are cut, written and read as the definitions say, byte by byte.
+use Rattle.std.proofs.Common.{◌≡◌, List, [], ◌∷◌, Some, None, codes, refl}
+use Rattle.cc_quote.specs.Tokens.{is_word, strip_words, after_words}
+use Rattle.cc_quote.specs.Tokens.Piece.{bare, quoted, unclosed}
+use Rattle.cc_quote.specs.QuotedWord.{is_blank}
+use Rattle.cc_quote.specs.ElvishTokens.{sign, cut, elvish_tokens}
+use Rattle.cc_lists.specs.ElvishReading.{Table, part, with_row, next, answer, read, tables_begin, elvish_tables}
+use Rattle.cc_quote.specs.ElvishQuote.{elvish_escaped_byte, elvish_escaped}
+use Rattle.cc_lists.specs.ElvishScript.{elvish_row, elvish_rows, elvish_table, elvish_body, elvish_script}
+
+-- pieces of a token, a quote mark, a line feed within quotes, and quotes that are left open
+tokens_cut : elvish_tokens (codes "&text' '(spaces ''\t'it''s\nfine'\n\n'a' 'b")
+    ≡ (bare (codes "&text") ∷ quoted (codes " ") ∷ bare (codes "(spaces") ∷ []) ∷ (quoted [] ∷ []) ∷ (quoted (codes "it's\nfine") ∷ []) ∷ (quoted (codes "a") ∷ []) ∷ (unclosed (codes "b") ∷ []) ∷ []
+unfolding sign cut elvish_tokens
+tokens_cut = refl
+
+-- the bytes of a row
+row_text : elvish_row (record { word = codes "c"; text = codes "it's\n[x]:\\" }) ≡ codes "\n            cand c 'it''s [x]:\\'"
+unfolding elvish_row
+row_text = refl
+
+-- the bytes of a table without rows
+table_text : elvish_table (record { key = codes "app"; rows = [] }) ≡ codes "\n        &'app'= {\n        }"
+unfolding elvish_rows elvish_table
+table_text = refl
+
+-- two tables as a program's help gives them
+abbrev given : List Table
+given =
+    record {
+      key = codes "app";
+      rows = record { word = codes "--out"; text = codes "out" } ∷ record { word = codes "-v"; text = codes "Be loud" } ∷ record { word = codes "run"; text = codes "It's\nfine" } ∷ [];
+    }
+    ∷ record { key = codes "app;run"; rows = record { word = codes "cand"; text = codes "'}" } ∷ [] }
+    ∷ []
+
+-- the same, as they are read
+abbrev read_back : List Table
+read_back =
+    record {
+      key = codes "app";
+      rows = record { word = codes "--out"; text = codes "out" } ∷ record { word = codes "-v"; text = codes "Be loud" } ∷ record { word = codes "run"; text = codes "It's fine" } ∷ [];
+    }
+    ∷ record { key = codes "app;run"; rows = record { word = codes "cand"; text = codes "'}" } ∷ [] }
+    ∷ []
+
+-- a script with these tables reads back to them
+two_tables : elvish_tables (elvish_script (codes "app") given) ≡ Some read_back
+unfolding is_word strip_words after_words sign cut elvish_tokens part with_row next answer read tables_begin elvish_tables elvish_row elvish_rows elvish_table elvish_body elvish_script
+two_tables = refl
+
+-- a program named as the word behind which its tables stand
+no_table : elvish_tables (elvish_script (codes "completions") []) ≡ Some []
+unfolding is_word strip_words after_words sign cut elvish_tokens part next answer read tables_begin elvish_tables elvish_body elvish_script
+no_table = refl
+
+-- tables that are not closed, a description that is not quoted, and no tables at all
+malformed : (elvish_tables (codes "completions = [ &'app'= { }") ≡ None)
+    × (elvish_tables (codes "completions = [ &'app'= { cand -v loud } ]") ≡ None)
+    × (elvish_tables (codes "completions = &'app'= { } ]") ≡ None)
+unfolding is_word strip_words after_words sign cut elvish_tokens part next answer read tables_begin elvish_tables
+malformed = (refl, refl, refl)

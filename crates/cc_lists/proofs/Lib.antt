@@ -1,0 +1,4 @@
+pub mod ElvishExamples
+pub mod ElvishReadsBack
+pub mod Lines
+pub mod PlainWords

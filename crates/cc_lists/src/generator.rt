@@ -1,0 +1,60 @@
+//! What every generator does.
+
+ghost use Rattle.std.specs.Prelude.{◌≡◌, ◌++◌, ℕ, List, Option, IsTrue, IfOk, IfErr, OnOk};
+ghost use Rattle.std.specs.String.{string_bytes};
+ghost use Rattle.cc_base.specs.Sink.{Counts};
+ghost use Rattle.cc_command.specs.Tree.{Tree};
+ghost use Rattle.cc_command.specs.Plain.{is_plain_tree};
+ghost use Rattle.cc_lists.specs.Generators.{IsReady, AnswersClash};
+
+use cc_base::{Error, Sink};
+use cc_command::Command;
+use std::alloc::Global;
+
+/// A writer of completion scripts for one shell.
+pub trait Generator {
+    // the text of the script of a tree
+    ghost script: { Self → Tree → List ℕ };
+
+    // what reading the script of a tree gives
+    ghost Reads: { Self → Tree → List ℕ → Type 0 };
+
+    // the label that two nodes of a tree share, where the script needs labels of its own
+    ghost clash: { Self → Tree → Option (List ℕ) };
+
+    // the name of the file for a program of this name
+    ghost file: { Self → List ℕ → List ℕ };
+
+    /// The name of the file that the shell looks for, for a program of this name. Refused only for
+    /// want of memory.
+    fn file_name(&self, alloc: Global, name: &str) -> Result<String, Error>
+        ensures ok { IfOk result (λ text. string_bytes text ≡ file self.now name.now) }
+        ensures memory { IfErr result (λ error. error ≡ Error.Memory) };
+
+    /// Writes the script of a command that is built and has a bin name, piece by piece.
+    ///
+    /// Refused with `Write` where the sink failed, with `LabelClash` where the script needs labels
+    /// and two nodes share one, before anything is written, and with `Memory`. How much a sink took
+    /// before `Write` or `Memory` is left open.
+    fn generate<W: Sink>(&self, alloc: Global, command: &Command, sink: &mut W) -> Result<(), Error>
+        requires ready { IsReady command.now }
+        ensures ok { OnOk result (W.taken sink.new ≡ W.taken sink.old ++ script self.now command.now) }
+        ensures reads { OnOk result (IsTrue (is_plain_tree command.now) →
+            Reads self.now command.now (script self.now command.now)) }
+        ensures clashes { AnswersClash (clash self.now command.now) result
+            (W.taken sink.old) (W.taken sink.new) }
+        ensures failures { Counts result (W.failed sink.old) (W.failed sink.new) };
+
+    /// The same as `generate`.
+    fn try_generate<W: Sink>(&self, alloc: Global, command: &Command, sink: &mut W) -> Result<(), Error>
+        requires ready { IsReady command.now }
+        ensures ok { OnOk result (W.taken sink.new ≡ W.taken sink.old ++ script self.now command.now) }
+        ensures reads { OnOk result (IsTrue (is_plain_tree command.now) →
+            Reads self.now command.now (script self.now command.now)) }
+        ensures clashes { AnswersClash (clash self.now command.now) result
+            (W.taken sink.old) (W.taken sink.new) }
+        ensures failures { Counts result (W.failed sink.old) (W.failed sink.new) }
+    {
+        self.generate(alloc, command, sink)
+    }
+}

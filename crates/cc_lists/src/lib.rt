@@ -1,0 +1,9 @@
+//! Scripts that are lists: the trait of every generator, the lists that generators share, and the
+//! generators of table-shaped scripts.
+#![tactic(auto)]
+
+pub mod elvish;
+pub mod generator;
+pub mod utils;
+
+pub use crate::generator::Generator;
