@@ -9,7 +9,7 @@ use Rattle.std.proofs.lemmas.Bool.Decides.{nat_tests}
 use Rattle.cc_quote.specs.QuotedWord.{is_blank, IsCutAtBlank, quoted, behind_mark, word_from, space_for_line_feed, line_feeds_as_spaces}
 use Rattle.cc_quote.specs.ElvishQuote.{elvish_escaped, elvish_escaped_byte, is_elvish_mark, elvish_word_of}
 use Rattle.cc_quote.proofs.Escapes.{kept_character}
-use Rattle.cc_quote.proofs.Words.{NonePass-from_reads, signs, quoted_item, run_and_mark, closes, bare_word, escaped_text}
+use Rattle.cc_quote.proofs.Words.{NonePass-from_reads, signs, quoted_item, run_and_mark, closes, bare_word, escaped_run}
 
 escaped_byte_kept : (b : ℕ) → b ≢ 39 → b ≢ 10 → elvish_escaped_byte b ≡ b ∷ []
 escaped_byte_kept b no_quote no_line_feed = grind (arith, nat_tests)
@@ -46,7 +46,7 @@ escaped_byte_read b word rest =
 
 -- what was escaped is read as the text, between two quotes
 pub elvish_reads_back : (text escaped : List ℕ) → escaped ≡ elvish_escaped text → elvish_word_of (codes "'" ++ escaped ++ codes "'") ≡ Some (line_feeds_as_spaces text, [])
-elvish_reads_back text escaped e = rw e (escaped_text is_elvish_mark elvish_escaped_byte 39 refl escaped_byte_read text [])
+elvish_reads_back text escaped e = rw e (escaped_run is_elvish_mark elvish_escaped_byte escaped_byte_read text [] (39 ∷ []))
 
 -- a piece with no quote
 pub no_quote_in : (piece : List ℕ) → ((k : ℕ) → k < length piece → get_or piece k 0 ≢ 39) → NonePass is_elvish_mark piece

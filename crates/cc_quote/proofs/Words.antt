@@ -110,12 +110,11 @@ module _ (is_mark : ℕ → Bool) where
       ∙ bare_run run (x ∷ []) back h.1
       ∙ bare_end blank_is_no_mark back (x ∷ run) ends
 
-  -- An escape by items is read back if each item's escape is. The text ends at a mark.
-  pub escaped_text : (escape : ℕ → List ℕ) (x : ℕ) → is_mark x ≡ true → ((y : ℕ) (word rest : List ℕ) → word_from (quoted word) (signs (escape y ++ rest)) ≡ word_from (quoted (word ++ space_for_line_feed y ∷ [])) (signs rest)) → (text word : List ℕ) → word_from (quoted word) (signs (flat_map escape text ++ x ∷ [])) ≡ Some (word ++ line_feeds_as_spaces text, [])
-  escaped_text escape x is each [] word =
-      ap (λ (s : Sign). word_from (quoted word) (s ∷ [])) (sign_by-mark x is) ∙ ap (λ (w : List ℕ). Some (w, [])) (sym (append-nil word))
-  escaped_text escape x is each (y ∷ text) word =
-      ap (λ (xs : List ℕ). word_from (quoted word) (signs xs)) (append_assoc (escape y) (flat_map escape text) (x ∷ []))
-      ∙ each y word (flat_map escape text ++ x ∷ [])
-      ∙ escaped_text escape x is each text (word ++ space_for_line_feed y ∷ [])
-      ∙ ap (λ (w : List ℕ). Some (w, [])) (append_assoc word (space_for_line_feed y ∷ []) (line_feeds_as_spaces text))
+  -- An escape by items is read back in a quoted word, whatever follows, if each item's escape is.
+  pub escaped_run : (escape : ℕ → List ℕ) → ((x : ℕ) (word rest : List ℕ) → word_from (quoted word) (signs (escape x ++ rest)) ≡ word_from (quoted (word ++ space_for_line_feed x ∷ [])) (signs rest)) → (text word rest : List ℕ) → word_from (quoted word) (signs (flat_map escape text ++ rest)) ≡ word_from (quoted (word ++ line_feeds_as_spaces text)) (signs rest)
+  escaped_run escape each [] word rest = ap (λ (w : List ℕ). word_from (quoted w) (signs rest)) (sym (append-nil word))
+  escaped_run escape each (x ∷ text) word rest =
+      ap (λ (xs : List ℕ). word_from (quoted word) (signs xs)) (append_assoc (escape x) (flat_map escape text) rest)
+      ∙ each x word (flat_map escape text ++ rest)
+      ∙ escaped_run escape each text (word ++ space_for_line_feed x ∷ []) rest
+      ∙ ap (λ (w : List ℕ). word_from (quoted w) (signs rest)) (append_assoc word (space_for_line_feed x ∷ []) (line_feeds_as_spaces text))

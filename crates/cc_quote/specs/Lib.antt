@@ -1,4 +1,5 @@
 pub mod ElvishQuote
 pub mod ElvishTokens
+pub mod PowershellQuote
 pub mod QuotedWord
 pub mod Tokens

@@ -3,6 +3,8 @@
 #![tactic(auto)]
 
 mod elvish;
+mod powershell;
 mod word;
 
 pub use crate::elvish::{elvish_escape, elvish_word};
+pub use crate::powershell::{powershell_escape, powershell_word};
