@@ -6,5 +6,6 @@ use Rattle.cc_base.specs.declared.collected.Collected.{Collected}
 abbrev pub collected_bytes : Collected → List ℕ
 collected_bytes collected = collected.bytes.items
 
+-- how many of its puts failed
 abbrev pub collected_failures : Collected → ℕ
 collected_failures collected = collected.failures

@@ -2,6 +2,7 @@
 use Rattle.std.specs.Prelude.{ℕ, List}
 use Rattle.cc_base.specs.declared.counted.Counted.{Counted}
 
+-- the writer behind it
 abbrev pub counted_writer : {W : Type 0} → Counted W → W
 counted_writer counted = counted.writer
 
@@ -9,5 +10,6 @@ counted_writer counted = counted.writer
 abbrev pub counted_bytes : {W : Type 0} → Counted W → List ℕ
 counted_bytes counted = counted.history.bytes
 
+-- how many of its writes and flushes failed
 abbrev pub counted_failures : {W : Type 0} → Counted W → ℕ
 counted_failures counted = counted.failures

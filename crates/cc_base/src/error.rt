@@ -64,3 +64,37 @@ impl<T: Drop> From<AllocFailed<T>> for Error {
         Error::Memory
     }
 }
+
+#[cfg(test)]
+mod tests {
+    use super::*;
+    use std::alloc::Global;
+    use std::test::Fail;
+
+    fn printed(alloc: Global, error: Error) -> Result<String, AllocError> {
+        format!(in alloc; "{error}")
+    }
+
+    #[test]
+    fn prints(rt: HostRuntime) -> Result<(), Fail> {
+        let alloc = rt.alloc();
+        let memory = printed(alloc, Error::from(AllocError))?;
+        assert_eq!(rt; memory.as_str(), "out of memory");
+        let write = printed(alloc, Error::Write(ErrorKind::WriteZero))?;
+        assert_eq!(rt; write.as_str(), "write failed");
+        let clash = printed(alloc, Error::LabelClash(Text::copy_of(alloc, "a__b")?))?;
+        assert_eq!(rt; clash.as_str(), "two commands share the label a__b");
+        let completion = printed(alloc, Error::NoCompletion)?;
+        assert_eq!(rt; completion.as_str(), "no completion generated");
+        let arguments = printed(alloc, Error::NoArguments)?;
+        assert_eq!(rt; arguments.as_str(), "no arguments");
+        let unknown = printed(alloc, Error::UnknownShell(Text::copy_of(alloc, "unknown")?))?;
+        assert_eq!(rt; unknown.as_str(), "unknown");
+        let invalid = printed(
+            alloc,
+            Error::InvalidVariant(Text::copy_of(alloc, "invalid")?),
+        )?;
+        assert_eq!(rt; invalid.as_str(), "invalid");
+        Ok(())
+    }
+}

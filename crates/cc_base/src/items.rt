@@ -82,3 +82,19 @@ impl Items<Text> {
         Ok(copy)
     }
 }
+
+#[cfg(test)]
+mod tests {
+    use super::*;
+    use std::test::Fail;
+
+    #[test]
+    fn keeps_the_order(rt: HostRuntime) -> Result<(), Fail> {
+        let mut items = Items::new(rt.alloc());
+        items.push('a')?;
+        items.push('b')?;
+        assert_eq!(rt; items.as_slice(), ['a', 'b'].as_slice());
+        assert_eq!(rt; items.into_vec().as_slice(), ['a', 'b'].as_slice());
+        Ok(())
+    }
+}

@@ -69,3 +69,18 @@ impl Text {
         Text::copy_of(alloc, self.as_str())
     }
 }
+
+#[cfg(test)]
+mod tests {
+    use super::*;
+    use std::test::Fail;
+
+    #[test]
+    fn copies(rt: HostRuntime) -> Result<(), Fail> {
+        let text = Text::copy_of(rt.alloc(), "naïve")?;
+        let copy = text.try_clone(rt.alloc())?;
+        assert_eq!(rt; text.as_str(), "naïve");
+        assert_eq!(rt; copy.into_string().as_str(), "naïve");
+        Ok(())
+    }
+}

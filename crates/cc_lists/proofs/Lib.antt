@@ -1,4 +1,6 @@
 pub mod ElvishExamples
 pub mod ElvishReadsBack
+pub mod ElvishRows
 pub mod Lines
 pub mod PlainWords
+pub mod Written

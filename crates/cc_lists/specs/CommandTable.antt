@@ -10,29 +10,39 @@ use Rattle.cc_lists.specs.Paths.{visible_names}
 use Rattle.cc_lists.specs.Visits.{Visit, visits, key_of}
 use Rattle.cc_lists.specs.ElvishReading.{Row, Table}
 
--- a row, described by the help where there is one, else by the text that stands in for it
-abbrev pub row_of : Option (List ℕ) → List ℕ → List ℕ → Row
-row_of help stand_in word = record { word = word; text = unwrap_or help stand_in }
+-- the row of a short, with this description
+abbrev pub short_row : List ℕ → ℕ → Row
+short_row text short = record { word = codes "-" ++ encode_utf8 short; text = text }
 
--- a row for each short that is shown: the short, then its visible aliases
+-- the row of a long, with this description
+abbrev pub long_row : List ℕ → List ℕ → Row
+long_row text long = record { word = codes "--" ++ long; text = text }
+
+-- a row for each short that is shown: the short, then its visible aliases. They are described by the
+-- help where there is one, else by the short.
 unfoldable pub short_rows : Arg → Option ℕ → List Row
 short_rows argument None = []
 short_rows argument (Some short) =
-  map (λ name. row_of argument.help (encode_utf8 short) (codes "-" ++ encode_utf8 name)) (short ∷ argument.visible_short_aliases)
+  map (short_row (unwrap_or argument.help (encode_utf8 short))) (short ∷ argument.visible_short_aliases)
 
--- a row for each long that is shown: the long, then its visible aliases
+-- a row for each long that is shown: the long, then its visible aliases. They are described by the
+-- help where there is one, else by the long.
 unfoldable pub long_rows : Arg → Option (List ℕ) → List Row
 long_rows argument None = []
 long_rows argument (Some long) =
-  map (λ name. row_of argument.help long (codes "--" ++ name)) (long ∷ argument.visible_aliases)
+  map (long_row (unwrap_or argument.help long)) (long ∷ argument.visible_aliases)
 
 -- the rows of an argument: of its shorts, then of its longs
 unfoldable pub argument_rows : Arg → List Row
 argument_rows argument = short_rows argument argument.short ++ long_rows argument argument.long
 
+-- the row of a visible name of a child, described by its about where there is one, else by the name
+abbrev pub name_row : Option (List ℕ) → List ℕ → Row
+name_row about name = record { word = name; text = unwrap_or about name }
+
 -- a row for each visible name of a child
 unfoldable pub child_rows : Node → List Row
-child_rows child = map (λ name. row_of child.about name name) (visible_names child)
+child_rows child = map (name_row child.about) (visible_names child)
 
 -- the rows of some siblings
 unfoldable pub children_rows : Forest → List Row

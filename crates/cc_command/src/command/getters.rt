@@ -66,6 +66,13 @@ impl Command {
         &self.children
     }
 
+    /// The aliases that are shown.
+    pub fn get_visible_aliases(&self) -> &[Text]
+        ensures { result.now ≡ self.now.node.visible_aliases }
+    {
+        self.node.visible_aliases.as_slice()
+    }
+
     /// Whether the word is the name or an alias, visible or hidden.
     pub(crate) fn answers_to(&self, word: &str) -> bool
         ensures { result ≡ answers_to self.now.node word.now }

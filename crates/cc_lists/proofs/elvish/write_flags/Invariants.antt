@@ -1,0 +1,14 @@
+use Rattle.std.proofs.Common.{◌≡◌, ◌++◌, drop, filter, map}
+use Rattle.std.specs.List.{flat_map}
+use Rattle.cc_command.specs.ArgumentLists.{is_flag}
+use Rattle.cc_lists.specs.CommandTable.{argument_rows}
+use Rattle.cc_lists.specs.ElvishScript.{elvish_rows}
+use Rattle.cc_lists.proofs.elvish.write_flags.Given as goal
+
+-- what was taken and the rows that are left make the whole; no put failed
+abbrev pub invariant-loop-argument : goal.invariant-loop-argument
+invariant-loop-argument g l = record {
+  whole : g.W.Sink.taken l.sink ++ elvish_rows (flat_map argument_rows (filter is_flag (drop l.argument-index l.arguments)))
+    ≡ g.W.Sink.taken l.initial.sink ++ elvish_rows (flat_map argument_rows (filter is_flag l.arguments));
+  failures : g.W.Sink.failed l.sink ≡ g.W.Sink.failed l.initial.sink;
+}
