@@ -1,6 +1,12 @@
 pub mod ElvishExamples
+pub mod ElvishPlain
 pub mod ElvishReadsBack
 pub mod ElvishRows
+pub mod KeyedVisitsAreVisits
 pub mod Lines
+pub mod Members
+pub mod PlainVisits
 pub mod PlainWords
+pub mod Tests
+pub mod VisitsArePaths
 pub mod Written

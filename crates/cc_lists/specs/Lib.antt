@@ -1,7 +1,9 @@
+pub mod ArgumentNames
 pub mod CommandTable
 pub mod ElvishReading
 pub mod ElvishReads
 pub mod ElvishScript
 pub mod Generators
+pub mod KeyedVisits
 pub mod Paths
 pub mod Visits

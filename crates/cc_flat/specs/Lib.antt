@@ -1,0 +1,3 @@
+pub mod EntryCode
+pub mod Flat
+pub mod Numbered

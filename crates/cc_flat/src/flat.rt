@@ -1,0 +1,131 @@
+//! The nodes of a command tree in one numbered list.
+
+ghost use Rattle.std.specs.Prelude.{◌≡◌, ◌<◌, ◌+◌, ◌↔◌, length, IfOk, IfErr, IfSome, IsNone, OnOk, vec_len};
+ghost use Rattle.cc_flat.specs.Flat.{IsFlat, IsChildAt, HasItsChildren, entry_of, entries_of, entry_at, tree_at, trees_of};
+ghost use Rattle.cc_flat.specs.Numbered.{unnumbered, with_children};
+
+use cc_base::Error;
+use cc_command::Command;
+use std::alloc::Global;
+use std::marker::Model;
+use std::ops::Range;
+
+/// The nodes of a command tree, each under a number, level by level: the root has number 0, the
+/// children of a node have consecutive numbers, and every child has a greater number than its
+/// parent.
+#[derive(Drop)]
+pub struct Flat<'a> {
+    nodes: Vec<FlatNode<'a>>,
+}
+
+// A node, with the numbers of its parent and its children.
+#[derive(Clone, Copy)]
+pub(crate) struct FlatNode<'a> {
+    pub command: &'a Command,
+    pub parent: Option<usize>,
+    pub first_child: usize,
+    pub child_count: usize,
+}
+
+impl<'a> Model for Flat<'a> {
+    ghost use Rattle.std.specs.Prelude.{List};
+    ghost use Rattle.cc_flat.specs.Flat.{Entry, entries_of, IsFlat};
+    ghost use Rattle.cc_flat.specs.EntryCode.{entries_code};
+
+    ghost Value = { List Entry };
+
+    ghost coded = { entries_code };
+
+    ghost view = { λ f. entries_of f.nodes.items };
+
+    ghost invariant = { λ f. IsFlat (entries_of f.nodes.items) };
+}
+
+impl<'a> Flat<'a> {
+    /// Numbers the nodes of a tree. Refused only for want of memory.
+    pub fn new(alloc: Global, root: &'a Command) -> Result<Flat<'a>, Error>
+        ensures root { IfOk result (λ flat. tree_at flat 0 ≡ root.now) }
+        ensures flat { IfOk result IsFlat }
+        ensures memory { IfErr result (λ error. error ≡ Error.Memory) }
+    {
+        let mut nodes = Vec::new(alloc);
+        nodes.push(FlatNode::unnumbered(None, root))?;
+        let mut number = 0;
+        while number < nodes.len() {
+            number_children(&mut nodes, number)?;
+            number += 1;
+        }
+        Ok(Flat { nodes })
+    }
+
+    /// How many nodes there are.
+    pub fn len(&self) -> usize
+        ensures len { result ≡ length self.now }
+        ensures flat { IsFlat self.now }
+    {
+        self.nodes.len()
+    }
+
+    /// The command with this number.
+    pub fn command(&self, number: usize) -> &'a Command
+        requires { number < length self.now }
+        ensures { result.now ≡ tree_at self.now number }
+    {
+        self.nodes[number].command
+    }
+
+    /// The number of the node whose child this one is; the root has none.
+    pub fn parent(&self, number: usize) -> Option<usize>
+        requires { number < length self.now }
+        ensures value { result ≡ (entry_at self.now number).parent }
+        ensures root { IsNone result ↔ (number ≡ 0) }
+        ensures before { IfSome result (λ parent. parent < number) }
+        ensures child { IfSome result (λ parent. IsChildAt self.now parent number) }
+    {
+        self.nodes[number].parent
+    }
+
+    /// The numbers of the children, in order.
+    pub fn children(&self, number: usize) -> Range<usize>
+        requires { number < length self.now }
+        ensures first { result.start ≡ (entry_at self.now number).first_child }
+        ensures end { result.end ≡ result.start + (entry_at self.now number).child_count }
+        ensures children { HasItsChildren self.now number }
+    {
+        let node = &self.nodes[number];
+        node.first_child..node.first_child + node.child_count
+    }
+}
+
+impl<'a> FlatNode<'a> {
+    // A node whose children have no numbers yet.
+    fn unnumbered(parent: Option<usize>, command: &'a Command) -> FlatNode<'a>
+        ensures { entry_of result ≡ unnumbered parent command.now }
+    {
+        FlatNode {
+            command,
+            parent,
+            first_child: 0,
+            child_count: 0,
+        }
+    }
+}
+
+// Lists the children of the node with this number behind all others.
+fn number_children(nodes: &mut Vec<FlatNode<'_>>, number: usize) -> Result<(), Error>
+    requires { number < vec_len nodes.old }
+    ensures ok { OnOk result (entries_of nodes.new.items
+        ≡ with_children (entries_of nodes.old.items) number
+            (trees_of (tree_at (entries_of nodes.old.items) number).children)) }
+    ensures memory { IfErr result (λ error. error ≡ Error.Memory) }
+{
+    let children = nodes[number].command.get_subcommands();
+    let first_child = nodes.len();
+    let node = &mut nodes[number];
+    node.first_child = first_child;
+    node.child_count = children.len();
+    for command in children {
+        nodes.push(FlatNode::unnumbered(Some(number), command))?;
+    }
+    Ok(())
+}

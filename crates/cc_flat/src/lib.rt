@@ -1,0 +1,6 @@
+//! The nodes of a command tree in one numbered list, so that a walk over them goes by number.
+#![tactic(auto)]
+
+mod flat;
+
+pub use crate::flat::Flat;

@@ -1,0 +1,17 @@
+-- The shorts and the longs of a command's arguments.
+use Rattle.std.specs.Prelude.{ℕ, List, [], ◌∷◌, ◌++◌, Option, Some, None}
+use Rattle.std.specs.List.{flat_map}
+use Rattle.cc_arg.specs.declared.arg.Arg.{Arg}
+
+-- names behind which stands the first of them; none without a first
+abbrev pub aliases_then : {A : Type 0} → List A → Option A → List A
+aliases_then aliases None = []
+aliases_then aliases (Some first) = aliases ++ first ∷ []
+
+-- of each argument with a short its visible aliases, then the short
+unfoldable pub all_shorts : List Arg → List ℕ
+all_shorts arguments = flat_map (λ argument. aliases_then argument.visible_short_aliases argument.short) arguments
+
+-- of each argument with a long its visible aliases, then the long
+unfoldable pub all_longs : List Arg → List (List ℕ)
+all_longs arguments = flat_map (λ argument. aliases_then argument.visible_aliases argument.long) arguments
