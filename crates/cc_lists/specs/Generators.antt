@@ -24,3 +24,9 @@ abbrev pub AnswersClash : {A : Type 0} → Option (List ℕ) → Result A Error 
 AnswersClash None result before after = IfErr result IsNoClash
 AnswersClash (Some label) result before after =
   ((result ≡ Err (LabelClash label)) ⊎ (result ≡ Err Memory)) × (after ≡ before)
+
+-- What a call that builds and then writes leaves: where it succeeds the built tree; where it is
+-- refused either the tree as it was, and nothing is taken, or the built tree.
+abbrev pub LeavesBuilt : {A : Type 0} → Result A Error → Tree → Tree → Tree → List ℕ → List ℕ → Type 0
+LeavesBuilt (Ok _) old new built before after = new ≡ built
+LeavesBuilt (Err _) old new built before after = ((new ≡ old) × (after ≡ before)) ⊎ (new ≡ built)

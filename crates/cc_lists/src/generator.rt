@@ -1,11 +1,12 @@
 //! What every generator does.
 
-ghost use Rattle.std.specs.Prelude.{◌≡◌, ◌++◌, ℕ, List, Option, IsTrue, IfOk, IfErr, OnOk};
+ghost use Rattle.std.specs.Prelude.{◌≡◌, ◌++◌, ℕ, List, Option, Some, IsTrue, IfOk, IfErr, OnOk};
 ghost use Rattle.std.specs.String.{string_bytes};
 ghost use Rattle.cc_base.specs.Sink.{Counts};
 ghost use Rattle.cc_command.specs.Tree.{Tree};
 ghost use Rattle.cc_command.specs.Plain.{is_plain_tree};
-ghost use Rattle.cc_lists.specs.Generators.{IsReady, AnswersClash};
+ghost use Rattle.cc_command.specs.Built.{built_under};
+ghost use Rattle.cc_lists.specs.Generators.{AnswersClash, IsReady, LeavesBuilt};
 
 use cc_base::{Error, Sink};
 use cc_command::Command;
@@ -57,4 +58,31 @@ pub trait Generator {
     {
         self.generate(alloc, command, sink)
     }
+}
+
+/// Sets the bin name, builds the command and writes the generator's script.
+///
+/// Refused as the build or the generator is. A build that was refused leaves the command as it was,
+/// and nothing is written; one that was finished stays.
+pub fn generate<G: Generator + Drop, W: Sink>(
+    alloc: Global,
+    generator: G,
+    command: &mut Command,
+    bin_name: String,
+    sink: &mut W,
+) -> Result<(), Error>
+    ensures built { LeavesBuilt result command.old command.new
+        (built_under (Some (string_bytes bin_name)) command.old) (W.taken sink.old) (W.taken sink.new) }
+    ensures ok { OnOk result (W.taken sink.new ≡ W.taken sink.old
+        ++ G.script generator (built_under (Some (string_bytes bin_name)) command.old)) }
+    ensures reads { OnOk result (IsTrue (is_plain_tree (built_under (Some (string_bytes bin_name)) command.old)) →
+        G.Reads generator (built_under (Some (string_bytes bin_name)) command.old)
+            (G.script generator (built_under (Some (string_bytes bin_name)) command.old))) }
+    ensures clashes { AnswersClash
+        (G.clash generator (built_under (Some (string_bytes bin_name)) command.old)) result
+        (W.taken sink.old) (W.taken sink.new) }
+    ensures failures { Counts result (W.failed sink.old) (W.failed sink.new) }
+{
+    command.build_as(alloc, bin_name)?;
+    generator.generate(alloc, command, sink)
 }

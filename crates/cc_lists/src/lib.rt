@@ -6,4 +6,4 @@ pub mod elvish;
 pub mod generator;
 pub mod utils;
 
-pub use crate::generator::Generator;
+pub use crate::generator::{Generator, generate};
