@@ -22,6 +22,7 @@ new_arg id = record {
   value_names = [];
   index = None;
   display_order = None;
+  hide = false;
 }
 
 -- a positional has neither a short nor a long
@@ -50,7 +51,7 @@ takes_values arg = nat_lt 0 (range_of arg).greatest
 -- positional without a bound the one that keeps every use
 abbrev pub action_of : Arg → ArgAction
 action_of arg = unwrap_or arg.action (cond ((range_of arg).greatest == 0) SetTrue
-  (cond (is_positional arg && ((range_of arg).greatest == 18446744073709551615)) Append Set))
+    (cond (is_positional arg && ((range_of arg).greatest == 18446744073709551615)) Append Set))
 
 -- the argument with its range and its action filled in
 abbrev pub filled : Arg → Arg

@@ -34,3 +34,14 @@ impl ArgAction {
         matches!(self, ArgAction::Set | ArgAction::Append)
     }
 }
+
+#[cfg(test)]
+mod tests {
+    use super::*;
+
+    #[test]
+    fn only_two_take_values(rt: HostRuntime) {
+        assert!(rt; ArgAction::Set.takes_values() && ArgAction::Append.takes_values());
+        assert!(rt; !ArgAction::SetTrue.takes_values() && !ArgAction::Version.takes_values());
+    }
+}

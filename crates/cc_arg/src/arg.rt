@@ -32,6 +32,7 @@ pub struct Arg {
     value_names: Items<Text>,
     index: Option<usize>,
     display_order: Option<usize>,
+    hide: bool,
 }
 
 impl Arg {
@@ -53,6 +54,7 @@ impl Arg {
             value_names: Items::new(alloc),
             index: None,
             display_order: None,
+            hide: false,
         }
     }
 
@@ -146,6 +148,14 @@ impl Arg {
         Ok(self)
     }
 
+    /// Says whether the argument is left out of help texts.
+    pub fn hide(mut self, hide: bool) -> Arg
+        ensures { result ≡ record self { hide = hide } }
+    {
+        self.hide = hide;
+        self
+    }
+
     /// The id.
     pub fn get_id(&self) -> &str
         ensures { result.now ≡ self.now.id }
@@ -165,6 +175,13 @@ impl Arg {
         ensures { result.now ≡ self.now.visible_short_aliases }
     {
         self.visible_short_aliases.as_slice()
+    }
+
+    /// The shorts that work and are not shown.
+    pub fn get_short_aliases(&self) -> &[char]
+        ensures { result.now ≡ self.now.short_aliases }
+    {
+        self.short_aliases.as_slice()
     }
 
     /// The short, then its visible aliases; `None` without a short.
@@ -256,6 +273,13 @@ impl Arg {
         self.display_order.unwrap_or(999)
     }
 
+    /// Whether the argument is left out of help texts.
+    pub fn is_hide_set(&self) -> bool
+        ensures { result ≡ self.now.hide }
+    {
+        self.hide
+    }
+
     /// Whether the argument has neither a short nor a long.
     pub fn is_positional(&self) -> bool
         ensures { result ≡ is_positional self.now }
@@ -290,6 +314,7 @@ impl Arg {
             value_names: Items::copy_of_texts(alloc, self.value_names.as_slice())?,
             index: self.index,
             display_order: self.display_order,
+            hide: self.hide,
         })
     }
 
@@ -325,7 +350,9 @@ impl Arg {
         if let Some(range) = self.num_args {
             return range;
         }
-        if let Some(action) = self.action && !action.takes_values() {
+        if let Some(action) = self.action
+            && !action.takes_values()
+        {
             return ValueRange::exactly(0);
         }
         ValueRange::exactly(self.value_names.as_slice().len().max(1))
@@ -346,5 +373,91 @@ impl Arg {
         } else {
             ArgAction::Set
         }
+    }
+}
+
+#[cfg(test)]
+mod tests {
+    use super::*;
+    use std::test::Fail;
+
+    fn argument(alloc: Global, id: &str) -> Result<Arg, Fail> {
+        Ok(Arg::new(alloc, String::from_str(alloc, id)?))
+    }
+
+    #[test]
+    fn answers_the_shorts(rt: HostRuntime) -> Result<(), Fail> {
+        let argument = argument(rt.alloc(), "file")?
+            .short('f')
+            .visible_short_alias('p')?
+            .short_alias('q')?;
+        assert_eq!(rt; argument.get_id(), "file");
+        assert_eq!(rt; argument.get_short(), Some('f'));
+        assert_eq!(rt; argument.get_visible_short_aliases(), ['p'].as_slice());
+        assert_eq!(rt; argument.get_short_aliases(), ['q'].as_slice());
+        let mut shorts = argument.get_short_and_visible_aliases().ok_or("no short")?;
+        assert_eq!(rt; shorts.next(), Some('f'));
+        assert_eq!(rt; shorts.next(), Some('p'));
+        assert_eq!(rt; shorts.next(), None);
+        assert!(rt; !argument.is_positional());
+        Ok(())
+    }
+
+    #[test]
+    fn answers_the_longs(rt: HostRuntime) -> Result<(), Fail> {
+        let alloc = rt.alloc();
+        let argument = argument(alloc, "file")?
+            .long(String::from_str(alloc, "file")?)
+            .visible_alias(String::from_str(alloc, "path")?)?
+            .alias(String::from_str(alloc, "source")?)?;
+        assert_eq!(rt; argument.get_long(), Some("file"));
+        assert_eq!(rt; argument.get_visible_aliases().len(), 1);
+        assert_eq!(rt; argument.get_aliases().len(), 1);
+        let mut longs = argument.get_long_and_visible_aliases().ok_or("no long")?;
+        assert_eq!(rt; longs.next(), Some("file"));
+        assert_eq!(rt; longs.next(), Some("path"));
+        assert_eq!(rt; longs.next(), None);
+        Ok(())
+    }
+
+    #[test]
+    fn copies_an_option(rt: HostRuntime) -> Result<(), Fail> {
+        let alloc = rt.alloc();
+        let mut option = argument(alloc, "color")?
+            .short('c')
+            .help(String::from_str(alloc, "Colour")?)
+            .value_name(String::from_str(alloc, "WHEN")?)?
+            .num_args(ValueRange::new(0, 1))
+            .hide(true);
+        option.fill_display_order(3);
+        option.fill_display_order(4);
+        let copy = option.try_clone(alloc)?;
+        assert_eq!(rt; copy.get_short(), Some('c'));
+        assert_eq!(rt; copy.get_help(), Some("Colour"));
+        assert_eq!(rt; copy.get_value_names().len(), 1);
+        assert_eq!(rt; copy.get_num_args(), Some(ValueRange::new(0, 1)));
+        assert_eq!(rt; copy.get_display_order(), 3);
+        assert!(rt; copy.takes_values() && copy.is_hide_set());
+        Ok(())
+    }
+
+    #[test]
+    fn fills_in_range_and_action(rt: HostRuntime) -> Result<(), Fail> {
+        let alloc = rt.alloc();
+        let mut flag = argument(alloc, "verbose")?
+            .short('v')
+            .action(ArgAction::Count);
+        flag.fill();
+        assert_eq!(rt; flag.get_num_args(), Some(ValueRange::new(0, 0)));
+        assert_eq!(rt; flag.get_action(), ArgAction::Count);
+        assert!(rt; !flag.takes_values());
+        let mut rest = argument(alloc, "rest")?.num_args(ValueRange::new(0, usize::MAX));
+        rest.fill();
+        rest.fill_index(2);
+        assert_eq!(rt; rest.get_action(), ArgAction::Append);
+        assert_eq!(rt; rest.get_index(), Some(2));
+        assert_eq!(rt; rest.get_display_order(), 999);
+        assert!(rt; rest.is_positional());
+        Ok(())
     }
 }

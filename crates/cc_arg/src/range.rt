@@ -53,3 +53,17 @@ impl ValueRange {
         self.greatest > 0
     }
 }
+
+#[cfg(test)]
+mod tests {
+    use super::*;
+
+    #[test]
+    fn answers_its_bounds(rt: HostRuntime) {
+        let range = ValueRange::new(0, 2);
+        assert_eq!(rt; range.min_values(), 0);
+        assert_eq!(rt; range.max_values(), 2);
+        assert!(rt; range.takes_values());
+        assert!(rt; !ValueRange::new(0, 0).takes_values());
+    }
+}

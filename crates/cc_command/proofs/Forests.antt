@@ -5,7 +5,7 @@ use Rattle.std.proofs.lemmas.Bool.Decides.{nat_tests}
 use Rattle.cc_arg.specs.declared.arg.Arg.{Arg}
 use Rattle.cc_command.specs.declared.node.Node.{Node}
 use Rattle.cc_command.specs.declared.node.TheConstants.{HELP}
-use Rattle.cc_command.specs.Tree.{Forest, none, more, join, Tree, forest_of}
+use Rattle.cc_command.specs.Tree.{Forest, none, more, join, has_nodes, Tree, forest_of}
 use Rattle.cc_command.specs.Names.{has_child, has_id, answers_to, joined_name}
 use Rattle.cc_command.specs.Generated.{copies, generated_node, help_command, needs_help_child, help_child}
 use Rattle.cc_command.specs.Built.{built_forest, built_under, with_missing, inherited_by}
@@ -19,67 +19,73 @@ pub has_child-forest_of : (trees : List Tree) (word : List ℕ) → has_child (f
 has_child-forest_of [] word = refl
 has_child-forest_of (tree ∷ trees) word = ap (λ b. answers_to tree.node word || b) (has_child-forest_of trees word)
 
+pub has_nodes_forest_of : (trees : List Tree) → has_nodes (forest_of trees) ≡ not (length trees == 0)
+has_nodes_forest_of [] = refl
+has_nodes_forest_of (tree ∷ trees) =
+    let inhabited : (length (tree ∷ trees) == 0) ≡ false = grind (arith, nat_tests) in
+    ap not (sym inhabited)
+
 -- one more sibling is built behind the others
 pub built_forest-push : (inherited : List Arg) (parent : List ℕ) (made trees : List Tree) (tree : Tree) →
-  forest_of made ≡ built_forest [] parent (forest_of trees) →
-  forest_of (made ++ built_under (Some (joined_name parent tree.node.name)) tree ∷ []) ≡ built_forest [] parent (forest_of (trees ++ tree ∷ []))
+    forest_of made ≡ built_forest [] parent (forest_of trees) →
+    forest_of (made ++ built_under (Some (joined_name parent tree.node.name)) tree ∷ []) ≡ built_forest [] parent (forest_of (trees ++ tree ∷ []))
 built_forest-push inherited parent made trees tree so_far =
-  forest_of-append made (built_under (Some (joined_name parent tree.node.name)) tree ∷ []) ∙
-  ap (λ f. join f (built_forest [] parent (forest_of (tree ∷ [])))) so_far ∙
-  sym (built_forest-join [] parent (forest_of trees) (forest_of (tree ∷ []))) ∙
-  ap (built_forest [] parent) (sym (forest_of-append trees (tree ∷ [])))
+    forest_of-append made (built_under (Some (joined_name parent tree.node.name)) tree ∷ []) ∙
+    ap (λ f. join f (built_forest [] parent (forest_of (tree ∷ [])))) so_far ∙
+    sym (built_forest-join [] parent (forest_of trees) (forest_of (tree ∷ []))) ∙
+    ap (built_forest [] parent) (sym (forest_of-append trees (tree ∷ [])))
 
 -- one more sibling is copied at the place behind the others
 abbrev copy_of : List ℕ → ℕ → Tree → Forest → Forest
 copy_of parent place tree behind =
-  more (generated_node tree.node.name (joined_name parent tree.node.name) tree.node.about place tree.node.hide)
+    more (generated_node tree.node.name (joined_name parent tree.node.name) tree.node.about place tree.node.hide)
     (copies (joined_name parent tree.node.name) 0 tree.children) behind
 
 copies-append : (parent : List ℕ) (place : ℕ) (trees : List Tree) (tree : Tree) →
-  copies parent place (forest_of (trees ++ tree ∷ [])) ≡ join (copies parent place (forest_of trees)) (copies parent (place + length trees) (forest_of (tree ∷ [])))
+    copies parent place (forest_of (trees ++ tree ∷ [])) ≡ join (copies parent place (forest_of trees)) (copies parent (place + length trees) (forest_of (tree ∷ [])))
 copies-append parent place [] tree = ap (λ p. copies parent p (forest_of (tree ∷ []))) (sym (add-zero place))
 copies-append parent place (x ∷ xs) tree =
-  ap (λ f. copy_of parent place x f) (copies-append parent (suc place) xs tree) ∙
-  ap (λ p. copy_of parent place x (join (copies parent (suc place) (forest_of xs)) (copies parent p (forest_of (tree ∷ [])))))
+    ap (λ f. copy_of parent place x f) (copies-append parent (suc place) xs tree) ∙
+    ap (λ p. copy_of parent place x (join (copies parent (suc place) (forest_of xs)) (copies parent p (forest_of (tree ∷ [])))))
     (let e : suc place + length xs ≡ place + suc (length xs) = omega arith in e)
 
 pub copies-push : (parent : List ℕ) (made trees : List Tree) (tree : Tree) (copy : Tree) →
-  forest_of made ≡ copies parent 0 (forest_of trees) →
-  forest_of (copy ∷ []) ≡ copies parent (length trees) (forest_of (tree ∷ [])) →
-  forest_of (made ++ copy ∷ []) ≡ copies parent 0 (forest_of (trees ++ tree ∷ []))
+    forest_of made ≡ copies parent 0 (forest_of trees) →
+    forest_of (copy ∷ []) ≡ copies parent (length trees) (forest_of (tree ∷ [])) →
+    forest_of (made ++ copy ∷ []) ≡ copies parent 0 (forest_of (trees ++ tree ∷ []))
 copies-push parent made trees tree copy so_far is =
-  forest_of-append made (copy ∷ []) ∙ ap (λ f. join f (forest_of (copy ∷ []))) so_far ∙
-  ap (join (copies parent 0 (forest_of trees))) is ∙
-  sym (copies-append parent 0 trees tree ∙ ap (λ p. join (copies parent 0 (forest_of trees)) (copies parent p (forest_of (tree ∷ [])))) (zero-add (length trees)))
+    forest_of-append made (copy ∷ []) ∙ ap (λ f. join f (forest_of (copy ∷ []))) so_far ∙
+    ap (join (copies parent 0 (forest_of trees))) is ∙
+    sym (copies-append parent 0 trees tree ∙ ap (λ p. join (copies parent 0 (forest_of trees)) (copies parent p (forest_of (tree ∷ [])))) (zero-add (length trees)))
 
 -- copies with a `help` behind them are what a generated `help` holds
 pub helped-push : (name : List ℕ) (made : List Tree) (forest : Forest) (last : Tree) →
-  forest_of made ≡ copies name 0 forest → forest_of (last ∷ []) ≡ help_command name none → forest_of (made ++ last ∷ []) ≡ helped name forest
+    forest_of made ≡ copies name 0 forest → forest_of (last ∷ []) ≡ help_command name none → forest_of (made ++ last ∷ []) ≡ helped name forest
 helped-push name made forest last so_far is =
-  forest_of-append made (last ∷ []) ∙ ap (λ f. join f (forest_of (last ∷ []))) so_far ∙ ap (join (copies name 0 forest)) is
+    forest_of-append made (last ∷ []) ∙ ap (λ f. join f (forest_of (last ∷ []))) so_far ∙ ap (join (copies name 0 forest)) is
 
 -- the children as building leaves them, where the child `help` is not missing
 pub children-whole : (name : List ℕ) (node : Node) (forest built : Forest) → built ≡ built_forest [] name forest → needs_help_child node forest ≡ false →
-  built ≡ join (built_forest [] name forest) (help_child name node forest)
+    built ≡ join (built_forest [] name forest) (help_child name node forest)
 children-whole name node forest built is not_missing =
-  is ∙ sym (join-none (built_forest [] name forest)) ∙
-  ap (λ b. join (built_forest [] name forest) (cond b (help_command name (helped (joined_name name HELP.now) forest)) none)) (sym not_missing)
+    is ∙ sym (join-none (built_forest [] name forest)) ∙
+    ap (λ b. join (built_forest [] name forest) (cond b (help_command name (helped (joined_name name HELP.now) forest)) none)) (sym not_missing)
 
 -- the children as building leaves them, where the child `help` was missing
 pub children-helped : (name : List ℕ) (node : Node) (forest : Forest) (built : List Tree) (help : Tree) → forest_of built ≡ built_forest [] name forest →
-  needs_help_child node forest ≡ true → forest_of (help ∷ []) ≡ help_command name (helped (joined_name name HELP.now) forest) →
-  forest_of (built ++ help ∷ []) ≡ join (built_forest [] name forest) (help_child name node forest)
+    needs_help_child node forest ≡ true → forest_of (help ∷ []) ≡ help_command name (helped (joined_name name HELP.now) forest) →
+    forest_of (built ++ help ∷ []) ≡ join (built_forest [] name forest) (help_child name node forest)
 children-helped name node forest built help is missing made =
-  forest_of-append built (help ∷ []) ∙ ap (λ f. join f (forest_of (help ∷ []))) is ∙ ap (join (built_forest [] name forest)) made ∙
-  ap (λ b. join (built_forest [] name forest) (cond b (help_command name (helped (joined_name name HELP.now) forest)) none)) (sym missing)
+    forest_of-append built (help ∷ []) ∙ ap (λ f. join f (forest_of (help ∷ []))) is ∙ ap (join (built_forest [] name forest)) made ∙
+    ap (λ b. join (built_forest [] name forest) (cond b (help_command name (helped (joined_name name HELP.now) forest)) none)) (sym missing)
 
 -- the help child is missing from a list of children
 pub needs_help_child-forest_of : (node : Node) (trees : List Tree) →
-  needs_help_child node (forest_of trees) ≡ (not (length trees == 0) && (not node.disable_help_subcommand && not (has_child (forest_of trees) HELP.now)))
+    needs_help_child node (forest_of trees) ≡ (not (length trees == 0) && (not node.disable_help_subcommand && not (has_child (forest_of trees) HELP.now)))
 needs_help_child-forest_of node [] = refl
 needs_help_child-forest_of node (tree ∷ trees) =
-  let inhabited : (length (tree ∷ trees) == 0) ≡ false = grind (arith, nat_tests) in
-  ap (λ b. not b && (not node.disable_help_subcommand && not (has_child (forest_of (tree ∷ trees)) HELP.now))) (sym inhabited)
+    let inhabited : (length (tree ∷ trees) == 0) ≡ false = grind (arith, nat_tests) in
+    ap (λ b. not b && (not node.disable_help_subcommand && not (has_child (forest_of (tree ∷ trees)) HELP.now))) (sym inhabited)
 
 -- adding what is missing goes one list after another
 pub with_missing-append : (xs ys zs : List Arg) → with_missing xs (ys ++ zs) ≡ with_missing (with_missing xs ys) zs

@@ -1,2 +1,4 @@
 pub mod BuiltAgain
+pub mod DifferentNames
 pub mod Forests
+pub mod PlainNames

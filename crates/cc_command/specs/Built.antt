@@ -11,7 +11,7 @@ use Rattle.cc_command.specs.Generated.{generated_arguments, help_child}
 abbrev pub with_missing : List Arg → List Arg → List Arg
 with_missing arguments [] = arguments
 with_missing arguments (other ∷ others) =
-  with_missing (cond (has_id arguments other.id) arguments (arguments ++ other ∷ [])) others
+    with_missing (cond (has_id arguments other.id) arguments (arguments ++ other ∷ [])) others
 
 -- the argument is a positional whose place is not given
 abbrev pub lacks_index : Arg → Bool
@@ -38,19 +38,19 @@ inherited_by node inherited = cond node.generated [] inherited
 -- its range, its action and its place
 abbrev pub built_arguments : List Arg → Node → List Arg
 built_arguments inherited node =
-  indexed 1 (map filled (with_missing node.arguments (inherited_by node inherited ++ generated_arguments node)))
+    indexed 1 (map filled (with_missing node.arguments (inherited_by node inherited ++ generated_arguments node)))
 
 -- a node as building leaves it, under this bin name
 abbrev pub built_node : List Arg → Option (List ℕ) → Node → Node
 built_node inherited bin_name node =
-  record node { bin_name = bin_name; arguments = built_arguments inherited node; built = true }
+    record node { bin_name = bin_name; arguments = built_arguments inherited node; built = true }
 
 -- siblings as building leaves them, under a parent of this full name: each is named after it, and
 -- its children are its own, then the generated `help`
 abbrev pub built_forest : List Arg → List ℕ → Forest → Forest
 built_forest inherited parent none = none
 built_forest inherited parent (more node below rest) =
-  more (built_node inherited (Some (joined_name parent node.name)) node)
+    more (built_node inherited (Some (joined_name parent node.name)) node)
     (join (built_forest inherited (joined_name parent node.name) below) (help_child (joined_name parent node.name) node below))
     (built_forest inherited parent rest)
 
@@ -59,7 +59,7 @@ abbrev pub built_under : Option (List ℕ) → Tree → Tree
 built_under bin_name tree = record {
   node = built_node [] bin_name tree.node;
   children = join (built_forest [] (full_name (record tree.node { bin_name = bin_name })) tree.children)
-    (help_child (full_name (record tree.node { bin_name = bin_name })) tree.node tree.children);
+      (help_child (full_name (record tree.node { bin_name = bin_name })) tree.node tree.children);
 }
 
 -- a tree as building leaves it; its root keeps its bin name

@@ -11,12 +11,22 @@ use Rattle.cc_command.specs.Names.{has_child, joined_name}
 -- the flag that shows the help
 unfoldable pub help_argument : Arg
 help_argument = record (new_arg HELP.now) {
-  short = Some 104; long = Some HELP.now; help = Some HELP_HELP.now; action = Some Help; display_order = Some 999 }
+  short = Some 104;
+  long = Some HELP.now;
+  help = Some HELP_HELP.now;
+  action = Some Help;
+  display_order = Some 999;
+}
 
 -- the flag that shows the version
 unfoldable pub version_argument : Arg
 version_argument = record (new_arg VERSION.now) {
-  short = Some 86; long = Some VERSION.now; help = Some VERSION_HELP.now; action = Some Version; display_order = Some 999 }
+  short = Some 86;
+  long = Some VERSION.now;
+  help = Some VERSION_HELP.now;
+  action = Some Version;
+  display_order = Some 999;
+}
 
 -- the flag `help`, unless it is disabled
 abbrev pub generated_help : Node → List Arg
@@ -56,24 +66,24 @@ generated_node name bin_name about order hide = record {
 abbrev pub copies : List ℕ → ℕ → Forest → Forest
 copies parent place none = none
 copies parent place (more node below rest) =
-  more (generated_node node.name (joined_name parent node.name) node.about place node.hide)
+    more (generated_node node.name (joined_name parent node.name) node.about place node.hide)
     (copies (joined_name parent node.name) 0 below) (copies parent (suc place) rest)
 
 -- a generated `help` under a parent of this full name, with these children
 abbrev pub help_command : List ℕ → Forest → Forest
 help_command parent children =
-  more (generated_node HELP.now (joined_name parent HELP.now) (Some HELP_ABOUT.now) 999 false) children none
+    more (generated_node HELP.now (joined_name parent HELP.now) (Some HELP_ABOUT.now) 999 false) children none
 
 -- the child `help` is missing: there are children, none of them answers to `help`, and it is not
 -- disabled
 abbrev pub needs_help_child : Node → Forest → Bool
 needs_help_child node none = false
 needs_help_child node (more child below rest) =
-  not node.disable_help_subcommand && not (has_child (more child below rest) HELP.now)
+    not node.disable_help_subcommand && not (has_child (more child below rest) HELP.now)
 
 -- the generated child `help`, where it is missing: copies of the children, and last a `help`
 abbrev pub help_child : List ℕ → Node → Forest → Forest
 help_child parent node children =
-  cond (needs_help_child node children)
+    cond (needs_help_child node children)
     (help_command parent (join (copies (joined_name parent HELP.now) 0 children) (help_command (joined_name parent HELP.now) none)))
     none

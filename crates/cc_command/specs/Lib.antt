@@ -1,6 +1,7 @@
 pub mod ArgumentLists
 pub mod Built
 pub mod Generated
+pub mod Iterators
 pub mod Made
 pub mod Marked
 pub mod Names

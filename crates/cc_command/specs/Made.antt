@@ -3,7 +3,7 @@ use Rattle.std.specs.Prelude.{ℕ, suc, List, [], ◌∷◌, ◌++◌, Bool, tru
 use Rattle.cc_arg.specs.declared.arg.Arg.{Arg}
 use Rattle.cc_arg.specs.Arguments.{is_positional}
 use Rattle.cc_command.specs.declared.node.Node.{Node}
-use Rattle.cc_command.specs.Tree.{Forest, none, Tree}
+use Rattle.cc_command.specs.Tree.{Forest, none, more, join, Tree}
 
 -- a node of which only the name was given
 abbrev pub new_node : List ℕ → Node
@@ -42,6 +42,21 @@ ordered place argument = record argument { display_order = Some (unwrap_or argum
 -- place of its own; the place is used up all the same.
 abbrev pub with_argument : Node → Arg → Node
 with_argument node argument = cond (is_positional argument)
-  (record node { arguments = node.arguments ++ argument ∷ []; built = false })
-  (record node { arguments = node.arguments ++ ordered node.next_order argument ∷ [];
-    next_order = next_place node.next_order; built = false })
+    (record node { arguments = node.arguments ++ argument ∷ []; built = false })
+    (record node {
+      arguments = node.arguments ++ ordered node.next_order argument ∷ [];
+      next_order = next_place node.next_order;
+      built = false;
+    })
+
+-- the node at this place, if it has no place of its own
+abbrev pub ordered_node : ℕ → Node → Node
+ordered_node place node = record node { display_order = Some (unwrap_or node.display_order place) }
+
+-- the tree with one more child, behind the others. It takes the next place, unless it has a place of
+-- its own; the place is used up all the same.
+abbrev pub with_child : Tree → Tree → Tree
+with_child tree child = record {
+  node = record tree.node { next_order = next_place tree.node.next_order; built = false };
+  children = join tree.children (more (ordered_node tree.node.next_order child.node) child.children none);
+}

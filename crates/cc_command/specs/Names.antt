@@ -1,10 +1,10 @@
 -- The names of commands and arguments: who answers to a word, and what a name in full is.
-use Rattle.std.specs.Prelude.{ℕ, List, [], ◌∷◌, ◌++◌, Bool, false, ◌||◌, unwrap_or, codes}
+use Rattle.std.specs.Prelude.{ℕ, List, [], ◌∷◌, ◌++◌, Bool, false, ◌||◌, cond, Option, Some, None, unwrap_or, codes}
 use Rattle.std.specs.List.{list_any}
 use Rattle.std.specs.Str.{bytes_eq}
 use Rattle.cc_arg.specs.declared.arg.Arg.{Arg}
 use Rattle.cc_command.specs.declared.node.Node.{Node}
-use Rattle.cc_command.specs.Tree.{Forest, none, more}
+use Rattle.cc_command.specs.Tree.{Forest, none, more, Tree}
 
 -- one of the names is the word
 abbrev pub contains_name : List (List ℕ) → List ℕ → Bool
@@ -13,6 +13,16 @@ contains_name names word = list_any (λ name. bytes_eq name word) names
 -- the node's name, a visible alias or a hidden alias of it is the word
 abbrev pub answers_to : Node → List ℕ → Bool
 answers_to node word = bytes_eq node.name word || contains_name node.visible_aliases word || contains_name node.aliases word
+
+-- the names of a node that are shown: its name, then its visible aliases
+abbrev pub visible_names : Node → List (List ℕ)
+visible_names node = node.name ∷ node.visible_aliases
+
+-- the first of the siblings that answers to the word, with what is below it
+abbrev pub find_child : Forest → List ℕ → Option Tree
+find_child none word = None
+find_child (more node below rest) word =
+    cond (answers_to node word) (Some (record { node = node; children = below })) (find_child rest word)
 
 -- one of the siblings answers to the word
 abbrev pub has_child : Forest → List ℕ → Bool

@@ -20,22 +20,22 @@ has_no_quote text = list_all (λ byte. not (byte == 39)) text
 -- shorts are letters or digits, longs are plain names, and the id and the value names hold no quote
 abbrev pub is_plain_argument : Arg → Bool
 is_plain_argument argument =
-  has_no_quote argument.id &&
-  (list_all has_no_quote argument.value_names &&
-  (passes_if_some is_ascii_alphanumeric argument.short &&
-  (list_all is_ascii_alphanumeric argument.visible_short_aliases &&
-  (list_all is_ascii_alphanumeric argument.short_aliases &&
-  (passes_if_some is_plain_name argument.long &&
-  (list_all is_plain_name argument.visible_aliases &&
-  list_all is_plain_name argument.aliases))))))
+    has_no_quote argument.id &&
+    (list_all has_no_quote argument.value_names &&
+    (passes_if_some is_ascii_alphanumeric argument.short &&
+    (list_all is_ascii_alphanumeric argument.visible_short_aliases &&
+    (list_all is_ascii_alphanumeric argument.short_aliases &&
+    (passes_if_some is_plain_name argument.long &&
+    (list_all is_plain_name argument.visible_aliases &&
+    list_all is_plain_name argument.aliases))))))
 
 -- the name and the aliases are plain names, and the arguments are plain
 abbrev pub is_plain_node : Node → Bool
 is_plain_node node =
-  is_plain_name node.name &&
-  (list_all is_plain_name node.visible_aliases &&
-  (list_all is_plain_name node.aliases &&
-  list_all is_plain_argument node.arguments))
+    is_plain_name node.name &&
+    (list_all is_plain_name node.visible_aliases &&
+    (list_all is_plain_name node.aliases &&
+    list_all is_plain_argument node.arguments))
 
 -- every name by which a command is called
 abbrev pub names_of : Node → List (List ℕ)
@@ -50,18 +50,18 @@ all_differ (name ∷ names) = not (contains_name names name) && all_differ names
 abbrev pub siblings_differ : Forest → Bool
 siblings_differ none = true
 siblings_differ (more node below rest) =
-  all_differ (names_of node) &&
-  (list_all (λ name. not (has_child rest name)) (names_of node) &&
-  siblings_differ rest)
+    all_differ (names_of node) &&
+    (list_all (λ name. not (has_child rest name)) (names_of node) &&
+    siblings_differ rest)
 
 -- every node of the forest is plain, and below each the names of siblings differ
 abbrev pub is_plain_forest : Forest → Bool
 is_plain_forest none = true
 is_plain_forest (more node below rest) =
-  is_plain_node node && (siblings_differ below && (is_plain_forest below && is_plain_forest rest))
+    is_plain_node node && (siblings_differ below && (is_plain_forest below && is_plain_forest rest))
 
 -- the tree is plain, and its bin name, where there is one, is a plain name
 abbrev pub is_plain_tree : Tree → Bool
 is_plain_tree tree =
-  passes_if_some is_plain_name tree.node.bin_name &&
-  (is_plain_node tree.node && (siblings_differ tree.children && is_plain_forest tree.children))
+    passes_if_some is_plain_name tree.node.bin_name &&
+    (is_plain_node tree.node && (siblings_differ tree.children && is_plain_forest tree.children))

@@ -1,5 +1,5 @@
 -- What a command means: a tree of nodes, each with its children in order.
-use Rattle.std.specs.Prelude.{ℕ, ◌+◌, ◌≤◌, List, [], ◌∷◌}
+use Rattle.std.specs.Prelude.{ℕ, ◌+◌, ◌≤◌, List, [], ◌∷◌, Bool, true, false}
 use Rattle.std.proofs.Common.{arith}
 use denote.Param.Weighed.{most}
 use Rattle.cc_command.specs.declared.node.Node.{Node}
@@ -23,6 +23,11 @@ forest_of (tree ∷ trees) = more tree.node tree.children (forest_of trees)
 abbrev pub join : Forest → Forest → Forest
 join none behind = behind
 join (more node below rest) behind = more node below (join rest behind)
+
+-- whether a forest has a node
+abbrev pub has_nodes : Forest → Bool
+has_nodes none = false
+has_nodes (more node below rest) = true
 
 -- how many nodes a forest has
 abbrev pub forest_size : Forest → ℕ

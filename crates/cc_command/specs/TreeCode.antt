@@ -33,8 +33,8 @@ from_marks marks = first_forest (forests_of marks)
 forests_of-marks_of : (forest : Forest) (later : List (Option Node)) → forests_of (marks_of forest ++ later) ≡ forest ∷ forests_of later
 forests_of-marks_of none later = refl
 forests_of-marks_of (more node below rest) later =
-  ap (λ marks. stacked (Some node) (forests_of marks)) (append_assoc (marks_of below) (marks_of rest) later) ∙
-  ap (stacked (Some node)) (forests_of-marks_of below (marks_of rest ++ later) ∙ ap (λ forests. below ∷ forests) (forests_of-marks_of rest later))
+    ap (λ marks. stacked (Some node) (forests_of marks)) (append_assoc (marks_of below) (marks_of rest) later) ∙
+    ap (stacked (Some node)) (forests_of-marks_of below (marks_of rest ++ later) ∙ ap (λ forests. below ∷ forests) (forests_of-marks_of rest later))
 
 append-none : (marks : List (Option Node)) → marks ++ [] ≡ marks
 append-none [] = refl
@@ -42,7 +42,7 @@ append-none (mark ∷ marks) = ap (λ rest. mark ∷ rest) (append-none marks)
 
 pub from_marks-marks_of : (forest : Forest) → from_marks (marks_of forest) ≡ forest
 from_marks-marks_of forest =
-  ap from_marks (sym (append-none (marks_of forest))) ∙ ap first_forest (forests_of-marks_of forest [])
+    ap from_marks (sym (append-none (marks_of forest))) ∙ ap first_forest (forests_of-marks_of forest [])
 
 abbrev tree_from : Node × List (Option Node) → Tree
 tree_from stored = record { node = stored.0; children = from_marks stored.1 }
@@ -52,5 +52,5 @@ node_code = contracts_of_node.the_row.coded
 
 abbrev pub tree_code : Coded Tree
 tree_code = code_by (Node × List (Option Node)) (coded× node_code (coded_list (coded_option node_code)))
-  (λ tree. (tree.node, marks_of tree.children)) tree_from
-  (λ tree. ap (λ children. let t : Tree = record { node = tree.node; children = children } in t) (from_marks-marks_of tree.children))
+    (λ tree. (tree.node, marks_of tree.children)) tree_from
+    (λ tree. ap (λ children. let t : Tree = record { node = tree.node; children = children } in t) (from_marks-marks_of tree.children))

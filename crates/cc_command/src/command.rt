@@ -5,8 +5,14 @@ ghost use Rattle.std.specs.String.{string_bytes};
 ghost use Rattle.cc_command.specs.Made.{new_tree, with_argument};
 
 mod build;
+mod children;
 mod getters;
+mod iterators;
+mod plain;
+#[cfg(test)]
+mod tests;
 
+pub use crate::command::iterators::{NameAndVisibleAliases, Options, Positionals};
 use crate::node::Node;
 use cc_arg::Arg;
 use cc_base::{Error, Items, Text};
@@ -35,8 +41,7 @@ impl Model for Command {
 
     ghost view = { λ c. record { node = c.node; children = forest_of c.children.items } };
 
-    ghost invariant =
-        { λ c. StaysIfMarked (record { node = c.node; children = forest_of c.children.items }) };
+    ghost invariant = { λ c. StaysIfMarked (record { node = c.node; children = forest_of c.children.items }) };
 
     ghost size = { tree_size };
 
@@ -73,8 +78,10 @@ impl Command {
 
     /// Sets the name by which the program is called.
     pub fn bin_name(mut self, name: String) -> Command
-        ensures { result ≡ record self { node =
-            record self.node { bin_name = Some (string_bytes name); built = false } } }
+        ensures { result ≡ record self {
+          node =
+              record self.node { bin_name = Some (string_bytes name); built = false };
+        } }
     {
         self.set_bin_name(name);
         self
@@ -82,8 +89,10 @@ impl Command {
 
     /// Sets the name by which the program is called, in place.
     pub fn set_bin_name(&mut self, name: String)
-        ensures { self.new ≡ record self.old { node =
-            record self.old.node { bin_name = Some (string_bytes name); built = false } } }
+        ensures { self.new ≡ record self.old {
+          node =
+              record self.old.node { bin_name = Some (string_bytes name); built = false };
+        } }
     {
         self.node.built = false;
         self.node.bin_name = Some(Text::from(name));
@@ -91,8 +100,10 @@ impl Command {
 
     /// Sets what the command says of itself.
     pub fn about(mut self, about: String) -> Command
-        ensures { result ≡ record self { node =
-            record self.node { about = Some (string_bytes about); built = false } } }
+        ensures { result ≡ record self {
+          node =
+              record self.node { about = Some (string_bytes about); built = false };
+        } }
     {
         self.node.built = false;
         self.node.about = Some(Text::from(about));
@@ -101,8 +112,10 @@ impl Command {
 
     /// Sets the version, which a flag shows.
     pub fn version(mut self, version: String) -> Command
-        ensures { result ≡ record self { node =
-            record self.node { version = Some (string_bytes version); built = false } } }
+        ensures { result ≡ record self {
+          node =
+              record self.node { version = Some (string_bytes version); built = false };
+        } }
     {
         self.node.built = false;
         self.node.version = Some(Text::from(version));
@@ -127,8 +140,10 @@ impl Command {
 
     /// Says whether the flag `help` is left out.
     pub fn disable_help_flag(mut self, disable: bool) -> Command
-        ensures { result ≡ record self { node =
-            record self.node { disable_help_flag = disable; built = false } } }
+        ensures { result ≡ record self {
+          node =
+              record self.node { disable_help_flag = disable; built = false };
+        } }
     {
         self.node.built = false;
         self.node.disable_help_flag = disable;
@@ -137,8 +152,10 @@ impl Command {
 
     /// Says whether the flag `version` is left out.
     pub fn disable_version_flag(mut self, disable: bool) -> Command
-        ensures { result ≡ record self { node =
-            record self.node { disable_version_flag = disable; built = false } } }
+        ensures { result ≡ record self {
+          node =
+              record self.node { disable_version_flag = disable; built = false };
+        } }
     {
         self.node.built = false;
         self.node.disable_version_flag = disable;

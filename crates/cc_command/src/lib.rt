@@ -4,4 +4,4 @@
 mod command;
 mod node;
 
-pub use crate::command::Command;
+pub use crate::command::{Command, NameAndVisibleAliases, Options, Positionals};

@@ -1,10 +1,11 @@
 -- Entries and trees at numbers.
-use Rattle.std.proofs.Common.{◌≡◌, ℕ, zero, suc, ◌+◌, ◌-◌, ◌<◌, ◌≤◌, List, [], ◌∷◌, ◌++◌, length, map, get_or, Option, Some, None, refl, ap, ◌∙◌, sym, arith, rules}
+use Rattle.std.proofs.Common.{◌≡◌, ℕ, zero, suc, ◌+◌, ◌-◌, ◌<◌, ◌≤◌, List, [], ◌∷◌, ◌++◌, length, map, get_or, Option, Some, None, refl, ap, ◌∙◌, sym, subst, ⊎_elim, arith}
+use Rattle.std.proofs.lemmas.Bool.{cases_lt}
 use Rattle.std.specs.List.{range_with_len}
 use Rattle.std.proofs.lemmas.List.{get_or_at, get_or-map, append_assoc, length-append}
 use Rattle.cc_command.specs.Tree.{Tree}
 use Rattle.cc_flat.specs.declared.flat.FlatNode.{FlatNode}
-use Rattle.cc_flat.specs.Flat.{Entry, no_entry, entry_of, entries_of, entry_at, tree_at, trees_at}
+use Rattle.cc_flat.specs.Flat.{Entry, no_entry, entry_of, entries_of, entry_at, tree_at, trees_at, numbers_between, IsChildAt, HasItsParent, IsFlat}
 use Rattle.cc_flat.specs.Numbered.{unnumbered}
 
 -- lists that agree at some numbers have the same trees there
@@ -34,3 +35,44 @@ trees_at-appended flat parent (tree ∷ trees) =
 -- what a stored node says
 pub entry_at-stored : (nodes : List FlatNode) (number : ℕ) (node : FlatNode) → number < length nodes → node ≡ get_or nodes number node → entry_at (entries_of nodes) number ≡ entry_of node
 entry_at-stored nodes number node inside is = get_or-map entry_of nodes number node no_entry inside ∙ ap entry_of (sym is)
+
+-- the next number comes first
+pub numbers_between-first : (start end : ℕ) → start < end → numbers_between start end ≡ start ∷ numbers_between (start + 1) end
+numbers_between-first start end low =
+  let one_less : end - start ≡ suc (end - (start + 1)) = omega arith in ap (range_with_len start) one_less
+
+-- the number before the end comes last
+range_with_len-last : (start count : ℕ) → range_with_len start (suc count) ≡ range_with_len start count ++ (start + count) ∷ []
+range_with_len-last start zero = ap (λ n. n ∷ []) (let e : start ≡ start + 0 = omega arith in e)
+range_with_len-last start (suc count) =
+  ap (λ ns. start ∷ ns) (range_with_len-last (start + 1) count ∙
+    ap (λ n. range_with_len (start + 1) count ++ n ∷ []) (let e : start + 1 + count ≡ start + suc count = omega arith in e))
+
+pub numbers_between-last : (start end : ℕ) → start ≤ end → numbers_between start (end + 1) ≡ numbers_between start end ++ end ∷ []
+numbers_between-last start end low =
+  let one_more : end + 1 - start ≡ suc (end - start) = omega arith in
+  let last : start + (end - start) ≡ end = omega arith in
+  ap (range_with_len start) one_more ∙ range_with_len-last start (end - start) ∙ ap (λ n. numbers_between start end ++ n ∷ []) last
+
+-- no numbers are left
+pub numbers_between-none : (start end : ℕ) → end ≤ start → numbers_between start end ≡ []
+numbers_between-none start end high = let nothing : end - start ≡ zero = omega arith in ap (range_with_len start) nothing
+
+-- so many numbers
+pub numbers_between-count : (start count : ℕ) → numbers_between start (start + count) ≡ range_with_len start count
+numbers_between-count start count = let all : start + count - start ≡ count = omega arith in ap (range_with_len start) all
+
+-- every node but the root has a parent, which is before it and whose child it is
+abbrev pub HasParentOrNone : List Entry → ℕ → Option ℕ → Type 0
+HasParentOrNone flat number None = number ≡ 0
+HasParentOrNone flat number (Some parent) = (0 < number) × ((parent < number) × IsChildAt flat parent number)
+
+pub HasParentOrNone-at : (flat : List Entry) (number : ℕ) → IsFlat flat → number < length flat → HasParentOrNone flat number (entry_at flat number).parent
+HasParentOrNone-at flat number is_flat inside =
+  let P : Option ℕ → Type 0 = HasParentOrNone flat number in
+  ⊎_elim
+    (λ behind. let its : HasItsParent flat number = is_flat.parents number behind inside in
+      subst P (sym its.is) (behind, (its.before, its.child)))
+    (λ first. let zero_is : number ≡ 0 = omega arith in
+      let none_is : (entry_at flat number).parent ≡ None = ap (λ n. (entry_at flat n).parent) zero_is ∙ is_flat.root in subst P (sym none_is) zero_is)
+    (cases_lt 0 number)

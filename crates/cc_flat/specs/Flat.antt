@@ -1,5 +1,5 @@
 -- A tree's nodes in one list, each under a number.
-use Rattle.std.specs.Prelude.{◌≡◌, ℕ, ◌+◌, ◌<◌, ◌≤◌, List, [], ◌∷◌, length, map, Option, Some, None, slice_index_or}
+use Rattle.std.specs.Prelude.{◌≡◌, ℕ, ◌+◌, ◌-◌, ◌<◌, ◌≤◌, List, [], ◌∷◌, length, map, Option, Some, None, slice_index_or}
 use Rattle.std.specs.List.{range_with_len}
 use Rattle.cc_command.specs.Tree.{Forest, none, more, Tree, forest_of, forest_size}
 use Rattle.cc_command.specs.Made.{new_tree}
@@ -49,6 +49,10 @@ tree_at flat number = (entry_at flat number).tree
 -- the trees at some numbers
 abbrev pub trees_at : List Entry → List ℕ → List Tree
 trees_at flat numbers = map (tree_at flat) numbers
+
+-- the numbers from one up to another, which is left out
+abbrev pub numbers_between : ℕ → ℕ → List ℕ
+numbers_between start end = range_with_len start (end - start)
 
 -- the numbers of a node's children, in order
 abbrev pub children_at : List Entry → ℕ → List ℕ

@@ -1,7 +1,7 @@
 //! The nodes of a command tree in one numbered list.
 
 ghost use Rattle.std.specs.Prelude.{◌≡◌, ◌<◌, ◌+◌, ◌↔◌, length, IfOk, IfErr, IfSome, IsNone, OnOk, vec_len};
-ghost use Rattle.cc_flat.specs.Flat.{IsFlat, IsChildAt, HasItsChildren, entry_of, entries_of, entry_at, tree_at, trees_of};
+ghost use Rattle.cc_flat.specs.Flat.{IsFlat, IsChildAt, HasItsChildren, entry_of, entries_of, entry_at, tree_at, trees_of, numbers_between, children_at};
 ghost use Rattle.cc_flat.specs.Numbered.{unnumbered, with_children};
 
 use cc_base::Error;
@@ -74,22 +74,12 @@ impl<'a> Flat<'a> {
         self.nodes[number].command
     }
 
-    /// The number of the node whose child this one is; the root has none.
-    pub fn parent(&self, number: usize) -> Option<usize>
-        requires { number < length self.now }
-        ensures value { result ≡ (entry_at self.now number).parent }
-        ensures root { IsNone result ↔ (number ≡ 0) }
-        ensures before { IfSome result (λ parent. parent < number) }
-        ensures child { IfSome result (λ parent. IsChildAt self.now parent number) }
-    {
-        self.nodes[number].parent
-    }
-
     /// The numbers of the children, in order.
     pub fn children(&self, number: usize) -> Range<usize>
         requires { number < length self.now }
         ensures first { result.start ≡ (entry_at self.now number).first_child }
         ensures end { result.end ≡ result.start + (entry_at self.now number).child_count }
+        ensures numbers { numbers_between result.start result.end ≡ children_at self.now number }
         ensures children { HasItsChildren self.now number }
     {
         let node = &self.nodes[number];

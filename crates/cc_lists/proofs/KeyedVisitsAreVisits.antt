@@ -15,7 +15,7 @@ keyed_under-more keys node below rest = refl
 
 module _ (bin_name : List ℕ) where
   -- a visit as a keyed tree
-  abbrev keyed : Visit → KeyedTree
+  abbrev pub keyed : Visit → KeyedTree
   keyed visit = record { key = key_of bin_name visit.path; tree = visit.tree }
 
   map-append : (xs ys : List Visit) → map keyed (xs ++ ys) ≡ map keyed xs ++ map keyed ys

@@ -2,6 +2,8 @@ pub mod ElvishExamples
 pub mod ElvishPlain
 pub mod ElvishReadsBack
 pub mod ElvishRows
+pub mod ElvishScripts
+pub mod KeyedTexts
 pub mod KeyedVisitsAreVisits
 pub mod Lines
 pub mod Members

@@ -6,4 +6,5 @@ pub mod ElvishScript
 pub mod Generators
 pub mod KeyedVisits
 pub mod Paths
+pub mod Pending
 pub mod Visits

@@ -1,15 +1,19 @@
 //! The Elvish script: a frame, and in it a table for each visible path.
 
-ghost use Rattle.std.specs.Prelude.{◌≡◌, ◌++◌, ℕ, List, map, codes, encode_utf8, filter, IfOk, IfErr, OnOk};
+ghost use Rattle.std.specs.Prelude.{◌≡◌, ◌++◌, ℕ, List, None, map, codes, encode_utf8, filter, IfOk, IfErr, OnOk};
 ghost use Rattle.std.specs.List.{flat_map};
 ghost use Rattle.std.specs.Option.{option_copied};
 ghost use Rattle.std.specs.String.{string_bytes};
-ghost use Rattle.cc_base.specs.Sink.{Counts, IsMemoryOrWrite};
+ghost use Rattle.cc_base.specs.Sink.{Counts, IsMemoryOrWrite, IsWrite};
 ghost use Rattle.cc_command.specs.Tree.{forest_of};
+ghost use Rattle.cc_command.specs.Names.{full_name};
 ghost use Rattle.cc_command.specs.ArgumentLists.{is_option, is_flag};
-ghost use Rattle.cc_lists.specs.CommandTable.{argument_rows, child_rows, children_rows, long_row, long_rows, name_row, node_rows, short_row, short_rows};
-ghost use Rattle.cc_lists.specs.ElvishScript.{elvish_row, elvish_rows, elvish_table};
+ghost use Rattle.cc_lists.specs.CommandTable.{argument_rows, child_rows, children_rows, long_row, long_rows, name_row, node_rows, short_row, short_rows, tree_tables};
+ghost use Rattle.cc_lists.specs.ElvishReads.{ElvishReads};
+ghost use Rattle.cc_lists.specs.ElvishScript.{elvish_row, elvish_rows, elvish_script, elvish_table};
 
+use crate::generator::Generator;
+use crate::walk::{TableScript, write_tables};
 use cc_arg::Arg;
 use cc_base::{Error, Sink, Text, put_all};
 use cc_command::Command;
@@ -70,6 +74,56 @@ pub const ELVISH_TEXT: &str = " '";
 
 /// What ends an Elvish row.
 pub const ELVISH_ROW_END: &str = "'";
+
+/// Writes Elvish scripts.
+#[derive(Clone, Copy, PartialEq, Eq, Debug)]
+pub struct Elvish;
+
+impl TableScript for Elvish {
+    ghost table = { λ _ key tree. elvish_table (record { key = key; rows = node_rows tree }) };
+
+    fn write_table<W: Sink>(&self, alloc: Global, key: &str, command: &Command, sink: &mut W) -> Result<(), Error> {
+        write_table(sink, alloc, key, command)
+    }
+}
+
+impl Generator for Elvish {
+    ghost script = { λ _ tree. elvish_script (full_name tree.node) (tree_tables tree) };
+
+    ghost Reads = { λ _ tree script. ElvishReads tree script };
+
+    ghost clash = { λ _ _. None };
+
+    ghost file = { λ _ name. name ++ codes ".elv" };
+
+    fn file_name(&self, alloc: Global, name: &str) -> Result<String, Error> {
+        let mut file = String::from_str(alloc, name)?;
+        file.push_str(".elv")?;
+        Ok(file)
+    }
+
+    #[tactic(auto, using(crate::proofs::ElvishPlain::elvish_plain_reads, crate::proofs::ElvishScripts::script_text), unfolding(crate::specs::ElvishScript::elvish_script))]
+    fn generate<W: Sink>(&self, alloc: Global, command: &Command, sink: &mut W) -> Result<(), Error> {
+        let bin_name = command.get_bin_name().unwrap_or(command.get_name());
+        write_head(sink, bin_name)?;
+        write_tables(self, alloc, command, bin_name, sink)?;
+        put_all(sink, ELVISH_TAIL.as_bytes())
+    }
+}
+
+// Writes the frame up to the tables.
+fn write_head<W: Sink>(sink: &mut W, bin_name: &str) -> Result<(), Error>
+    ensures ok { OnOk result (W.taken sink.new ≡ W.taken sink.old ++ (ELVISH_HEAD.now ++ bin_name.now
+        ++ ELVISH_FUNCTIONS.now ++ bin_name.now ++ ELVISH_COMPLETIONS.now)) }
+    ensures failures { Counts result (W.failed sink.old) (W.failed sink.new) }
+    ensures kinds { IfErr result IsWrite }
+{
+    put_all(sink, ELVISH_HEAD.as_bytes())?;
+    put_all(sink, bin_name.as_bytes())?;
+    put_all(sink, ELVISH_FUNCTIONS.as_bytes())?;
+    put_all(sink, bin_name.as_bytes())?;
+    put_all(sink, ELVISH_COMPLETIONS.as_bytes())
+}
 
 // Writes a table: its key, the rows of the options, of the flags and of the children.
 #[tactic(auto, using(crate::proofs::ElvishRows::table_text), unfolding(crate::specs::ElvishScript::elvish_table))]

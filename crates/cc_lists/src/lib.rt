@@ -5,5 +5,7 @@
 pub mod elvish;
 pub mod generator;
 pub mod utils;
+mod walk;
 
+pub use crate::elvish::Elvish;
 pub use crate::generator::{Generator, generate};

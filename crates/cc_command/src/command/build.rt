@@ -67,7 +67,7 @@ impl Command {
     fn built_children(&self, alloc: Global, name: &str) -> Result<Vec<Command>, Error>
         ensures ok { IfOk result (λ built. forest_of built.items
             ≡ join (built_forest [] name.now self.now.children)
-                (help_child name.now self.now.node self.now.children)) }
+            (help_child name.now self.now.node self.now.children)) }
         ensures memory { IfErr result (λ error. error ≡ Error.Memory) }
     {
         let mut children = built_siblings(&self.children, alloc, name)?;

@@ -3,9 +3,11 @@
 ghost use Rattle.std.specs.Prelude.{◌≡◌, ◌&&◌, is_some};
 ghost use Rattle.std.specs.Option.{option_copied};
 ghost use Rattle.cc_command.specs.Tree.{forest_of};
-ghost use Rattle.cc_command.specs.Names.{answers_to, contains_name};
+ghost use Rattle.cc_command.specs.Names.{answers_to, contains_name, has_child};
+ghost use Rattle.cc_command.specs.ArgumentLists.{options, positionals};
+ghost use Rattle.cc_command.specs.Iterators.{options_left, positionals_left};
 
-use crate::command::Command;
+use crate::command::{Command, Options, Positionals};
 use cc_arg::Arg;
 use cc_base::Text;
 
@@ -45,6 +47,21 @@ impl Command {
         self.node.arguments.as_slice()
     }
 
+    /// The options: the arguments that are no positionals and take values, in the order in which
+    /// they were added.
+    pub fn get_opts(&self) -> Options<'_>
+        ensures { options_left result ≡ options self.now.node }
+    {
+        Options::new(self.node.arguments.as_slice())
+    }
+
+    /// The positionals, in the order in which they were added.
+    pub fn get_positionals(&self) -> Positionals<'_>
+        ensures { positionals_left result ≡ positionals self.now.node }
+    {
+        Positionals::new(self.node.arguments.as_slice())
+    }
+
     /// Whether the command is built: nothing was set since.
     pub fn is_built(&self) -> bool
         ensures { result ≡ self.now.node.built }
@@ -66,13 +83,6 @@ impl Command {
         &self.children
     }
 
-    /// The aliases that are shown.
-    pub fn get_visible_aliases(&self) -> &[Text]
-        ensures { result.now ≡ self.now.node.visible_aliases }
-    {
-        self.node.visible_aliases.as_slice()
-    }
-
     /// Whether the word is the name or an alias, visible or hidden.
     pub(crate) fn answers_to(&self, word: &str) -> bool
         ensures { result ≡ answers_to self.now.node word.now }
@@ -84,8 +94,20 @@ impl Command {
 }
 
 // Whether one of the names is the word.
-fn contains_name(names: &[Text], word: &str) -> bool
+pub(super) fn contains_name(names: &[Text], word: &str) -> bool
     ensures { result ≡ contains_name names.now word.now }
 {
     names.iter().any(|name| name.as_str() == word)
+}
+
+// Whether one of the siblings answers to the word.
+pub(super) fn has_child(siblings: &[Command], word: &str) -> bool
+    ensures { result ≡ has_child (forest_of siblings.now) word.now }
+{
+    for sibling in siblings {
+        if sibling.answers_to(word) {
+            return true;
+        }
+    }
+    false
 }

@@ -4,11 +4,12 @@ ghost use Rattle.std.specs.Prelude.{◌≡◌, ◌++◌, ◌∷◌, [], Some, If
 ghost use Rattle.std.specs.Option.{option_copied};
 ghost use Rattle.cc_command.specs.Tree.{forest_of, none, join};
 ghost use Rattle.cc_command.specs.Built.{built_forest};
-ghost use Rattle.cc_command.specs.Names.{has_child, joined_name};
+ghost use Rattle.cc_command.specs.Names.{joined_name};
 ghost use Rattle.cc_command.specs.Generated.{copies, generated_node, help_command, needs_help_child};
 
 use crate::command::Command;
 use crate::command::build::joined_name;
+use crate::command::getters::has_child;
 use crate::node::{HELP, HELP_ABOUT, Node};
 use cc_base::{Error, Items, Text};
 use std::alloc::Global;
@@ -20,30 +21,30 @@ pub(super) fn needs_help_child(node: &Node, children: &[Command]) -> bool
     !children.is_empty() && !node.disable_help_subcommand && !has_child(children, HELP)
 }
 
-// Whether one of the siblings answers to the word.
-fn has_child(siblings: &[Command], word: &str) -> bool
-    ensures { result ≡ has_child (forest_of siblings.now) word.now }
-{
-    for sibling in siblings {
-        if sibling.answers_to(word) {
-            return true;
-        }
-    }
-    false
-}
-
 // A generated `help` under a parent of this full name, with copies of the siblings and last a
 // `help` of its own.
-pub(super) fn help_command(siblings: &[Command], alloc: Global, parent: &str) -> Result<Command, Error>
+pub(super) fn help_command(
+    siblings: &[Command],
+    alloc: Global,
+    parent: &str,
+) -> Result<Command, Error>
     ensures ok { IfOk result (λ command. forest_of (command ∷ []) ≡ help_command parent.now
         (join (copies (joined_name parent.now HELP.now) 0 (forest_of siblings.now))
-            (help_command (joined_name parent.now HELP.now) none))) }
+        (help_command (joined_name parent.now HELP.now) none))) }
     ensures memory { IfErr result (λ error. error ≡ Error.Memory) }
 {
     let name = joined_name(alloc, parent, HELP)?;
     let mut children = copies_of(siblings, alloc, name.as_str())?;
     let last = joined_name(alloc, name.as_str(), HELP)?;
-    children.push(generated(alloc, HELP, last, Some(HELP_ABOUT), 999, false, Vec::new(alloc))?)?;
+    children.push(generated(
+        alloc,
+        HELP,
+        last,
+        Some(HELP_ABOUT),
+        999,
+        false,
+        Vec::new(alloc),
+    )?)?;
     generated(alloc, HELP, name, Some(HELP_ABOUT), 999, false, children)
 }
 
@@ -57,7 +58,15 @@ fn copies_of(siblings: &[Command], alloc: Global, parent: &str) -> Result<Vec<Co
         let name = joined_name(alloc, parent, sibling.get_name())?;
         let below = copies_of(&sibling.children, alloc, name.as_str())?;
         let hide = sibling.node.hide;
-        made.push(generated(alloc, sibling.get_name(), name, sibling.get_about(), place, hide, below)?)?;
+        made.push(generated(
+            alloc,
+            sibling.get_name(),
+            name,
+            sibling.get_about(),
+            place,
+            hide,
+            below,
+        )?)?;
     }
     Ok(made)
 }
@@ -74,8 +83,9 @@ fn generated(
 ) -> Result<Command, Error>
     requires stays { built_forest [] bin_name (forest_of children.items) ≡ forest_of children.items }
     ensures ok { IfOk result (λ command. command ≡ record {
-        node = generated_node name.now bin_name (option_copied about.entry) place hide;
-        children = forest_of children.items }) }
+      node = generated_node name.now bin_name (option_copied about.entry) place hide;
+      children = forest_of children.items;
+    }) }
     ensures memory { IfErr result (λ error. error ≡ Error.Memory) }
 {
     let node = Node {

@@ -12,17 +12,18 @@ generated-requires t c = record { stays = rw (c.in_ok-below.ensures.ok, c.as_str
 
 pub loop-place-preserved : goal.loop-place-preserved
 loop-place-preserved t c =
-  let siblings : List Tree = c.args.siblings.now in
-  let sibling : Tree = c.index-siblings-place.result in
-  let copy : Tree = c.in_ok-generated.field-0 in
-  let pushed : c.push.new.self.items ≡ c.loop-place.made.items ++ copy ∷ [] = c.in_ok-push.ensures.items in
-  let count : length (take c.loop-place.place siblings) ≡ c.loop-place.place = omega (arith, length-take c.loop-place.place siblings, c.loop-place-test.true) in
-  let copied : copy ≡ record {
+    let siblings : List Tree = c.args.siblings.now in
+    let sibling : Tree = c.index-siblings-place.result in
+    let copy : Tree = c.in_ok-generated.field-0 in
+    let pushed : c.push.new.self.items ≡ c.loop-place.made.items ++ copy ∷ [] = c.in_ok-push.ensures.items in
+    let count : length (take c.loop-place.place siblings) ≡ c.loop-place.place = omega (arith, length-take c.loop-place.place siblings, c.loop-place-test.true) in
+    let copied : copy ≡ record {
       node = generated_node sibling.node.name (joined_name c.args.parent.now sibling.node.name) sibling.node.about c.loop-place.place sibling.node.hide;
-      children = copies (joined_name c.args.parent.now sibling.node.name) 0 sibling.children } = search rules in
-  let next : take (c.loop-place.place + 1) siblings ≡ take c.loop-place.place siblings ++ sibling ∷ [] =
+      children = copies (joined_name c.args.parent.now sibling.node.name) 0 sibling.children;
+    } = search rules in
+    let next : take (c.loop-place.place + 1) siblings ≡ take c.loop-place.place siblings ++ sibling ∷ [] =
     rw c.index-siblings-place.is (take_more siblings c.loop-place.place sibling c.loop-place-test.true) in
-  ap forest_of pushed ∙
-  copies-push c.args.parent.now c.loop-place.made.items (take c.loop-place.place siblings) sibling copy c.loop-place.invariant
+    ap forest_of pushed ∙
+    copies-push c.args.parent.now c.loop-place.made.items (take c.loop-place.place siblings) sibling copy c.loop-place.invariant
     (rw count (ap (λ tree. forest_of (tree ∷ [])) copied)) ∙
-  ap (λ trees. copies c.args.parent.now 0 (forest_of trees)) (sym next)
+    ap (λ trees. copies c.args.parent.now 0 (forest_of trees)) (sym next)

@@ -1,0 +1,21 @@
+-- What the iterators over a command's names and arguments have left.
+use Rattle.std.specs.Prelude.{ℕ, List, ◌++◌, filter}
+use Rattle.std.specs.Option.{option_to_list, option_copied}
+use Rattle.cc_arg.specs.declared.arg.Arg.{Arg}
+use Rattle.cc_arg.specs.Arguments.{is_positional}
+use Rattle.cc_command.specs.ArgumentLists.{is_option}
+use Rattle.cc_command.specs.declared.command.iterators.Options.{Options}
+use Rattle.cc_command.specs.declared.command.iterators.Positionals.{Positionals}
+use Rattle.cc_command.specs.declared.command.iterators.NameAndVisibleAliases.{NameAndVisibleAliases}
+
+-- the options still to come
+abbrev pub options_left : Options → List Arg
+options_left options = filter is_option options.arguments.now
+
+-- the positionals still to come
+abbrev pub positionals_left : Positionals → List Arg
+positionals_left positionals = filter is_positional positionals.arguments.now
+
+-- the name, where it is still to come, and the aliases still to come
+abbrev pub names_left : NameAndVisibleAliases → List (List ℕ)
+names_left names = option_to_list (option_copied names.name) ++ names.visible_aliases.now

@@ -1,0 +1,228 @@
+//! Whether a tree is plain: a script can then hold its names as they are.
+
+ghost use Rattle.std.specs.Prelude.{◌≡◌, ◌&&◌, ◌||◌, ◌==◌, ◌++◌, not};
+ghost use Rattle.std.specs.List.{list_all};
+ghost use Rattle.std.specs.Option.{option_copied};
+ghost use Rattle.std.specs.Char.{is_ascii_alphanumeric};
+ghost use Rattle.cc_command.specs.Tree.{forest_of};
+ghost use Rattle.cc_command.specs.Names.{contains_name, has_child};
+ghost use Rattle.cc_command.specs.PlainName.{is_plain_name};
+ghost use Rattle.cc_command.specs.Plain.{all_differ, has_no_quote, is_plain_argument, is_plain_forest, is_plain_node, is_plain_tree, names_of, passes_if_some, siblings_differ};
+
+use crate::command::Command;
+use crate::command::getters::{contains_name, has_child};
+use crate::node::Node;
+use cc_arg::Arg;
+use cc_base::Text;
+
+impl Command {
+    /// Whether the tree is plain, so that a script can hold its names as they are.
+    ///
+    /// Names and aliases of commands, the bin name, longs and their aliases are then plain: made of
+    /// ASCII letters and digits with single `-` or `_` between them. Shorts and their aliases are
+    /// ASCII letters or digits, ids and value names hold no `'`, and no two names or aliases of
+    /// sibling commands are the same.
+    ///
+    /// Takes no memory, so that the names of siblings are compared each with each: the time grows
+    /// with the square of their number.
+    pub fn is_plain(&self) -> bool
+        ensures { result ≡ is_plain_tree self.now }
+    {
+        is_plain_if_some(self.get_bin_name())
+            && is_plain_node(&self.node)
+            && self.has_plain_children()
+    }
+
+    // Whether the names of the children differ, and all below is plain.
+    #[cycle(plain)]
+    fn has_plain_children(&self) -> bool
+        ensures { result ≡ (siblings_differ self.now.children && is_plain_forest self.now.children) }
+    {
+        siblings_differ(&self.children) && is_plain_forest(&self.children)
+    }
+
+    // Whether the names of the command differ from one another.
+    #[tactic(auto, using(crate::proofs::DifferentNames::contains_name_append))]
+    fn names_differ(&self) -> bool
+        ensures { result ≡ all_differ (names_of self.now.node) }
+    {
+        let visible = self.node.visible_aliases.as_slice();
+        let hidden = self.node.aliases.as_slice();
+        !contains_name(visible, self.get_name())
+            && !contains_name(hidden, self.get_name())
+            && all_differ_together(visible, hidden)
+    }
+
+    // Whether no sibling answers to a name of the command.
+    fn is_apart_from(&self, siblings: &[Command]) -> bool
+        ensures { result ≡ list_all (λ name. not (has_child (forest_of siblings.now) name))
+            (names_of self.now.node) }
+    {
+        !has_child(siblings, self.get_name())
+            && none_answers(siblings, self.node.visible_aliases.as_slice())
+            && none_answers(siblings, self.node.aliases.as_slice())
+    }
+}
+
+// Whether every one of the siblings and all below them are plain.
+#[cycle(plain)]
+fn is_plain_forest(siblings: &[Command]) -> bool
+    ensures { result ≡ is_plain_forest (forest_of siblings.now) }
+{
+    for sibling in siblings {
+        if !is_plain_node(&sibling.node) || !sibling.has_plain_children() {
+            return false;
+        }
+    }
+    true
+}
+
+// Whether all names of the siblings differ, those of one command among themselves too.
+fn siblings_differ(siblings: &[Command]) -> bool
+    ensures { result ≡ siblings_differ (forest_of siblings.now) }
+{
+    for (place, sibling) in siblings.iter().enumerate() {
+        if !sibling.names_differ() || !sibling.is_apart_from(&siblings[place + 1..]) {
+            return false;
+        }
+    }
+    true
+}
+
+// Whether no sibling answers to one of the names.
+fn none_answers(siblings: &[Command], names: &[Text]) -> bool
+    ensures { result ≡ list_all (λ name. not (has_child (forest_of siblings.now) name)) names.now }
+{
+    names.iter().all(|name| !has_child(siblings, name.as_str()))
+}
+
+// Whether no text stands twice.
+fn all_differ(names: &[Text]) -> bool
+    ensures { result ≡ all_differ names.now }
+{
+    for (place, name) in names.iter().enumerate() {
+        if contains_name(&names[place + 1..], name.as_str()) {
+            return false;
+        }
+    }
+    true
+}
+
+// Whether no text stands twice in the two lists together.
+#[tactic(auto, using(crate::proofs::DifferentNames::all_differ_append))]
+fn all_differ_together(names: &[Text], others: &[Text]) -> bool
+    ensures { result ≡ all_differ (names.now ++ others.now) }
+{
+    all_differ(names) && is_apart(names, others) && all_differ(others)
+}
+
+// Whether none of the names is among the others.
+fn is_apart(names: &[Text], others: &[Text]) -> bool
+    ensures { result ≡ list_all (λ name. not (contains_name others.now name)) names.now }
+{
+    names
+        .iter()
+        .all(|name| !contains_name(others, name.as_str()))
+}
+
+// Whether the names of a node and its arguments are plain.
+fn is_plain_node(node: &Node) -> bool
+    ensures { result ≡ is_plain_node node.now }
+{
+    is_plain_name(node.name.as_str())
+        && are_plain_names(node.visible_aliases.as_slice())
+        && are_plain_names(node.aliases.as_slice())
+        && are_plain_arguments(node.arguments.as_slice())
+}
+
+// Whether the arguments are all plain.
+fn are_plain_arguments(arguments: &[Arg]) -> bool
+    ensures { result ≡ list_all is_plain_argument arguments.now }
+{
+    arguments.iter().all(is_plain_argument)
+}
+
+// Whether shorts are letters or digits, longs are plain, and the id and the value names hold no
+// quote.
+fn is_plain_argument(argument: &Arg) -> bool
+    ensures { result ≡ is_plain_argument argument.now }
+{
+    has_no_quote(argument.get_id())
+        && have_no_quote(argument.get_value_names())
+        && has_plain_shorts(argument)
+        && is_plain_if_some(argument.get_long())
+        && are_plain_names(argument.get_visible_aliases())
+        && are_plain_names(argument.get_aliases())
+}
+
+// Whether the short of an argument and its aliases are letters or digits.
+fn has_plain_shorts(argument: &Arg) -> bool
+    ensures { result ≡ (passes_if_some is_ascii_alphanumeric argument.now.short
+        && (list_all is_ascii_alphanumeric argument.now.visible_short_aliases
+        && list_all is_ascii_alphanumeric argument.now.short_aliases)) }
+{
+    let short = argument.get_short();
+    short.is_none_or(|short| short.is_ascii_alphanumeric())
+        && are_alphanumeric(argument.get_visible_short_aliases())
+        && are_alphanumeric(argument.get_short_aliases())
+}
+
+// Whether all are ASCII letters or digits.
+fn are_alphanumeric(shorts: &[char]) -> bool
+    ensures { result ≡ list_all is_ascii_alphanumeric shorts.now }
+{
+    shorts.iter().all(|short| short.is_ascii_alphanumeric())
+}
+
+// Whether no byte is a quote.
+fn has_no_quote(text: &str) -> bool
+    ensures { result ≡ has_no_quote text.now }
+{
+    text.as_bytes().iter().all(|byte| *byte != b'\'')
+}
+
+// Whether no byte of the texts is a quote.
+fn have_no_quote(texts: &[Text]) -> bool
+    ensures { result ≡ list_all has_no_quote texts.now }
+{
+    texts.iter().all(|text| has_no_quote(text.as_str()))
+}
+
+// Whether the names are all plain.
+fn are_plain_names(names: &[Text]) -> bool
+    ensures { result ≡ list_all is_plain_name names.now }
+{
+    names.iter().all(|name| is_plain_name(name.as_str()))
+}
+
+// Whether the name, where there is one, is plain.
+fn is_plain_if_some(name: Option<&str>) -> bool
+    ensures { result ≡ passes_if_some is_plain_name (option_copied name.entry) }
+{
+    match name {
+        Some(name) => is_plain_name(name),
+        None => true,
+    }
+}
+
+// Whether the name is made of ASCII letters and digits with single `-` or `_` between them.
+#[tactic(auto, using(crate::proofs::PlainNames::plain_behind_start))]
+fn is_plain_name(name: &str) -> bool
+    ensures { result ≡ is_plain_name name.now }
+{
+    let mut behind_letter = false;
+    for byte in name.as_bytes() {
+        if !may_stand(*byte, behind_letter) {
+            return false;
+        }
+        behind_letter = byte.is_ascii_alphanumeric();
+    }
+    behind_letter
+}
+
+// Whether the byte may stand in a name: a letter or digit always, a `-` or a `_` behind one.
+fn may_stand(byte: u8, behind_letter: bool) -> bool
+    ensures { result ≡ (is_ascii_alphanumeric byte || (behind_letter && (byte == 45 || byte == 95))) }
+{
+    byte.is_ascii_alphanumeric() || (behind_letter && matches!(byte, b'-' | b'_'))
+}
