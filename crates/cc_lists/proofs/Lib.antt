@@ -9,6 +9,10 @@ pub mod Lines
 pub mod Members
 pub mod PlainVisits
 pub mod PlainWords
+pub mod PowershellExamples
+pub mod PowershellPlain
+pub mod PowershellReadsBack
+pub mod PowershellWords
 pub mod Tests
 pub mod VisitsArePaths
 pub mod Written

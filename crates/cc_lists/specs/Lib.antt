@@ -7,4 +7,8 @@ pub mod Generators
 pub mod KeyedVisits
 pub mod Paths
 pub mod Pending
+pub mod PowershellReading
+pub mod PowershellReads
+pub mod PowershellScript
+pub mod PowershellTable
 pub mod Visits

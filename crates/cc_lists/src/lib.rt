@@ -4,6 +4,7 @@
 
 pub mod elvish;
 pub mod generator;
+pub mod powershell;
 pub mod utils;
 mod walk;
 

@@ -6,3 +6,4 @@ pub mod ElvishWords
 pub mod Characters
 pub mod PowershellWords
 pub mod ElvishCutting
+pub mod PowershellCutting

@@ -1,5 +1,6 @@
 pub mod ElvishQuote
 pub mod ElvishTokens
 pub mod PowershellQuote
+pub mod PowershellTokens
 pub mod QuotedWord
 pub mod Tokens
