@@ -1,3 +1,4 @@
+pub mod Children
 pub mod Numbering
 pub mod Numbers
 pub mod Trees

@@ -1,5 +1,5 @@
 -- Forests and the lists of their trees.
-use Rattle.std.proofs.Common.{◌≡◌, ℕ, ◌+◌, List, [], ◌∷◌, ◌++◌, map, refl, ap, ◌∙◌, sym, arith}
+use Rattle.std.proofs.Common.{◌≡◌, ◌+◌, List, [], ◌∷◌, ◌++◌, refl, ap, arith}
 use Rattle.cc_command.specs.Tree.{Forest, none, more, Tree, forest_of, forest_size}
 use Rattle.cc_flat.specs.Flat.{trees_of}
 

@@ -10,9 +10,9 @@ unnumbered parent tree = record { tree = tree; parent = parent; first_child = 0;
 -- the node with this number is said to have so many children, behind all nodes that are listed
 abbrev pub with_count : List Entry → ℕ → ℕ → List Entry
 with_count flat number count =
-  slice_set flat number (record (entry_at flat number) { first_child = length flat; child_count = count })
+    slice_set flat number (record (entry_at flat number) { first_child = length flat; child_count = count })
 
 -- the children of the node with this number are listed behind all others
 abbrev pub with_children : List Entry → ℕ → List Tree → List Entry
 with_children flat number children =
-  with_count flat number (length children) ++ map (unnumbered (Some number)) children
+    with_count flat number (length children) ++ map (unnumbered (Some number)) children

@@ -10,9 +10,10 @@ use std::alloc::Global;
 use std::marker::Model;
 use std::ops::Range;
 
-/// The nodes of a command tree, each under a number, level by level: the root has number 0, the
-/// children of a node have consecutive numbers, and every child has a greater number than its
-/// parent.
+/// The nodes of a command tree, each under a number: the root has number 0, the children of a node
+/// have consecutive numbers in their order, and every child has a greater number than its parent.
+///
+/// A clause sees a list of entries, by number.
 #[derive(Drop)]
 pub struct Flat<'a> {
     nodes: Vec<FlatNode<'a>>,
@@ -36,13 +37,14 @@ impl<'a> Model for Flat<'a> {
 
     ghost coded = { entries_code };
 
-    ghost view = { λ f. entries_of f.nodes.items };
+    ghost view = { λ flat. entries_of flat.nodes.items };
 
-    ghost invariant = { λ f. IsFlat (entries_of f.nodes.items) };
+    ghost invariant = { λ flat. IsFlat (entries_of flat.nodes.items) };
 }
 
 impl<'a> Flat<'a> {
-    /// Numbers the nodes of a tree. Refused only for want of memory.
+    /// Numbers the nodes of a tree, in time and memory that grow with their count. Refused only for
+    /// want of memory.
     pub fn new(alloc: Global, root: &'a Command) -> Result<Flat<'a>, Error>
         ensures root { IfOk result (λ flat. tree_at flat 0 ≡ root.now) }
         ensures flat { IfOk result IsFlat }
@@ -72,6 +74,17 @@ impl<'a> Flat<'a> {
         ensures { result.now ≡ tree_at self.now number }
     {
         self.nodes[number].command
+    }
+
+    /// The number of the node whose child this one is; the root has none.
+    pub fn parent(&self, number: usize) -> Option<usize>
+        requires { number < length self.now }
+        ensures value { result ≡ (entry_at self.now number).parent }
+        ensures root { IsNone result ↔ (number ≡ 0) }
+        ensures before { IfSome result (λ parent. parent < number) }
+        ensures child { IfSome result (λ parent. IsChildAt self.now parent number) }
+    {
+        self.nodes[number].parent
     }
 
     /// The numbers of the children, in order.
@@ -106,7 +119,7 @@ fn number_children(nodes: &mut Vec<FlatNode<'_>>, number: usize) -> Result<(), E
     requires { number < vec_len nodes.old }
     ensures ok { OnOk result (entries_of nodes.new.items
         ≡ with_children (entries_of nodes.old.items) number
-            (trees_of (tree_at (entries_of nodes.old.items) number).children)) }
+        (trees_of (tree_at (entries_of nodes.old.items) number).children)) }
     ensures memory { IfErr result (λ error. error ≡ Error.Memory) }
 {
     let children = nodes[number].command.get_subcommands();

@@ -1,7 +1,6 @@
-use Rattle.std.proofs.Common.{◌≡◌, ◌++◌, ℕ, ◌<◌, List, length, map, take, Some, ap, ◌∙◌, sym, arith, rules}
+use Rattle.std.proofs.Common.{◌≡◌, ◌++◌, List, length, map, Some, ap, ◌∙◌, sym, rules}
 use Rattle.std.proofs.lemmas.List.{append-nil, take_all}
-use Rattle.cc_command.specs.Tree.{Tree, forest_of}
-use Rattle.cc_flat.specs.declared.flat.FlatNode.{FlatNode}
+use Rattle.cc_command.specs.Tree.{Tree}
 use Rattle.cc_flat.specs.Flat.{Entry, entries_of, tree_at, trees_of}
 use Rattle.cc_flat.specs.Numbered.{unnumbered, with_count, with_children}
 use Rattle.cc_flat.proofs.Numbering.{with_count-stored, tree_at-stored}
@@ -10,18 +9,18 @@ use Rattle.cc_flat.proofs.flat.number_children.Goals as goal
 
 pub loop-command-init : goal.loop-command-init
 loop-command-init c =
-  with_count-stored c.args.nodes.now.items c.args.number c.index_mut-node.result.now c.len-first_child.result (length c.get_subcommands-children.result.now)
+    with_count-stored c.args.nodes.now.items c.args.number c.index_mut-node.result.now c.len-first_child.result (length c.get_subcommands-children.result.now)
     (search rules) (search rules) (search rules) ∙
-  sym (append-nil (with_count (entries_of c.args.nodes.now.items) c.args.number (length c.get_subcommands-children.result.now)))
+    sym (append-nil (with_count (entries_of c.args.nodes.now.items) c.args.number (length c.get_subcommands-children.result.now)))
 
 pub returns-clause-ok : goal.returns-clause-ok
 returns-clause-ok c =
-  let entries : List Entry = entries_of c.args.nodes.now.items in
-  let children : List Tree = c.get_subcommands-children.result.now in
-  let here : tree_at entries c.args.number ≡ c.index.result.now.command.now = tree_at-stored c.args.nodes.now.items c.args.number c.index.result.now (search rules) (search rules) in
-  let theirs : children ≡ trees_of (tree_at entries c.args.number).children =
+    let entries : List Entry = entries_of c.args.nodes.now.items in
+    let children : List Tree = c.get_subcommands-children.result.now in
+    let here : tree_at entries c.args.number ≡ c.index.result.now.command.now = tree_at-stored c.args.nodes.now.items c.args.number c.index.result.now (search rules) (search rules) in
+    let theirs : children ≡ trees_of (tree_at entries c.args.number).children =
     sym (trees_of-forest_of children) ∙ ap trees_of c.get_subcommands-children.ensures ∙ ap (λ t. trees_of t.children) (sym here) in
-  c.loop-command.invariant ∙
-  ap (λ trees. with_count entries c.args.number (length children) ++ map (unnumbered (Some c.args.number)) trees)
+    c.loop-command.invariant ∙
+    ap (λ trees. with_count entries c.args.number (length children) ++ map (unnumbered (Some c.args.number)) trees)
     (take_all c.loop-command.command-index children c.loop-command-test.false) ∙
-  ap (with_children entries c.args.number) theirs
+    ap (with_children entries c.args.number) theirs

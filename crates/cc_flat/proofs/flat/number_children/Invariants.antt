@@ -6,5 +6,5 @@ use Rattle.cc_flat.proofs.flat.number_children.Given as goal
 -- the children that were passed over are listed
 abbrev pub invariant-loop-command : goal.invariant-loop-command
 invariant-loop-command l =
-  entries_of l.nodes.items
+    entries_of l.nodes.items
     ≡ with_count (entries_of l.fn.nodes.items) l.number (length l.children) ++ map (unnumbered (Some l.number)) (take l.command-index l.children)

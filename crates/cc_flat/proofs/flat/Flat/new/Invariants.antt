@@ -1,4 +1,4 @@
-use Rattle.std.proofs.Common.{ℕ, ◌+◌, ◌-◌}
+use Rattle.std.proofs.Common.{◌+◌, ◌-◌}
 use Rattle.cc_command.specs.Tree.{forest_size}
 use Rattle.cc_flat.specs.Flat.{entries_of}
 use Rattle.cc_flat.proofs.Numbering.{IsFlatUpTo}
