@@ -1,0 +1,3 @@
+pub mod CommandLineLemmas
+pub mod GivenValues
+pub mod TreeFormLemmas

@@ -1,0 +1,5 @@
+pub mod CommandLine
+pub mod Plans
+pub mod Refusals
+pub mod TreeFile
+pub mod TreeForm

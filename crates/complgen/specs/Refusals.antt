@@ -1,0 +1,52 @@
+-- Why the program ends without an answer.
+use Rattle.std.specs.Prelude.{◌≡◌, ◌⊎◌, ◌++◌, ℕ, List, Result, Ok, Err, String, codes, string_bytes}
+use Rattle.std.specs.Cow.{cow_str_bytes}
+use Rattle.std.specs.declared.alloc.AllocError.{AllocError}
+use Rattle.std.specs.declared.alloc.Global.{Global}
+use Rattle.cc_base.specs.ErrorText.{error_text}
+use Rattle.cc_base.specs.declared.error.Error.{Error}
+use Rattle.complgen.specs.declared.tree_file.TreeError.{TreeError}
+use Rattle.complgen.specs.declared.tree_file.TreeError.TheVariants.{BadForm, Memory, NotJson}
+use Rattle.complgen.specs.declared.types.Refusal.{Refusal}
+
+-- what is printed
+abbrev pub text_of : Refusal → List ℕ
+text_of refusal = cow_str_bytes refusal.text
+
+-- the program refuses, with this text
+pub record IsRefusal (text : List ℕ) (refusal : Refusal) : Type 0 where
+  pub status : refusal.status ≡ 1
+  pub text_is : text_of refusal ≡ text
+
+-- memory ran out
+abbrev pub IsWantOfMemory : Refusal → Type 0
+IsWantOfMemory = IsRefusal (codes "out of memory\n")
+
+-- no shell is written so
+abbrev pub invalid_variant : List ℕ → List ℕ
+invalid_variant shell = codes "invalid variant: " ++ shell ++ codes "\n"
+
+-- how the error of a tree file is refused
+abbrev pub RefusesTree : TreeError → Refusal → Type 0
+RefusesTree NotJson refusal = IsRefusal (codes "tree: not JSON\n") refusal
+RefusesTree BadForm refusal = IsRefusal (codes "tree: bad form\n") refusal
+RefusesTree Memory refusal = IsWantOfMemory refusal
+
+-- how an error of the library is refused
+abbrev pub RefusesError : Error → Refusal → Type 0
+RefusesError error refusal = IsRefusal (error_text error ++ codes "\n") refusal
+
+-- a refusal with a text that took memory
+abbrev pub RefusesWithText : Result (String Global) AllocError → Refusal → Type 0
+RefusesWithText (Ok text) refusal = IsRefusal (string_bytes text) refusal
+RefusesWithText (Err refused) refusal = IsWantOfMemory refusal
+
+-- how a tree file is refused
+abbrev pub RefusesFile : Refusal → Type 0
+RefusesFile refusal = IsRefusal (codes "tree: unreadable\n") refusal
+    ⊎ ((error : TreeError) × RefusesTree error refusal)
+
+-- how a script is refused, once the shell is known
+abbrev pub RefusesScript : Refusal → Type 0
+RefusesScript refusal = IsWantOfMemory refusal ⊎ (RefusesFile refusal
+    ⊎ (IsRefusal (codes "write failed\n") refusal ⊎ ((error : Error) × RefusesError error refusal)))

@@ -1,0 +1,73 @@
+//! `complgen`: completion scripts for a command that a JSON file describes.
+#![tactic(auto)]
+
+mod command_line;
+mod plan;
+mod run;
+mod tree_file;
+mod types;
+
+use crate::types::Refusal;
+use clap_complete::aot::Counted;
+use std::alloc::AllocError;
+use std::convert::AsStr;
+use std::env::{self, Env};
+use std::io::BufWriter;
+use std::process::ExitCode;
+use std::rt::Files;
+use std::{fs, io};
+
+const NOT_UTF8: &str = "words: not UTF-8\n";
+
+const WRITE_FAILED: &str = "write failed\n";
+
+fn main(rt: HostRuntime) -> ExitCode {
+    match answer(&rt) {
+        Ok(()) => ExitCode::SUCCESS,
+        Err(refusal) => ExitCode::from(report(&rt, &refusal)),
+    }
+}
+
+// Does what the command line asks for.
+fn answer<R: Env + Files + Print + AllocGlobal>(rt: &R) -> Result<(), Refusal> {
+    let words = words(rt)?;
+    let plan = plan::plan(rt.alloc(), words.as_slice())?;
+    let file = contents(rt, plan.tree())?;
+    let out = BufWriter::new(rt.alloc(), io::writer(rt)).map_err(|_| AllocError)?;
+    let mut out = Counted::new(out);
+    let file = file.as_ref().map(Vec::as_slice);
+    run::run(rt.alloc(), &plan, file, &mut out)?;
+    out.flush().map_err(|_| Refusal::fixed(1, WRITE_FAILED))
+}
+
+// The words of the command line, of which the first is the program's name.
+fn words<R: Env + AllocGlobal>(rt: &R) -> Result<Vec<String>, Refusal> {
+    match env::args(rt) {
+        Ok(words) => Ok(words.collect(rt.alloc())?),
+        Err(error) if error.kind() == io::ErrorKind::OutOfMemory => Err(Refusal::from(AllocError)),
+        Err(_) => Err(Refusal::fixed(2, NOT_UTF8)),
+    }
+}
+
+// The bytes of a file, or `None` where it can't be read.
+fn contents<R: Files + AllocGlobal>(rt: &R, path: &str) -> Result<Option<Vec<u8>>, Refusal> {
+    match fs::read(rt, path) {
+        Ok(bytes) => Ok(Some(bytes)),
+        Err(error) if error.kind() == io::ErrorKind::OutOfMemory => Err(Refusal::from(AllocError)),
+        Err(_) => Ok(None),
+    }
+}
+
+// Prints why there is no answer, and gives the status to end with.
+fn report<R: Print + Eprint>(rt: &R, refusal: &Refusal) -> u8 {
+    let text = refusal.text.as_str();
+    if refusal.status == 0 {
+        if rt.print(text).is_ok() {
+            return 0;
+        }
+        let _ = rt.eprint(WRITE_FAILED);
+        return 1;
+    }
+    let _ = rt.eprint(text);
+    refusal.status
+}

@@ -1,0 +1,147 @@
+//! What the words of the command line ask for.
+
+ghost use Rattle.std.specs.Prelude.{◌≡◌, IfOk, IfErr, IsSome, Some, codes, map, string_bytes, true};
+ghost use Rattle.clap.specs.Words.{fault_of, first_of, found_of, kind_of, rows_of, subcommand_of};
+ghost use Rattle.clap.specs.Words.{subcommand_rows_of, takes};
+ghost use Rattle.complgen.specs.CommandLine.{AsksFor, EntersSomeScript, HasScriptValues};
+ghost use Rattle.complgen.specs.CommandLine.{RefusesKind, RefusesWords, program_line};
+ghost use Rattle.complgen.specs.Refusals.{IsWantOfMemory};
+
+use crate::command_line::command_line;
+use crate::types::{Plan, Refusal};
+use clap::ArgMatches;
+use clap::error::{Error, ErrorKind};
+use std::alloc::{AllocError, Global};
+use std::borrow::CowStr;
+
+/// What the words ask for, of which the first is the program's name. Words that the command line
+/// doesn't take are refused with status 2, and words that ask for help with status 0 and that help.
+pub fn plan(alloc: Global, words: &[String]) -> Result<Plan, Refusal>
+    ensures ok { IfOk result (AsksFor (subcommand_of program_line (map string_bytes words.now))) }
+    ensures taken { IfErr result (λ refusal.
+        takes program_line (map string_bytes words.now) ≡ true → IsWantOfMemory refusal) }
+    ensures err { IfErr result (RefusesWords (fault_of program_line (map string_bytes words.now))) }
+{
+    let command = command_line(alloc)?;
+    match command.try_get_matches_from(words) {
+        Ok(matches) => Ok(planned(alloc, &matches)?),
+        Err(error) => Err(refusal_of(alloc, &error)),
+    }
+}
+
+// The plan that a parse of the words gives.
+fn planned(alloc: Global, matches: &ArgMatches<'_>) -> Result<Plan, AllocError>
+    requires { EntersSomeScript (subcommand_rows_of matches.now) }
+    ensures { IfOk result (AsksFor (subcommand_rows_of matches.now)) }
+{
+    match matches.subcommand() {
+        Some(("script", values)) => script(alloc, values),
+        _ => unreachable!(),
+    }
+}
+
+fn script(alloc: Global, values: &ArgMatches<'_>) -> Result<Plan, AllocError>
+    requires shell { IsSome (first_of (codes "shell") (rows_of (found_of values.now))) }
+    requires bin { IsSome (first_of (codes "bin") (rows_of (found_of values.now))) }
+    requires tree { IsSome (first_of (codes "tree") (rows_of (found_of values.now))) }
+    ensures { IfOk result (HasScriptValues (rows_of (found_of values.now))) }
+{
+    let shell = value(alloc, values, "shell")?;
+    let bin = value(alloc, values, "bin")?;
+    let tree = value(alloc, values, "tree")?;
+    Ok(Plan::Script(shell, bin, tree))
+}
+
+// The value of an argument.
+fn value(alloc: Global, values: &ArgMatches<'_>, id: &str) -> Result<String, AllocError>
+    requires { IsSome (first_of id.now (rows_of (found_of values.now))) }
+    ensures { IfOk result (λ text. first_of id.now (rows_of (found_of values.now))
+        ≡ Some (string_bytes text)) }
+{
+    let text = values.get_str(id).unwrap();
+    String::from_str(alloc, text)
+}
+
+// What a parse that failed has the program print.
+fn refusal_of(alloc: Global, error: &Error) -> Refusal
+    ensures { RefusesKind (kind_of error.now) result }
+{
+    if matches!(error.kind(), ErrorKind::OutOfMemory) {
+        return Refusal::from(AllocError);
+    }
+    let status = if error.use_stderr() { 2 } else { 0 };
+    match error.to_string(alloc) {
+        Ok(text) => Refusal {
+            status,
+            text: CowStr::Owned(text),
+        },
+        Err(refused) => Refusal::from(refused),
+    }
+}
+
+#[cfg(test)]
+mod tests {
+    use super::plan;
+    use crate::types::{Plan, Refusal};
+    use std::alloc::Global;
+    use std::convert::AsStr;
+    use std::test::Fail;
+
+    fn planned(alloc: Global, words: &[&str]) -> Result<Result<Plan, Refusal>, Fail> {
+        let mut all = Vec::new(alloc);
+        for word in words {
+            all.push(String::from_str(alloc, word)?)?;
+        }
+        Ok(plan(alloc, all.as_slice()))
+    }
+
+    fn refused(alloc: Global, words: &[&str]) -> Result<Refusal, Fail> {
+        match planned(alloc, words)? {
+            Ok(_) => Err(Fail::from("a plan")),
+            Err(refusal) => Ok(refusal),
+        }
+    }
+
+    #[test]
+    fn asks_for_a_script(rt: HostRuntime) -> Result<(), Fail> {
+        let words = [
+            "complgen",
+            "script",
+            "--shell",
+            "elvish",
+            "--bin=app",
+            "tree.json",
+        ];
+        let Ok(Plan::Script(shell, bin, tree)) = planned(rt.alloc(), words.as_slice())? else {
+            return Err(Fail::from("a refusal"));
+        };
+        assert!(rt; shell.as_str() == "elvish" && bin.as_str() == "app");
+        assert!(rt; tree.as_str() == "tree.json");
+        Ok(())
+    }
+
+    #[test]
+    fn refuses_bad_words(rt: HostRuntime) -> Result<(), Fail> {
+        let refusal = refused(rt.alloc(), &["complgen", "script"])?;
+        let text = "error: the following required arguments were not provided:\n  \
+            --shell <SHELL>\n  --bin <NAME>\n  <TREE>\n\n\
+            Usage: complgen script --shell <SHELL> --bin <NAME> <TREE>\n\n\
+            For more information, try '--help'.\n";
+        assert_eq!(rt; refusal.status, 2);
+        assert_eq!(rt; refusal.text.as_str(), text);
+        let unknown = refused(
+            rt.alloc(),
+            &["complgen", "register", "--bin", "app", "tree.json"],
+        )?;
+        assert_eq!(rt; unknown.status, 2);
+        Ok(())
+    }
+
+    #[test]
+    fn shows_help(rt: HostRuntime) -> Result<(), Fail> {
+        let refusal = refused(rt.alloc(), &["complgen", "--help"])?;
+        assert_eq!(rt; refusal.status, 0);
+        assert!(rt; refusal.text.as_str().contains("Usage: complgen <COMMAND>"));
+        Ok(())
+    }
+}

@@ -1,0 +1,176 @@
+//! Does what a plan asks for.
+
+ghost use Rattle.std.specs.Prelude.{◌≡◌, ◌⊎◌, IfErr, IsErrAnd, codes, false, true};
+ghost use Rattle.std.specs.Str.{bytes_eq};
+ghost use Rattle.complgen.specs.Plans.{shell_of};
+ghost use Rattle.complgen.specs.Refusals.{IsRefusal, IsWantOfMemory, RefusesError, RefusesTree};
+ghost use Rattle.complgen.specs.Refusals.{RefusesFile, RefusesScript, RefusesWithText};
+ghost use Rattle.complgen.specs.Refusals.{invalid_variant as the_invalid_variant};
+
+use clap_complete::command::Command;
+use crate::tree_file::{TreeError, read_tree};
+use crate::types::{Plan, Refusal};
+use clap_complete::aot::{Elvish, Sink};
+use clap_complete::{Error, generate};
+use std::alloc::{AllocError, Global};
+use std::borrow::CowStr;
+
+const UNREADABLE: &str = "tree: unreadable\n";
+
+const NOT_JSON: &str = "tree: not JSON\n";
+
+const BAD_FORM: &str = "tree: bad form\n";
+
+const WRITE_FAILED: &str = "write failed\n";
+
+const NO_COMPLETION: &str = "no completion generated\n";
+
+const NO_ARGUMENTS: &str = "no arguments\n";
+
+/// Does what the plan asks for, over the bytes of its tree file, or `None` where that file can't be
+/// read. The script goes to `out`. The shell is read before the tree.
+pub fn run<W: Sink>(
+    alloc: Global,
+    plan: &Plan,
+    file: Option<&[u8]>,
+    out: &mut W,
+) -> Result<(), Refusal>
+    ensures shell { bytes_eq (shell_of plan.now) (codes "elvish") ≡ false → IsErrAnd result
+        (λ r. IsWantOfMemory r ⊎ IsRefusal (the_invalid_variant (shell_of plan.now)) r) }
+    ensures unreadable { bytes_eq (shell_of plan.now) (codes "elvish") ≡ true → file.entry ≡ None
+        → IsErrAnd result (IsRefusal UNREADABLE.now) }
+    ensures err { bytes_eq (shell_of plan.now) (codes "elvish") ≡ true
+        → IfErr result RefusesScript }
+{
+    match plan {
+        Plan::Script(shell, bin, _) => {
+            if shell.as_str() != "elvish" {
+                return Err(invalid_variant(alloc, shell.as_str()));
+            }
+            script(alloc, bin.as_str(), file, out)
+        }
+    }
+}
+
+// Writes the script for a tree file.
+fn script<W: Sink>(
+    alloc: Global,
+    bin: &str,
+    file: Option<&[u8]>,
+    out: &mut W,
+) -> Result<(), Refusal>
+    ensures unreadable { file.entry ≡ None → IsErrAnd result (IsRefusal UNREADABLE.now) }
+    ensures err { IfErr result RefusesScript }
+{
+    let mut command = tree(alloc, file)?;
+    let bin = String::from_str(alloc, bin)?;
+    match generate(alloc, Elvish, &mut command, bin, out) {
+        Ok(()) => Ok(()),
+        Err(error) => Err(error_refusal(alloc, &error)),
+    }
+}
+
+// The tree that a file holds.
+fn tree(alloc: Global, file: Option<&[u8]>) -> Result<Command, Refusal>
+    ensures unreadable { file.entry ≡ None → IsErrAnd result (IsRefusal UNREADABLE.now) }
+    ensures err { IfErr result RefusesFile }
+{
+    let Some(bytes) = file else {
+        return Err(Refusal::fixed(1, UNREADABLE));
+    };
+    read_tree(alloc, bytes).map_err(tree_refusal)
+}
+
+// Says that no shell is written as this text.
+fn invalid_variant(alloc: Global, shell: &str) -> Refusal
+    ensures { IsWantOfMemory result ⊎ IsRefusal (the_invalid_variant shell.now) result }
+{
+    with_text(format!(in alloc; "invalid variant: {shell}\n"))
+}
+
+// What the refusal of a tree has the program print.
+fn tree_refusal(error: TreeError) -> Refusal
+    ensures { RefusesTree error result }
+{
+    match error {
+        TreeError::NotJson => Refusal::fixed(1, NOT_JSON),
+        TreeError::BadForm => Refusal::fixed(1, BAD_FORM),
+        TreeError::Memory => Refusal::from(AllocError),
+    }
+}
+
+// What an error of the library has the program print.
+fn error_refusal(alloc: Global, error: &Error) -> Refusal
+    ensures { IsWantOfMemory result ⊎ RefusesError error.now result }
+{
+    match error {
+        Error::Memory => Refusal::from(AllocError),
+        Error::Write(_) => Refusal::fixed(1, WRITE_FAILED),
+        Error::NoCompletion => Refusal::fixed(1, NO_COMPLETION),
+        Error::NoArguments => Refusal::fixed(1, NO_ARGUMENTS),
+        Error::LabelClash(label) => {
+            let label = label.as_str();
+            with_text(format!(in alloc; "two commands share the label {label}\n"))
+        }
+        Error::UnknownShell(text) | Error::InvalidVariant(text) => {
+            let text = text.as_str();
+            with_text(format!(in alloc; "{text}\n"))
+        }
+    }
+}
+
+// A refusal with this text, if there was memory for it.
+fn with_text(text: Result<String, AllocError>) -> Refusal
+    ensures { RefusesWithText text result }
+{
+    match text {
+        Ok(text) => Refusal {
+            status: 1,
+            text: CowStr::Owned(text),
+        },
+        Err(refused) => Refusal::from(refused),
+    }
+}
+
+#[cfg(test)]
+mod tests {
+    use super::run;
+    use crate::types::{Plan, Refusal};
+    use clap_complete::aot::Collected;
+    use std::alloc::Global;
+    use std::convert::AsStr;
+    use std::test::Fail;
+
+    // How a script for this shell, over this file, is refused.
+    fn refused(alloc: Global, shell: &str, file: Option<&[u8]>) -> Result<Refusal, Fail> {
+        let bin = String::from_str(alloc, "app")?;
+        let tree = String::from_str(alloc, "tree.json")?;
+        let plan = Plan::Script(String::from_str(alloc, shell)?, bin, tree);
+        let mut out = Collected::new(alloc);
+        match run(alloc, &plan, file, &mut out) {
+            Ok(()) => Err(Fail::from("a script")),
+            Err(_) if !out.as_slice().is_empty() => Err(Fail::from("something was written")),
+            Err(refusal) => Ok(refusal),
+        }
+    }
+
+    #[test]
+    fn refuses_a_shell_before_the_tree(rt: HostRuntime) -> Result<(), Fail> {
+        let refusal = refused(rt.alloc(), "tcsh", None)?;
+        assert_eq!(rt; refusal.status, 1);
+        assert_eq!(rt; refusal.text.as_str(), "invalid variant: tcsh\n");
+        Ok(())
+    }
+
+    #[test]
+    fn refuses_a_file(rt: HostRuntime) -> Result<(), Fail> {
+        let unreadable = refused(rt.alloc(), "elvish", None)?;
+        assert_eq!(rt; unreadable.text.as_str(), "tree: unreadable\n");
+        let cut = refused(rt.alloc(), "elvish", Some(b"{"))?;
+        assert_eq!(rt; cut.status, 1);
+        assert_eq!(rt; cut.text.as_str(), "tree: not JSON\n");
+        let float = refused(rt.alloc(), "elvish", Some(b"{\"name\":1.5}"))?;
+        assert_eq!(rt; float.text.as_str(), "tree: bad form\n");
+        Ok(())
+    }
+}

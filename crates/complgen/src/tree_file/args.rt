@@ -1,0 +1,173 @@
+//! The arguments of a tree file.
+
+ghost use Rattle.std.specs.Prelude.{IfErr};
+ghost use Rattle.complgen.specs.TreeForm.{IsOfForm};
+
+use clap_complete::command::Arg;
+use crate::tree_file::TreeError;
+use crate::tree_file::values::{action, character, characters, has_only_keys, range, text, texts};
+use serde_json::Value;
+use std::alloc::Global;
+
+const KEYS: [&str; 11] = [
+    "id",
+    "short",
+    "long",
+    "help",
+    "action",
+    "num_args",
+    "short_aliases",
+    "visible_short_aliases",
+    "aliases",
+    "visible_aliases",
+    "value_names",
+];
+
+/// The argument that an object describes.
+pub fn arg(alloc: Global, tree: &Value) -> Result<Arg, TreeError>
+    ensures { IfErr result IsOfForm }
+{
+    if !has_only_keys(tree, KEYS.as_slice()) {
+        return Err(TreeError::BadForm);
+    }
+    let id = tree.get("id").ok_or(TreeError::BadForm)?;
+    let arg = Arg::new(alloc, text(alloc, id)?);
+    let arg = with_names(alloc, arg, tree)?;
+    let arg = with_values(alloc, arg, tree)?;
+    with_all_aliases(alloc, arg, tree)
+}
+
+fn with_names(alloc: Global, arg: Arg, tree: &Value) -> Result<Arg, TreeError>
+    ensures { IfErr result IsOfForm }
+{
+    let arg = with_short(arg, tree)?;
+    let arg = with_long(alloc, arg, tree)?;
+    with_help(alloc, arg, tree)
+}
+
+fn with_short(arg: Arg, tree: &Value) -> Result<Arg, TreeError>
+    ensures { IfErr result IsOfForm }
+{
+    match tree.get("short") {
+        Some(value) => Ok(arg.short(character(value)?)),
+        None => Ok(arg),
+    }
+}
+
+fn with_long(alloc: Global, arg: Arg, tree: &Value) -> Result<Arg, TreeError>
+    ensures { IfErr result IsOfForm }
+{
+    match tree.get("long") {
+        Some(value) => Ok(arg.long(text(alloc, value)?)),
+        None => Ok(arg),
+    }
+}
+
+fn with_help(alloc: Global, arg: Arg, tree: &Value) -> Result<Arg, TreeError>
+    ensures { IfErr result IsOfForm }
+{
+    match tree.get("help") {
+        Some(value) => Ok(arg.help(text(alloc, value)?)),
+        None => Ok(arg),
+    }
+}
+
+fn with_values(alloc: Global, arg: Arg, tree: &Value) -> Result<Arg, TreeError>
+    ensures { IfErr result IsOfForm }
+{
+    let arg = with_action(arg, tree)?;
+    let arg = with_num_args(arg, tree)?;
+    with_value_names(alloc, arg, tree)
+}
+
+fn with_action(arg: Arg, tree: &Value) -> Result<Arg, TreeError>
+    ensures { IfErr result IsOfForm }
+{
+    match tree.get("action") {
+        Some(value) => Ok(arg.action(action(value)?)),
+        None => Ok(arg),
+    }
+}
+
+fn with_num_args(arg: Arg, tree: &Value) -> Result<Arg, TreeError>
+    ensures { IfErr result IsOfForm }
+{
+    match tree.get("num_args") {
+        Some(value) => Ok(arg.num_args(range(value)?)),
+        None => Ok(arg),
+    }
+}
+
+fn with_value_names(alloc: Global, arg: Arg, tree: &Value) -> Result<Arg, TreeError>
+    ensures { IfErr result IsOfForm }
+{
+    let Some(value) = tree.get("value_names") else {
+        return Ok(arg);
+    };
+    let mut arg = arg;
+    for name in texts(alloc, value)? {
+        arg = arg.value_name(name)?;
+    }
+    Ok(arg)
+}
+
+fn with_all_aliases(alloc: Global, arg: Arg, tree: &Value) -> Result<Arg, TreeError>
+    ensures { IfErr result IsOfForm }
+{
+    let arg = with_short_aliases(alloc, arg, tree)?;
+    let arg = with_visible_short_aliases(alloc, arg, tree)?;
+    let arg = with_aliases(alloc, arg, tree)?;
+    with_visible_aliases(alloc, arg, tree)
+}
+
+fn with_short_aliases(alloc: Global, arg: Arg, tree: &Value) -> Result<Arg, TreeError>
+    ensures { IfErr result IsOfForm }
+{
+    let Some(value) = tree.get("short_aliases") else {
+        return Ok(arg);
+    };
+    let mut arg = arg;
+    for name in characters(alloc, value)? {
+        arg = arg.short_alias(name)?;
+    }
+    Ok(arg)
+}
+
+fn with_visible_short_aliases(alloc: Global, arg: Arg, tree: &Value) -> Result<Arg, TreeError>
+    ensures { IfErr result IsOfForm }
+{
+    let Some(value) = tree.get("visible_short_aliases") else {
+        return Ok(arg);
+    };
+    let mut arg = arg;
+    for name in characters(alloc, value)? {
+        arg = arg.visible_short_alias(name)?;
+    }
+    Ok(arg)
+}
+
+fn with_aliases(alloc: Global, arg: Arg, tree: &Value) -> Result<Arg, TreeError>
+    ensures { IfErr result IsOfForm }
+{
+    let Some(value) = tree.get("aliases") else {
+        return Ok(arg);
+    };
+    let mut arg = arg;
+    for name in texts(alloc, value)? {
+        arg = arg.alias(name)?;
+    }
+    Ok(arg)
+}
+
+fn with_visible_aliases(alloc: Global, arg: Arg, tree: &Value) -> Result<Arg, TreeError>
+    ensures { IfErr result IsOfForm }
+{
+    let Some(value) = tree.get("visible_aliases") else {
+        return Ok(arg);
+    };
+    let mut arg = arg;
+    for name in texts(alloc, value)? {
+        arg = arg.visible_alias(name)?;
+    }
+    Ok(arg)
+}
