@@ -9,8 +9,6 @@ mod children;
 mod getters;
 mod iterators;
 mod plain;
-#[cfg(test)]
-mod tests;
 
 pub use crate::command::iterators::{NameAndVisibleAliases, Options, Positionals};
 use crate::node::Node;

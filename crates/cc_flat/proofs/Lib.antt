@@ -1,4 +1,5 @@
 pub mod Children
+pub mod Names
 pub mod Numbering
 pub mod Numbers
 pub mod Trees

@@ -1,3 +1,4 @@
 pub mod EntryCode
 pub mod Flat
+pub mod Index
 pub mod Numbered

@@ -2,5 +2,7 @@
 #![tactic(auto)]
 
 mod flat;
+mod index;
 
 pub use crate::flat::Flat;
+pub use crate::index::{Found, Index};

@@ -23,7 +23,7 @@ pub elvish_rows-append : (rows more : List Row) → elvish_rows (rows ++ more) �
 unfolding elvish_rows
 elvish_rows-append [] more = refl
 elvish_rows-append (row ∷ rows) more =
-  ap (λ text. elvish_row row ++ text) (elvish_rows-append rows more) ∙ sym (append_assoc (elvish_row row) (elvish_rows rows) (elvish_rows more))
+    ap (λ text. elvish_row row ++ text) (elvish_rows-append rows more) ∙ sym (append_assoc (elvish_row row) (elvish_rows rows) (elvish_rows more))
 
 -- rows that a function makes of items, as the text of the items
 pub elvish_rows-IsText : {A : Type 0} (row : A → Row) → IsText (λ x. elvish_row (row x)) (λ xs. elvish_rows (map row xs))
@@ -53,7 +53,7 @@ pub kind_rows-IsText : (is_kind : Arg → Bool) → IsText (rows_if is_kind) (λ
 kind_rows-IsText is_kind = record { none = elvish_rows-nil; first = λ argument arguments. by_kind argument arguments (is_kind argument) }
   where
     by_kind : (argument : Arg) (arguments : List Arg) (b : Bool) →
-      elvish_rows (flat_map argument_rows (cond b (argument ∷ filter is_kind arguments) (filter is_kind arguments)))
+        elvish_rows (flat_map argument_rows (cond b (argument ∷ filter is_kind arguments) (filter is_kind arguments)))
         ≡ cond b (elvish_rows (argument_rows argument)) [] ++ elvish_rows (flat_map argument_rows (filter is_kind arguments))
     by_kind argument arguments true = elvish_rows-append (argument_rows argument) (flat_map argument_rows (filter is_kind arguments))
     by_kind argument arguments false = refl
@@ -64,5 +64,7 @@ unfolding children_rows
 children_rows-IsText = record { none = elvish_rows-nil; first = λ child children. elvish_rows-append (child_rows child.node) (children_rows (forest_of children)) }
 
 pub ruleset table_text = (append_assoc)
+
 pub ruleset rows_cons = (elvish_rows-cons, elvish_rows-nil, append_assoc)
+
 pub ruleset rows_append = (elvish_rows-append, append_assoc)

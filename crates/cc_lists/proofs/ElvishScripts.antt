@@ -21,6 +21,6 @@ body-visits bin_name (v ∷ vs) = ap (λ t. elvish_table (visit_table bin_name v
 pub elvish_body-tree_tables : (tree : Tree) → elvish_body (tree_tables tree) ≡ keyed_text table_text (keyed_visits (full_name tree.node) tree)
 unfolding tree_tables
 elvish_body-tree_tables tree =
-  body-visits (full_name tree.node) (visits tree) ∙ ap (keyed_text table_text) (keyed_visits-visits (full_name tree.node) tree)
+    body-visits (full_name tree.node) (visits tree) ∙ ap (keyed_text table_text) (keyed_visits-visits (full_name tree.node) tree)
 
 pub ruleset script_text = (elvish_body-tree_tables, append_assoc)

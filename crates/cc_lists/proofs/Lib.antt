@@ -12,6 +12,8 @@ pub mod PlainWords
 pub mod PowershellExamples
 pub mod PowershellPlain
 pub mod PowershellReadsBack
+pub mod PowershellRows
+pub mod PowershellScripts
 pub mod PowershellWords
 pub mod Tests
 pub mod VisitsArePaths

@@ -23,14 +23,14 @@ long_row text long = record { word = codes "--" ++ long; text = text }
 unfoldable pub short_rows : Arg → Option ℕ → List Row
 short_rows argument None = []
 short_rows argument (Some short) =
-  map (short_row (unwrap_or argument.help (encode_utf8 short))) (short ∷ argument.visible_short_aliases)
+    map (short_row (unwrap_or argument.help (encode_utf8 short))) (short ∷ argument.visible_short_aliases)
 
 -- a row for each long that is shown: the long, then its visible aliases. They are described by the
 -- help where there is one, else by the long.
 unfoldable pub long_rows : Arg → Option (List ℕ) → List Row
 long_rows argument None = []
 long_rows argument (Some long) =
-  map (long_row (unwrap_or argument.help long)) (long ∷ argument.visible_aliases)
+    map (long_row (unwrap_or argument.help long)) (long ∷ argument.visible_aliases)
 
 -- the rows of an argument: of its shorts, then of its longs
 unfoldable pub argument_rows : Arg → List Row

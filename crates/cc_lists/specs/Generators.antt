@@ -23,7 +23,7 @@ IsNoClash (InvalidVariant _) = ⊤
 abbrev pub AnswersClash : {A : Type 0} → Option (List ℕ) → Result A Error → List ℕ → List ℕ → Type 0
 AnswersClash None result before after = IfErr result IsNoClash
 AnswersClash (Some label) result before after =
-  ((result ≡ Err (LabelClash label)) ⊎ (result ≡ Err Memory)) × (after ≡ before)
+    ((result ≡ Err (LabelClash label)) ⊎ (result ≡ Err Memory)) × (after ≡ before)
 
 -- What a call that builds and then writes leaves: where it succeeds the built tree; where it is
 -- refused either the tree as it was, and nothing is taken, or the built tree.

@@ -26,15 +26,15 @@ keyed_at keys tree = map (λ key. let t : KeyedTree = record { key = key; tree =
 unfoldable pub keyed_under : List (List ℕ) → Forest → List KeyedTree
 keyed_under keys none = []
 keyed_under keys (more node below rest) =
-  flat_map (λ key.
-      keyed_at (keys_below key (visible_names node)) (record { node = node; children = below }) ++
-      keyed_under (keys_below key (visible_names node)) below) keys ++
-  keyed_under keys rest
+    flat_map (λ key.
+    keyed_at (keys_below key (visible_names node)) (record { node = node; children = below }) ++
+    keyed_under (keys_below key (visible_names node)) below) keys ++
+    keyed_under keys rest
 
 -- a child below one key: the child under its keys, then all below it
 unfoldable pub keyed_from : List ℕ → Tree → List KeyedTree
 keyed_from key tree =
-  keyed_at (keys_below key (visible_names tree.node)) tree ++ keyed_under (keys_below key (visible_names tree.node)) tree.children
+    keyed_at (keys_below key (visible_names tree.node)) tree ++ keyed_under (keys_below key (visible_names tree.node)) tree.children
 
 -- the root under this key, then all below it
 unfoldable pub keyed_visits : List ℕ → Tree → List KeyedTree

@@ -17,4 +17,4 @@ IsSibling (more node below rest) tree = (record { node = node; children = below 
 abbrev pub LeadsTo : Tree → List (List ℕ) → Tree → Type 0
 LeadsTo from [] to = from ≡ to
 LeadsTo from (name ∷ names) to =
-  (child : Tree) × (IsSibling from.children child × (Contains (visible_names child.node) name × LeadsTo child names to))
+    (child : Tree) × (IsSibling from.children child × (Contains (visible_names child.node) name × LeadsTo child names to))

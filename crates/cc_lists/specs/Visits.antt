@@ -24,10 +24,10 @@ visits_at paths tree = map (λ path. let v : Visit = record { path = path; tree 
 unfoldable pub visits_under : List (List (List ℕ)) → Forest → List Visit
 visits_under paths none = []
 visits_under paths (more node below rest) =
-  flat_map (λ path.
-      visits_at (longer path (visible_names node)) (record { node = node; children = below }) ++
-      visits_under (longer path (visible_names node)) below) paths ++
-  visits_under paths rest
+    flat_map (λ path.
+    visits_at (longer path (visible_names node)) (record { node = node; children = below }) ++
+    visits_under (longer path (visible_names node)) below) paths ++
+    visits_under paths rest
 
 -- the root, then all below it
 abbrev pub visits : Tree → List Visit

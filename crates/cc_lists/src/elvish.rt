@@ -82,7 +82,13 @@ pub struct Elvish;
 impl TableScript for Elvish {
     ghost table = { λ _ key tree. elvish_table (record { key = key; rows = node_rows tree }) };
 
-    fn write_table<W: Sink>(&self, alloc: Global, key: &str, command: &Command, sink: &mut W) -> Result<(), Error> {
+    fn write_table<W: Sink>(
+        &self,
+        alloc: Global,
+        key: &str,
+        command: &Command,
+        sink: &mut W,
+    ) -> Result<(), Error> {
         write_table(sink, alloc, key, command)
     }
 }
@@ -103,7 +109,12 @@ impl Generator for Elvish {
     }
 
     #[tactic(auto, using(crate::proofs::ElvishPlain::elvish_plain_reads, crate::proofs::ElvishScripts::script_text), unfolding(crate::specs::ElvishScript::elvish_script))]
-    fn generate<W: Sink>(&self, alloc: Global, command: &Command, sink: &mut W) -> Result<(), Error> {
+    fn generate<W: Sink>(
+        &self,
+        alloc: Global,
+        command: &Command,
+        sink: &mut W,
+    ) -> Result<(), Error> {
         let bin_name = command.get_bin_name().unwrap_or(command.get_name());
         write_head(sink, bin_name)?;
         write_tables(self, alloc, command, bin_name, sink)?;
@@ -127,7 +138,12 @@ fn write_head<W: Sink>(sink: &mut W, bin_name: &str) -> Result<(), Error>
 
 // Writes a table: its key, the rows of the options, of the flags and of the children.
 #[tactic(auto, using(crate::proofs::ElvishRows::table_text), unfolding(crate::specs::ElvishScript::elvish_table))]
-fn write_table<W: Sink>(sink: &mut W, alloc: Global, key: &str, command: &Command) -> Result<(), Error>
+fn write_table<W: Sink>(
+    sink: &mut W,
+    alloc: Global,
+    key: &str,
+    command: &Command,
+) -> Result<(), Error>
     ensures ok { OnOk result (W.taken sink.new
         ≡ W.taken sink.old ++ elvish_table (record { key = key.now; rows = node_rows command.now })) }
     ensures failures { Counts result (W.failed sink.old) (W.failed sink.new) }
@@ -238,7 +254,12 @@ fn short_name(alloc: Global, short: char) -> Result<String, Error>
 
 // Writes a row for each of these shorts.
 #[tactic(auto, using(crate::proofs::ElvishRows::rows_cons))]
-fn write_short_aliases<W: Sink>(sink: &mut W, alloc: Global, shorts: &[char], text: &str) -> Result<(), Error>
+fn write_short_aliases<W: Sink>(
+    sink: &mut W,
+    alloc: Global,
+    shorts: &[char],
+    text: &str,
+) -> Result<(), Error>
     ensures ok { OnOk result (W.taken sink.new
         ≡ W.taken sink.old ++ elvish_rows (map (short_row text.now) shorts.now)) }
     ensures failures { Counts result (W.failed sink.old) (W.failed sink.new) }
@@ -281,7 +302,12 @@ fn write_longs<W: Sink>(sink: &mut W, alloc: Global, argument: &Arg) -> Result<(
 
 // Writes a row for each of these longs.
 #[tactic(auto, using(crate::proofs::ElvishRows::rows_cons))]
-fn write_long_aliases<W: Sink>(sink: &mut W, alloc: Global, longs: &[Text], text: &str) -> Result<(), Error>
+fn write_long_aliases<W: Sink>(
+    sink: &mut W,
+    alloc: Global,
+    longs: &[Text],
+    text: &str,
+) -> Result<(), Error>
     ensures ok { OnOk result (W.taken sink.new
         ≡ W.taken sink.old ++ elvish_rows (map (long_row text.now) longs.now)) }
     ensures failures { Counts result (W.failed sink.old) (W.failed sink.new) }
@@ -331,7 +357,12 @@ fn write_child<W: Sink>(sink: &mut W, alloc: Global, child: &Command) -> Result<
 
 // Writes a row for each of these names of a child.
 #[tactic(auto, using(crate::proofs::ElvishRows::rows_cons))]
-fn write_names<W: Sink>(sink: &mut W, alloc: Global, names: &[Text], about: Option<&str>) -> Result<(), Error>
+fn write_names<W: Sink>(
+    sink: &mut W,
+    alloc: Global,
+    names: &[Text],
+    about: Option<&str>,
+) -> Result<(), Error>
     ensures ok { OnOk result (W.taken sink.new
         ≡ W.taken sink.old ++ elvish_rows (map (name_row (option_copied about.entry)) names.now)) }
     ensures failures { Counts result (W.failed sink.old) (W.failed sink.new) }
@@ -344,7 +375,12 @@ fn write_names<W: Sink>(sink: &mut W, alloc: Global, names: &[Text], about: Opti
 }
 
 // Writes the row of a name of a child.
-fn write_name<W: Sink>(sink: &mut W, alloc: Global, name: &str, about: Option<&str>) -> Result<(), Error>
+fn write_name<W: Sink>(
+    sink: &mut W,
+    alloc: Global,
+    name: &str,
+    about: Option<&str>,
+) -> Result<(), Error>
     ensures ok { OnOk result (W.taken sink.new
         ≡ W.taken sink.old ++ elvish_row (name_row (option_copied about.entry) name.now)) }
     ensures failures { Counts result (W.failed sink.old) (W.failed sink.new) }

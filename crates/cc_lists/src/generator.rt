@@ -47,7 +47,12 @@ pub trait Generator {
         ensures failures { Counts result (W.failed sink.old) (W.failed sink.new) };
 
     /// The same as `generate`.
-    fn try_generate<W: Sink>(&self, alloc: Global, command: &Command, sink: &mut W) -> Result<(), Error>
+    fn try_generate<W: Sink>(
+        &self,
+        alloc: Global,
+        command: &Command,
+        sink: &mut W,
+    ) -> Result<(), Error>
         requires ready { IsReady command.now }
         ensures ok { OnOk result (W.taken sink.new ≡ W.taken sink.old ++ script self.now command.now) }
         ensures reads { OnOk result (IsTrue (is_plain_tree command.now) →
@@ -77,7 +82,7 @@ pub fn generate<G: Generator + Drop, W: Sink>(
         ++ G.script generator (built_under (Some (string_bytes bin_name)) command.old)) }
     ensures reads { OnOk result (IsTrue (is_plain_tree (built_under (Some (string_bytes bin_name)) command.old)) →
         G.Reads generator (built_under (Some (string_bytes bin_name)) command.old)
-            (G.script generator (built_under (Some (string_bytes bin_name)) command.old))) }
+        (G.script generator (built_under (Some (string_bytes bin_name)) command.old))) }
     ensures clashes { AnswersClash
         (G.clash generator (built_under (Some (string_bytes bin_name)) command.old)) result
         (W.taken sink.old) (W.taken sink.new) }

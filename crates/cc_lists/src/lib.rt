@@ -10,3 +10,4 @@ mod walk;
 
 pub use crate::elvish::Elvish;
 pub use crate::generator::{Generator, generate};
+pub use crate::powershell::PowerShell;

@@ -20,7 +20,13 @@ pub trait TableScript {
     ghost table: { Self → List ℕ → Tree → List ℕ };
 
     /// Writes the table of a node under a key.
-    fn write_table<W: Sink>(&self, alloc: Global, key: &str, command: &Command, sink: &mut W) -> Result<(), Error>
+    fn write_table<W: Sink>(
+        &self,
+        alloc: Global,
+        key: &str,
+        command: &Command,
+        sink: &mut W,
+    ) -> Result<(), Error>
         ensures ok { OnOk result (W.taken sink.new ≡ W.taken sink.old ++ table self.now key.now command.now) }
         ensures failures { Counts result (W.failed sink.old) (W.failed sink.new) }
         ensures kinds { IfErr result IsMemoryOrWrite };
@@ -144,7 +150,12 @@ fn push_children(
 }
 
 // The children of a node under each of its keys, in order.
-fn children_of(alloc: Global, flat: &Flat<'_>, number: usize, keys: &[Text]) -> Result<Vec<Pending>, Error>
+fn children_of(
+    alloc: Global,
+    flat: &Flat<'_>,
+    number: usize,
+    keys: &[Text],
+) -> Result<Vec<Pending>, Error>
     requires number { number < length flat.now }
     ensures ok { IfOk result (λ made.
         made.items ≡ children_pending (children_at flat.now number) keys.now) }
@@ -160,7 +171,12 @@ fn children_of(alloc: Global, flat: &Flat<'_>, number: usize, keys: &[Text]) -> 
 }
 
 // Makes a child pending under each of the keys.
-fn push_child(made: &mut Vec<Pending>, alloc: Global, number: usize, keys: &[Text]) -> Result<(), Error>
+fn push_child(
+    made: &mut Vec<Pending>,
+    alloc: Global,
+    number: usize,
+    keys: &[Text],
+) -> Result<(), Error>
     ensures ok { OnOk result (made.new.items ≡ made.old.items ++ pending_of number keys.now) }
     ensures memory { IfErr result (λ error. error ≡ Error.Memory) }
 {

@@ -1,4 +1,4 @@
 //! Completion scripts written ahead of time.
 
 pub use cc_base::{Collected, Counted, Sink, put_all};
-pub use cc_lists::{Elvish, Generator, generate, utils};
+pub use cc_lists::{Elvish, Generator, PowerShell, generate, utils};

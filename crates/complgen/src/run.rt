@@ -7,10 +7,10 @@ ghost use Rattle.complgen.specs.Refusals.{IsRefusal, IsWantOfMemory, RefusesErro
 ghost use Rattle.complgen.specs.Refusals.{RefusesFile, RefusesScript, RefusesWithText};
 ghost use Rattle.complgen.specs.Refusals.{invalid_variant as the_invalid_variant};
 
-use clap_complete::command::Command;
 use crate::tree_file::{TreeError, read_tree};
 use crate::types::{Plan, Refusal};
 use clap_complete::aot::{Elvish, Sink};
+use clap_complete::command::Command;
 use clap_complete::{Error, generate};
 use std::alloc::{AllocError, Global};
 use std::borrow::CowStr;

@@ -3,9 +3,9 @@
 ghost use Rattle.std.specs.Prelude.{IfErr};
 ghost use Rattle.complgen.specs.TreeForm.{IsOfForm};
 
-use clap_complete::command::Arg;
 use crate::tree_file::TreeError;
 use crate::tree_file::values::{action, character, characters, has_only_keys, range, text, texts};
+use clap_complete::command::Arg;
 use serde_json::Value;
 use std::alloc::Global;
 

@@ -3,10 +3,10 @@
 ghost use Rattle.std.specs.Prelude.{IfErr};
 ghost use Rattle.complgen.specs.TreeForm.{IsOfForm};
 
-use clap_complete::command::Command;
 use crate::tree_file::TreeError;
 use crate::tree_file::args::arg;
 use crate::tree_file::values::{boolean, has_only_keys, text};
+use clap_complete::command::Command;
 use serde_json::Value;
 use std::alloc::Global;
 

@@ -9,8 +9,8 @@ ghost use Rattle.serde_json.specs.View.{view};
 ghost use Rattle.complgen.specs.TreeForm.{Gives, action_of, all_of, bound_of, character_of};
 ghost use Rattle.complgen.specs.TreeForm.{has_only, number_of, only, range_of};
 
-use clap_complete::command::{ArgAction, ValueRange};
 use crate::tree_file::TreeError;
+use clap_complete::command::{ArgAction, ValueRange};
 use serde_json::{Map, Value};
 use std::alloc::Global;
 

@@ -9,6 +9,6 @@ use Rattle.cc_lists.proofs.elvish.write_flags.Given as goal
 abbrev pub invariant-loop-argument : goal.invariant-loop-argument
 invariant-loop-argument g l = record {
   whole : g.W.Sink.taken l.sink ++ elvish_rows (flat_map argument_rows (filter is_flag (drop l.argument-index l.arguments)))
-    ≡ g.W.Sink.taken l.initial.sink ++ elvish_rows (flat_map argument_rows (filter is_flag l.arguments));
+      ≡ g.W.Sink.taken l.initial.sink ++ elvish_rows (flat_map argument_rows (filter is_flag l.arguments));
   failures : g.W.Sink.failed l.sink ≡ g.W.Sink.failed l.initial.sink;
 }

@@ -7,6 +7,6 @@ use Rattle.cc_lists.proofs.elvish.write_long_aliases.Given as goal
 abbrev pub invariant-loop-long : goal.invariant-loop-long
 invariant-loop-long g l = record {
   whole : g.W.Sink.taken l.sink ++ elvish_rows (map (long_row l.text) (drop l.long-index l.longs))
-    ≡ g.W.Sink.taken l.initial.sink ++ elvish_rows (map (long_row l.text) l.longs);
+      ≡ g.W.Sink.taken l.initial.sink ++ elvish_rows (map (long_row l.text) l.longs);
   failures : g.W.Sink.failed l.sink ≡ g.W.Sink.failed l.initial.sink;
 }

@@ -8,6 +8,6 @@ use Rattle.cc_lists.proofs.elvish.write_names.Given as goal
 abbrev pub invariant-loop-name : goal.invariant-loop-name
 invariant-loop-name g l = record {
   whole : g.W.Sink.taken l.sink ++ elvish_rows (map (name_row (option_copied l.about)) (drop l.name-index l.names))
-    ≡ g.W.Sink.taken l.initial.sink ++ elvish_rows (map (name_row (option_copied l.about)) l.names);
+      ≡ g.W.Sink.taken l.initial.sink ++ elvish_rows (map (name_row (option_copied l.about)) l.names);
   failures : g.W.Sink.failed l.sink ≡ g.W.Sink.failed l.initial.sink;
 }

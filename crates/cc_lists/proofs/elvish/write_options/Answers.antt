@@ -9,17 +9,17 @@ use Rattle.cc_lists.proofs.elvish.write_options.Goals as goal
 
 pub loop-argument-preserved : goal.loop-argument-preserved
 loop-argument-preserved g c =
-  let argument = c.argument-item.result in
-  let is : is_option argument ≡ true = search rules in
-  record {
-    whole = written_more (rows_if is_option) (λ xs. elvish_rows (flat_map argument_rows (filter is_option xs))) (kind_rows-IsText is_option)
-      c.args.arguments.now c.loop-argument.argument-index argument argument _ _ _ c.loop-argument-test.true c.argument-item.is
-      (c.in_ok-write_argument.ensures.ok ∙ ap (λ text. g.W.Sink.taken c.loop-argument.sink ++ text) (sym (rows_if-yes is_option argument is)))
-      c.loop-argument.invariant.whole;
-    failures = search rules;
-  }
+    let argument = c.argument-item.result in
+    let is : is_option argument ≡ true = search rules in
+    record {
+      whole = written_more (rows_if is_option) (λ xs. elvish_rows (flat_map argument_rows (filter is_option xs))) (kind_rows-IsText is_option)
+          c.args.arguments.now c.loop-argument.argument-index argument argument _ _ _ c.loop-argument-test.true c.argument-item.is
+          (c.in_ok-write_argument.ensures.ok ∙ ap (λ text. g.W.Sink.taken c.loop-argument.sink ++ text) (sym (rows_if-yes is_option argument is)))
+          c.loop-argument.invariant.whole;
+      failures = search rules;
+    }
 
 pub returns-clause-ok : goal.returns-clause-ok
 returns-clause-ok g c =
-  written_all (rows_if is_option) (λ xs. elvish_rows (flat_map argument_rows (filter is_option xs))) (kind_rows-IsText is_option)
+    written_all (rows_if is_option) (λ xs. elvish_rows (flat_map argument_rows (filter is_option xs))) (kind_rows-IsText is_option)
     c.args.arguments.now c.loop-argument.argument-index _ _ c.loop-argument-test.false c.loop-argument.invariant.whole

@@ -7,16 +7,16 @@ use Rattle.cc_lists.proofs.elvish.write_short_aliases.Goals as goal
 
 pub loop-short-preserved : goal.loop-short-preserved
 loop-short-preserved g c =
-  let text : List ℕ = c.args.text.now in
-  let name = c.short-item.result in
-  record {
-    whole = written_more (λ x. elvish_row (short_row text x)) (λ xs. elvish_rows (map (short_row text) xs)) (elvish_rows-IsText (short_row text))
-      c.args.shorts.now c.loop-short.short-index name name _ _ _ c.loop-short-test.true c.short-item.is c.in_ok-write_short.ensures.ok c.loop-short.invariant.whole;
-    failures = search rules;
-  }
+    let text : List ℕ = c.args.text.now in
+    let name = c.short-item.result in
+    record {
+      whole = written_more (λ x. elvish_row (short_row text x)) (λ xs. elvish_rows (map (short_row text) xs)) (elvish_rows-IsText (short_row text))
+          c.args.shorts.now c.loop-short.short-index name name _ _ _ c.loop-short-test.true c.short-item.is c.in_ok-write_short.ensures.ok c.loop-short.invariant.whole;
+      failures = search rules;
+    }
 
 pub returns-clause-ok : goal.returns-clause-ok
 returns-clause-ok g c =
-  let text : List ℕ = c.args.text.now in
-  written_all (λ x. elvish_row (short_row text x)) (λ xs. elvish_rows (map (short_row text) xs)) (elvish_rows-IsText (short_row text))
+    let text : List ℕ = c.args.text.now in
+    written_all (λ x. elvish_row (short_row text x)) (λ xs. elvish_rows (map (short_row text) xs)) (elvish_rows-IsText (short_row text))
     c.args.shorts.now c.loop-short.short-index _ _ c.loop-short-test.false c.loop-short.invariant.whole

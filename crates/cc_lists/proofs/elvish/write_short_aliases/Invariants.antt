@@ -7,6 +7,6 @@ use Rattle.cc_lists.proofs.elvish.write_short_aliases.Given as goal
 abbrev pub invariant-loop-short : goal.invariant-loop-short
 invariant-loop-short g l = record {
   whole : g.W.Sink.taken l.sink ++ elvish_rows (map (short_row l.text) (drop l.short-index l.shorts))
-    ≡ g.W.Sink.taken l.initial.sink ++ elvish_rows (map (short_row l.text) l.shorts);
+      ≡ g.W.Sink.taken l.initial.sink ++ elvish_rows (map (short_row l.text) l.shorts);
   failures : g.W.Sink.failed l.sink ≡ g.W.Sink.failed l.initial.sink;
 }

@@ -6,6 +6,6 @@ use Rattle.cc_lists.proofs.elvish.write_shorts.Goals as goal
 
 pub returns-in-None-clause-ok : goal.returns-in-None-clause-ok
 returns-in-None-clause-ok g c =
-  let taken = g.W.Sink.taken c.args.sink.now in
-  sym (ap (λ name. taken ++ elvish_rows (short_rows c.args.argument.now name)) (sym c.in-None.ensures)
+    let taken = g.W.Sink.taken c.args.sink.now in
+    sym (ap (λ name. taken ++ elvish_rows (short_rows c.args.argument.now name)) (sym c.in-None.ensures)
     ∙ ap (λ text. taken ++ text) (no_short_rows c.args.argument.now) ∙ append-nil taken)

@@ -7,4 +7,4 @@ use Rattle.cc_lists.proofs.walk.children_of.Given as goal
 -- the items so far and those of the children that are left make the whole
 abbrev pub invariant-loop-child : goal.invariant-loop-child
 invariant-loop-child l =
-  l.made.items ++ children_pending (range_with_len l.child (l.child-end - l.child)) l.keys ≡ children_pending (children_at l.flat l.number) l.keys
+    l.made.items ++ children_pending (range_with_len l.child (l.child-end - l.child)) l.keys ≡ children_pending (children_at l.flat l.number) l.keys

@@ -7,7 +7,7 @@ use Rattle.cc_lists.proofs.walk.write_pending.Given as goal
 abbrev pub invariant-loop-pending : goal.invariant-loop-pending
 invariant-loop-pending g l = record {
   whole : g.W.Sink.taken l.sink ++ keyed_text (g.S.TableScript.table l.script) (keyed_of l.flat l.stack.items)
-    ≡ g.W.Sink.taken l.initial.sink ++ keyed_text (g.S.TableScript.table l.script) (keyed_of l.flat l.initial.stack.items);
+      ≡ g.W.Sink.taken l.initial.sink ++ keyed_text (g.S.TableScript.table l.script) (keyed_of l.flat l.initial.stack.items);
   failures : g.W.Sink.failed l.sink ≡ g.W.Sink.failed l.initial.sink;
   listed : AreListed l.flat l.stack.items;
 }

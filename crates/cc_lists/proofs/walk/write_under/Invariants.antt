@@ -6,6 +6,6 @@ use Rattle.cc_lists.proofs.walk.write_under.Given as goal
 abbrev pub invariant-loop-key : goal.invariant-loop-key
 invariant-loop-key g l = record {
   whole : g.W.Sink.taken l.sink ++ keyed_text (g.S.TableScript.table l.script) (keyed_at (drop l.key-index l.keys) l.command)
-    ≡ g.W.Sink.taken l.initial.sink ++ keyed_text (g.S.TableScript.table l.script) (keyed_at l.keys l.command);
+      ≡ g.W.Sink.taken l.initial.sink ++ keyed_text (g.S.TableScript.table l.script) (keyed_at l.keys l.command);
   failures : g.W.Sink.failed l.sink ≡ g.W.Sink.failed l.initial.sink;
 }

@@ -1,0 +1,155 @@
+//! The children's names by node, so that a word finds the child it leads to.
+
+ghost use Rattle.std.specs.Prelude.{◌≡◌, ℕ, ◌<◌, List, length, IfOk, IfErr, IfSome, OnOk, Some, None, cond, is_some};
+ghost use Rattle.std.specs.Option.{option_or, option_map};
+ghost use Rattle.std.specs.Str.{bytes_eq};
+ghost use Rattle.cc_command.specs.Names.{contains_name, has_child, find_child};
+ghost use Rattle.cc_flat.specs.Flat.{IsChildAt, tree_at};
+ghost use Rattle.cc_flat.specs.Index.{answer_of, find_at, name_at};
+
+use crate::flat::Flat;
+use cc_base::{Error, Text};
+use cc_command::Command;
+use std::alloc::Global;
+use std::collections::BTreeMap;
+use std::marker::Model;
+
+/// The child that a word leads to.
+#[derive(Clone, Copy, PartialEq, Eq, Debug)]
+pub struct Found {
+    /// The child's number.
+    pub child: usize,
+    /// Whether the word is the child's name or a visible alias, and not a hidden one.
+    pub visible: bool,
+}
+
+/// The nodes of a command tree with the names of each one's children.
+///
+/// A clause sees the list of entries.
+#[derive(Drop)]
+pub struct Index<'a> {
+    flat: Flat<'a>,
+    names: Vec<BTreeMap<&'a str, Found>>,
+}
+
+impl<'a> Model for Index<'a> {
+    ghost use Rattle.std.specs.Prelude.{List};
+    ghost use Rattle.cc_flat.specs.Flat.{Entry};
+    ghost use Rattle.cc_flat.specs.EntryCode.{entries_code};
+    ghost use Rattle.cc_flat.specs.Index.{IsIndex};
+
+    ghost Value = { List Entry };
+
+    ghost coded = { entries_code };
+
+    ghost view = { λ index. index.flat };
+
+    ghost invariant = { λ index. IsIndex index.flat index.names.items };
+}
+
+impl<'a> Index<'a> {
+    /// Gathers the names of all nodes' children. Refused only for want of memory.
+    pub fn new(alloc: Global, flat: Flat<'a>) -> Result<Index<'a>, Error>
+        ensures same { IfOk result (λ index. index ≡ flat.entry) }
+        ensures memory { IfErr result (λ error. error ≡ Error.Memory) }
+    {
+        let mut names = Vec::new(alloc);
+        for number in 0..flat.len() {
+            names.push(child_names(alloc, &flat, number)?)?;
+        }
+        Ok(Index { flat, names })
+    }
+
+    /// The nodes.
+    pub fn flat(&self) -> &Flat<'a>
+        ensures { result.now ≡ self.now }
+    {
+        &self.flat
+    }
+
+    /// The first child of a node that has the word as its name, a visible or a hidden alias; none
+    /// where no child has.
+    pub fn find(&self, number: usize, word: &str) -> Option<Found>
+        requires { number < length self.now }
+        ensures value { result ≡ find_at self.now number word.now }
+        ensures some { is_some result ≡ has_child (tree_at self.now number).children word.now }
+        ensures tree { option_map (λ found. tree_at self.now found.child) result
+            ≡ find_child (tree_at self.now number).children word.now }
+        ensures child { IfSome result (λ found. IsChildAt self.now number found.child) }
+    {
+        self.names[number].get(word).copied()
+    }
+}
+
+// The names of the node's children, each with the first child that has it.
+fn child_names<'a>(
+    alloc: Global,
+    flat: &Flat<'a>,
+    number: usize,
+) -> Result<BTreeMap<&'a str, Found>, Error>
+    requires { number < length flat.now }
+    ensures ok { IfOk result (λ names. (word : List ℕ) → name_at names word ≡ find_at flat.now number word) }
+    ensures memory { IfErr result (λ error. error ≡ Error.Memory) }
+{
+    let mut names = BTreeMap::new(alloc);
+    for child in flat.children(number) {
+        add_child(&mut names, flat.command(child), child)?;
+    }
+    Ok(names)
+}
+
+// Adds the names of a child, save those that lead to one already.
+fn add_child<'a>(
+    names: &mut BTreeMap<&'a str, Found>,
+    command: &'a Command,
+    child: usize,
+) -> Result<(), Error>
+    ensures ok { OnOk result ((word : List ℕ) →
+        name_at names.new word ≡ option_or (name_at names.old word) (answer_of child command.now.node word)) }
+    ensures memory { IfErr result (λ error. error ≡ Error.Memory) }
+{
+    let visible = Found {
+        child,
+        visible: true,
+    };
+    let hidden = Found {
+        child,
+        visible: false,
+    };
+    add_name(names, command.get_name(), visible)?;
+    add_names(names, command.get_visible_aliases(), visible)?;
+    add_names(names, command.get_aliases(), hidden)
+}
+
+// Adds names that lead to a child, save those that lead to one already.
+fn add_names<'a>(
+    names: &mut BTreeMap<&'a str, Found>,
+    added: &'a [Text],
+    found: Found,
+) -> Result<(), Error>
+    ensures ok { OnOk result ((word : List ℕ) → name_at names.new word
+        ≡ option_or (name_at names.old word) (cond (contains_name added.now word) (Some found) None)) }
+    ensures memory { IfErr result (λ error. error ≡ Error.Memory) }
+{
+    for name in added {
+        add_name(names, name.as_str(), found)?;
+    }
+    Ok(())
+}
+
+// Adds a name that leads to a child, unless it leads to one already.
+fn add_name<'a>(
+    names: &mut BTreeMap<&'a str, Found>,
+    name: &'a str,
+    found: Found,
+) -> Result<(), Error>
+    ensures ok { OnOk result ((word : List ℕ) → name_at names.new word
+        ≡ option_or (name_at names.old word) (cond (bytes_eq name.now word) (Some found) None)) }
+    ensures memory { IfErr result (λ error. error ≡ Error.Memory) }
+{
+    if names.contains_key(name) {
+        return Ok(());
+    }
+    names.insert(name, found)?;
+    Ok(())
+}

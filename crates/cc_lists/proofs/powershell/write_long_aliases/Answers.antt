@@ -1,0 +1,22 @@
+use Rattle.std.proofs.Common.{List, ℕ, map, rules}
+use Rattle.cc_lists.specs.PowershellTable.{long_row}
+use Rattle.cc_lists.specs.PowershellScript.{powershell_row, powershell_rows}
+use Rattle.cc_lists.proofs.PowershellRows.{powershell_rows-IsText}
+use Rattle.cc_lists.proofs.Written.{written_more, written_all}
+use Rattle.cc_lists.proofs.powershell.write_long_aliases.Goals as goal
+
+pub loop-long-preserved : goal.loop-long-preserved
+loop-long-preserved g c =
+    let text : List ℕ = c.args.text.now in
+    let name = c.long-item.result in
+    record {
+      whole = written_more (λ x. powershell_row (long_row text x)) (λ xs. powershell_rows (map (long_row text) xs)) (powershell_rows-IsText (long_row text))
+          c.args.longs.now c.loop-long.long-index name name _ _ _ c.loop-long-test.true c.long-item.is (search rules) c.loop-long.invariant.whole;
+      failures = search rules;
+    }
+
+pub returns-clause-ok : goal.returns-clause-ok
+returns-clause-ok g c =
+    let text : List ℕ = c.args.text.now in
+    written_all (λ x. powershell_row (long_row text x)) (λ xs. powershell_rows (map (long_row text) xs)) (powershell_rows-IsText (long_row text))
+    c.args.longs.now c.loop-long.long-index _ _ c.loop-long-test.false c.loop-long.invariant.whole

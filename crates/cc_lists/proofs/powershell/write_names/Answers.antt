@@ -1,0 +1,23 @@
+use Rattle.std.proofs.Common.{map, rules}
+use Rattle.std.specs.Option.{option_copied}
+use Rattle.cc_lists.specs.PowershellTable.{name_row}
+use Rattle.cc_lists.specs.PowershellScript.{powershell_row, powershell_rows}
+use Rattle.cc_lists.proofs.PowershellRows.{powershell_rows-IsText}
+use Rattle.cc_lists.proofs.Written.{written_more, written_all}
+use Rattle.cc_lists.proofs.powershell.write_names.Goals as goal
+
+pub loop-name-preserved : goal.loop-name-preserved
+loop-name-preserved g c =
+    let row = name_row (option_copied c.args.about) in
+    let name = c.name-item.result in
+    record {
+      whole = written_more (λ x. powershell_row (row x)) (λ xs. powershell_rows (map row xs)) (powershell_rows-IsText row)
+          c.args.names.now c.loop-name.name-index name name _ _ _ c.loop-name-test.true c.name-item.is (search rules) c.loop-name.invariant.whole;
+      failures = search rules;
+    }
+
+pub returns-clause-ok : goal.returns-clause-ok
+returns-clause-ok g c =
+    let row = name_row (option_copied c.args.about) in
+    written_all (λ x. powershell_row (row x)) (λ xs. powershell_rows (map row xs)) (powershell_rows-IsText row)
+    c.args.names.now c.loop-name.name-index _ _ c.loop-name-test.false c.loop-name.invariant.whole

@@ -1,0 +1,13 @@
+use Rattle.std.proofs.Common.{◌≡◌, ◌++◌, drop, map}
+use Rattle.std.specs.Option.{option_copied}
+use Rattle.cc_lists.specs.PowershellTable.{name_row}
+use Rattle.cc_lists.specs.PowershellScript.{powershell_rows}
+use Rattle.cc_lists.proofs.powershell.write_names.Given as goal
+
+-- what was taken and the rows that are left make the whole; no put failed
+abbrev pub invariant-loop-name : goal.invariant-loop-name
+invariant-loop-name g l = record {
+  whole : g.W.Sink.taken l.sink ++ powershell_rows (map (name_row (option_copied l.about)) (drop l.name-index l.names))
+      ≡ g.W.Sink.taken l.initial.sink ++ powershell_rows (map (name_row (option_copied l.about)) l.names);
+  failures : g.W.Sink.failed l.sink ≡ g.W.Sink.failed l.initial.sink;
+}
