@@ -49,3 +49,29 @@ fn plain(alloc: Global, name: &str) -> Result<Command, Error> {
             .disable_help_subcommand(true),
     )
 }
+
+// `test` with a flag `-f`, `--file`, shown as `-p` and `--path` too, and hidden as `--old`.
+pub fn test(alloc: Global) -> Result<Command, Error> {
+    Command::new(alloc, String::from_str(alloc, "test")?)
+        .alias(String::from_str(alloc, "t")?)?
+        .arg(file(alloc)?)
+}
+
+fn file(alloc: Global) -> Result<Arg, Error> {
+    Arg::new(alloc, String::from_str(alloc, "file")?)
+        .short('f')
+        .long(String::from_str(alloc, "file")?)
+        .action(ArgAction::SetTrue)
+        .visible_short_alias('p')?
+        .visible_alias(String::from_str(alloc, "path")?)?
+        .alias(String::from_str(alloc, "old")?)
+}
+
+// `app` with one flag of this short and help, and no other.
+pub fn flag(alloc: Global, short: char, help: &str) -> Result<Command, Error> {
+    let flag = Arg::new(alloc, String::from_str(alloc, "flag")?)
+        .short(short)
+        .help(String::from_str(alloc, help)?)
+        .action(ArgAction::SetTrue);
+    bare(alloc)?.arg(flag)
+}

@@ -4,6 +4,10 @@
 #[cfg(test)]
 mod fixtures;
 #[cfg(test)]
+mod lists;
+#[cfg(test)]
+mod powershell;
+#[cfg(test)]
 mod scripts;
 #[cfg(test)]
 mod sinks;
