@@ -3,6 +3,7 @@ pub mod ElvishPlain
 pub mod ElvishReadsBack
 pub mod ElvishRows
 pub mod ElvishScripts
+pub mod Forests
 pub mod KeyedTexts
 pub mod KeyedVisitsAreVisits
 pub mod Lines

@@ -11,4 +11,5 @@ pub mod PowershellReading
 pub mod PowershellReads
 pub mod PowershellScript
 pub mod PowershellTable
+pub mod Subcommands
 pub mod Visits

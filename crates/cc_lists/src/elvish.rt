@@ -17,6 +17,7 @@ use crate::walk::{TableScript, write_tables};
 use cc_arg::Arg;
 use cc_base::{Error, Sink, Text, put_all};
 use cc_command::Command;
+use cc_flat::Flat;
 use cc_quote::elvish_escape;
 use std::alloc::Global;
 
@@ -115,9 +116,10 @@ impl Generator for Elvish {
         command: &Command,
         sink: &mut W,
     ) -> Result<(), Error> {
+        let flat = Flat::new(alloc, command)?;
         let bin_name = command.get_bin_name().unwrap_or(command.get_name());
         write_head(sink, bin_name)?;
-        write_tables(self, alloc, command, bin_name, sink)?;
+        write_tables(self, alloc, &flat, bin_name, sink)?;
         put_all(sink, ELVISH_TAIL.as_bytes())
     }
 }

@@ -1,14 +1,127 @@
 //! The lists that generators share.
 
-ghost use Rattle.std.specs.Prelude.{◌≡◌, ◌++◌, ◌∷◌, [], map, filter, IfOk, IfErr, OnOk};
+ghost use Rattle.std.specs.Prelude.{◌≡◌, ◌++◌, ◌∷◌, [], map, filter, true, IfOk, IfErr, OnOk};
+ghost use Rattle.std.specs.Option.{option_copied};
 ghost use Rattle.std.specs.String.{string_bytes};
 ghost use Rattle.cc_command.specs.ArgumentLists.{flags, is_flag};
+ghost use Rattle.cc_command.specs.Tree.{forest_of};
 ghost use Rattle.cc_lists.specs.ArgumentNames.{all_longs, all_shorts, aliases_then};
+ghost use Rattle.cc_lists.specs.Subcommands.{all_named, find_path, named, named_siblings, texts_of};
 
 use cc_arg::Arg;
 use cc_base::{Error, Text};
 use cc_command::Command;
 use std::alloc::Global;
+
+/// The names of the children: of each its name, then each visible alias, with the child's full
+/// name. Refused only for want of memory.
+pub fn subcommands(alloc: Global, command: &Command) -> Result<Vec<(String, String)>, Error>
+    requires built { command.now.node.built ≡ true }
+    ensures ok { IfOk result (λ found. texts_of found.items
+        ≡ named_siblings command.now.children) }
+    ensures memory { IfErr result (λ error. error ≡ Error.Memory) }
+{
+    let mut found = Vec::new(alloc);
+    push_siblings(&mut found, alloc, command.get_subcommands())?;
+    Ok(found)
+}
+
+/// The names of all commands below: `subcommands`, then the same of each child in turn and of all
+/// below it. Refused only for want of memory.
+pub fn all_subcommands(alloc: Global, command: &Command) -> Result<Vec<(String, String)>, Error>
+    requires built { command.now.node.built ≡ true }
+    ensures ok { IfOk result (λ found. texts_of found.items
+        ≡ all_named command.now.children) }
+    ensures memory { IfErr result (λ error. error ≡ Error.Memory) }
+{
+    let mut found = Vec::new(alloc);
+    push_all(&mut found, alloc, command.get_subcommands())?;
+    Ok(found)
+}
+
+/// The command that a path of words leads to: each word leads to the first child with that name or
+/// alias. None where a word leads to no child.
+pub fn find_subcommand_with_path<'a>(command: &'a Command, path: &[&str]) -> Option<&'a Command>
+    ensures { option_copied result ≡ find_path command.now (map (λ word. word.now) path.now) }
+{
+    let mut found = command;
+    for word in path {
+        found = found.find_subcommand(word)?;
+    }
+    Some(found)
+}
+
+// Adds the names of siblings, then those of all below them.
+fn push_all(
+    found: &mut Vec<(String, String)>,
+    alloc: Global,
+    siblings: &[Command],
+) -> Result<(), Error>
+    ensures ok { OnOk result (texts_of found.new.items
+        ≡ texts_of found.old.items
+        ++ all_named (forest_of siblings.now)) }
+    ensures memory { IfErr result (λ error. error ≡ Error.Memory) }
+{
+    push_siblings(found, alloc, siblings)?;
+    for sibling in siblings {
+        push_all(found, alloc, sibling.get_subcommands())?;
+    }
+    Ok(())
+}
+
+// Adds the names of siblings.
+fn push_siblings(
+    found: &mut Vec<(String, String)>,
+    alloc: Global,
+    siblings: &[Command],
+) -> Result<(), Error>
+    ensures ok { OnOk result (texts_of found.new.items
+        ≡ texts_of found.old.items
+        ++ named_siblings (forest_of siblings.now)) }
+    ensures memory { IfErr result (λ error. error ≡ Error.Memory) }
+{
+    for sibling in siblings {
+        push_named(found, alloc, sibling)?;
+    }
+    Ok(())
+}
+
+// Adds the visible names of a command.
+#[tactic(auto, unfolding(crate::specs::Subcommands::named))]
+fn push_named(
+    found: &mut Vec<(String, String)>,
+    alloc: Global,
+    command: &Command,
+) -> Result<(), Error>
+    ensures ok { OnOk result (texts_of found.new.items
+        ≡ texts_of found.old.items ++ named command.now.node) }
+    ensures memory { IfErr result (λ error. error ≡ Error.Memory) }
+{
+    let full_name = command.get_bin_name().unwrap_or(command.get_name());
+    push_pair(found, alloc, command.get_name(), full_name)?;
+    for alias in command.get_visible_aliases() {
+        push_pair(found, alloc, alias.as_str(), full_name)?;
+    }
+    Ok(())
+}
+
+// Adds a name with the full name of its command.
+fn push_pair(
+    found: &mut Vec<(String, String)>,
+    alloc: Global,
+    name: &str,
+    full_name: &str,
+) -> Result<(), Error>
+    ensures ok { OnOk result (texts_of found.new.items
+        ≡ texts_of found.old.items
+        ++ (name.now, full_name.now) ∷ []) }
+    ensures memory { IfErr result (λ error. error ≡ Error.Memory) }
+{
+    let name = String::from_str(alloc, name)?;
+    let full_name = String::from_str(alloc, full_name)?;
+    found.push((name, full_name))?;
+    Ok(())
+}
 
 /// The arguments that are no positionals and take no values, in order. Refused only for want of
 /// memory.

@@ -44,22 +44,22 @@ pub struct Pending {
 pub(crate) fn write_tables<S: TableScript, W: Sink>(
     script: &S,
     alloc: Global,
-    root: &Command,
+    flat: &Flat<'_>,
     key: &str,
     sink: &mut W,
 ) -> Result<(), Error>
+    requires root { 0 < length flat.now }
     ensures ok { OnOk result (W.taken sink.new
-        ≡ W.taken sink.old ++ keyed_text (S.table script.now) (keyed_visits key.now root.now)) }
+        ≡ W.taken sink.old ++ keyed_text (S.table script.now) (keyed_visits key.now (tree_at flat.now 0))) }
     ensures failures { Counts result (W.failed sink.old) (W.failed sink.new) }
     ensures kinds { IfErr result IsMemoryOrWrite }
 {
-    let flat = Flat::new(alloc, root)?;
-    script.write_table(alloc, key, root, sink)?;
+    script.write_table(alloc, key, flat.command(0), sink)?;
     let mut keys = Vec::new(alloc);
     keys.push(Text::copy_of(alloc, key)?)?;
     let mut stack = Vec::new(alloc);
-    push_children(&mut stack, alloc, &flat, 0, &keys)?;
-    write_pending(script, alloc, &flat, stack, sink)
+    push_children(&mut stack, alloc, flat, 0, &keys)?;
+    write_pending(script, alloc, flat, stack, sink)
 }
 
 // Writes all that is pending, the last item first.

@@ -1,0 +1,36 @@
+-- The names by which commands are shown below a command, each with the full name of its command,
+-- and the command that a path of words leads to.
+use Rattle.std.specs.Prelude.{ℕ, List, [], ◌∷◌, ◌++◌, map, Option, Some, String, string_bytes}
+use Rattle.std.specs.Global.{Global}
+use Rattle.std.specs.Option.{option_and_then}
+use Rattle.cc_command.specs.Tree.{Forest, none, more, Tree}
+use Rattle.cc_command.specs.Names.{find_child, full_name, visible_names}
+use Rattle.cc_command.specs.declared.node.Node.{Node}
+
+-- the bytes of pairs of texts
+abbrev pub texts_of : List (String Global × String Global) → List (List ℕ × List ℕ)
+texts_of pairs = map (λ pair. (string_bytes pair.0, string_bytes pair.1)) pairs
+
+-- each visible name of a node, with the node's full name
+unfoldable pub named : Node → List (List ℕ × List ℕ)
+named node = map (λ name. (name, full_name node)) (visible_names node)
+
+-- the same of each of some siblings, in order
+abbrev pub named_siblings : Forest → List (List ℕ × List ℕ)
+named_siblings none = []
+named_siblings (more node below rest) = named node ++ named_siblings rest
+
+-- the same of all that stand below some siblings: of the children of a sibling, then of all that
+-- stand below these, before those of the next sibling
+abbrev pub named_below : Forest → List (List ℕ × List ℕ)
+named_below none = []
+named_below (more node below rest) = (named_siblings below ++ named_below below) ++ named_below rest
+
+-- the same of some siblings, then of all that stand below them
+abbrev pub all_named : Forest → List (List ℕ × List ℕ)
+all_named forest = named_siblings forest ++ named_below forest
+
+-- where a path of words leads: each word to the first child that answers to it
+abbrev pub find_path : Tree → List (List ℕ) → Option Tree
+find_path tree [] = Some tree
+find_path tree (word ∷ path) = option_and_then (λ child. find_path child path) (find_child tree.children word)
