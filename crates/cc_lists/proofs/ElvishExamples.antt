@@ -24,6 +24,12 @@ table_text : elvish_table (record { key = codes "app"; rows = [] }) ≡ codes "\
 unfolding elvish_rows elvish_table
 table_text = refl
 
+-- the bytes of a script without tables
+script_text : elvish_script (codes "app") []
+    ≡ codes "\nuse builtin;\nuse str;\n\nset edit:completion:arg-completer[app] = {|@words|\n    fn spaces {|n|\n        builtin:repeat $n ' ' | str:join ''\n    }\n    fn cand {|text desc|\n        edit:complex-candidate $text &display=$text' '(spaces (- 14 (wcswidth $text)))$desc\n    }\n    var command = 'app'\n    for word $words[1..-1] {\n        if (str:has-prefix $word '-') {\n            break\n        }\n        set command = $command';'$word\n    }\n    var completions = [\n    ]\n    $completions[$command]\n}\n"
+unfolding elvish_body elvish_script
+script_text = refl
+
 -- two tables as a program's help gives them
 abbrev given : List Table
 given =

@@ -10,14 +10,13 @@ use Rattle.cc_arg.specs.declared.arg.Arg.{Arg}
 use Rattle.cc_command.specs.declared.node.Node.{Node}
 use Rattle.cc_command.specs.Tree.{Forest, none, more, Tree}
 use Rattle.cc_command.specs.ArgumentLists.{options, flags}
-use Rattle.cc_command.specs.Names.{full_name}
+use Rattle.cc_command.specs.Names.{full_name, visible_names}
 use Rattle.cc_command.specs.PlainName.{is_plain_name}
 use Rattle.cc_command.specs.Plain.{is_plain_tree, is_plain_forest, passes_if_some}
 use Rattle.cc_lists.specs.CommandTable.{short_row, short_rows, long_row, long_rows, argument_rows, name_row, child_rows, children_rows, node_rows, visit_table, tree_tables}
 use Rattle.cc_lists.specs.ElvishReading.{Row, IsReadable}
 use Rattle.cc_lists.specs.ElvishReads.{ElvishReads}
 use Rattle.cc_lists.specs.ElvishScript.{elvish_script}
-use Rattle.cc_lists.specs.Paths.{visible_names}
 use Rattle.cc_lists.specs.Visits.{Visit, visits, key_of}
 use Rattle.cc_lists.proofs.ElvishReadsBack.{elvish_reads_back}
 use Rattle.cc_lists.proofs.Members.{AllByRecursion-weaker, AllByRecursion-append, AllByRecursion-map, AllByRecursion-flat_map}

@@ -4,7 +4,7 @@ use Rattle.std.specs.List.{flat_map, range_with_len}
 use Rattle.std.proofs.lemmas.List.{reverse-append, reverse-reverse, length-append}
 use Rattle.cc_command.specs.Tree.{Forest, none, more, Tree, forest_of}
 use Rattle.cc_flat.specs.Flat.{Entry, HasItsChildren, children_at, entry_at, tree_at, trees_at}
-use Rattle.cc_lists.specs.Paths.{visible_names}
+use Rattle.cc_command.specs.Names.{visible_names}
 use Rattle.cc_lists.specs.KeyedVisits.{KeyedTree, keys_below, keyed_at, keyed_under, keyed_from, keyed_text, keyed_visits}
 use Rattle.cc_lists.specs.Pending.{AreListed, pending_of, children_pending, keyed_of_one, keyed_of}
 use Rattle.cc_lists.specs.declared.walk.Pending.{Pending}

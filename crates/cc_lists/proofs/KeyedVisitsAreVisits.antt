@@ -3,7 +3,7 @@ use Rattle.std.proofs.Common.{◌≡◌, ℕ, List, [], ◌∷◌, ◌++◌, map
 use Rattle.std.specs.List.{flat_map}
 use Rattle.cc_command.specs.declared.node.Node.{Node}
 use Rattle.cc_command.specs.Tree.{Forest, none, more, Tree}
-use Rattle.cc_lists.specs.Paths.{visible_names}
+use Rattle.cc_command.specs.Names.{visible_names}
 use Rattle.cc_lists.specs.Visits.{Visit, longer, visits_at, visits_under, visits, key_of}
 use Rattle.cc_lists.specs.KeyedVisits.{KeyedTree, longer_key, keys_below, keyed_at, keyed_under, keyed_from, keyed_visits}
 

@@ -6,10 +6,10 @@ use Rattle.cc_arg.specs.declared.arg.Arg.{Arg}
 use Rattle.cc_command.specs.declared.node.Node.{Node}
 use Rattle.cc_command.specs.Tree.{Forest, none, more, Tree}
 use Rattle.cc_command.specs.ArgumentLists.{is_option, is_flag, options, flags}
-use Rattle.cc_command.specs.Names.{full_name}
+use Rattle.cc_command.specs.Names.{full_name, visible_names}
 use Rattle.cc_command.specs.PlainName.{is_plain_name}
 use Rattle.cc_command.specs.Plain.{is_plain_tree, is_plain_forest, is_plain_node, is_plain_argument, siblings_differ, passes_if_some, has_no_quote}
-use Rattle.cc_lists.specs.Paths.{visible_names, IsSibling, LeadsTo}
+use Rattle.cc_lists.specs.Paths.{IsSibling, LeadsTo}
 use Rattle.cc_lists.specs.Visits.{visits}
 use Rattle.cc_lists.proofs.Members.{IsIn-from_Contains, Contains-from_IsIn, AllByRecursion-IsIn, AllByRecursion-from_IsIn, AllByRecursion-weaker, AllByRecursion-filter}
 use Rattle.cc_lists.proofs.Tests.{both_true, each_passes}

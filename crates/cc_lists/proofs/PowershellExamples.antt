@@ -29,6 +29,12 @@ table_text : powershell_table (record { key = codes "app"; rows = [] }) ≡ code
 unfolding powershell_rows powershell_table
 table_text = refl
 
+-- the bytes of a script without tables
+script_text : powershell_script (codes "app") []
+    ≡ codes "\nusing namespace System.Management.Automation\nusing namespace System.Management.Automation.Language\n\nRegister-ArgumentCompleter -Native -CommandName 'app' -ScriptBlock {\n    param($wordToComplete, $commandAst, $cursorPosition)\n\n    $commandElements = $commandAst.CommandElements\n    $command = @(\n        'app'\n        for ($i = 1; $i -lt $commandElements.Count; $i++) {\n            $element = $commandElements[$i]\n            if ($element -isnot [StringConstantExpressionAst] -or\n                $element.StringConstantType -ne [StringConstantType]::BareWord -or\n                $element.Value.StartsWith('-') -or\n                $element.Value -eq $wordToComplete) {\n                break\n        }\n        $element.Value\n    }) -join ';'\n\n    $completions = @(switch ($command) {\n    })\n\n    $completions.Where{ $_.CompletionText -like \"$wordToComplete*\" } |\n        Sort-Object -Property ListItemText\n}\n"
+unfolding powershell_body powershell_script
+script_text = refl
+
 -- two tables as a program's help gives them
 abbrev given : List Table
 given =

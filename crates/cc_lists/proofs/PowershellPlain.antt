@@ -10,10 +10,10 @@ use Rattle.cc_arg.specs.declared.arg.Arg.{Arg}
 use Rattle.cc_command.specs.declared.node.Node.{Node}
 use Rattle.cc_command.specs.Tree.{Forest, none, more, Tree}
 use Rattle.cc_command.specs.ArgumentLists.{is_option, is_flag, options, flags}
-use Rattle.cc_command.specs.Names.{full_name}
+use Rattle.cc_command.specs.Names.{full_name, visible_names}
 use Rattle.cc_command.specs.PlainName.{is_plain_name}
 use Rattle.cc_command.specs.Plain.{is_plain_tree, is_plain_forest, passes_if_some}
-use Rattle.cc_lists.specs.Paths.{visible_names, IsSibling, LeadsTo}
+use Rattle.cc_lists.specs.Paths.{IsSibling, LeadsTo}
 use Rattle.cc_lists.specs.PowershellReading.{Row, IsReadableRow, IsReadable}
 use Rattle.cc_lists.specs.PowershellReads.{AreDescribedInUtf8, HasUtf8Descriptions, PowershellReads}
 use Rattle.cc_lists.specs.PowershellScript.{powershell_script}

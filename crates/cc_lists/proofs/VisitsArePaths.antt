@@ -6,12 +6,12 @@ use Rattle.std.proofs.lemmas.List.{append_cancel_left}
 use Rattle.std.proofs.lemmas.Slice.Eq.{bytes_eq-Decides}
 use Rattle.cc_command.specs.declared.node.Node.{Node}
 use Rattle.cc_command.specs.Tree.{Forest, none, more, Tree}
-use Rattle.cc_command.specs.Names.{contains_name, answers_to, has_child}
+use Rattle.cc_command.specs.Names.{contains_name, answers_to, has_child, visible_names}
 use Rattle.cc_command.specs.Plain.{is_plain_tree, is_plain_forest, is_plain_node, siblings_differ, all_differ, names_of, passes_if_some}
 use Rattle.cc_command.specs.PlainName.{is_plain_name}
 use Rattle.cc_lists.proofs.Members.{IsIn, IsIn-from_Contains, Contains-from_IsIn, IsIn-append_left, IsIn-append_right, IsIn-append, IsIn-map, map-IsIn, IsIn-flat_map, flat_map-IsIn, AllByRecursion-IsIn, AllByRecursion-from_IsIn}
 use Rattle.cc_lists.proofs.Tests.{both_true, or-left, or-right, not_both, each_passes}
-use Rattle.cc_lists.specs.Paths.{visible_names, IsSibling, LeadsTo}
+use Rattle.cc_lists.specs.Paths.{IsSibling, LeadsTo}
 use Rattle.cc_lists.specs.Visits.{Visit, longer, visits_at, visits_under, visits, DifferentPaths}
 
 -- ---- every visit is a visible path, and every visible path is visited

@@ -2,7 +2,7 @@
 use Rattle.std.specs.Prelude.{ℕ, List, [], ◌∷◌, ◌++◌, map, codes}
 use Rattle.std.specs.List.{flat_map}
 use Rattle.cc_command.specs.Tree.{Forest, none, more, Tree}
-use Rattle.cc_lists.specs.Paths.{visible_names}
+use Rattle.cc_command.specs.Names.{visible_names}
 
 -- the key of a table, and the tree that it is of
 pub record KeyedTree : Type 0 where

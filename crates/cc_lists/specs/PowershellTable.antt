@@ -6,8 +6,7 @@ use Rattle.cc_arg.specs.declared.arg.Arg.{Arg}
 use Rattle.cc_command.specs.declared.node.Node.{Node}
 use Rattle.cc_command.specs.Tree.{Forest, none, more, Tree}
 use Rattle.cc_command.specs.ArgumentLists.{options, flags}
-use Rattle.cc_command.specs.Names.{full_name}
-use Rattle.cc_lists.specs.Paths.{visible_names}
+use Rattle.cc_command.specs.Names.{full_name, visible_names}
 use Rattle.cc_lists.specs.Visits.{Visit, visits, key_of}
 use Rattle.cc_lists.specs.PowershellReading.{Row, Table}
 use Rattle.cc_lists.specs.PowershellReading.Kind.{parameter_name, parameter_value}

@@ -1,7 +1,7 @@
 use Rattle.std.proofs.Common.{◌≡◌, ℕ, List, [], ◌∷◌, ◌++◌, reverse, ap, sym, ◌∙◌, append-nil, rules}
 use Rattle.cc_command.specs.Tree.{Tree}
 use Rattle.cc_flat.specs.Flat.{Entry, HasItsChildren, children_at, tree_at}
-use Rattle.cc_lists.specs.Paths.{visible_names}
+use Rattle.cc_command.specs.Names.{visible_names}
 use Rattle.cc_lists.specs.KeyedVisits.{keyed_at, keyed_text, keys_below}
 use Rattle.cc_lists.specs.Pending.{children_pending, keyed_of}
 use Rattle.cc_lists.specs.declared.walk.Pending.{Pending}
