@@ -2,10 +2,8 @@
 use Rattle.std.proofs.Common.{◌≡◌, List, [], ◌∷◌, Some, None, codes, refl}
 use Rattle.cc_quote.specs.Tokens.{is_word, strip_words, after_words}
 use Rattle.cc_quote.specs.Tokens.Piece.{bare, quoted, unclosed}
-use Rattle.cc_quote.specs.QuotedWord.{is_blank}
 use Rattle.cc_quote.specs.ElvishTokens.{sign, cut, elvish_tokens}
 use Rattle.cc_lists.specs.ElvishReading.{Table, part, with_row, next, answer, read, tables_begin, elvish_tables}
-use Rattle.cc_quote.specs.ElvishQuote.{elvish_escaped_byte, elvish_escaped}
 use Rattle.cc_lists.specs.ElvishScript.{elvish_row, elvish_rows, elvish_table, elvish_body, elvish_script}
 
 -- pieces of a token, a quote mark, a line feed within quotes, and quotes that are left open

@@ -4,7 +4,6 @@ use Rattle.std.specs.List.{AllByRecursion}
 use Rattle.cc_lists.specs.declared.elvish.TheConstants.{ELVISH_HEAD, ELVISH_FUNCTIONS, ELVISH_COMPLETIONS, ELVISH_TAIL, ELVISH_KEY, ELVISH_ROWS, ELVISH_TABLE_END, ELVISH_WORD, ELVISH_TEXT, ELVISH_ROW_END}
 use Rattle.cc_quote.specs.Tokens.Piece.{bare}
 use Rattle.cc_quote.specs.Tokens.{is_word, strip_words, after_words}
-use Rattle.cc_quote.specs.QuotedWord.{is_blank}
 use Rattle.cc_quote.specs.ElvishTokens.{sign, Place, cut, elvish_tokens, IsBare, IsBareWord}
 use Rattle.cc_quote.specs.ElvishTokens.Place.{between, in_bare}
 use Rattle.cc_lists.specs.ElvishReading.{Row, Table, State, part, with_row, next, answer, read, tables_begin, elvish_tables, IsReadable, spaced_row, spaced_table}

@@ -1,8 +1,8 @@
 -- The texts of keyed trees, and what a stack of pending nodes stands for.
-use Rattle.std.proofs.Common.{◌≡◌, ℕ, zero, suc, subst, ◌+◌, ◌<◌, ◌≤◌, List, [], ◌∷◌, ◌++◌, length, map, reverse, refl, ap, ◌∙◌, sym, append_assoc, append-nil, arith}
+use Rattle.std.proofs.Common.{◌≡◌, ℕ, zero, suc, subst, ◌+◌, ◌<◌, ◌≤◌, List, [], ◌∷◌, ◌++◌, length, reverse, refl, ap, ◌∙◌, sym, append_assoc, append-nil, arith}
 use Rattle.std.specs.List.{flat_map, range_with_len}
 use Rattle.std.proofs.lemmas.List.{reverse-append, reverse-reverse, length-append}
-use Rattle.cc_command.specs.Tree.{Forest, none, more, Tree, forest_of}
+use Rattle.cc_command.specs.Tree.{Tree, forest_of}
 use Rattle.cc_flat.specs.Flat.{Entry, HasItsChildren, children_at, entry_at, tree_at, trees_at}
 use Rattle.cc_command.specs.Names.{visible_names}
 use Rattle.cc_lists.specs.KeyedVisits.{KeyedTree, keys_below, keyed_at, keyed_under, keyed_from, keyed_text, keyed_visits}

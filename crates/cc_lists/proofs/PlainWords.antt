@@ -3,7 +3,6 @@ use Rattle.std.proofs.Common.{◌≡◌, ◌≢◌, ℕ, Bool, true, false, ◌|
 use Rattle.std.specs.Char.{is_ascii_alphanumeric}
 use Rattle.std.specs.List.{AllByRecursion}
 use Rattle.std.proofs.lemmas.Bool.Decides.{nat_tests}
-use Rattle.cc_quote.specs.QuotedWord.{is_blank}
 use Rattle.cc_quote.specs.ElvishTokens.{is_bare, IsBare, IsBareWord, HasNoQuote}
 use Rattle.cc_command.specs.PlainName.{NameByte, name_byte, is_joined, is_plain_name}
 use Rattle.cc_command.specs.PlainName.NameByte.{letter, joiner, foreign}

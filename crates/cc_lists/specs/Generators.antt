@@ -1,5 +1,5 @@
 -- What every generator keeps.
-use Rattle.std.specs.Prelude.{◌≡◌, ◌⊎◌, ℕ, List, Bool, ◌&&◌, Option, Some, None, is_some, IsTrue, Result, Ok, Err, ⊤, IfErr}
+use Rattle.std.specs.Prelude.{◌≡◌, ◌⊎◌, ℕ, List, ◌&&◌, Option, Some, None, is_some, IsTrue, Result, Ok, Err, ⊤, IfErr}
 use Rattle.cc_base.specs.declared.error.Error.{Error}
 use Rattle.cc_base.specs.declared.error.Error.TheVariants.{Memory, Write, LabelClash, NoCompletion, NoArguments, UnknownShell, InvalidVariant}
 use Rattle.cc_command.specs.Tree.{Tree}

@@ -1,5 +1,5 @@
 -- What a stack of pending nodes stands for.
-use Rattle.std.specs.Prelude.{ℕ, ◌<◌, List, [], ◌∷◌, ◌++◌, length, map, reverse}
+use Rattle.std.specs.Prelude.{ℕ, ◌<◌, List, length, map, reverse}
 use Rattle.std.specs.List.{flat_map, AllByRecursion}
 use Rattle.cc_flat.specs.Flat.{Entry, tree_at}
 use Rattle.cc_lists.specs.KeyedVisits.{KeyedTree, keyed_from}

@@ -1,9 +1,8 @@
 -- The order in which a script goes through the visible paths of a tree.
 use Rattle.std.specs.Prelude.{◌≢◌, ℕ, List, [], ◌∷◌, ◌++◌, map, codes}
 use Rattle.std.specs.List.{flat_map, AllByRecursion}
-use Rattle.cc_command.specs.declared.node.Node.{Node}
 use Rattle.cc_command.specs.Tree.{Forest, none, more, Tree}
-use Rattle.cc_command.specs.Names.{full_name, visible_names}
+use Rattle.cc_command.specs.Names.{visible_names}
 
 -- a path, and the node that it leads to with all below it
 pub record Visit : Type 0 where

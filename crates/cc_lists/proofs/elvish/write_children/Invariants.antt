@@ -1,4 +1,4 @@
-use Rattle.std.proofs.Common.{◌≡◌, ◌++◌, drop, filter, map}
+use Rattle.std.proofs.Common.{◌≡◌, ◌++◌, drop}
 use Rattle.cc_command.specs.Tree.{forest_of}
 use Rattle.cc_lists.specs.CommandTable.{children_rows}
 use Rattle.cc_lists.specs.ElvishScript.{elvish_rows}

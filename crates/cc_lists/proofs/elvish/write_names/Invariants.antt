@@ -1,4 +1,4 @@
-use Rattle.std.proofs.Common.{◌≡◌, ◌++◌, drop, filter, map}
+use Rattle.std.proofs.Common.{◌≡◌, ◌++◌, drop, map}
 use Rattle.std.specs.Option.{option_copied}
 use Rattle.cc_lists.specs.CommandTable.{name_row}
 use Rattle.cc_lists.specs.ElvishScript.{elvish_rows}

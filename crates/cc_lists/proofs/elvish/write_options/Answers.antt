@@ -1,10 +1,10 @@
-use Rattle.std.proofs.Common.{◌≡◌, true, false, [], ap, sym, rules, filter, ◌∙◌, ◌++◌}
+use Rattle.std.proofs.Common.{◌≡◌, true, ap, sym, rules, filter, ◌∙◌, ◌++◌}
 use Rattle.std.specs.List.{flat_map}
 use Rattle.cc_command.specs.ArgumentLists.{is_option}
 use Rattle.cc_lists.specs.CommandTable.{argument_rows}
 use Rattle.cc_lists.specs.ElvishScript.{elvish_rows}
-use Rattle.cc_lists.proofs.ElvishRows.{rows_if, kind_rows-IsText, rows_if-yes, rows_if-no}
-use Rattle.cc_lists.proofs.Written.{written_more, passed_more, written_all}
+use Rattle.cc_lists.proofs.ElvishRows.{rows_if, kind_rows-IsText, rows_if-yes}
+use Rattle.cc_lists.proofs.Written.{written_more, written_all}
 use Rattle.cc_lists.proofs.elvish.write_options.Goals as goal
 
 pub loop-argument-preserved : goal.loop-argument-preserved

@@ -1,4 +1,4 @@
-use Rattle.std.proofs.Common.{◌≡◌, ◌++◌, drop, filter, map}
+use Rattle.std.proofs.Common.{◌≡◌, ◌++◌, drop, filter}
 use Rattle.std.specs.List.{flat_map}
 use Rattle.cc_command.specs.ArgumentLists.{is_option}
 use Rattle.cc_lists.specs.CommandTable.{argument_rows}

@@ -1,4 +1,4 @@
-use Rattle.std.proofs.Common.{◌≡◌, ◌<◌, ◌∙◌, List, ap, sym, subst, arith, rules}
+use Rattle.std.proofs.Common.{◌≡◌, ◌<◌, ◌∙◌, List, ap, sym, subst, rules}
 use Rattle.cc_command.specs.Tree.{Forest, Tree, forest_of, forest_size}
 use Rattle.cc_lists.proofs.Forests.{below_is_smaller}
 use Rattle.cc_lists.proofs.utils.+push_all.Goals as goal

@@ -1,9 +1,8 @@
 use Rattle.std.proofs.Common.{◌≡◌, ℕ, List, [], ◌∷◌, ◌++◌, reverse, ap, sym, ◌∙◌, append-nil, rules}
-use Rattle.cc_command.specs.Tree.{Tree}
 use Rattle.cc_flat.specs.Flat.{Entry, HasItsChildren, children_at, tree_at}
 use Rattle.cc_command.specs.Names.{visible_names}
 use Rattle.cc_lists.specs.KeyedVisits.{keyed_at, keyed_text, keys_below}
-use Rattle.cc_lists.specs.Pending.{children_pending, keyed_of}
+use Rattle.cc_lists.specs.Pending.{children_pending}
 use Rattle.cc_lists.specs.declared.walk.Pending.{Pending}
 use Rattle.cc_lists.proofs.KeyedTexts.{AreListed-step, keyed_of-empty, walk_shrinks, walk_step}
 use Rattle.cc_lists.proofs.walk.write_pending.Goals as goal

@@ -1,7 +1,7 @@
-use Rattle.std.proofs.Common.{◌≡◌, ℕ, List, [], ◌∷◌, ◌++◌, reverse, refl, ap, sym, ◌∙◌, append_assoc, rules}
+use Rattle.std.proofs.Common.{◌≡◌, ℕ, List, [], ◌∷◌, ◌++◌, reverse, refl, ap, ◌∙◌, append_assoc, rules}
 use Rattle.std.proofs.lemmas.Result.{IfOk-equal}
 use Rattle.cc_flat.specs.Flat.{Entry, HasItsChildren, children_at, tree_at}
-use Rattle.cc_lists.specs.KeyedVisits.{keyed_text, keyed_visits}
+use Rattle.cc_lists.specs.KeyedVisits.{keyed_text}
 use Rattle.cc_lists.specs.Pending.{children_pending, keyed_of}
 use Rattle.cc_lists.proofs.KeyedTexts.{AreListed-children, AreListed-same, walk_begins}
 use Rattle.cc_lists.proofs.walk.write_tables.Goals as goal
