@@ -1,5 +1,5 @@
 -- The Elvish script of a plain tree reads to the tree's tables.
-use Rattle.std.proofs.Common.{ℕ, ◌<◌, IsTrue, List, [], ◌∷◌, ◌++◌, flat_map, codes, encode_utf8, Option, Some, None, unwrap_or, refl, sym, subst, arith}
+use Rattle.std.proofs.Common.{ℕ, ◌<◌, IsTrue, List, [], ◌∷◌, ◌++◌, flat_map, map, codes, encode_utf8, Option, Some, None, unwrap_or, refl, sym, subst, arith}
 use Rattle.std.specs.Char.{is_ascii_alphanumeric}
 use Rattle.std.specs.List.{AllByRecursion}
 use Rattle.std.proofs.lemmas.Bool.Decides.{nat_tests}
@@ -17,7 +17,8 @@ use Rattle.cc_lists.specs.CommandTable.{short_row, short_rows, long_row, long_ro
 use Rattle.cc_lists.specs.ElvishReading.{Row, IsReadable}
 use Rattle.cc_lists.specs.ElvishReads.{ElvishReads}
 use Rattle.cc_lists.specs.ElvishScript.{elvish_script}
-use Rattle.cc_lists.specs.Visits.{Visit, visits, key_of}
+use Rattle.cc_lists.specs.Visits.{Visit, visits, key_of, DifferentKeys}
+use Rattle.cc_lists.proofs.DifferentKeys.{different_keys}
 use Rattle.cc_lists.proofs.ElvishReadsBack.{elvish_reads_back}
 use Rattle.cc_lists.proofs.Members.{AllByRecursion-weaker, AllByRecursion-append, AllByRecursion-map, AllByRecursion-flat_map}
 use Rattle.cc_lists.proofs.PlainVisits.{IsPlainName, IsPlainShort, IsPlainArgument, plain_node, IsPlainBelow, IsPlainVisit, plain_visits, plain_full_name, plain_more}
@@ -117,10 +118,16 @@ tables_readable tree h =
     (AllByRecursion-weaker (λ visit. IsPlainVisit visit.path visit.tree) (λ visit. IsReadable (visit_table (full_name tree.node) visit))
     (visit_readable (full_name tree.node) (plain_full_name tree h)) (visits tree) (plain_visits tree h))
 
+-- no key of theirs stands twice
+keys_apart : (tree : Tree) → IsTrue (is_plain_tree tree) → DifferentKeys (map (λ table. table.key) (tree_tables tree))
+unfolding tree_tables visit_table
+keys_apart tree h = different_keys (full_name tree.node) (visit_table (full_name tree.node)) (λ table. table.key) (λ visit. refl) tree h
+
 -- the script of a plain tree reads to its tables
 pub elvish_plain_reads : (tree : Tree) → IsTrue (is_plain_tree tree) → ElvishReads tree (elvish_script (full_name tree.node) (tree_tables tree))
 elvish_plain_reads tree h = record {
   tables = elvish_reads_back (full_name tree.node) (tree_tables tree) (IsBare-is_plain_name (full_name tree.node) (plain_full_name tree h)) (tables_readable tree h);
   paths = visits_are_paths tree;
   once = DifferentPaths-is_plain_tree tree h;
+  keys = keys_apart tree h;
 }

@@ -1,3 +1,4 @@
+pub mod DifferentKeys
 pub mod ElvishExamples
 pub mod ElvishPlain
 pub mod ElvishReadsBack

@@ -1,5 +1,5 @@
 -- The PowerShell script of a plain tree reads to the tree's tables.
-use Rattle.std.proofs.Common.{◌≡◌, ℕ, Bool, true, false, cond, IsTrue, IsUtf8, IfSome, List, [], ◌∷◌, ◌++◌, flat_map, codes, encode_utf8, Option, Some, None, inl, inr, sym, subst, arith}
+use Rattle.std.proofs.Common.{◌≡◌, ℕ, Bool, true, false, cond, IsTrue, IsUtf8, IfSome, List, [], ◌∷◌, ◌++◌, flat_map, map, codes, encode_utf8, Option, Some, None, inl, inr, refl, sym, subst, arith}
 use Rattle.std.specs.Char.{is_ascii_alphanumeric, is_ascii_uppercase}
 use Rattle.std.specs.List.{AllByRecursion}
 use Rattle.std.proofs.lemmas.Bool.Decides.{nat_tests}
@@ -18,7 +18,8 @@ use Rattle.cc_lists.specs.PowershellReading.{Row, IsReadableRow, IsReadable}
 use Rattle.cc_lists.specs.PowershellReads.{AreDescribedInUtf8, HasUtf8Descriptions, PowershellReads}
 use Rattle.cc_lists.specs.PowershellScript.{powershell_script}
 use Rattle.cc_lists.specs.PowershellTable.{description, short_word, short_listed, short_row, short_rows, long_row, long_rows, argument_rows, name_row, child_rows, children_rows, node_rows, visit_table, tree_tables}
-use Rattle.cc_lists.specs.Visits.{Visit, visits, key_of}
+use Rattle.cc_lists.specs.Visits.{Visit, visits, key_of, DifferentKeys}
+use Rattle.cc_lists.proofs.DifferentKeys.{different_keys}
 use Rattle.cc_lists.proofs.Members.{Contains-from_IsIn, AllByRecursion-from_IsIn, AllByRecursion-weaker, AllByRecursion-both, AllByRecursion-append, AllByRecursion-map, AllByRecursion-flat_map, AllByRecursion-filter}
 use Rattle.cc_lists.proofs.PlainVisits.{IsPlainName, IsPlainShort, IsPlainArgument, plain_node, IsPlainBelow, IsPlainVisit, plain_visits, plain_full_name, plain_more}
 use Rattle.cc_lists.proofs.PowershellReadsBack.{powershell_reads_back}
@@ -190,10 +191,16 @@ tables_readable tree h utf8 =
     (AllByRecursion-weaker IsShownVisit (λ visit. IsReadable (visit_table (full_name tree.node) visit)) (visit_readable (full_name tree.node) (plain_full_name tree h)) (visits tree)
     (AllByRecursion-both (λ visit. IsPlainVisit visit.path visit.tree) (λ visit. HasUtf8Descriptions visit.tree) (visits tree) (plain_visits tree h) (visits_utf8 tree utf8)))
 
+-- no key of theirs stands twice
+keys_apart : (tree : Tree) → IsTrue (is_plain_tree tree) → DifferentKeys (map (λ table. table.key) (tree_tables tree))
+unfolding tree_tables visit_table
+keys_apart tree h = different_keys (full_name tree.node) (visit_table (full_name tree.node)) (λ table. table.key) (λ visit. refl) tree h
+
 -- the script of a plain tree reads to its tables
 pub powershell_plain_reads : (tree : Tree) → IsTrue (is_plain_tree tree) → PowershellReads tree (powershell_script (full_name tree.node) (tree_tables tree))
 powershell_plain_reads tree h = record {
   tables = λ utf8. powershell_reads_back (full_name tree.node) (tree_tables tree) (IsUnquoted-is_plain_name (full_name tree.node) (plain_full_name tree h)) (tables_readable tree h utf8);
   paths = visits_are_paths tree;
   once = DifferentPaths-is_plain_tree tree h;
+  keys = keys_apart tree h;
 }

@@ -25,8 +25,14 @@ AnswersClash None result before after = IfErr result IsNoClash
 AnswersClash (Some label) result before after =
     ((result ≡ Err (LabelClash label)) ⊎ (result ≡ Err Memory)) × (after ≡ before)
 
--- What a call that builds and then writes leaves: where it succeeds the built tree; where it is
--- refused either the tree as it was, and nothing is taken, or the built tree.
+-- What a call that builds and then writes leaves: the built tree. Only where it is refused memory it
+-- may leave the tree as it was, and then nothing is taken.
 abbrev pub LeavesBuilt : {A : Type 0} → Result A Error → Tree → Tree → Tree → List ℕ → List ℕ → Type 0
 LeavesBuilt (Ok _) old new built before after = new ≡ built
-LeavesBuilt (Err _) old new built before after = ((new ≡ old) × (after ≡ before)) ⊎ (new ≡ built)
+LeavesBuilt (Err Memory) old new built before after = ((new ≡ old) × (after ≡ before)) ⊎ (new ≡ built)
+LeavesBuilt (Err (Write _)) old new built before after = new ≡ built
+LeavesBuilt (Err (LabelClash _)) old new built before after = new ≡ built
+LeavesBuilt (Err NoCompletion) old new built before after = new ≡ built
+LeavesBuilt (Err NoArguments) old new built before after = new ≡ built
+LeavesBuilt (Err (UnknownShell _)) old new built before after = new ≡ built
+LeavesBuilt (Err (InvalidVariant _)) old new built before after = new ≡ built

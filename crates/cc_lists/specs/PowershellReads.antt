@@ -6,7 +6,7 @@ use Rattle.cc_command.specs.Tree.{Forest, none, more, Tree}
 use Rattle.cc_lists.specs.PowershellTable.{tree_tables}
 use Rattle.cc_lists.specs.PowershellReading.{powershell_tables, spaced_table}
 use Rattle.cc_lists.specs.Paths.{LeadsTo}
-use Rattle.cc_lists.specs.Visits.{Visit, visits, DifferentPaths}
+use Rattle.cc_lists.specs.Visits.{Visit, visits, DifferentKeys, DifferentPaths}
 
 -- the about of a node and the help of each of its arguments, where there is one, are UTF-8
 abbrev pub IsDescribedInUtf8 : Node → Type 0
@@ -25,8 +25,9 @@ HasUtf8Descriptions tree = IsDescribedInUtf8 tree.node × AreDescribedInUtf8 tre
 
 -- Where every description is UTF-8 the script reads to the tables of the tree's visits, a line feed of a
 -- description as a space; the visits are exactly the visible paths with the nodes that they lead to, each
--- path once.
+-- path once and under a key of its own.
 pub record PowershellReads (tree : Tree) (script : List ℕ) : Type 0 where
   pub tables : HasUtf8Descriptions tree → powershell_tables script ≡ Some (map spaced_table (tree_tables tree))
   pub paths : (visit : Visit) → Contains (visits tree) visit ↔ LeadsTo tree visit.path visit.tree
   pub once : DifferentPaths (visits tree)
+  pub keys : DifferentKeys (map (λ table. table.key) (tree_tables tree))

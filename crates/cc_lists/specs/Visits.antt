@@ -39,3 +39,8 @@ DifferentPaths (visit ∷ visits) = AllByRecursion (λ other. visit.path ≢ oth
 -- a path as the key of a table: the bin name and the names, each behind a `;`
 abbrev pub key_of : List ℕ → List (List ℕ) → List ℕ
 key_of bin_name path = bin_name ++ flat_map (λ name. codes ";" ++ name) path
+
+-- no key stands twice
+abbrev pub DifferentKeys : List (List ℕ) → Type 0
+DifferentKeys [] = Unit {0}
+DifferentKeys (key ∷ keys) = AllByRecursion (λ other. key ≢ other) keys × DifferentKeys keys
