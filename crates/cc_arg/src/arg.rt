@@ -259,14 +259,14 @@ impl Arg {
         self.value_names.as_slice()
     }
 
-    /// The place of a positional, counted from 1, once the command is built.
+    /// The index of a positional, counted from 1, once the command is built.
     pub fn get_index(&self) -> Option<usize>
         ensures { result ≡ self.now.index }
     {
         self.index
     }
 
-    /// The place in lists; 999 where none was given.
+    /// The display order; 999 where none was given.
     pub fn get_display_order(&self) -> usize
         ensures { result ≡ unwrap_or self.now.display_order 999 }
     {
@@ -318,31 +318,6 @@ impl Arg {
         })
     }
 
-    /// Fills in the range and the action where none was given, as building a command does.
-    pub fn fill(&mut self)
-        ensures { self.new ≡ filled self.old }
-    {
-        let range = self.counted_range();
-        let action = self.counted_action();
-        self.num_args = Some(range);
-        self.action = Some(action);
-    }
-
-    /// Sets the index where the argument has none, as building a command does for a positional.
-    pub fn fill_index(&mut self, index: usize)
-        ensures { self.new ≡ record self.old { index = Some (unwrap_or self.old.index index) } }
-    {
-        self.index = Some(self.index.unwrap_or(index));
-    }
-
-    /// Sets the display order where the argument has none, as adding it to a command does.
-    pub fn fill_display_order(&mut self, order: usize)
-        ensures { self.new ≡
-            record self.old { display_order = Some (unwrap_or self.old.display_order order) } }
-    {
-        self.display_order = Some(self.display_order.unwrap_or(order));
-    }
-
     // The range that counts: the given one, or the one that the action and the value names imply.
     fn counted_range(&self) -> ValueRange
         ensures { result ≡ range_of self.now }
@@ -374,6 +349,34 @@ impl Arg {
             ArgAction::Set
         }
     }
+}
+
+// Filling in is done by free functions, so that programs, which are not given them, don't see them.
+
+/// Fills in the range and the action where none was given, as building a command does.
+pub fn fill(argument: &mut Arg)
+    ensures { argument.new ≡ filled argument.old }
+{
+    let range = argument.counted_range();
+    let action = argument.counted_action();
+    argument.num_args = Some(range);
+    argument.action = Some(action);
+}
+
+/// Sets the index where the argument has none, as building a command does for a positional.
+pub fn fill_index(argument: &mut Arg, index: usize)
+    ensures { argument.new ≡
+        record argument.old { index = Some (unwrap_or argument.old.index index) } }
+{
+    argument.index = Some(argument.index.unwrap_or(index));
+}
+
+/// Sets the display order where the argument has none, as adding it to a command does.
+pub fn fill_display_order(argument: &mut Arg, order: usize)
+    ensures { argument.new ≡
+        record argument.old { display_order = Some (unwrap_or argument.old.display_order order) } }
+{
+    argument.display_order = Some(argument.display_order.unwrap_or(order));
 }
 
 #[cfg(test)]
@@ -429,8 +432,8 @@ mod tests {
             .value_name(String::from_str(alloc, "WHEN")?)?
             .num_args(ValueRange::new(0, 1))
             .hide(true);
-        option.fill_display_order(3);
-        option.fill_display_order(4);
+        fill_display_order(&mut option, 3);
+        fill_display_order(&mut option, 4);
         let copy = option.try_clone(alloc)?;
         assert_eq!(rt; copy.get_short(), Some('c'));
         assert_eq!(rt; copy.get_help(), Some("Colour"));
@@ -447,13 +450,13 @@ mod tests {
         let mut flag = argument(alloc, "verbose")?
             .short('v')
             .action(ArgAction::Count);
-        flag.fill();
+        fill(&mut flag);
         assert_eq!(rt; flag.get_num_args(), Some(ValueRange::new(0, 0)));
         assert_eq!(rt; flag.get_action(), ArgAction::Count);
         assert!(rt; !flag.takes_values());
         let mut rest = argument(alloc, "rest")?.num_args(ValueRange::new(0, usize::MAX));
-        rest.fill();
-        rest.fill_index(2);
+        fill(&mut rest);
+        fill_index(&mut rest, 2);
         assert_eq!(rt; rest.get_action(), ArgAction::Append);
         assert_eq!(rt; rest.get_index(), Some(2));
         assert_eq!(rt; rest.get_display_order(), 999);

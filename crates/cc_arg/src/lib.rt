@@ -9,5 +9,5 @@ mod range;
 
 pub use crate::action::ArgAction;
 pub use crate::aliases::{LongAndVisibleAliases, ShortAndVisibleAliases};
-pub use crate::arg::Arg;
+pub use crate::arg::{Arg, fill, fill_display_order, fill_index};
 pub use crate::range::ValueRange;

@@ -9,7 +9,7 @@ use Rattle.cc_command.specs.declared.node.TheConstants.{HELP, HELP_ABOUT}
 use Rattle.cc_command.specs.Tree.{Forest, none, more, join, Tree}
 use Rattle.cc_command.specs.Names.{has_id, has_child, answers_to, full_name, joined_name}
 use Rattle.cc_command.specs.Generated.{generated_arguments, generated_node, copies, help_command, needs_help_child, help_child}
-use Rattle.cc_command.specs.Built.{with_missing, lacks_index, with_index, place_behind, indexed, inherited_by, built_arguments, built_node, built_forest, built_under, built_tree}
+use Rattle.cc_command.specs.Built.{with_missing, lacks_index, with_index, index_behind, indexed, inherited_by, built_arguments, built_node, built_forest, built_under, built_tree}
 
 and_false : (b : Bool) → (b && false) ≡ false
 and_false true = refl
@@ -80,8 +80,8 @@ with_index-id place x = elim (lacks_index x) as (λ b. (let y : Arg = cond b (re
 has_id-indexed : (place : ℕ) (xs : List Arg) (id : List ℕ) → has_id (indexed place xs) id ≡ has_id xs id
 has_id-indexed place [] id = refl
 has_id-indexed place (x ∷ xs) id =
-    ap (λ i. bytes_eq i id || has_id (indexed (place_behind place x) xs) id) (with_index-id place x) ∙
-    ap (λ b. bytes_eq x.id id || b) (has_id-indexed (place_behind place x) xs id)
+    ap (λ i. bytes_eq i id || has_id (indexed (index_behind place x) xs) id) (with_index-id place x) ∙
+    ap (λ b. bytes_eq x.id id || b) (has_id-indexed (index_behind place x) xs id)
 
 HasIds-same : (xs ys others : List Arg) → ((id : List ℕ) → has_id ys id ≡ has_id xs id) → HasIds xs others → HasIds ys others
 HasIds-same xs ys [] same there = tt
@@ -100,8 +100,8 @@ with_index-again later place x =
 indexed-again : (later place : ℕ) (xs : List Arg) → indexed later (indexed place xs) ≡ indexed place xs
 indexed-again later place [] = refl
 indexed-again later place (x ∷ xs) =
-    ap (λ y. y ∷ indexed (place_behind later (with_index place x)) (indexed (place_behind place x) xs)) (with_index-again later place x) ∙
-    ap (λ ys. with_index place x ∷ ys) (indexed-again (place_behind later (with_index place x)) (place_behind place x) xs)
+    ap (λ y. y ∷ indexed (index_behind later (with_index place x)) (indexed (index_behind place x) xs)) (with_index-again later place x) ∙
+    ap (λ ys. with_index place x ∷ ys) (indexed-again (index_behind later (with_index place x)) (index_behind place x) xs)
 
 -- what is filled in stays
 filled-with_index : (place : ℕ) (x : Arg) → filled (with_index place (filled x)) ≡ with_index place (filled x)
@@ -111,8 +111,8 @@ filled-with_index place x =
 filled-indexed : (place : ℕ) (xs : List Arg) → map filled (indexed place (map filled xs)) ≡ indexed place (map filled xs)
 filled-indexed place [] = refl
 filled-indexed place (x ∷ xs) =
-    ap (λ y. y ∷ map filled (indexed (place_behind place (filled x)) (map filled xs))) (filled-with_index place x) ∙
-    ap (λ ys. with_index place (filled x) ∷ ys) (filled-indexed (place_behind place (filled x)) xs)
+    ap (λ y. y ∷ map filled (indexed (index_behind place (filled x)) (map filled xs))) (filled-with_index place x) ∙
+    ap (λ ys. with_index place (filled x) ∷ ys) (filled-indexed (index_behind place (filled x)) xs)
 
 finished-again : (xs others : List Arg) →
     indexed 1 (map filled (with_missing (indexed 1 (map filled (with_missing xs others))) others)) ≡ indexed 1 (map filled (with_missing xs others))

@@ -1,4 +1,5 @@
 pub mod BuiltAgain
+pub mod BuiltExamples
 pub mod DifferentNames
 pub mod Forests
 pub mod PlainNames

@@ -13,29 +13,29 @@ with_missing arguments [] = arguments
 with_missing arguments (other ∷ others) =
     with_missing (cond (has_id arguments other.id) arguments (arguments ++ other ∷ [])) others
 
--- the argument is a positional whose place is not given
+-- the argument is a positional whose index is not given
 abbrev pub lacks_index : Arg → Bool
 lacks_index argument = is_positional argument && not (is_some argument.index)
 
--- the argument at this place, if it lacks one
+-- the argument with this index, if it lacks one
 abbrev pub with_index : ℕ → Arg → Arg
-with_index place argument = cond (lacks_index argument) (record argument { index = Some place }) argument
+with_index number argument = cond (lacks_index argument) (record argument { index = Some number }) argument
 
--- the place that is free behind an argument
-abbrev pub place_behind : ℕ → Arg → ℕ
-place_behind place argument = cond (lacks_index argument) (suc place) place
+-- the index that is free behind an argument
+abbrev pub index_behind : ℕ → Arg → ℕ
+index_behind number argument = cond (lacks_index argument) (suc number) number
 
--- the positionals that lack a place get those from this one on, in order
+-- the positionals that lack an index get those from this one on, in order
 abbrev pub indexed : ℕ → List Arg → List Arg
-indexed place [] = []
-indexed place (argument ∷ arguments) = with_index place argument ∷ indexed (place_behind place argument) arguments
+indexed number [] = []
+indexed number (argument ∷ arguments) = with_index number argument ∷ indexed (index_behind number argument) arguments
 
 -- what a node inherits: nothing, where building made it
 abbrev pub inherited_by : Node → List Arg → List Arg
 inherited_by node inherited = cond node.generated [] inherited
 
 -- a node's arguments: its own, then those that it inherits, then `help`, then `version`, each with
--- its range, its action and its place
+-- its range, its action and its index
 abbrev pub built_arguments : List Arg → Node → List Arg
 built_arguments inherited node =
     indexed 1 (map filled (with_missing node.arguments (inherited_by node inherited ++ generated_arguments node)))

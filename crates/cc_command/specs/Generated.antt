@@ -40,7 +40,7 @@ generated_version node = cond (is_some node.version && not node.disable_version_
 abbrev pub generated_arguments : Node → List Arg
 generated_arguments node = generated_help node ++ generated_version node
 
--- a node that building makes: a name, a text about it and a place, and nothing else
+-- a node that building makes: a name, a text about it and a display order, and nothing else
 abbrev pub generated_node : List ℕ → List ℕ → Option (List ℕ) → ℕ → Bool → Node
 generated_node name bin_name about order hide = record {
   name = name;
@@ -62,12 +62,12 @@ generated_node name bin_name about order hide = record {
 }
 
 -- the copies of some siblings and of all below them, under a parent of this full name, numbered from
--- this place on
+-- this display order on
 abbrev pub copies : List ℕ → ℕ → Forest → Forest
-copies parent place none = none
-copies parent place (more node below rest) =
-    more (generated_node node.name (joined_name parent node.name) node.about place node.hide)
-    (copies (joined_name parent node.name) 0 below) (copies parent (suc place) rest)
+copies parent order none = none
+copies parent order (more node below rest) =
+    more (generated_node node.name (joined_name parent node.name) node.about order node.hide)
+    (copies (joined_name parent node.name) 0 below) (copies parent (suc order) rest)
 
 -- a generated `help` under a parent of this full name, with these children
 abbrev pub help_command : List ℕ → Forest → Forest

@@ -30,33 +30,33 @@ new_node name = record {
 abbrev pub new_tree : List ℕ → Tree
 new_tree name = record { node = new_node name; children = none }
 
--- the place behind a place; none is behind the greatest
-abbrev pub next_place : ℕ → ℕ
-next_place place = min (place + 1) 18446744073709551615
+-- the display order behind another; none is behind the greatest
+abbrev pub order_behind : ℕ → ℕ
+order_behind order = min (order + 1) 18446744073709551615
 
--- the argument at this place, if it has no place of its own
+-- the argument with this display order, if it has none of its own
 abbrev pub ordered : ℕ → Arg → Arg
-ordered place argument = record argument { display_order = Some (unwrap_or argument.display_order place) }
+ordered order argument = record argument { display_order = Some (unwrap_or argument.display_order order) }
 
--- the node with one more argument. One that is no positional takes the next place, unless it has a
--- place of its own; the place is used up all the same.
+-- the node with one more argument. One that is no positional takes the next display order, unless
+-- it has its own; the order is used up all the same.
 abbrev pub with_argument : Node → Arg → Node
 with_argument node argument = cond (is_positional argument)
     (record node { arguments = node.arguments ++ argument ∷ []; built = false })
     (record node {
       arguments = node.arguments ++ ordered node.next_order argument ∷ [];
-      next_order = next_place node.next_order;
+      next_order = order_behind node.next_order;
       built = false;
     })
 
--- the node at this place, if it has no place of its own
+-- the node with this display order, if it has none of its own
 abbrev pub ordered_node : ℕ → Node → Node
-ordered_node place node = record node { display_order = Some (unwrap_or node.display_order place) }
+ordered_node order node = record node { display_order = Some (unwrap_or node.display_order order) }
 
--- the tree with one more child, behind the others. It takes the next place, unless it has a place of
--- its own; the place is used up all the same.
+-- the tree with one more child, behind the others. It takes the next display order, unless it
+-- has its own; the order is used up all the same.
 abbrev pub with_child : Tree → Tree → Tree
 with_child tree child = record {
-  node = record tree.node { next_order = next_place tree.node.next_order; built = false };
+  node = record tree.node { next_order = order_behind tree.node.next_order; built = false };
   children = join tree.children (more (ordered_node tree.node.next_order child.node) child.children none);
 }

@@ -10,9 +10,10 @@ mod getters;
 mod iterators;
 mod plain;
 
+pub use crate::command::build::build_as;
 pub use crate::command::iterators::{NameAndVisibleAliases, Options, Positionals};
 use crate::node::Node;
-use cc_arg::Arg;
+use cc_arg::{Arg, fill_display_order};
 use cc_base::{Error, Items, Text};
 use std::alloc::Global;
 use std::marker::Model;
@@ -129,7 +130,7 @@ impl Command {
     {
         self.node.built = false;
         if !argument.is_positional() {
-            argument.fill_display_order(self.node.next_order);
+            fill_display_order(&mut argument, self.node.next_order);
             self.node.next_order = self.node.next_order.saturating_add(1);
         }
         self.node.arguments.push(argument)?;

@@ -4,4 +4,4 @@
 mod command;
 mod node;
 
-pub use crate::command::{Command, NameAndVisibleAliases, Options, Positionals};
+pub use crate::command::{Command, NameAndVisibleAliases, Options, Positionals, build_as};

@@ -13,6 +13,7 @@ ghost use Rattle.cc_lists.specs.ElvishReads.{ElvishReads};
 ghost use Rattle.cc_lists.specs.ElvishScript.{elvish_row, elvish_rows, elvish_script, elvish_table};
 
 use crate::generator::Generator;
+use crate::utils::full_name;
 use crate::walk::{TableScript, write_tables};
 use cc_arg::Arg;
 use cc_base::{Error, Sink, Text, put_all};
@@ -117,7 +118,7 @@ impl Generator for Elvish {
         sink: &mut W,
     ) -> Result<(), Error> {
         let flat = Flat::new(alloc, command)?;
-        let bin_name = command.get_bin_name().unwrap_or(command.get_name());
+        let bin_name = full_name(command);
         write_head(sink, bin_name)?;
         write_tables(self, alloc, &flat, bin_name, sink)?;
         put_all(sink, ELVISH_TAIL.as_bytes())

@@ -9,7 +9,7 @@ ghost use Rattle.cc_command.specs.Built.{built_under};
 ghost use Rattle.cc_lists.specs.Generators.{AnswersClash, IsReady, LeavesBuilt};
 
 use cc_base::{Error, Sink};
-use cc_command::Command;
+use cc_command::{Command, build_as};
 use std::alloc::Global;
 
 /// A writer of completion scripts for one shell.
@@ -88,6 +88,6 @@ pub fn generate<G: Generator + Drop, W: Sink>(
         (W.taken sink.old) (W.taken sink.new) }
     ensures failures { Counts result (W.failed sink.old) (W.failed sink.new) }
 {
-    command.build_as(alloc, bin_name)?;
+    build_as(command, alloc, bin_name)?;
     generator.generate(alloc, command, sink)
 }

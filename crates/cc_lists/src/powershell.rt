@@ -15,6 +15,7 @@ ghost use Rattle.cc_lists.specs.PowershellScript.{powershell_row, powershell_row
 ghost use Rattle.cc_lists.specs.PowershellTable.{argument_rows, child_rows, children_rows, description, long_row, long_rows, name_row, node_rows, short_listed, short_row, short_rows, short_word, tree_tables};
 
 use crate::generator::Generator;
+use crate::utils::full_name;
 use crate::walk::{TableScript, write_tables};
 use cc_arg::Arg;
 use cc_base::{Error, Sink, Text, put_all};
@@ -138,7 +139,7 @@ impl Generator for PowerShell {
         sink: &mut W,
     ) -> Result<(), Error> {
         let flat = Flat::new(alloc, command)?;
-        let bin_name = command.get_bin_name().unwrap_or(command.get_name());
+        let bin_name = full_name(command);
         write_head(sink, bin_name)?;
         write_tables(self, alloc, &flat, bin_name, sink)?;
         put_all(sink, POWERSHELL_TAIL.as_bytes())

@@ -4,6 +4,7 @@ ghost use Rattle.std.specs.Prelude.{◌≡◌, ◌++◌, ◌∷◌, [], map, fil
 ghost use Rattle.std.specs.Option.{option_copied};
 ghost use Rattle.std.specs.String.{string_bytes};
 ghost use Rattle.cc_command.specs.ArgumentLists.{flags, is_flag};
+ghost use Rattle.cc_command.specs.Names.{full_name};
 ghost use Rattle.cc_command.specs.Tree.{forest_of};
 ghost use Rattle.cc_lists.specs.ArgumentNames.{all_longs, all_shorts, aliases_then};
 ghost use Rattle.cc_lists.specs.Subcommands.{all_named, find_path, named, named_siblings, texts_of};
@@ -97,12 +98,19 @@ fn push_named(
         ≡ texts_of found.old.items ++ named command.now.node) }
     ensures memory { IfErr result (λ error. error ≡ Error.Memory) }
 {
-    let full_name = command.get_bin_name().unwrap_or(command.get_name());
+    let full_name = full_name(command);
     push_pair(found, alloc, command.get_name(), full_name)?;
     for alias in command.get_visible_aliases() {
         push_pair(found, alloc, alias.as_str(), full_name)?;
     }
     Ok(())
+}
+
+// The bin name where there is one, else the name.
+pub(crate) fn full_name(command: &Command) -> &str
+    ensures { result.now ≡ full_name command.now.node }
+{
+    command.get_bin_name().unwrap_or(command.get_name())
 }
 
 // Adds a name with the full name of its command.

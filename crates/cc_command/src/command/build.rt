@@ -19,7 +19,7 @@ use std::alloc::Global;
 
 impl Command {
     /// Builds the command and all below it: adds the arguments `help` and `version` and the child
-    /// `help` where they are missing and not disabled, fills in ranges, actions and places, and
+    /// `help` where they are missing and not disabled, fills in ranges, actions and indexes, and
     /// names every child in full. Building a built command changes nothing.
     ///
     /// Refused only for want of memory; the command is then unchanged.
@@ -31,19 +31,6 @@ impl Command {
     {
         let bin_name = Text::copy_of_some(alloc, self.get_bin_name())?;
         *self = self.built_under(alloc, bin_name)?;
-        Ok(())
-    }
-
-    /// Sets the bin name and builds the command, both or neither.
-    ///
-    /// Refused only for want of memory; the command is then unchanged.
-    pub fn build_as(&mut self, alloc: Global, bin_name: String) -> Result<(), Error>
-        ensures ok { OnOk result (self.new ≡ built_under (Some (string_bytes bin_name)) self.old) }
-        ensures whole { OnOk result (built_tree self.new ≡ self.new) }
-        ensures err { OnErr result (self.new ≡ self.old) }
-        ensures memory { IfErr result (λ error. error ≡ Error.Memory) }
-    {
-        *self = self.built_under(alloc, Some(Text::from(bin_name)))?;
         Ok(())
     }
 
@@ -77,6 +64,20 @@ impl Command {
         children.push(help_command(&self.children, alloc, name)?)?;
         Ok(children)
     }
+}
+
+/// Sets the bin name of a command and builds it, both or neither. It is no method, so that programs,
+/// which are not given it, don't see it.
+///
+/// Refused only for want of memory; the command is then unchanged.
+pub fn build_as(command: &mut Command, alloc: Global, bin_name: String) -> Result<(), Error>
+    ensures ok { OnOk result (command.new ≡ built_under (Some (string_bytes bin_name)) command.old) }
+    ensures whole { OnOk result (built_tree command.new ≡ command.new) }
+    ensures err { OnErr result (command.new ≡ command.old) }
+    ensures memory { IfErr result (λ error. error ≡ Error.Memory) }
+{
+    *command = command.built_under(alloc, Some(Text::from(bin_name)))?;
+    Ok(())
 }
 
 // Siblings as building leaves them, under a parent of this full name.

@@ -1,4 +1,4 @@
-//! What a command is as a child and as a parent: its names, its place, its heading and its
+//! What a command is as a child and as a parent: its names, its display order, its heading and its
 //! children.
 
 ghost use Rattle.std.specs.Prelude.{◌≡◌, ◌++◌, ◌∷◌, [], false, Some, unwrap_or, IfOk, IfErr};
@@ -66,7 +66,7 @@ impl Command {
         self
     }
 
-    /// Sets the place among the children of a parent.
+    /// Sets the display order among the children of a parent.
     pub fn display_order(mut self, order: usize) -> Command
         ensures { result ≡ record self {
           node =
@@ -133,7 +133,7 @@ impl Command {
         }
     }
 
-    /// The place among the children of a parent; 999 where none was given.
+    /// The display order among the children of a parent; 999 where none was given.
     pub fn get_display_order(&self) -> usize
         ensures { result ≡ unwrap_or self.now.node.display_order 999 }
     {

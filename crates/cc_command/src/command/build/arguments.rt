@@ -8,7 +8,7 @@ ghost use Rattle.cc_command.specs.Generated.{generated_help, generated_version, 
 ghost use Rattle.cc_command.specs.Built.{built_arguments, built_node, indexed, lacks_index, with_missing};
 
 use crate::node::{HELP, HELP_HELP, Node, VERSION, VERSION_HELP};
-use cc_arg::{Arg, ArgAction};
+use cc_arg::{Arg, ArgAction, fill, fill_display_order, fill_index};
 use cc_base::{Error, Items, Text};
 use std::alloc::Global;
 
@@ -113,7 +113,7 @@ fn has_id(arguments: &[Arg], id: &str) -> bool
     arguments.iter().any(|argument| argument.get_id() == id)
 }
 
-// The arguments, each with its range and its action, and with a place where it is a positional.
+// The arguments, each with its range and its action, and with an index where it is a positional.
 fn filled_in(alloc: Global, arguments: Vec<Arg>) -> Result<Vec<Arg>, Error>
     ensures ok { IfOk result (λ done. done.items ≡ indexed 1 (map filled arguments.items)) }
     ensures memory { IfErr result (λ error. error ≡ Error.Memory) }
@@ -121,17 +121,17 @@ fn filled_in(alloc: Global, arguments: Vec<Arg>) -> Result<Vec<Arg>, Error>
     let mut placed = 0;
     let mut done = Vec::with_capacity(alloc, arguments.len())?;
     for mut argument in arguments {
-        argument.fill();
+        fill(&mut argument);
         if lacks_index(&argument) {
             placed += 1;
-            argument.fill_index(placed);
+            fill_index(&mut argument, placed);
         }
         done.push(argument)?;
     }
     Ok(done)
 }
 
-// Whether the argument is a positional whose place is not given.
+// Whether the argument is a positional whose index is not given.
 fn lacks_index(argument: &Arg) -> bool
     ensures { result ≡ lacks_index argument.now }
 {
@@ -149,7 +149,7 @@ fn help_argument(alloc: Global) -> Result<Arg, Error>
         .long(String::from_str(alloc, HELP)?)
         .help(String::from_str(alloc, HELP_HELP)?)
         .action(ArgAction::Help);
-    argument.fill_display_order(999);
+    fill_display_order(&mut argument, 999);
     Ok(argument)
 }
 
@@ -164,6 +164,6 @@ fn version_argument(alloc: Global) -> Result<Arg, Error>
         .long(String::from_str(alloc, VERSION)?)
         .help(String::from_str(alloc, VERSION_HELP)?)
         .action(ArgAction::Version);
-    argument.fill_display_order(999);
+    fill_display_order(&mut argument, 999);
     Ok(argument)
 }
