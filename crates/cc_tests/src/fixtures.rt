@@ -1,77 +1,137 @@
-//! Small trees.
+//! Small trees. Each step that may be refused memory is a function of its own, since a check of many
+//! such steps in one function takes long.
 
 use clap_complete::Error;
 use clap_complete::command::{Arg, ArgAction, Command};
 use std::alloc::Global;
 
-// `app` with no arguments and no help flag.
-pub fn bare(alloc: Global) -> Result<Command, Error> {
-    Ok(Command::new(alloc, String::from_str(alloc, "app")?).disable_help_flag(true))
+fn named(alloc: Global, name: &str) -> Result<Command, Error> {
+    Ok(Command::new(alloc, String::from_str(alloc, name)?))
 }
 
-// `app` with a flag `-v`, `--verbose` and an option `--out`.
-pub fn app(alloc: Global) -> Result<Command, Error> {
-    Command::new(alloc, String::from_str(alloc, "app")?)
-        .arg(verbose(alloc)?)?
-        .arg(out(alloc)?)
-}
-
-fn verbose(alloc: Global) -> Result<Arg, Error> {
-    Ok(
-        Arg::new(alloc, String::from_str(alloc, "verbose")?)
-            .short('v')
-            .long(String::from_str(alloc, "verbose")?)
-            .help(String::from_str(alloc, "Be loud")?)
-            .action(ArgAction::SetTrue),
-    )
-}
-
-fn out(alloc: Global) -> Result<Arg, Error> {
-    Ok(
-        Arg::new(alloc, String::from_str(alloc, "out")?)
-            .long(String::from_str(alloc, "out")?)
-            .action(ArgAction::Set),
-    )
-}
-
-// `app` with a child `run`, shown as `r` too, that has a child `job`; nothing is generated.
-pub fn nested(alloc: Global) -> Result<Command, Error> {
-    let run = plain(alloc, "run")?
-        .visible_alias(String::from_str(alloc, "r")?)?
-        .subcommand(plain(alloc, "job")?)?;
-    plain(alloc, "app")?.subcommand(run)
-}
-
+// A command for which nothing is generated.
 fn plain(alloc: Global, name: &str) -> Result<Command, Error> {
+    let command = named(alloc, name)?;
     Ok(
-        Command::new(alloc, String::from_str(alloc, name)?)
+        command
             .disable_help_flag(true)
             .disable_help_subcommand(true),
     )
 }
 
-// `test` with a flag `-f`, `--file`, shown as `-p` and `--path` too, and hidden as `--old`.
-pub fn test(alloc: Global) -> Result<Command, Error> {
-    Command::new(alloc, String::from_str(alloc, "test")?)
-        .alias(String::from_str(alloc, "t")?)?
-        .arg(file(alloc)?)
+fn with(command: Result<Command, Error>, arg: Result<Arg, Error>) -> Result<Command, Error> {
+    let arg = arg?;
+    command?.arg(arg)
 }
 
-fn file(alloc: Global) -> Result<Arg, Error> {
-    Arg::new(alloc, String::from_str(alloc, "file")?)
-        .short('f')
-        .long(String::from_str(alloc, "file")?)
-        .action(ArgAction::SetTrue)
-        .visible_short_alias('p')?
-        .visible_alias(String::from_str(alloc, "path")?)?
-        .alias(String::from_str(alloc, "old")?)
+fn holding(
+    command: Result<Command, Error>,
+    child: Result<Command, Error>,
+) -> Result<Command, Error> {
+    let child = child?;
+    command?.subcommand(child)
+}
+
+// An argument with this id and long.
+fn long(alloc: Global, name: &str) -> Result<Arg, Error> {
+    let id = String::from_str(alloc, name)?;
+    let long = String::from_str(alloc, name)?;
+    Ok(Arg::new(alloc, id).long(long))
+}
+
+// `app` with no arguments and no help flag.
+pub fn bare(alloc: Global) -> Result<Command, Error> {
+    Ok(named(alloc, "app")?.disable_help_flag(true))
+}
+
+// `app` with a flag `-v`, `--verbose` and an option `--out`.
+pub fn app(alloc: Global) -> Result<Command, Error> {
+    with(with(named(alloc, "app"), verbose(alloc)), out(alloc))
+}
+
+fn verbose(alloc: Global) -> Result<Arg, Error> {
+    let help = String::from_str(alloc, "Be loud")?;
+    let verbose = long(alloc, "verbose")?;
+    Ok(verbose.short('v').help(help).action(ArgAction::SetTrue))
+}
+
+fn out(alloc: Global) -> Result<Arg, Error> {
+    Ok(long(alloc, "out")?.action(ArgAction::Set))
+}
+
+// `app` with a child `run`, shown as `r` too, that has a child `job`; nothing is generated.
+pub fn nested(alloc: Global) -> Result<Command, Error> {
+    let run = holding(run(alloc), plain(alloc, "job"));
+    holding(plain(alloc, "app"), run)
+}
+
+fn run(alloc: Global) -> Result<Command, Error> {
+    let alias = String::from_str(alloc, "r")?;
+    plain(alloc, "run")?.visible_alias(alias)
+}
+
+// `test`, hidden as `t`, with a flag `-f`, `--file`, shown as `-p` and `--path` too, and hidden as
+// `-q` and `--old`.
+pub fn test(alloc: Global) -> Result<Command, Error> {
+    let alias = String::from_str(alloc, "t")?;
+    with(named(alloc, "test")?.alias(alias), file(alloc))
+}
+
+pub fn file(alloc: Global) -> Result<Arg, Error> {
+    let alias = String::from_str(alloc, "path")?;
+    let hidden = String::from_str(alloc, "old")?;
+    let shown = with_shorts(long(alloc, "file")?)?.visible_alias(alias)?;
+    shown.action(ArgAction::SetTrue).alias(hidden)
+}
+
+fn with_shorts(arg: Arg) -> Result<Arg, Error> {
+    arg.short('f').visible_short_alias('p')?.short_alias('q')
 }
 
 // `app` with one flag of this short and help, and no other.
 pub fn flag(alloc: Global, short: char, help: &str) -> Result<Command, Error> {
-    let flag = Arg::new(alloc, String::from_str(alloc, "flag")?)
-        .short(short)
-        .help(String::from_str(alloc, help)?)
-        .action(ArgAction::SetTrue);
-    bare(alloc)?.arg(flag)
+    let help = String::from_str(alloc, help)?;
+    let id = String::from_str(alloc, "flag")?;
+    let flag = Arg::new(alloc, id).short(short).help(help);
+    with(bare(alloc), Ok(flag.action(ArgAction::SetTrue)))
+}
+
+// `app` with a child `c` that says this of itself; nothing is generated.
+pub fn described(alloc: Global, about: &str) -> Result<Command, Error> {
+    let about = String::from_str(alloc, about)?;
+    let child = plain(alloc, "c")?.about(about);
+    holding(plain(alloc, "app"), Ok(child))
+}
+
+// The chain `app`, `n1` to `n199`, each the only child of the one before, and the last with a flag
+// `--end`; nothing is generated.
+pub fn chain(alloc: Global) -> Result<Command, Error> {
+    let mut chain = with(numbered(alloc, 199), end(alloc));
+    for number in (1..199).rev() {
+        chain = holding(numbered(alloc, number), chain);
+    }
+    holding(plain(alloc, "app"), chain)
+}
+
+fn numbered(alloc: Global, number: usize) -> Result<Command, Error> {
+    let name = format!(in alloc; "n{number}")?;
+    plain(alloc, name.as_str())
+}
+
+fn end(alloc: Global) -> Result<Arg, Error> {
+    Ok(long(alloc, "end")?.action(ArgAction::SetTrue))
+}
+
+// `app` with the options `--o1` to `--o500`, and nothing else.
+pub fn many(alloc: Global) -> Result<Command, Error> {
+    let mut command = bare(alloc);
+    for number in 1..=500 {
+        command = with(command, option(alloc, number));
+    }
+    command
+}
+
+fn option(alloc: Global, number: usize) -> Result<Arg, Error> {
+    let name = format!(in alloc; "o{number}")?;
+    Ok(long(alloc, name.as_str())?.action(ArgAction::Set))
 }

@@ -1,6 +1,9 @@
-//! Tests that cross crates: whole scripts against their known text, and sinks that fail.
+//! Tests that cross crates: whole scripts against their known text, sinks that take little or
+//! fail, and every call that may be refused memory with memory enough.
 #![tactic(auto)]
 
+#[cfg(test)]
+mod calls;
 #[cfg(test)]
 mod fixtures;
 #[cfg(test)]
@@ -11,3 +14,7 @@ mod powershell;
 mod scripts;
 #[cfg(test)]
 mod sinks;
+#[cfg(test)]
+mod trees;
+#[cfg(test)]
+mod written;

@@ -1,43 +1,111 @@
-//! Rows of PowerShell scripts.
+//! PowerShell scripts.
 
-use crate::fixtures::flag;
-use clap_complete::aot::{Collected, PowerShell};
-use clap_complete::command::Command;
-use clap_complete::{Error, generate};
-use std::alloc::Global;
-use std::str;
+use crate::fixtures::{app, flag, nested};
+use crate::written::script;
+use clap_complete::aot::PowerShell;
 use std::test::Fail;
 
-// The PowerShell script of a command for the program `app`.
-fn script(alloc: Global, command: &mut Command) -> Result<Vec<u8>, Error> {
-    let mut sink = Collected::new(alloc);
-    generate(
-        alloc,
-        PowerShell,
-        command,
-        String::from_str(alloc, "app")?,
-        &mut sink,
-    )?;
-    Ok(sink.into_vec())
+const HEAD: &str = "
+using namespace System.Management.Automation
+using namespace System.Management.Automation.Language
+
+Register-ArgumentCompleter -Native -CommandName 'app' -ScriptBlock {
+    param($wordToComplete, $commandAst, $cursorPosition)
+
+    $commandElements = $commandAst.CommandElements
+    $command = @(
+        'app'
+        for ($i = 1; $i -lt $commandElements.Count; $i++) {
+            $element = $commandElements[$i]
+            if ($element -isnot [StringConstantExpressionAst] -or
+                $element.StringConstantType -ne [StringConstantType]::BareWord -or
+                $element.Value.StartsWith('-') -or
+                $element.Value -eq $wordToComplete) {
+                break
+        }
+        $element.Value
+    }) -join ';'
+
+    $completions = @(switch ($command) {";
+
+const TAIL: &str = "
+    })
+
+    $completions.Where{ $_.CompletionText -like \"$wordToComplete*\" } |
+        Sort-Object -Property ListItemText
+}
+";
+
+const APP: &str = "
+        'app' {
+            [CompletionResult]::new('--out', '--out', [CompletionResultType]::ParameterName, 'out')
+            [CompletionResult]::new('-v', '-v', [CompletionResultType]::ParameterName, 'Be loud')
+            [CompletionResult]::new('--verbose', '--verbose', [CompletionResultType]::ParameterName, 'Be loud')
+            [CompletionResult]::new('-h', '-h', [CompletionResultType]::ParameterName, 'Print help')
+            [CompletionResult]::new('--help', '--help', [CompletionResultType]::ParameterName, 'Print help')
+            break
+        }";
+
+const NESTED: &str = "
+        'app' {
+            [CompletionResult]::new('run', 'run', [CompletionResultType]::ParameterValue, 'run')
+            [CompletionResult]::new('r', 'r', [CompletionResultType]::ParameterValue, 'r')
+            break
+        }
+        'app;run' {
+            [CompletionResult]::new('job', 'job', [CompletionResultType]::ParameterValue, 'job')
+            break
+        }
+        'app;r' {
+            [CompletionResult]::new('job', 'job', [CompletionResultType]::ParameterValue, 'job')
+            break
+        }
+        'app;run;job' {
+            break
+        }
+        'app;r;job' {
+            break
+        }";
+
+const CAPITAL: &str =
+    "[CompletionResult]::new('-S', '-S ', [CompletionResultType]::ParameterName, 'S')";
+
+const CURLY: &str = "ParameterName, 'it'’s')";
+
+// What stands in the frame; the whole script where the frame is another.
+fn tables(script: &str) -> &str {
+    let Some(rest) = script.strip_prefix(HEAD) else {
+        return script;
+    };
+    rest.strip_suffix(TAIL).unwrap_or(script)
+}
+
+#[test]
+fn options_stand_before_flags(rt: HostRuntime) -> Result<(), Fail> {
+    let script = script(rt.alloc(), PowerShell, app(rt.alloc()))?;
+    assert_eq!(rt; tables(script.as_str()), APP);
+    Ok(())
+}
+
+#[test]
+fn every_visible_path_has_a_key(rt: HostRuntime) -> Result<(), Fail> {
+    let script = script(rt.alloc(), PowerShell, nested(rt.alloc()))?;
+    assert_eq!(rt; tables(script.as_str()), NESTED);
+    Ok(())
 }
 
 #[test]
 fn a_capital_short_has_a_space_and_an_empty_help_counts_as_none(
     rt: HostRuntime,
 ) -> Result<(), Fail> {
-    let alloc = rt.alloc();
-    let script = script(alloc, &mut flag(alloc, 'S', "")?)?;
-    let text = str::from_utf8(script.as_slice()).ok().ok_or("not a text")?;
-    let row = "[CompletionResult]::new('-S', '-S ', [CompletionResultType]::ParameterName, 'S')";
-    assert!(rt; text.contains(row));
+    let script = script(rt.alloc(), PowerShell, flag(rt.alloc(), 'S', ""))?;
+    assert!(rt; script.contains(CAPITAL));
     Ok(())
 }
 
 #[test]
 fn a_curly_quote_is_doubled_by_a_straight_one(rt: HostRuntime) -> Result<(), Fail> {
-    let alloc = rt.alloc();
-    let script = script(alloc, &mut flag(alloc, 's', "it’s")?)?;
-    let text = str::from_utf8(script.as_slice()).ok().ok_or("not a text")?;
-    assert!(rt; text.contains("ParameterName, 'it'’s')"));
+    let script = script(rt.alloc(), PowerShell, flag(rt.alloc(), 's', "it’s"))?;
+    assert!(rt; script.contains(CURLY));
     Ok(())
 }

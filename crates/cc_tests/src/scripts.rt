@@ -1,10 +1,12 @@
-//! Whole scripts.
+//! Elvish scripts.
 
-use crate::fixtures::{app, bare, nested};
-use clap_complete::aot::{Collected, Elvish};
+use crate::fixtures::{app, bare, chain, described, nested};
+use crate::written::script;
+use clap_complete::Error;
+use clap_complete::aot::Elvish;
 use clap_complete::command::Command;
-use clap_complete::{Error, generate};
 use std::alloc::Global;
+use std::fmt::Write;
 use std::test::Fail;
 
 const HEAD: &str = "
@@ -33,78 +35,20 @@ const TAIL: &str = "
 }
 ";
 
-// The Elvish script of a command for the program `app`.
-fn script(alloc: Global, command: &mut Command) -> Result<Vec<u8>, Error> {
-    let mut sink = Collected::new(alloc);
-    generate(
-        alloc,
-        Elvish,
-        command,
-        String::from_str(alloc, "app")?,
-        &mut sink,
-    )?;
-    Ok(sink.into_vec())
-}
+const BARE: &str = "
+        &'app'= {
+        }";
 
-// The frame with these tables in it.
-fn framed(alloc: Global, tables: &str) -> Result<String, Error> {
-    let mut text = String::from_str(alloc, HEAD)?;
-    text.push_str(tables)?;
-    text.push_str(TAIL)?;
-    Ok(text)
-}
-
-#[test]
-fn a_command_without_arguments_has_an_empty_table(rt: HostRuntime) -> Result<(), Fail> {
-    let alloc = rt.alloc();
-    let mut command = bare(alloc)?;
-    let wanted = framed(alloc, "\n        &'app'= {\n        }")?;
-    assert_eq!(rt; script(alloc, &mut command)?.as_slice(), wanted.as_bytes());
-    Ok(())
-}
-
-#[test]
-fn options_stand_before_flags(rt: HostRuntime) -> Result<(), Fail> {
-    let alloc = rt.alloc();
-    let mut command = app(alloc)?;
-    let wanted = framed(
-        alloc,
-        "
+const APP: &str = "
         &'app'= {
             cand --out 'out'
             cand -v 'Be loud'
             cand --verbose 'Be loud'
             cand -h 'Print help'
             cand --help 'Print help'
-        }",
-    )?;
-    assert_eq!(rt; script(alloc, &mut command)?.as_slice(), wanted.as_bytes());
-    Ok(())
-}
+        }";
 
-#[test]
-fn building_twice_adds_help_once(rt: HostRuntime) -> Result<(), Fail> {
-    let alloc = rt.alloc();
-    let mut command = app(alloc)?;
-    for _ in 0..2 {
-        command.build(alloc)?;
-        let mut ids = String::new(alloc);
-        for argument in command.get_arguments() {
-            ids.push_str(argument.get_id())?;
-            ids.push(' ')?;
-        }
-        assert_eq!(rt; ids.as_str(), "verbose out help ");
-    }
-    Ok(())
-}
-
-#[test]
-fn every_visible_path_has_a_key(rt: HostRuntime) -> Result<(), Fail> {
-    let alloc = rt.alloc();
-    let mut command = nested(alloc)?;
-    let wanted = framed(
-        alloc,
-        "
+const NESTED: &str = "
         &'app'= {
             cand run 'run'
             cand r 'r'
@@ -118,8 +62,70 @@ fn every_visible_path_has_a_key(rt: HostRuntime) -> Result<(), Fail> {
         &'app;run;job'= {
         }
         &'app;r;job'= {
-        }",
-    )?;
-    assert_eq!(rt; script(alloc, &mut command)?.as_slice(), wanted.as_bytes());
+        }";
+
+const DESCRIBED: &str = "
+        &'app'= {
+            cand c 'it''s [x]:\\'
+        }
+        &'app;c'= {
+        }";
+
+const END: &str = "'= {
+            cand --end 'end'
+        }";
+
+// What stands in the frame; the whole script where the frame is another.
+fn tables(script: &str) -> &str {
+    let Some(rest) = script.strip_prefix(HEAD) else {
+        return script;
+    };
+    rest.strip_suffix(TAIL).unwrap_or(script)
+}
+
+#[test]
+fn a_command_without_arguments_has_an_empty_table(rt: HostRuntime) -> Result<(), Fail> {
+    let script = script(rt.alloc(), Elvish, bare(rt.alloc()))?;
+    assert_eq!(rt; tables(script.as_str()), BARE);
     Ok(())
+}
+
+#[test]
+fn options_stand_before_flags(rt: HostRuntime) -> Result<(), Fail> {
+    let script = script(rt.alloc(), Elvish, app(rt.alloc()))?;
+    assert_eq!(rt; tables(script.as_str()), APP);
+    Ok(())
+}
+
+#[test]
+fn every_visible_path_has_a_key(rt: HostRuntime) -> Result<(), Fail> {
+    let script = script(rt.alloc(), Elvish, nested(rt.alloc()))?;
+    assert_eq!(rt; tables(script.as_str()), NESTED);
+    Ok(())
+}
+
+#[test]
+fn an_about_is_escaped(rt: HostRuntime) -> Result<(), Fail> {
+    let script = script(rt.alloc(), Elvish, described(rt.alloc(), "it's\n[x]:\\"))?;
+    assert_eq!(rt; tables(script.as_str()), DESCRIBED);
+    Ok(())
+}
+
+#[test]
+fn a_chain_of_two_hundred_commands_has_two_hundred_keys(rt: HostRuntime) -> Result<(), Fail> {
+    let script = script(rt.alloc(), Elvish, chain(rt.alloc()))?;
+    assert_eq!(rt; script.split("\n        &'").count(), 201);
+    let wanted = last_table(rt.alloc())?;
+    assert!(rt; tables(script.as_str()).ends_with(wanted.as_str()));
+    Ok(())
+}
+
+// The table of the last command of the chain.
+fn last_table(alloc: Global) -> Result<String, Error> {
+    let mut text = String::from_str(alloc, "\n        &'app")?;
+    for number in 1..200 {
+        write!(text, ";n{number}")?;
+    }
+    text.push_str(END)?;
+    Ok(text)
 }

@@ -1,8 +1,10 @@
-//! Scripts written to sinks that take little, fail, or take nothing.
+//! Scripts written to sinks that take little, fail, take nothing, or measure what they take.
 
-use crate::fixtures::app;
-use clap_complete::aot::{Collected, Counted, Elvish, Sink};
-use clap_complete::{Error, generate};
+use crate::fixtures::{app, many, nested};
+use crate::written::script;
+use clap_complete::aot::{Counted, Elvish, PowerShell, Sink};
+use clap_complete::command::Command;
+use clap_complete::{Error, Generator, generate};
 use std::alloc::Global;
 use std::io::{self, ErrorKind, Write};
 use std::test::Fail;
@@ -38,69 +40,127 @@ impl Write for Narrow {
     }
 }
 
-// The whole script of the fixture.
-fn whole(alloc: Global) -> Result<Vec<u8>, Error> {
-    let mut sink = Collected::new(alloc);
-    let mut command = app(alloc)?;
-    generate(
-        alloc,
-        Elvish,
-        &mut command,
-        String::from_str(alloc, "app")?,
-        &mut sink,
-    )?;
-    Ok(sink.into_vec())
+// A writer that takes all it is given, and counts the most at once and all of it.
+#[derive(Drop)]
+struct Measured {
+    most: usize,
+    all: usize,
 }
 
-// How the script ends over a narrow writer with this room.
-fn written_to(
-    alloc: Global,
-    room: usize,
-    kind: Option<ErrorKind>,
-) -> Result<(Result<(), Error>, Vec<u8>, u64), Error> {
+impl Write for Measured {
+    fn write(&mut self, bytes: &[u8]) -> io::Result<usize> {
+        self.most = self.most.max(bytes.len());
+        self.all = self.all.saturating_add(bytes.len());
+        Ok(bytes.len())
+    }
+
+    fn flush(&mut self) -> io::Result<()> {
+        Ok(())
+    }
+}
+
+fn narrow_sink(alloc: Global, room: usize, kind: Option<ErrorKind>) -> Counted<Narrow> {
     let held = Vec::new(alloc);
-    let mut sink = Counted::new(Narrow { held, room, kind });
-    let mut command = app(alloc)?;
-    let written = generate(
-        alloc,
-        Elvish,
-        &mut command,
-        String::from_str(alloc, "app")?,
-        &mut sink,
-    );
-    let failures = sink.failures();
-    Ok((written, sink.into_inner().held, failures))
+    Counted::new(Narrow { held, room, kind })
+}
+
+// The script of a command for the program `app` into this sink.
+fn write_script<G: Generator + Drop, W: Sink>(
+    alloc: Global,
+    generator: G,
+    command: Result<Command, Error>,
+    sink: &mut W,
+) -> Result<(), Error> {
+    let mut command = command?;
+    let bin_name = String::from_str(alloc, "app")?;
+    generate(alloc, generator, &mut command, bin_name, sink)
+}
+
+// The script as a writer takes it that takes one byte a call.
+fn by_bytes<G: Generator + Drop>(
+    alloc: Global,
+    generator: G,
+    command: Result<Command, Error>,
+) -> Result<String, Error> {
+    let mut sink = narrow_sink(alloc, usize::MAX, None);
+    write_script(alloc, generator, command, &mut sink)?;
+    Ok(String::from_utf8_lossy(alloc, sink.get_ref().held.as_slice())?)
 }
 
 #[test]
-fn one_byte_a_call_is_the_same_script(rt: HostRuntime) -> Result<(), Fail> {
-    let wanted = whole(rt.alloc())?;
-    let (written, held, failures) = written_to(rt.alloc(), usize::MAX, None)?;
-    assert!(rt; written.is_ok());
-    assert_eq!(rt; failures, 0);
-    assert_eq!(rt; held.as_slice(), wanted.as_slice());
+fn one_byte_a_call_is_the_same_elvish_script(rt: HostRuntime) -> Result<(), Fail> {
+    let whole = script(rt.alloc(), Elvish, nested(rt.alloc()))?;
+    let by_bytes = by_bytes(rt.alloc(), Elvish, nested(rt.alloc()))?;
+    assert_eq!(rt; by_bytes.as_str(), whole.as_str());
     Ok(())
+}
+
+#[test]
+fn one_byte_a_call_is_the_same_powershell_script(rt: HostRuntime) -> Result<(), Fail> {
+    let whole = script(rt.alloc(), PowerShell, nested(rt.alloc()))?;
+    let by_bytes = by_bytes(rt.alloc(), PowerShell, nested(rt.alloc()))?;
+    assert_eq!(rt; by_bytes.as_str(), whole.as_str());
+    Ok(())
+}
+
+// Whether a writer that breaks once it holds `room` bytes is reported and counted once, and took
+// that much.
+fn is_reported<G: Generator + Drop>(alloc: Global, generator: G, room: usize) -> bool {
+    let mut sink = narrow_sink(alloc, room, Some(ErrorKind::BrokenPipe));
+    let written = write_script(alloc, generator, app(alloc), &mut sink);
+    matches!(written, Err(Error::Write(ErrorKind::BrokenPipe)))
+        && sink.failures() == 1
+        && sink.get_ref().held.len() == room
 }
 
 #[test]
 fn a_writer_that_fails_is_reported_and_the_next_call_is_whole(rt: HostRuntime) -> Result<(), Fail> {
-    let wanted = whole(rt.alloc())?;
+    let wanted = script(rt.alloc(), Elvish, app(rt.alloc()))?;
     for room in 0..wanted.len() {
-        let (written, held, failures) = written_to(rt.alloc(), room, Some(ErrorKind::BrokenPipe))?;
-        assert!(rt; matches!(written, Err(Error::Write(ErrorKind::BrokenPipe))));
-        assert_eq!(rt; failures, 1);
-        assert_eq!(rt; held.len(), room);
+        assert!(rt; is_reported(rt.alloc(), Elvish, room));
     }
-    let again = whole(rt.alloc())?;
-    assert_eq!(rt; again.as_slice(), wanted.as_slice());
+    let again = script(rt.alloc(), Elvish, app(rt.alloc()))?;
+    assert_eq!(rt; again.as_str(), wanted.as_str());
     Ok(())
 }
 
 #[test]
-fn a_writer_that_takes_nothing_is_reported(rt: HostRuntime) -> Result<(), Fail> {
-    let (written, held, failures) = written_to(rt.alloc(), 0, None)?;
+fn powershell_reports_a_writer_that_fails(rt: HostRuntime) -> Result<(), Fail> {
+    let wanted = script(rt.alloc(), PowerShell, app(rt.alloc()))?;
+    for room in 0..wanted.len() {
+        assert!(rt; is_reported(rt.alloc(), PowerShell, room));
+    }
+    Ok(())
+}
+
+#[test]
+fn a_writer_that_takes_nothing_is_reported(rt: HostRuntime) {
+    let mut sink = narrow_sink(rt.alloc(), 0, None);
+    let written = write_script(rt.alloc(), Elvish, app(rt.alloc()), &mut sink);
     assert!(rt; matches!(written, Err(Error::Write(ErrorKind::WriteZero))));
-    assert_eq!(rt; failures, 1);
-    assert!(rt; held.is_empty());
+    assert_eq!(rt; sink.failures(), 1);
+    assert!(rt; sink.get_ref().held.is_empty());
+}
+
+// What a measuring writer counts of the script of many options.
+fn handed_on<G: Generator + Drop>(alloc: Global, generator: G) -> Result<Measured, Error> {
+    let mut sink = Counted::new(Measured { most: 0, all: 0 });
+    write_script(alloc, generator, many(alloc), &mut sink)?;
+    Ok(sink.into_inner())
+}
+
+#[test]
+fn no_slice_of_a_long_elvish_script_is_long(rt: HostRuntime) -> Result<(), Fail> {
+    let measured = handed_on(rt.alloc(), Elvish)?;
+    assert!(rt; measured.all > 10_000);
+    assert!(rt; measured.most <= 1_024);
+    Ok(())
+}
+
+#[test]
+fn no_slice_of_a_long_powershell_script_is_long(rt: HostRuntime) -> Result<(), Fail> {
+    let measured = handed_on(rt.alloc(), PowerShell)?;
+    assert!(rt; measured.all > 10_000);
+    assert!(rt; measured.most <= 1_024);
     Ok(())
 }

@@ -1,0 +1,168 @@
+//! Calls that may be refused memory, with memory enough: they are not refused, and answer what they
+//! are to answer. (The other modules run the rest of them.)
+
+use crate::fixtures::{file, nested, test};
+use crate::written::script;
+use clap_complete::aot::{Collected, Elvish, PowerShell, Sink, put_all};
+use clap_complete::command::{Arg, Command, Text};
+use clap_complete::quote::{elvish_escape, elvish_word, powershell_escape, powershell_word};
+use clap_complete::{Error, Generator};
+use std::alloc::Global;
+use std::test::Fail;
+
+// Adds the texts, with a space behind each.
+fn push_all(line: &mut String, texts: &[Text]) -> Result<(), Error> {
+    for text in texts {
+        line.push_str(text.as_str())?;
+        line.push(' ')?;
+    }
+    Ok(())
+}
+
+// The visible longs, the hidden ones and the value names of a copy.
+fn names_of_copy(alloc: Global, arg: &Arg) -> Result<String, Error> {
+    let mut line = String::new(alloc);
+    let copy = arg.try_clone(alloc)?;
+    push_all(&mut line, copy.get_visible_aliases())?;
+    push_all(&mut line, copy.get_aliases())?;
+    push_all(&mut line, copy.get_value_names())?;
+    Ok(line)
+}
+
+fn with_value_name(alloc: Global) -> Result<Arg, Error> {
+    let name = String::from_str(alloc, "FILE")?;
+    file(alloc)?.value_name(name)
+}
+
+#[test]
+fn an_argument_keeps_its_names_and_is_copied(rt: HostRuntime) -> Result<(), Fail> {
+    let arg = with_value_name(rt.alloc())?;
+    assert_eq!(rt; arg.get_visible_short_aliases(), ['p'].as_slice());
+    assert_eq!(rt; arg.get_short_aliases(), ['q'].as_slice());
+    let names = names_of_copy(rt.alloc(), &arg)?;
+    assert_eq!(rt; names.as_str(), "path old FILE ");
+    Ok(())
+}
+
+// The visible aliases and the hidden ones.
+fn aliases(alloc: Global, command: &Command) -> Result<String, Error> {
+    let mut line = String::new(alloc);
+    push_all(&mut line, command.get_visible_aliases())?;
+    push_all(&mut line, command.get_aliases())?;
+    Ok(line)
+}
+
+fn with_visible_alias(alloc: Global) -> Result<Command, Error> {
+    let alias = String::from_str(alloc, "tests")?;
+    test(alloc)?.visible_alias(alias)
+}
+
+#[test]
+fn a_command_keeps_its_aliases_and_its_arguments(rt: HostRuntime) -> Result<(), Fail> {
+    let command = with_visible_alias(rt.alloc())?;
+    let aliases = aliases(rt.alloc(), &command)?;
+    assert_eq!(rt; aliases.as_str(), "tests t ");
+    assert_eq!(rt; command.get_arguments().len(), 1);
+    Ok(())
+}
+
+#[test]
+fn a_command_keeps_its_children_and_is_built(rt: HostRuntime) -> Result<(), Fail> {
+    let command = ready(rt.alloc())?;
+    assert_eq!(rt; command.get_subcommands().len(), 1);
+    assert!(rt; command.is_ready());
+    assert_eq!(rt; command.get_bin_name(), Some("app"));
+    Ok(())
+}
+
+// A copy of a copy.
+fn copied(alloc: Global, text: &str) -> Result<Option<Text>, Error> {
+    let copy = Text::copy_of(alloc, text)?;
+    let copy = copy.try_clone(alloc)?;
+    Ok(Text::copy_of_some(alloc, Some(copy.as_str()))?)
+}
+
+#[test]
+fn a_text_is_copied(rt: HostRuntime) -> Result<(), Fail> {
+    let copy = copied(rt.alloc(), "a b")?;
+    assert_eq!(rt; copy.as_ref().map(Text::as_str), Some("a b"));
+    Ok(())
+}
+
+#[test]
+fn texts_are_escaped(rt: HostRuntime) -> Result<(), Fail> {
+    let escaped = elvish_escape(rt.alloc(), "it's\n’")?;
+    assert_eq!(rt; escaped.as_str(), "it''s ’");
+    let escaped = powershell_escape(rt.alloc(), "it's\n’")?;
+    assert_eq!(rt; escaped.as_str(), "it''s '’");
+    Ok(())
+}
+
+#[test]
+fn elvish_words_are_read(rt: HostRuntime) -> Result<(), Fail> {
+    let (word, rest) = elvish_word(rt.alloc(), "'it''s ' x")?.ok_or("no word")?;
+    assert_eq!(rt; word.as_str(), "it's ");
+    assert_eq!(rt; rest, " x");
+    Ok(())
+}
+
+#[test]
+fn powershell_words_are_read(rt: HostRuntime) -> Result<(), Fail> {
+    let (word, rest) = powershell_word(rt.alloc(), "’it'’s ' x")?.ok_or("no word")?;
+    assert_eq!(rt; word.as_str(), "it’s ");
+    assert_eq!(rt; rest, " x");
+    Ok(())
+}
+
+#[test]
+fn a_sink_in_memory_takes_all(rt: HostRuntime) -> Result<(), Fail> {
+    let mut sink = Collected::new(rt.alloc());
+    assert_eq!(rt; sink.put(b"ab").ok(), Some(2));
+    put_all(&mut sink, b"c")?;
+    assert_eq!(rt; sink.as_slice(), b"abc".as_slice());
+    Ok(())
+}
+
+// The nested fixture as generators ask for it.
+fn ready(alloc: Global) -> Result<Command, Error> {
+    let bin_name = String::from_str(alloc, "app")?;
+    let mut command = nested(alloc)?;
+    command.build_as(alloc, bin_name)?;
+    Ok(command)
+}
+
+// What the methods of a generator write, one behind the other.
+fn twice<G: Generator>(alloc: Global, generator: &G, command: &Command) -> Result<String, Error> {
+    let mut sink = Collected::new(alloc);
+    if command.is_ready() {
+        generator.generate(alloc, command, &mut sink)?;
+        generator.try_generate(alloc, command, &mut sink)?;
+    }
+    Ok(String::from_utf8_lossy(alloc, sink.as_slice())?)
+}
+
+// A text that stands there twice.
+fn doubled(text: Result<String, Error>) -> Result<String, Error> {
+    let text = text?;
+    let mut doubled = text.clone()?;
+    doubled.push_str(text.as_str())?;
+    Ok(doubled)
+}
+
+#[test]
+fn the_methods_of_elvish_write_its_script(rt: HostRuntime) -> Result<(), Fail> {
+    let command = ready(rt.alloc())?;
+    let written = twice(rt.alloc(), &Elvish, &command)?;
+    let wanted = doubled(script(rt.alloc(), Elvish, nested(rt.alloc())))?;
+    assert_eq!(rt; written.as_str(), wanted.as_str());
+    Ok(())
+}
+
+#[test]
+fn the_methods_of_powershell_write_its_script(rt: HostRuntime) -> Result<(), Fail> {
+    let command = ready(rt.alloc())?;
+    let written = twice(rt.alloc(), &PowerShell, &command)?;
+    let wanted = doubled(script(rt.alloc(), PowerShell, nested(rt.alloc())))?;
+    assert_eq!(rt; written.as_str(), wanted.as_str());
+    Ok(())
+}
