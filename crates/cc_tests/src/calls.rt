@@ -1,11 +1,10 @@
 //! Calls that may be refused memory, with memory enough: they are not refused, and answer what they
-//! are to answer. (The other modules run the rest of them.)
+//! are to answer. The other modules here and the tests of the crates below run the rest of them.
 
 use crate::fixtures::{file, nested, test};
 use crate::written::script;
-use clap_complete::aot::{Collected, Elvish, PowerShell, Sink, put_all};
+use clap_complete::aot::{Collected, Elvish, PowerShell};
 use clap_complete::command::{Arg, Command, Text};
-use clap_complete::quote::{elvish_escape, elvish_word, powershell_escape, powershell_word};
 use clap_complete::{Error, Generator};
 use std::alloc::Global;
 use std::test::Fail;
@@ -71,55 +70,6 @@ fn a_command_keeps_its_children_and_is_built(rt: HostRuntime) -> Result<(), Fail
     let command = ready(rt.alloc())?;
     assert_eq!(rt; command.get_subcommands().len(), 1);
     assert!(rt; command.is_ready());
-    assert_eq!(rt; command.get_bin_name(), Some("app"));
-    Ok(())
-}
-
-// A copy of a copy.
-fn copied(alloc: Global, text: &str) -> Result<Option<Text>, Error> {
-    let copy = Text::copy_of(alloc, text)?;
-    let copy = copy.try_clone(alloc)?;
-    Ok(Text::copy_of_some(alloc, Some(copy.as_str()))?)
-}
-
-#[test]
-fn a_text_is_copied(rt: HostRuntime) -> Result<(), Fail> {
-    let copy = copied(rt.alloc(), "a b")?;
-    assert_eq!(rt; copy.as_ref().map(Text::as_str), Some("a b"));
-    Ok(())
-}
-
-#[test]
-fn texts_are_escaped(rt: HostRuntime) -> Result<(), Fail> {
-    let escaped = elvish_escape(rt.alloc(), "it's\n’")?;
-    assert_eq!(rt; escaped.as_str(), "it''s ’");
-    let escaped = powershell_escape(rt.alloc(), "it's\n’")?;
-    assert_eq!(rt; escaped.as_str(), "it''s '’");
-    Ok(())
-}
-
-#[test]
-fn elvish_words_are_read(rt: HostRuntime) -> Result<(), Fail> {
-    let (word, rest) = elvish_word(rt.alloc(), "'it''s ' x")?.ok_or("no word")?;
-    assert_eq!(rt; word.as_str(), "it's ");
-    assert_eq!(rt; rest, " x");
-    Ok(())
-}
-
-#[test]
-fn powershell_words_are_read(rt: HostRuntime) -> Result<(), Fail> {
-    let (word, rest) = powershell_word(rt.alloc(), "’it'’s ' x")?.ok_or("no word")?;
-    assert_eq!(rt; word.as_str(), "it’s ");
-    assert_eq!(rt; rest, " x");
-    Ok(())
-}
-
-#[test]
-fn a_sink_in_memory_takes_all(rt: HostRuntime) -> Result<(), Fail> {
-    let mut sink = Collected::new(rt.alloc());
-    assert_eq!(rt; sink.put(b"ab").ok(), Some(2));
-    put_all(&mut sink, b"c")?;
-    assert_eq!(rt; sink.as_slice(), b"abc".as_slice());
     Ok(())
 }
 

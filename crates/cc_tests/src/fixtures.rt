@@ -135,3 +135,23 @@ fn option(alloc: Global, number: usize) -> Result<Arg, Error> {
     let name = format!(in alloc; "o{number}")?;
     Ok(long(alloc, name.as_str())?.action(ArgAction::Set))
 }
+
+// `myapp`, called `my-cmd`, of a version, with the children `test`, which has a flag and holds
+// `config`, and `hello`.
+pub fn my_app(alloc: Global) -> Result<Command, Error> {
+    let test = holding(test(alloc), named(alloc, "config"));
+    holding(holding(versioned(alloc), test), named(alloc, "hello"))
+}
+
+fn versioned(alloc: Global) -> Result<Command, Error> {
+    let bin_name = String::from_str(alloc, "my-cmd")?;
+    let version = String::from_str(alloc, "3.0")?;
+    let command = named(alloc, "myapp")?;
+    Ok(command.bin_name(bin_name).version(version))
+}
+
+pub fn built(alloc: Global, command: Result<Command, Error>) -> Result<Command, Error> {
+    let mut command = command?;
+    command.build(alloc)?;
+    Ok(command)
+}

@@ -1,37 +1,117 @@
 //! The lists that generators share, and the names of their files.
 
-use crate::fixtures::test;
-use clap_complete::Generator;
+use crate::fixtures::{built, my_app, nested, test};
 use clap_complete::aot::{Elvish, PowerShell, utils};
+use clap_complete::command::Command;
+use clap_complete::{Error, Generator};
+use std::alloc::Global;
+use std::fmt::Write;
 use std::test::Fail;
 
-#[test]
-fn visible_aliases_stand_before_the_name(rt: HostRuntime) -> Result<(), Fail> {
-    let alloc = rt.alloc();
-    let mut command = test(alloc)?;
-    command.build(alloc)?;
-    let shorts = utils::shorts_and_visible_aliases(alloc, &command)?;
-    assert_eq!(rt; shorts.as_slice(), ['p', 'f', 'h'].as_slice());
+const ALL: &str = "test: my-cmd test
+hello: my-cmd hello
+help: my-cmd help
+config: my-cmd test config
+help: my-cmd test help
+config: my-cmd test help config
+help: my-cmd test help help
+test: my-cmd help test
+hello: my-cmd help hello
+help: my-cmd help help
+config: my-cmd help test config
+";
+
+// The longs and their visible aliases, with a space behind each.
+fn longs(alloc: Global, command: &Command) -> Result<String, Error> {
     let mut longs = String::new(alloc);
-    for long in utils::longs_and_visible_aliases(alloc, &command)? {
+    for long in utils::longs_and_visible_aliases(alloc, command)? {
         longs.push_str(long.as_str())?;
         longs.push(' ')?;
     }
+    Ok(longs)
+}
+
+// The longs of the flags, with a space behind each.
+fn longs_of_flags(alloc: Global, command: &Command) -> Result<String, Error> {
+    let mut longs = String::new(alloc);
+    for flag in utils::flags(alloc, command)? {
+        longs.push_str(flag.get_long().unwrap_or(""))?;
+        longs.push(' ')?;
+    }
+    Ok(longs)
+}
+
+#[test]
+fn visible_aliases_stand_before_the_name(rt: HostRuntime) -> Result<(), Fail> {
+    let command = built(rt.alloc(), test(rt.alloc()))?;
+    let shorts = utils::shorts_and_visible_aliases(rt.alloc(), &command)?;
+    assert_eq!(rt; shorts.as_slice(), ['p', 'f', 'h'].as_slice());
+    let longs = longs(rt.alloc(), &command)?;
     assert_eq!(rt; longs.as_str(), "path file help ");
     Ok(())
 }
 
 #[test]
+fn generated_flags_stand_behind(rt: HostRuntime) -> Result<(), Fail> {
+    let command = built(rt.alloc(), my_app(rt.alloc()))?;
+    let shorts = utils::shorts_and_visible_aliases(rt.alloc(), &command)?;
+    assert_eq!(rt; shorts.as_slice(), ['h', 'V'].as_slice());
+    let longs = longs(rt.alloc(), &command)?;
+    assert_eq!(rt; longs.as_str(), "help version ");
+    Ok(())
+}
+
+#[test]
 fn flags_take_no_values(rt: HostRuntime) -> Result<(), Fail> {
-    let alloc = rt.alloc();
-    let mut command = test(alloc)?;
-    command.build(alloc)?;
-    let mut longs = String::new(alloc);
-    for flag in utils::flags(alloc, &command)? {
-        longs.push_str(flag.get_long().unwrap_or(""))?;
-        longs.push(' ')?;
-    }
+    let command = built(rt.alloc(), my_app(rt.alloc()))?;
+    let longs = longs_of_flags(rt.alloc(), &command)?;
+    assert_eq!(rt; longs.as_str(), "help version ");
+    let test = command.find_subcommand("test").ok_or("no test")?;
+    let longs = longs_of_flags(rt.alloc(), test)?;
     assert_eq!(rt; longs.as_str(), "file help ");
+    Ok(())
+}
+
+// The pairs, a line for each.
+fn lines(alloc: Global, pairs: &[(String, String)]) -> Result<String, Error> {
+    let mut lines = String::new(alloc);
+    for (name, full_name) in pairs {
+        writeln!(lines, "{name}: {full_name}")?;
+    }
+    Ok(lines)
+}
+
+// The lines of all commands below a command; none of one that is not built.
+fn all_lines(alloc: Global, command: &Command) -> Result<String, Error> {
+    if !command.is_built() {
+        return Ok(String::new(alloc));
+    }
+    let pairs = utils::all_subcommands(alloc, command)?;
+    lines(alloc, pairs.as_slice())
+}
+
+#[test]
+fn children_stand_before_what_is_below_them(rt: HostRuntime) -> Result<(), Fail> {
+    let command = built(rt.alloc(), my_app(rt.alloc()))?;
+    let lines = all_lines(rt.alloc(), &command)?;
+    assert_eq!(rt; lines.as_str(), ALL);
+    Ok(())
+}
+
+// The lines of the children of a command; none of one that is not built.
+fn child_lines(alloc: Global, command: &Command) -> Result<String, Error> {
+    if !command.is_built() {
+        return Ok(String::new(alloc));
+    }
+    let pairs = utils::subcommands(alloc, command)?;
+    lines(alloc, pairs.as_slice())
+}
+
+#[test]
+fn a_child_is_listed_under_each_visible_name(rt: HostRuntime) -> Result<(), Fail> {
+    let command = built(rt.alloc(), nested(rt.alloc()))?;
+    let lines = child_lines(rt.alloc(), &command)?;
+    assert_eq!(rt; lines.as_str(), "run: app run\nr: app run\n");
     Ok(())
 }
 

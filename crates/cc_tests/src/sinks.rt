@@ -1,10 +1,10 @@
 //! Scripts written to sinks that take little, fail, take nothing, or measure what they take.
 
 use crate::fixtures::{app, many, nested};
-use crate::written::script;
+use crate::written::{script, write_script};
 use clap_complete::aot::{Counted, Elvish, PowerShell, Sink};
 use clap_complete::command::Command;
-use clap_complete::{Error, Generator, generate};
+use clap_complete::{Error, Generator};
 use std::alloc::Global;
 use std::io::{self, ErrorKind, Write};
 use std::test::Fail;
@@ -62,18 +62,6 @@ impl Write for Measured {
 fn narrow_sink(alloc: Global, room: usize, kind: Option<ErrorKind>) -> Counted<Narrow> {
     let held = Vec::new(alloc);
     Counted::new(Narrow { held, room, kind })
-}
-
-// The script of a command for the program `app` into this sink.
-fn write_script<G: Generator + Drop, W: Sink>(
-    alloc: Global,
-    generator: G,
-    command: Result<Command, Error>,
-    sink: &mut W,
-) -> Result<(), Error> {
-    let mut command = command?;
-    let bin_name = String::from_str(alloc, "app")?;
-    generate(alloc, generator, &mut command, bin_name, sink)
 }
 
 // The script as a writer takes it that takes one byte a call.

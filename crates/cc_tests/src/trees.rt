@@ -1,7 +1,8 @@
 //! Trees, as their getters answer them.
 
-use crate::fixtures::{app, nested};
+use crate::fixtures::{app, built, my_app, nested};
 use clap_complete::Error;
+use clap_complete::aot::utils::find_subcommand_with_path;
 use clap_complete::command::Command;
 use std::alloc::Global;
 use std::test::Fail;
@@ -16,13 +17,19 @@ fn ids(alloc: Global, command: &Command) -> Result<String, Error> {
     Ok(ids)
 }
 
+// The ids of the arguments of a fixture that was built so many times.
+fn ids_after(alloc: Global, builds: usize) -> Result<String, Error> {
+    let mut command = app(alloc)?;
+    for _ in 0..builds {
+        command.build(alloc)?;
+    }
+    ids(alloc, &command)
+}
+
 #[test]
 fn building_twice_adds_help_once(rt: HostRuntime) -> Result<(), Fail> {
-    let alloc = rt.alloc();
-    let mut command = app(alloc)?;
-    for _ in 0..2 {
-        command.build(alloc)?;
-        let ids = ids(alloc, &command)?;
+    for builds in 1..=2 {
+        let ids = ids_after(rt.alloc(), builds)?;
         assert_eq!(rt; ids.as_str(), "verbose out help ");
     }
     Ok(())
@@ -31,11 +38,9 @@ fn building_twice_adds_help_once(rt: HostRuntime) -> Result<(), Fail> {
 // The nested fixture, built under its name and then under another.
 fn renamed(alloc: Global) -> Result<Command, Error> {
     let bin_name = String::from_str(alloc, "z")?;
-    let mut command = nested(alloc)?;
-    command.build(alloc)?;
+    let mut command = built(alloc, nested(alloc))?;
     command.set_bin_name(bin_name);
-    command.build(alloc)?;
-    Ok(command)
+    built(alloc, Ok(command))
 }
 
 // The full name of the innermost command of the nested fixture.
@@ -49,5 +54,29 @@ fn full_name_of_job(command: &Command) -> Option<&str> {
 fn a_new_bin_name_and_a_new_build_rename_the_tree(rt: HostRuntime) -> Result<(), Fail> {
     let command = renamed(rt.alloc())?;
     assert_eq!(rt; full_name_of_job(&command), Some("z run job"));
+    Ok(())
+}
+
+// The name of the command that a path leads to.
+fn name_at<'a>(command: &'a Command, path: &[&str]) -> Option<&'a str> {
+    Some(find_subcommand_with_path(command, path)?.get_name())
+}
+
+#[test]
+fn a_path_of_names_and_aliases_leads_to_a_command(rt: HostRuntime) -> Result<(), Fail> {
+    let command = nested(rt.alloc())?;
+    assert_eq!(rt; name_at(&command, ["r", "job"].as_slice()), Some("job"));
+    assert_eq!(rt; name_at(&command, ["job"].as_slice()), None);
+    assert_eq!(rt; name_at(&command, [].as_slice()), Some("app"));
+    Ok(())
+}
+
+#[test]
+fn a_path_leads_through_unbuilt_commands(rt: HostRuntime) -> Result<(), Fail> {
+    let command = my_app(rt.alloc())?;
+    assert_eq!(rt;
+        name_at(&command, ["test", "config"].as_slice()),
+        Some("config")
+    );
     Ok(())
 }

@@ -1,9 +1,21 @@
 //! Scripts as texts.
 
-use clap_complete::aot::Collected;
+use clap_complete::aot::{Collected, Sink};
 use clap_complete::command::Command;
 use clap_complete::{Error, Generator, generate};
 use std::alloc::Global;
+
+// Writes the script of a command for the program `app`.
+pub fn write_script<G: Generator + Drop, W: Sink>(
+    alloc: Global,
+    generator: G,
+    command: Result<Command, Error>,
+    sink: &mut W,
+) -> Result<(), Error> {
+    let mut command = command?;
+    let bin_name = String::from_str(alloc, "app")?;
+    generate(alloc, generator, &mut command, bin_name, sink)
+}
 
 // The script of a command for the program `app`.
 pub fn script<G: Generator + Drop>(
@@ -11,9 +23,7 @@ pub fn script<G: Generator + Drop>(
     generator: G,
     command: Result<Command, Error>,
 ) -> Result<String, Error> {
-    let mut command = command?;
-    let bin_name = String::from_str(alloc, "app")?;
     let mut sink = Collected::new(alloc);
-    generate(alloc, generator, &mut command, bin_name, &mut sink)?;
+    write_script(alloc, generator, command, &mut sink)?;
     Ok(String::from_utf8_lossy(alloc, sink.as_slice())?)
 }
