@@ -73,6 +73,20 @@ fn a_command_keeps_its_children_and_is_built(rt: HostRuntime) -> Result<(), Fail
     Ok(())
 }
 
+// A copy of a copy of a copy.
+fn copied(alloc: Global, text: &str) -> Result<Option<Text>, Error> {
+    let copy = Text::copy_of(alloc, text)?;
+    let copy = copy.try_clone(alloc)?;
+    Ok(Text::copy_of_some(alloc, Some(copy.as_str()))?)
+}
+
+#[test]
+fn a_text_is_copied(rt: HostRuntime) -> Result<(), Fail> {
+    let copy = copied(rt.alloc(), "a b")?;
+    assert_eq!(rt; copy.as_ref().map(Text::as_str), Some("a b"));
+    Ok(())
+}
+
 // The nested fixture as generators ask for it.
 fn ready(alloc: Global) -> Result<Command, Error> {
     let bin_name = String::from_str(alloc, "app")?;

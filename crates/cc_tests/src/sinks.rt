@@ -91,21 +91,30 @@ fn one_byte_a_call_is_the_same_powershell_script(rt: HostRuntime) -> Result<(), 
     Ok(())
 }
 
-// Whether a writer that breaks once it holds `room` bytes is reported and counted once, and took
-// that much.
-fn is_reported<G: Generator + Drop>(alloc: Global, generator: G, room: usize) -> bool {
-    let mut sink = narrow_sink(alloc, room, Some(ErrorKind::BrokenPipe));
+// How the script of the fixture ends over a writer that takes `room` bytes: the kind of the write
+// that failed, how many failed, and how much was taken.
+fn end_of<G: Generator + Drop>(
+    alloc: Global,
+    generator: G,
+    room: usize,
+    kind: Option<ErrorKind>,
+) -> (Option<ErrorKind>, u64, usize) {
+    let mut sink = narrow_sink(alloc, room, kind);
     let written = write_script(alloc, generator, app(alloc), &mut sink);
-    matches!(written, Err(Error::Write(ErrorKind::BrokenPipe)))
-        && sink.failures() == 1
-        && sink.get_ref().held.len() == room
+    let kind = match written {
+        Err(Error::Write(kind)) => Some(kind),
+        _ => None,
+    };
+    (kind, sink.failures(), sink.get_ref().held.len())
 }
+
+const BROKEN: Option<ErrorKind> = Some(ErrorKind::BrokenPipe);
 
 #[test]
 fn a_writer_that_fails_is_reported_and_the_next_call_is_whole(rt: HostRuntime) -> Result<(), Fail> {
     let wanted = script(rt.alloc(), Elvish, app(rt.alloc()))?;
     for room in 0..wanted.len() {
-        assert!(rt; is_reported(rt.alloc(), Elvish, room));
+        assert_eq!(rt; end_of(rt.alloc(), Elvish, room, BROKEN), (BROKEN, 1, room));
     }
     let again = script(rt.alloc(), Elvish, app(rt.alloc()))?;
     assert_eq!(rt; again.as_str(), wanted.as_str());
@@ -116,18 +125,18 @@ fn a_writer_that_fails_is_reported_and_the_next_call_is_whole(rt: HostRuntime) -
 fn powershell_reports_a_writer_that_fails(rt: HostRuntime) -> Result<(), Fail> {
     let wanted = script(rt.alloc(), PowerShell, app(rt.alloc()))?;
     for room in 0..wanted.len() {
-        assert!(rt; is_reported(rt.alloc(), PowerShell, room));
+        assert_eq!(rt;
+            end_of(rt.alloc(), PowerShell, room, BROKEN),
+            (BROKEN, 1, room)
+        );
     }
     Ok(())
 }
 
 #[test]
 fn a_writer_that_takes_nothing_is_reported(rt: HostRuntime) {
-    let mut sink = narrow_sink(rt.alloc(), 0, None);
-    let written = write_script(rt.alloc(), Elvish, app(rt.alloc()), &mut sink);
-    assert!(rt; matches!(written, Err(Error::Write(ErrorKind::WriteZero))));
-    assert_eq!(rt; sink.failures(), 1);
-    assert!(rt; sink.get_ref().held.is_empty());
+    let end = end_of(rt.alloc(), Elvish, 0, None);
+    assert_eq!(rt; end, (Some(ErrorKind::WriteZero), 1, 0));
 }
 
 // What a measuring writer counts of the script of many options.
