@@ -1,3 +1,5 @@
 pub mod CommandLineLemmas
 pub mod GivenValues
+pub mod NestingLemmas
+pub mod RefusalLemmas
 pub mod TreeFormLemmas

@@ -1,5 +1,6 @@
 -- What a plan says.
-use Rattle.std.specs.Prelude.{ℕ, List, string_bytes}
+use Rattle.std.specs.Prelude.{◌||◌, ℕ, List, Bool, codes, string_bytes}
+use Rattle.std.specs.Str.{bytes_eq}
 use Rattle.complgen.specs.declared.types.Plan.{Plan}
 use Rattle.complgen.specs.declared.types.Plan.TheVariants.{Script}
 
@@ -10,3 +11,7 @@ tree_of (Script shell bin tree) = string_bytes tree
 -- the name of the shell
 abbrev pub shell_of : Plan → List ℕ
 shell_of (Script shell bin tree) = string_bytes shell
+
+-- the program writes scripts for a shell of this name
+abbrev pub is_known_shell : List ℕ → Bool
+is_known_shell name = bytes_eq name (codes "elvish") || bytes_eq name (codes "powershell")

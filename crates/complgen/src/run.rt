@@ -1,15 +1,14 @@
 //! Does what a plan asks for.
 
-ghost use Rattle.std.specs.Prelude.{◌≡◌, ◌⊎◌, IfErr, IsErrAnd, codes, false, true};
-ghost use Rattle.std.specs.Str.{bytes_eq};
-ghost use Rattle.complgen.specs.Plans.{shell_of};
+ghost use Rattle.std.specs.Prelude.{◌≡◌, ◌⊎◌, IfErr, IsErrAnd, false, true};
+ghost use Rattle.complgen.specs.Plans.{is_known_shell, shell_of};
 ghost use Rattle.complgen.specs.Refusals.{IsRefusal, IsWantOfMemory, RefusesError, RefusesTree};
 ghost use Rattle.complgen.specs.Refusals.{RefusesFile, RefusesScript, RefusesWithText};
 ghost use Rattle.complgen.specs.Refusals.{invalid_variant as the_invalid_variant};
 
 use crate::tree_file::{TreeError, read_tree};
 use crate::types::{Plan, Refusal};
-use clap_complete::aot::{Elvish, Sink};
+use clap_complete::aot::{Elvish, Generator, PowerShell, Sink};
 use clap_complete::command::Command;
 use clap_complete::{Error, generate};
 use std::alloc::{AllocError, Global};
@@ -35,26 +34,24 @@ pub fn run<W: Sink>(
     file: Option<&[u8]>,
     out: &mut W,
 ) -> Result<(), Refusal>
-    ensures shell { bytes_eq (shell_of plan.now) (codes "elvish") ≡ false → IsErrAnd result
+    ensures shell { is_known_shell (shell_of plan.now) ≡ false → IsErrAnd result
         (λ r. IsWantOfMemory r ⊎ IsRefusal (the_invalid_variant (shell_of plan.now)) r) }
-    ensures unreadable { bytes_eq (shell_of plan.now) (codes "elvish") ≡ true → file.entry ≡ None
+    ensures unreadable { is_known_shell (shell_of plan.now) ≡ true → file.entry ≡ None
         → IsErrAnd result (IsRefusal UNREADABLE.now) }
-    ensures err { bytes_eq (shell_of plan.now) (codes "elvish") ≡ true
-        → IfErr result RefusesScript }
+    ensures err { is_known_shell (shell_of plan.now) ≡ true → IfErr result RefusesScript }
 {
-    match plan {
-        Plan::Script(shell, bin, _) => {
-            if shell.as_str() != "elvish" {
-                return Err(invalid_variant(alloc, shell.as_str()));
-            }
-            script(alloc, bin.as_str(), file, out)
-        }
+    let Plan::Script(shell, bin, _) = plan;
+    match shell.as_str() {
+        "elvish" => script(alloc, Elvish, bin.as_str(), file, out),
+        "powershell" => script(alloc, PowerShell, bin.as_str(), file, out),
+        unknown => Err(invalid_variant(alloc, unknown)),
     }
 }
 
-// Writes the script for a tree file.
-fn script<W: Sink>(
+// Writes the generator's script for a tree file.
+fn script<G: Generator + Drop, W: Sink>(
     alloc: Global,
+    generator: G,
     bin: &str,
     file: Option<&[u8]>,
     out: &mut W,
@@ -64,7 +61,7 @@ fn script<W: Sink>(
 {
     let mut command = tree(alloc, file)?;
     let bin = String::from_str(alloc, bin)?;
-    match generate(alloc, Elvish, &mut command, bin, out) {
+    match generate(alloc, generator, &mut command, bin, out) {
         Ok(()) => Ok(()),
         Err(error) => Err(error_refusal(alloc, &error)),
     }
@@ -159,6 +156,44 @@ mod tests {
         let refusal = refused(rt.alloc(), "tcsh", None)?;
         assert_eq!(rt; refusal.status, 1);
         assert_eq!(rt; refusal.text.as_str(), "invalid variant: tcsh\n");
+        Ok(())
+    }
+
+    // The script for this shell of a tree with a child.
+    fn written(alloc: Global, shell: &str) -> Result<Vec<u8>, Fail> {
+        let bin = String::from_str(alloc, "app")?;
+        let path = String::from_str(alloc, "tree.json")?;
+        let plan = Plan::Script(String::from_str(alloc, shell)?, bin, path);
+        let file = "{\"name\": \"app\", \"disable_help_flag\": true, \"subcommands\": [
+            {\"name\": \"run\", \"visible_aliases\": [\"r\"], \"aliases\": [\"go\"]}]}";
+        let mut out = Collected::new(alloc);
+        match run(alloc, &plan, Some(file.as_bytes()), &mut out) {
+            Ok(()) => Ok(out.into_vec()),
+            Err(_) => Err(Fail::from("a refusal")),
+        }
+    }
+
+    #[test]
+    fn writes_the_keys_of_a_child(rt: HostRuntime) -> Result<(), Fail> {
+        let script = written(rt.alloc(), "elvish")?;
+        let script = String::from_utf8_lossy(rt.alloc(), script.as_slice())?;
+        assert!(rt; script.as_str().contains("&'app'= {"));
+        assert!(rt; script.as_str().contains("&'app;run'= {"));
+        assert!(rt; script.as_str().contains("&'app;r'= {"));
+        assert!(rt; !script.as_str().contains("app;go"));
+        Ok(())
+    }
+
+    #[test]
+    fn writes_for_powershell(rt: HostRuntime) -> Result<(), Fail> {
+        let script = written(rt.alloc(), "powershell")?;
+        let script = String::from_utf8_lossy(rt.alloc(), script.as_slice())?;
+        assert!(rt;
+            script
+                .as_str()
+                .contains("Register-ArgumentCompleter -Native -CommandName 'app'")
+        );
+        assert!(rt; script.as_str().contains("'app;r' {"));
         Ok(())
     }
 

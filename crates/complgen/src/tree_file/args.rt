@@ -4,12 +4,14 @@ ghost use Rattle.std.specs.Prelude.{IfErr};
 ghost use Rattle.complgen.specs.TreeForm.{IsOfForm};
 
 use crate::tree_file::TreeError;
-use crate::tree_file::values::{action, character, characters, has_only_keys, range, text, texts};
+use crate::tree_file::values::{
+    action, boolean, character, characters, has_only_keys, range, text, texts,
+};
 use clap_complete::command::Arg;
 use serde_json::Value;
 use std::alloc::Global;
 
-const KEYS: [&str; 11] = [
+const KEYS: [&str; 12] = [
     "id",
     "short",
     "long",
@@ -21,6 +23,7 @@ const KEYS: [&str; 11] = [
     "aliases",
     "visible_aliases",
     "value_names",
+    "hide",
 ];
 
 /// The argument that an object describes.
@@ -31,9 +34,16 @@ pub fn arg(alloc: Global, tree: &Value) -> Result<Arg, TreeError>
         return Err(TreeError::BadForm);
     }
     let id = tree.get("id").ok_or(TreeError::BadForm)?;
-    let arg = Arg::new(alloc, text(alloc, id)?);
+    with_rest(alloc, Arg::new(alloc, text(alloc, id)?), tree)
+}
+
+// What the keys besides the id say.
+fn with_rest(alloc: Global, arg: Arg, tree: &Value) -> Result<Arg, TreeError>
+    ensures { IfErr result IsOfForm }
+{
     let arg = with_names(alloc, arg, tree)?;
     let arg = with_values(alloc, arg, tree)?;
+    let arg = with_hide(arg, tree)?;
     with_all_aliases(alloc, arg, tree)
 }
 
@@ -101,14 +111,29 @@ fn with_num_args(arg: Arg, tree: &Value) -> Result<Arg, TreeError>
 fn with_value_names(alloc: Global, arg: Arg, tree: &Value) -> Result<Arg, TreeError>
     ensures { IfErr result IsOfForm }
 {
-    let Some(value) = tree.get("value_names") else {
-        return Ok(arg);
-    };
+    match tree.get("value_names") {
+        Some(value) => add_value_names(arg, texts(alloc, value)?),
+        None => Ok(arg),
+    }
+}
+
+fn add_value_names(arg: Arg, names: Vec<String>) -> Result<Arg, TreeError>
+    ensures { IfErr result IsOfForm }
+{
     let mut arg = arg;
-    for name in texts(alloc, value)? {
+    for name in names {
         arg = arg.value_name(name)?;
     }
     Ok(arg)
+}
+
+fn with_hide(arg: Arg, tree: &Value) -> Result<Arg, TreeError>
+    ensures { IfErr result IsOfForm }
+{
+    match tree.get("hide") {
+        Some(value) => Ok(arg.hide(boolean(value)?)),
+        None => Ok(arg),
+    }
 }
 
 fn with_all_aliases(alloc: Global, arg: Arg, tree: &Value) -> Result<Arg, TreeError>
@@ -123,11 +148,17 @@ fn with_all_aliases(alloc: Global, arg: Arg, tree: &Value) -> Result<Arg, TreeEr
 fn with_short_aliases(alloc: Global, arg: Arg, tree: &Value) -> Result<Arg, TreeError>
     ensures { IfErr result IsOfForm }
 {
-    let Some(value) = tree.get("short_aliases") else {
-        return Ok(arg);
-    };
+    match tree.get("short_aliases") {
+        Some(value) => add_short_aliases(arg, characters(alloc, value)?),
+        None => Ok(arg),
+    }
+}
+
+fn add_short_aliases(arg: Arg, names: Vec<char>) -> Result<Arg, TreeError>
+    ensures { IfErr result IsOfForm }
+{
     let mut arg = arg;
-    for name in characters(alloc, value)? {
+    for name in names {
         arg = arg.short_alias(name)?;
     }
     Ok(arg)
@@ -136,11 +167,17 @@ fn with_short_aliases(alloc: Global, arg: Arg, tree: &Value) -> Result<Arg, Tree
 fn with_visible_short_aliases(alloc: Global, arg: Arg, tree: &Value) -> Result<Arg, TreeError>
     ensures { IfErr result IsOfForm }
 {
-    let Some(value) = tree.get("visible_short_aliases") else {
-        return Ok(arg);
-    };
+    match tree.get("visible_short_aliases") {
+        Some(value) => add_visible_short_aliases(arg, characters(alloc, value)?),
+        None => Ok(arg),
+    }
+}
+
+fn add_visible_short_aliases(arg: Arg, names: Vec<char>) -> Result<Arg, TreeError>
+    ensures { IfErr result IsOfForm }
+{
     let mut arg = arg;
-    for name in characters(alloc, value)? {
+    for name in names {
         arg = arg.visible_short_alias(name)?;
     }
     Ok(arg)
@@ -149,11 +186,17 @@ fn with_visible_short_aliases(alloc: Global, arg: Arg, tree: &Value) -> Result<A
 fn with_aliases(alloc: Global, arg: Arg, tree: &Value) -> Result<Arg, TreeError>
     ensures { IfErr result IsOfForm }
 {
-    let Some(value) = tree.get("aliases") else {
-        return Ok(arg);
-    };
+    match tree.get("aliases") {
+        Some(value) => add_aliases(arg, texts(alloc, value)?),
+        None => Ok(arg),
+    }
+}
+
+fn add_aliases(arg: Arg, names: Vec<String>) -> Result<Arg, TreeError>
+    ensures { IfErr result IsOfForm }
+{
     let mut arg = arg;
-    for name in texts(alloc, value)? {
+    for name in names {
         arg = arg.alias(name)?;
     }
     Ok(arg)
@@ -162,11 +205,17 @@ fn with_aliases(alloc: Global, arg: Arg, tree: &Value) -> Result<Arg, TreeError>
 fn with_visible_aliases(alloc: Global, arg: Arg, tree: &Value) -> Result<Arg, TreeError>
     ensures { IfErr result IsOfForm }
 {
-    let Some(value) = tree.get("visible_aliases") else {
-        return Ok(arg);
-    };
+    match tree.get("visible_aliases") {
+        Some(value) => add_visible_aliases(arg, texts(alloc, value)?),
+        None => Ok(arg),
+    }
+}
+
+fn add_visible_aliases(arg: Arg, names: Vec<String>) -> Result<Arg, TreeError>
+    ensures { IfErr result IsOfForm }
+{
     let mut arg = arg;
-    for name in texts(alloc, value)? {
+    for name in names {
         arg = arg.visible_alias(name)?;
     }
     Ok(arg)

@@ -1,0 +1,23 @@
+use Rattle.std.proofs.Common.{◌≡◌, ◌<◌, Some, arith, codes, length, rules, subst, sym}
+use Rattle.serde_json.specs.Data.{depth}
+use Rattle.serde_json.specs.Find.{as_array, get}
+use Rattle.serde_json.specs.View.{items_view, view}
+use Rattle.complgen.proofs.NestingLemmas.{found_is_flatter, item_is_flatter}
+use Rattle.complgen.proofs.tree_file.commands.+commands.Goals as goal
+
+pub command-children-requires : goal.command-children-requires
+command-children-requires t c =
+    let found : get (codes "subcommands") (view c.args.tree.now) ≡ Some (view c.in-Some.value.now) = search rules in
+    let smaller : depth (view c.in-Some.value.now) < depth (view c.args.tree.now) =
+    found_is_flatter (codes "subcommands") _ _ found in
+    search rules
+
+pub children-command-requires : goal.children-command-requires
+children-command-requires t c =
+    let items = c.deref-item-items.result.now in
+    let is : as_array (view c.args.value.now) ≡ Some (items_view items) = search rules in
+    let inside : c.loop-item.item-index < length items = omega arith in
+    let smaller : depth (view c.item-item.result) < depth (view c.args.value.now) =
+    subst (λ v. depth (view v) < depth (view c.args.value.now)) (sym c.item-item.is)
+    (item_is_flatter (view c.args.value.now) items c.loop-item.item-index c.item-item.result is inside) in
+    search rules

@@ -1,0 +1,9 @@
+use Rattle.serde_json.specs.Data.{depth}
+use Rattle.serde_json.specs.View.{view}
+use Rattle.complgen.proofs.tree_file.commands.+commands.Given as goal
+
+abbrev pub decreases-command : goal.decreases-command
+decreases-command l = depth (view l.tree.now)
+
+abbrev pub decreases-children : goal.decreases-children
+decreases-children l = depth (view l.value.now)
