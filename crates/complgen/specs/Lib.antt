@@ -1,5 +1,6 @@
 pub mod CommandLine
 pub mod Plans
 pub mod Refusals
+pub mod Scripts
 pub mod TreeFile
 pub mod TreeForm

@@ -12,6 +12,10 @@ tree_of (Script shell bin tree) = string_bytes tree
 abbrev pub shell_of : Plan → List ℕ
 shell_of (Script shell bin tree) = string_bytes shell
 
+-- the bin name of the command
+abbrev pub bin_of : Plan → List ℕ
+bin_of (Script shell bin tree) = string_bytes bin
+
 -- the program writes scripts for a shell of this name
 abbrev pub is_known_shell : List ℕ → Bool
 is_known_shell name = bytes_eq name (codes "elvish") || bytes_eq name (codes "powershell")

@@ -1,10 +1,11 @@
 //! Does what a plan asks for.
 
-ghost use Rattle.std.specs.Prelude.{◌≡◌, ◌⊎◌, IfErr, IsErrAnd, false, true};
-ghost use Rattle.complgen.specs.Plans.{is_known_shell, shell_of};
+ghost use Rattle.std.specs.Prelude.{◌≡◌, ◌⊎◌, IfErr, IsErrAnd, OnOk, false, true};
+ghost use Rattle.complgen.specs.Plans.{bin_of, is_known_shell, shell_of};
 ghost use Rattle.complgen.specs.Refusals.{IsRefusal, IsWantOfMemory, RefusesError, RefusesTree};
 ghost use Rattle.complgen.specs.Refusals.{RefusesFile, RefusesScript, RefusesWithText};
 ghost use Rattle.complgen.specs.Refusals.{invalid_variant as the_invalid_variant};
+ghost use Rattle.complgen.specs.Scripts.{TakesScript, script_for};
 
 use crate::tree_file::{TreeError, read_tree};
 use crate::types::{Plan, Refusal};
@@ -39,6 +40,8 @@ pub fn run<W: Sink>(
     ensures unreadable { is_known_shell (shell_of plan.now) ≡ true → file.entry ≡ None
         → IsErrAnd result (IsRefusal UNREADABLE.now) }
     ensures err { is_known_shell (shell_of plan.now) ≡ true → IfErr result RefusesScript }
+    ensures ok { OnOk result (TakesScript (script_for (shell_of plan.now)) (bin_of plan.now)
+        (W.taken out.old) (W.taken out.new)) }
 {
     let Plan::Script(shell, bin, _) = plan;
     match shell.as_str() {
@@ -58,6 +61,8 @@ fn script<G: Generator + Drop, W: Sink>(
 ) -> Result<(), Refusal>
     ensures unreadable { file.entry ≡ None → IsErrAnd result (IsRefusal UNREADABLE.now) }
     ensures err { IfErr result RefusesScript }
+    ensures ok { OnOk result (TakesScript (λ tree. G.script generator tree) bin.now
+        (W.taken out.old) (W.taken out.new)) }
 {
     let mut command = tree(alloc, file)?;
     let bin = String::from_str(alloc, bin)?;
