@@ -90,8 +90,8 @@ fn a_text_is_copied(rt: HostRuntime) -> Result<(), Fail> {
 // The nested fixture as generators ask for it.
 fn ready(alloc: Global) -> Result<Command, Error> {
     let bin_name = String::from_str(alloc, "app")?;
-    let mut command = nested(alloc)?;
-    command.build_as(alloc, bin_name)?;
+    let mut command = nested(alloc)?.bin_name(bin_name);
+    command.build(alloc)?;
     Ok(command)
 }
 

@@ -4,7 +4,7 @@ use crate::fixtures::{app, many, nested};
 use crate::written::{script, write_script};
 use clap_complete::aot::{Counted, Elvish, PowerShell, Sink};
 use clap_complete::command::Command;
-use clap_complete::{Error, Generator};
+use clap_complete::{Error, Generator, generate};
 use std::alloc::Global;
 use std::io::{self, ErrorKind, Write};
 use std::test::Fail;
@@ -91,52 +91,71 @@ fn one_byte_a_call_is_the_same_powershell_script(rt: HostRuntime) -> Result<(), 
     Ok(())
 }
 
-// How the script of the fixture ends over a writer that takes `room` bytes: the kind of the write
-// that failed, how many failed, and how much was taken.
+// How the script of a command ends over a writer that takes `room` bytes: the kind of the write that
+// failed, how many failed, how much was taken, and whether `whole` begins with it.
 fn end_of<G: Generator + Drop>(
     alloc: Global,
     generator: G,
-    room: usize,
-    kind: Option<ErrorKind>,
-) -> (Option<ErrorKind>, u64, usize) {
-    let mut sink = narrow_sink(alloc, room, kind);
-    let written = write_script(alloc, generator, app(alloc), &mut sink);
-    let kind = match written {
+    command: &mut Command,
+    narrow: (usize, Option<ErrorKind>),
+    whole: &str,
+) -> Result<(Option<ErrorKind>, u64, usize, bool), Error> {
+    let mut sink = narrow_sink(alloc, narrow.0, narrow.1);
+    let bin_name = String::from_str(alloc, "app")?;
+    let kind = match generate(alloc, generator, command, bin_name, &mut sink) {
         Err(Error::Write(kind)) => Some(kind),
         _ => None,
     };
-    (kind, sink.failures(), sink.get_ref().held.len())
+    let failures = sink.failures();
+    let held = sink.into_inner().held;
+    let begins = whole.as_bytes().starts_with(held.as_slice());
+    Ok((kind, failures, held.len(), begins))
 }
 
 const BROKEN: Option<ErrorKind> = Some(ErrorKind::BrokenPipe);
 
+const ROOMY: (usize, Option<ErrorKind>) = (usize::MAX, None);
+
 #[test]
-fn a_writer_that_fails_is_reported_and_the_next_call_is_whole(rt: HostRuntime) -> Result<(), Fail> {
-    let wanted = script(rt.alloc(), Elvish, app(rt.alloc()))?;
-    for room in 0..wanted.len() {
-        assert_eq!(rt; end_of(rt.alloc(), Elvish, room, BROKEN), (BROKEN, 1, room));
+fn elvish_reports_a_writer_that_fails_and_is_whole_afterwards(rt: HostRuntime) -> Result<(), Fail> {
+    let whole = script(rt.alloc(), Elvish, app(rt.alloc()))?;
+    let whole = whole.as_str();
+    let mut command = app(rt.alloc())?;
+    for room in 0..whole.len() {
+        let end = end_of(rt.alloc(), Elvish, &mut command, (room, BROKEN), whole)?;
+        assert_eq!(rt; end, (BROKEN, 1, room, true));
     }
-    let again = script(rt.alloc(), Elvish, app(rt.alloc()))?;
-    assert_eq!(rt; again.as_str(), wanted.as_str());
+    let again = end_of(rt.alloc(), Elvish, &mut command, ROOMY, whole)?;
+    assert_eq!(rt; again, (None, 0, whole.len(), true));
     Ok(())
 }
 
 #[test]
-fn powershell_reports_a_writer_that_fails(rt: HostRuntime) -> Result<(), Fail> {
-    let wanted = script(rt.alloc(), PowerShell, app(rt.alloc()))?;
-    for room in 0..wanted.len() {
-        assert_eq!(rt;
-            end_of(rt.alloc(), PowerShell, room, BROKEN),
-            (BROKEN, 1, room)
-        );
+fn powershell_reports_a_writer_that_fails_and_is_whole_afterwards(
+    rt: HostRuntime,
+) -> Result<(), Fail> {
+    let whole = script(rt.alloc(), PowerShell, app(rt.alloc()))?;
+    let whole = whole.as_str();
+    let mut command = app(rt.alloc())?;
+    for room in 0..whole.len() {
+        let end = end_of(rt.alloc(), PowerShell, &mut command, (room, BROKEN), whole)?;
+        assert_eq!(rt; end, (BROKEN, 1, room, true));
     }
+    let again = end_of(rt.alloc(), PowerShell, &mut command, ROOMY, whole)?;
+    assert_eq!(rt; again, (None, 0, whole.len(), true));
     Ok(())
 }
 
 #[test]
-fn a_writer_that_takes_nothing_is_reported(rt: HostRuntime) {
-    let end = end_of(rt.alloc(), Elvish, 0, None);
-    assert_eq!(rt; end, (Some(ErrorKind::WriteZero), 1, 0));
+fn a_writer_that_takes_nothing_more_is_reported(rt: HostRuntime) -> Result<(), Fail> {
+    let whole = script(rt.alloc(), Elvish, app(rt.alloc()))?;
+    let whole = whole.as_str();
+    let mut command = app(rt.alloc())?;
+    for room in 0..whole.len() {
+        let end = end_of(rt.alloc(), Elvish, &mut command, (room, None), whole)?;
+        assert_eq!(rt; end, (Some(ErrorKind::WriteZero), 1, room, true));
+    }
+    Ok(())
 }
 
 // What a measuring writer counts of the script of many options.
