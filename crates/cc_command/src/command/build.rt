@@ -61,6 +61,7 @@ impl Command {
         if !needs_help_child(&self.node, &self.children) {
             return Ok(children);
         }
+        children.reserve_exact(1)?;
         children.push(help_command(&self.children, alloc, name)?)?;
         Ok(children)
     }
@@ -87,7 +88,7 @@ fn built_siblings(siblings: &[Command], alloc: Global, parent: &str) -> Result<V
         forest_of built.items ≡ built_forest [] parent.now (forest_of siblings.now)) }
     ensures memory { IfErr result (λ error. error ≡ Error.Memory) }
 {
-    let mut built = Vec::new(alloc);
+    let mut built = Vec::with_capacity(alloc, siblings.len())?;
     for sibling in siblings {
         let bin_name = joined_name(alloc, parent, sibling.node.name.as_str())?;
         built.push(sibling.built_under(alloc, Some(bin_name))?)?;

@@ -1,7 +1,7 @@
 //! What a command is as a child and as a parent: its names, its display order, its heading and its
 //! children.
 
-ghost use Rattle.std.specs.Prelude.{◌≡◌, ◌++◌, ◌∷◌, [], false, Some, unwrap_or, IfOk, IfErr};
+ghost use Rattle.std.specs.Prelude.{◌≡◌, ◌++◌, ◌∷◌, [], false, Some, unwrap_or, IfOk, IfErr, OnOk};
 ghost use Rattle.std.specs.Option.{option_copied};
 ghost use Rattle.std.specs.String.{string_bytes};
 ghost use Rattle.cc_command.specs.Tree.{has_nodes};
@@ -50,7 +50,7 @@ impl Command {
         self.node.built = false;
         child.fill_display_order(self.node.next_order);
         self.node.next_order = self.node.next_order.saturating_add(1);
-        self.children.push(child)?;
+        push_child(&mut self.children, child)?;
         Ok(self)
     }
 
@@ -173,4 +173,17 @@ impl Command {
     {
         self.node.display_order = Some(self.node.display_order.unwrap_or(order));
     }
+}
+
+// Adds a child. The first one gets room for itself alone, since a `Vec` would begin with room for
+// four, and in a deep tree most commands have one child.
+fn push_child(children: &mut Vec<Command>, child: Command) -> Result<(), Error>
+    ensures ok { OnOk result (children.new.items ≡ children.old.items ++ child ∷ []) }
+    ensures memory { IfErr result (λ error. error ≡ Error.Memory) }
+{
+    if children.is_empty() {
+        children.reserve_exact(1)?;
+    }
+    children.push(child)?;
+    Ok(())
 }

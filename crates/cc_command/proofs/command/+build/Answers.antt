@@ -25,7 +25,7 @@ Command::built_children-returns-clause-ok t c =
     let built : forest_of c.in_ok-children.children.items ≡ built_forest [] name tree.children = search rules in
     let missing : needs_help_child tree.node tree.children ≡ true = search rules in
     let helps : forest_of (help ∷ []) ≡ help_command name (helped (joined_name name HELP.now) tree.children) = search rules in
-    let pushed : c.push.new.self.items ≡ c.in_ok-children.children.items ++ help ∷ [] = c.in_ok-push.ensures.items in
+    let pushed : c.push.new.self.items ≡ c.in_ok-children.children.items ++ help ∷ [] = search rules in
     ap forest_of pushed ∙ children-helped name tree.node tree.children c.in_ok-children.children.items help built missing helps
 
 pub Command::built_under-invariant_of-result : goal.Command::built_under-invariant_of-result

@@ -36,6 +36,7 @@ pub(super) fn help_command(
     let name = joined_name(alloc, parent, HELP)?;
     let mut children = copies_of(siblings, alloc, name.as_str())?;
     let last = joined_name(alloc, name.as_str(), HELP)?;
+    children.reserve_exact(1)?;
     children.push(generated(
         alloc,
         HELP,
@@ -53,7 +54,7 @@ fn copies_of(siblings: &[Command], alloc: Global, parent: &str) -> Result<Vec<Co
     ensures ok { IfOk result (λ made. forest_of made.items ≡ copies parent.now 0 (forest_of siblings.now)) }
     ensures memory { IfErr result (λ error. error ≡ Error.Memory) }
 {
-    let mut made = Vec::new(alloc);
+    let mut made = Vec::with_capacity(alloc, siblings.len())?;
     for (place, sibling) in siblings.iter().enumerate() {
         let name = joined_name(alloc, parent, sibling.get_name())?;
         let below = copies_of(&sibling.children, alloc, name.as_str())?;
