@@ -1,12 +1,20 @@
 -- How a script is refused.
 use Rattle.std.proofs.Common.{inl, inr}
-use Rattle.std.specs.Prelude.{◌⊎◌}
+use Rattle.std.specs.Prelude.{ℕ, Err, Ok, Result}
+use Rattle.cc_base.specs.Sink.{Counts}
 use Rattle.cc_base.specs.declared.error.Error.{Error}
-use Rattle.complgen.specs.Refusals.{IsWantOfMemory, RefusesError, RefusesScript}
+use Rattle.cc_base.specs.declared.error.Error.TheVariants.{InvalidVariant, LabelClash, Memory, NoArguments, NoCompletion, UnknownShell, Write}
+use Rattle.complgen.specs.Refusals.{CountsRefusal, RefusesError, RefusesScript}
 use Rattle.complgen.specs.declared.types.Refusal.{Refusal}
 
--- an error of the library refuses a script
-pub refuses_script : (error : Error) (refusal : Refusal)
-    → IsWantOfMemory refusal ⊎ RefusesError error refusal → RefusesScript refusal
-refuses_script error refusal (inl memory) = inl memory
-refuses_script error refusal (inr refuses) = inr (inr (inr (error, refuses)))
+-- an error of a generator refuses a script, and a failed write alone was counted
+pub counts_refusal : {A : Type 0} (error : Error) (refusal : Refusal) (before after : ℕ)
+    → Counts {A} (Err error) before after → RefusesError error refusal → CountsRefusal {A} (Err refusal) before after
+counts_refusal Memory refusal before after counts refuses = inr (inl refuses, counts)
+counts_refusal (Write kind) refusal before after counts refuses = inl (refuses, counts)
+counts_refusal (LabelClash label) refusal before after counts (inl memory) = inr (inl memory, counts)
+counts_refusal (LabelClash label) refusal before after counts (inr clash) = inr (inr (inr (label, clash)), counts)
+counts_refusal NoCompletion refusal before after counts refuses = absurd counts
+counts_refusal NoArguments refusal before after counts refuses = absurd counts
+counts_refusal (UnknownShell text) refusal before after counts refuses = absurd counts
+counts_refusal (InvalidVariant text) refusal before after counts refuses = absurd counts

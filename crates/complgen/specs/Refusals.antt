@@ -4,7 +4,9 @@ use Rattle.std.specs.Cow.{cow_str_bytes}
 use Rattle.std.specs.declared.alloc.AllocError.{AllocError}
 use Rattle.std.specs.declared.alloc.Global.{Global}
 use Rattle.cc_base.specs.ErrorText.{error_text}
+use Rattle.cc_base.specs.Sink.{raised}
 use Rattle.cc_base.specs.declared.error.Error.{Error}
+use Rattle.cc_base.specs.declared.error.Error.TheVariants.{InvalidVariant, LabelClash, NoArguments, NoCompletion, UnknownShell, Write, Memory as NoMemory}
 use Rattle.complgen.specs.declared.tree_file.TreeError.{TreeError}
 use Rattle.complgen.specs.declared.tree_file.TreeError.TheVariants.{BadForm, Memory, NotJson}
 use Rattle.complgen.specs.declared.types.Refusal.{Refusal}
@@ -32,9 +34,18 @@ RefusesTree NotJson refusal = IsRefusal (codes "tree: not JSON\n") refusal
 RefusesTree BadForm refusal = IsRefusal (codes "tree: bad form\n") refusal
 RefusesTree Memory refusal = IsWantOfMemory refusal
 
--- how an error of the library is refused
+-- how an error of the library is refused; a text that is made for it may be refused memory
 abbrev pub RefusesError : Error → Refusal → Type 0
-RefusesError error refusal = IsRefusal (error_text error ++ codes "\n") refusal
+RefusesError (LabelClash label) refusal =
+    IsWantOfMemory refusal ⊎ IsRefusal (error_text (LabelClash label) ++ codes "\n") refusal
+RefusesError (UnknownShell text) refusal =
+    IsWantOfMemory refusal ⊎ IsRefusal (error_text (UnknownShell text) ++ codes "\n") refusal
+RefusesError (InvalidVariant text) refusal =
+    IsWantOfMemory refusal ⊎ IsRefusal (error_text (InvalidVariant text) ++ codes "\n") refusal
+RefusesError NoMemory refusal = IsWantOfMemory refusal
+RefusesError (Write kind) refusal = IsRefusal (codes "write failed\n") refusal
+RefusesError NoCompletion refusal = IsRefusal (codes "no completion generated\n") refusal
+RefusesError NoArguments refusal = IsRefusal (codes "no arguments\n") refusal
 
 -- a refusal with a text that took memory
 abbrev pub RefusesWithText : Result (String Global) AllocError → Refusal → Type 0
@@ -46,7 +57,15 @@ abbrev pub RefusesFile : Refusal → Type 0
 RefusesFile refusal = IsRefusal (codes "tree: unreadable\n") refusal
     ⊎ ((error : TreeError) × RefusesTree error refusal)
 
--- how a script is refused, once the shell is known
+-- how a script is refused, once the shell is known, where no write failed: for want of memory, for
+-- its tree file, or for a label that two commands share
 abbrev pub RefusesScript : Refusal → Type 0
 RefusesScript refusal = IsWantOfMemory refusal ⊎ (RefusesFile refusal
-    ⊎ (IsRefusal (codes "write failed\n") refusal ⊎ ((error : Error) × RefusesError error refusal)))
+    ⊎ ((label : List ℕ) × IsRefusal (error_text (LabelClash label) ++ codes "\n") refusal))
+
+-- A failed write is refused as such, and the sink's count of failures rises exactly then.
+abbrev pub CountsRefusal : {A : Type 0} → Result A Refusal → ℕ → ℕ → Type 0
+CountsRefusal (Ok _) before after = after ≡ before
+CountsRefusal (Err refusal) before after =
+    (IsRefusal (codes "write failed\n") refusal × (after ≡ raised before))
+    ⊎ (RefusesScript refusal × (after ≡ before))

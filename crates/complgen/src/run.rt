@@ -3,7 +3,7 @@
 ghost use Rattle.std.specs.Prelude.{◌≡◌, ◌⊎◌, IfErr, IsErrAnd, OnOk, false, true};
 ghost use Rattle.complgen.specs.Plans.{bin_of, is_known_shell, shell_of};
 ghost use Rattle.complgen.specs.Refusals.{IsRefusal, IsWantOfMemory, RefusesError, RefusesTree};
-ghost use Rattle.complgen.specs.Refusals.{RefusesFile, RefusesScript, RefusesWithText};
+ghost use Rattle.complgen.specs.Refusals.{CountsRefusal, RefusesFile, RefusesWithText};
 ghost use Rattle.complgen.specs.Refusals.{invalid_variant as the_invalid_variant};
 ghost use Rattle.complgen.specs.Scripts.{TakesScript, script_for};
 
@@ -37,9 +37,13 @@ pub fn run<W: Sink>(
 ) -> Result<(), Refusal>
     ensures shell { is_known_shell (shell_of plan.now) ≡ false → IsErrAnd result
         (λ r. IsWantOfMemory r ⊎ IsRefusal (the_invalid_variant (shell_of plan.now)) r) }
+    ensures nothing_written { is_known_shell (shell_of plan.now) ≡ false → W.taken out.new ≡ W.taken out.old }
+    ensures nothing_failed { is_known_shell (shell_of plan.now) ≡ false → W.failed out.new ≡ W.failed out.old }
     ensures unreadable { is_known_shell (shell_of plan.now) ≡ true → file.entry ≡ None
         → IsErrAnd result (IsRefusal UNREADABLE.now) }
-    ensures err { is_known_shell (shell_of plan.now) ≡ true → IfErr result RefusesScript }
+    ensures unreadable_writes_nothing { file.entry ≡ None → W.taken out.new ≡ W.taken out.old }
+    ensures failures { is_known_shell (shell_of plan.now) ≡ true
+        → CountsRefusal result (W.failed out.old) (W.failed out.new) }
     ensures ok { OnOk result (TakesScript (script_for (shell_of plan.now)) (bin_of plan.now)
         (W.taken out.old) (W.taken out.new)) }
 {
@@ -60,7 +64,8 @@ fn script<G: Generator + Drop, W: Sink>(
     out: &mut W,
 ) -> Result<(), Refusal>
     ensures unreadable { file.entry ≡ None → IsErrAnd result (IsRefusal UNREADABLE.now) }
-    ensures err { IfErr result RefusesScript }
+    ensures unreadable_writes_nothing { file.entry ≡ None → W.taken out.new ≡ W.taken out.old }
+    ensures failures { CountsRefusal result (W.failed out.old) (W.failed out.new) }
     ensures ok { OnOk result (TakesScript (λ tree. G.script generator tree) bin.now
         (W.taken out.old) (W.taken out.new)) }
 {
@@ -103,7 +108,7 @@ fn tree_refusal(error: TreeError) -> Refusal
 
 // What an error of the library has the program print.
 fn error_refusal(alloc: Global, error: &Error) -> Refusal
-    ensures { IsWantOfMemory result ⊎ RefusesError error.now result }
+    ensures { RefusesError error.now result }
 {
     match error {
         Error::Memory => Refusal::from(AllocError),

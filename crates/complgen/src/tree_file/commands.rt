@@ -6,7 +6,7 @@ ghost use Rattle.complgen.specs.TreeForm.{IsOfForm};
 use crate::tree_file::TreeError;
 use crate::tree_file::args::arg;
 use crate::tree_file::values::{boolean, has_only_keys, number, text, texts};
-use clap_complete::command::{Arg, Command};
+use clap_complete::command::Command;
 use serde_json::Value;
 use std::alloc::Global;
 
@@ -34,30 +34,20 @@ pub fn command(alloc: Global, tree: &Value) -> Result<Command, TreeError>
 {
     let command = own(alloc, tree)?;
     match tree.get("subcommands") {
-        Some(value) => add_children(command, children(alloc, value)?),
+        Some(value) => with_children(alloc, command, value),
         None => Ok(command),
     }
 }
 
-// The children that a list describes.
+// The command with the children that a list describes, each added as it is read.
 #[cycle(commands)]
-fn children(alloc: Global, value: &Value) -> Result<Vec<Command>, TreeError>
+fn with_children(alloc: Global, parent: Command, value: &Value) -> Result<Command, TreeError>
     ensures { IfErr result IsOfForm }
 {
     let items = value.as_array().ok_or(TreeError::BadForm)?;
-    let mut children = Vec::new(alloc);
-    for item in items {
-        children.push(command(alloc, item)?)?;
-    }
-    Ok(children)
-}
-
-fn add_children(parent: Command, children: Vec<Command>) -> Result<Command, TreeError>
-    ensures { IfErr result IsOfForm }
-{
     let mut parent = parent;
-    for child in children {
-        parent = parent.subcommand(child)?;
+    for item in items {
+        parent = parent.subcommand(command(alloc, item)?)?;
     }
     Ok(parent)
 }
@@ -236,49 +226,88 @@ fn with_args(alloc: Global, command: Command, tree: &Value) -> Result<Command, T
     ensures { IfErr result IsOfForm }
 {
     match tree.get("args") {
-        Some(value) => add_args(command, arguments(alloc, value)?),
+        Some(value) => add_args(alloc, command, value),
         None => Ok(command),
     }
 }
 
-fn add_args(command: Command, args: Vec<Arg>) -> Result<Command, TreeError>
-    ensures { IfErr result IsOfForm }
-{
-    let mut command = command;
-    for arg in args {
-        command = command.arg(arg)?;
-    }
-    Ok(command)
-}
-
-// The arguments that a list describes.
-fn arguments(alloc: Global, value: &Value) -> Result<Vec<Arg>, TreeError>
+// The command with the arguments that a list describes, each added as it is read.
+fn add_args(alloc: Global, command: Command, value: &Value) -> Result<Command, TreeError>
     ensures { IfErr result IsOfForm }
 {
     let items = value.as_array().ok_or(TreeError::BadForm)?;
-    let mut args = Vec::new(alloc);
+    let mut command = command;
     for item in items {
-        args.push(arg(alloc, item)?)?;
+        command = command.arg(arg(alloc, item)?)?;
     }
-    Ok(args)
+    Ok(command)
 }
 
 #[cfg(test)]
 mod tests {
     use crate::tree_file::{TreeError, read_tree};
+    use clap_complete::command::{Arg, ArgAction, Command, Text};
     use std::alloc::Global;
     use std::test::Fail;
 
+    fn read(alloc: Global, text: &str) -> Result<Command, Fail> {
+        match read_tree(alloc, text.as_bytes()) {
+            Ok(command) => Ok(command),
+            Err(_) => Err(Fail::from("a refusal")),
+        }
+    }
+
+    fn first(texts: &[Text]) -> Option<&str> {
+        texts.first().map(Text::as_str)
+    }
+
+    const COMMAND: &str = "{\"name\": \"app\", \"bin_name\": \"the-app\", \"about\": \"Does it\",
+        \"version\": \"1.2\", \"subcommand_help_heading\": \"Tasks\", \"aliases\": [\"ap\"],
+        \"visible_aliases\": [\"a\"], \"display_order\": 7, \"hide\": true,
+        \"disable_help_flag\": true, \"subcommands\": [{\"name\": \"run\"}, {\"name\": \"stop\"}]}";
+
     #[test]
-    fn reads_a_tree(rt: HostRuntime) -> Result<(), Fail> {
-        let text =
-            "{\"name\": \"app\", \"about\": \"x\", \"args\": [{\"id\": \"o\", \"short\": \"ö\",
-            \"long\": \"out\", \"action\": \"Append\", \"num_args\": [1, null],
-            \"visible_aliases\": [\"output\"], \"hide\": true}], \"hide\": false,
-            \"display_order\": 7, \"disable_help_subcommand\": true,
-            \"subcommand_help_heading\": \"Tasks\", \"aliases\": [\"ap\"],
-            \"visible_aliases\": [\"a\"], \"subcommands\": [{\"name\": \"run\"}]}";
-        assert!(rt; read_tree(rt.alloc(), text.as_bytes()).is_ok());
+    fn each_key_of_a_command_sets_its_field(rt: HostRuntime) -> Result<(), Fail> {
+        let mut command = read(rt.alloc(), COMMAND)?;
+        assert_eq!(rt; command.get_name(), "app");
+        assert_eq!(rt; command.get_bin_name(), Some("the-app"));
+        assert_eq!(rt; command.get_about(), Some("Does it"));
+        assert_eq!(rt; command.get_subcommand_help_heading(), Some("Tasks"));
+        assert_eq!(rt; first(command.get_aliases()), Some("ap"));
+        assert_eq!(rt; first(command.get_visible_aliases()), Some("a"));
+        assert_eq!(rt; command.get_display_order(), 7);
+        assert!(rt; command.is_hide_set());
+        assert_eq!(rt; command.get_subcommands().len(), 2);
+        command.build(rt.alloc())?;
+        let id = command.get_arguments().first().map(Arg::get_id);
+        assert_eq!(rt; id, Some("version"));
+        Ok(())
+    }
+
+    const ARGUMENT: &str = "{\"name\": \"app\", \"args\": [{\"id\": \"o\", \"short\": \"ö\",
+        \"long\": \"out\", \"help\": \"Where to\", \"action\": \"Append\", \"num_args\": [1, null],
+        \"short_aliases\": [\"x\"], \"visible_short_aliases\": [\"y\"], \"aliases\": [\"old\"],
+        \"visible_aliases\": [\"output\"], \"value_names\": [\"FILE\"], \"hide\": true}]}";
+
+    #[test]
+    fn each_key_of_an_argument_sets_its_field(rt: HostRuntime) -> Result<(), Fail> {
+        let command = read(rt.alloc(), ARGUMENT)?;
+        let arg = command.get_arguments().first().ok_or("no argument")?;
+        assert_eq!(rt; arg.get_id(), "o");
+        assert_eq!(rt; arg.get_short(), Some('ö'));
+        assert_eq!(rt; arg.get_long(), Some("out"));
+        assert_eq!(rt; arg.get_help(), Some("Where to"));
+        assert_eq!(rt; arg.get_action(), ArgAction::Append);
+        assert_eq!(rt;
+            arg.get_num_args().map(|range| range.max_values()),
+            Some(usize::MAX)
+        );
+        assert_eq!(rt; arg.get_short_aliases(), ['x'].as_slice());
+        assert_eq!(rt; arg.get_visible_short_aliases(), ['y'].as_slice());
+        assert_eq!(rt; first(arg.get_aliases()), Some("old"));
+        assert_eq!(rt; first(arg.get_visible_aliases()), Some("output"));
+        assert_eq!(rt; first(arg.get_value_names()), Some("FILE"));
+        assert!(rt; arg.is_hide_set());
         Ok(())
     }
 

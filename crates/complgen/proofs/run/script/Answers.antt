@@ -1,5 +1,5 @@
-use Rattle.complgen.proofs.RefusalLemmas.{refuses_script}
+use Rattle.complgen.proofs.RefusalLemmas.{counts_refusal}
 use Rattle.complgen.proofs.run.script.Goals as goal
 
-pub returns-clause-err : goal.returns-clause-err
-returns-clause-err g c = refuses_script c.in-Err.error c.error_refusal.result c.error_refusal.ensures
+pub returns-clause-failures : goal.returns-clause-failures
+returns-clause-failures g c = counts_refusal c.in-Err.error c.error_refusal.result _ _ c.generate.ensures.failures c.error_refusal.ensures

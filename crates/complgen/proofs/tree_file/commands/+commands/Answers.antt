@@ -5,15 +5,15 @@ use Rattle.serde_json.specs.View.{items_view, view}
 use Rattle.complgen.proofs.NestingLemmas.{found_is_flatter, item_is_flatter}
 use Rattle.complgen.proofs.tree_file.commands.+commands.Goals as goal
 
-pub command-children-requires : goal.command-children-requires
-command-children-requires t c =
+pub command-with_children-requires : goal.command-with_children-requires
+command-with_children-requires t c =
     let found : get (codes "subcommands") (view c.args.tree.now) ≡ Some (view c.in-Some.value.now) = search rules in
     let smaller : depth (view c.in-Some.value.now) < depth (view c.args.tree.now) =
     found_is_flatter (codes "subcommands") _ _ found in
     search rules
 
-pub children-command-requires : goal.children-command-requires
-children-command-requires t c =
+pub with_children-command-requires : goal.with_children-command-requires
+with_children-command-requires t c =
     let items = c.deref-item-items.result.now in
     let is : as_array (view c.args.value.now) ≡ Some (items_view items) = search rules in
     let inside : c.loop-item.item-index < length items = omega arith in
