@@ -8,13 +8,13 @@ use Rattle.complgen.specs.Refusals.{CountsRefusal, RefusesError, RefusesScript}
 use Rattle.complgen.specs.declared.types.Refusal.{Refusal}
 
 -- an error of a generator refuses a script, and a failed write alone was counted
-pub counts_refusal : {A : Type 0} (error : Error) (refusal : Refusal) (before after : ℕ)
-    → Counts {A} (Err error) before after → RefusesError error refusal → CountsRefusal {A} (Err refusal) before after
-counts_refusal Memory refusal before after counts refuses = inr (inl refuses, counts)
-counts_refusal (Write kind) refusal before after counts refuses = inl (refuses, counts)
-counts_refusal (LabelClash label) refusal before after counts (inl memory) = inr (inl memory, counts)
-counts_refusal (LabelClash label) refusal before after counts (inr clash) = inr (inr (inr (label, clash)), counts)
-counts_refusal NoCompletion refusal before after counts refuses = absurd counts
-counts_refusal NoArguments refusal before after counts refuses = absurd counts
-counts_refusal (UnknownShell text) refusal before after counts refuses = absurd counts
-counts_refusal (InvalidVariant text) refusal before after counts refuses = absurd counts
+pub counts_refusal : (A : Type 0) (error : Error) (refusal : Refusal) (before after : ℕ)
+    → Counts {T = A} (Err error) before after → RefusesError error refusal → CountsRefusal {A = A} (Err refusal) before after
+counts_refusal A Memory refusal before after counts refuses = inr (inl refuses, counts)
+counts_refusal A (Write kind) refusal before after counts refuses = inl (refuses, counts)
+counts_refusal A (LabelClash label) refusal before after counts (inl memory) = inr (inl memory, counts)
+counts_refusal A (LabelClash label) refusal before after counts (inr clash) = inr (inr (inr (label, clash)), counts)
+counts_refusal A NoCompletion refusal before after counts refuses = absurd counts
+counts_refusal A NoArguments refusal before after counts refuses = absurd counts
+counts_refusal A (UnknownShell text) refusal before after counts refuses = absurd counts
+counts_refusal A (InvalidVariant text) refusal before after counts refuses = absurd counts
