@@ -5,6 +5,8 @@
 #[cfg(test)]
 mod calls;
 #[cfg(test)]
+mod example;
+#[cfg(test)]
 mod fixtures;
 #[cfg(test)]
 mod lists;

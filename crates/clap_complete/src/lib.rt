@@ -5,8 +5,14 @@
 //! [`generate`]:
 //!
 //! ```rust
-//! let mut command = Command::new(alloc, String::from_str(alloc, "app")?);
-//! generate(alloc, Elvish, &mut command, String::from_str(alloc, "app")?, &mut sink)?;
+//! fn elvish_script(alloc: Global) -> Result<Vec<u8>, Error> {
+//!     let out = Arg::new(alloc, String::from_str(alloc, "out")?).short('o');
+//!     let mut command = Command::new(alloc, String::from_str(alloc, "app")?).arg(out)?;
+//!     let mut sink = Collected::new(alloc);
+//!     let bin_name = String::from_str(alloc, "app")?;
+//!     generate(alloc, Elvish, &mut command, bin_name, &mut sink)?;
+//!     Ok(sink.into_vec())
+//! }
 //! ```
 #![tactic(auto)]
 
