@@ -19,4 +19,6 @@ mod sinks;
 #[cfg(test)]
 mod trees;
 #[cfg(test)]
+mod words;
+#[cfg(test)]
 mod written;

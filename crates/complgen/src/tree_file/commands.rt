@@ -248,6 +248,7 @@ mod tests {
     use crate::tree_file::{TreeError, read_tree};
     use clap_complete::command::{Arg, ArgAction, Command, Text};
     use std::alloc::Global;
+    use std::process::Abort;
     use std::test::Fail;
 
     fn read(alloc: Global, text: &str) -> Result<Command, Fail> {
@@ -264,11 +265,17 @@ mod tests {
     const COMMAND: &str = "{\"name\": \"app\", \"bin_name\": \"the-app\", \"about\": \"Does it\",
         \"version\": \"1.2\", \"subcommand_help_heading\": \"Tasks\", \"aliases\": [\"ap\"],
         \"visible_aliases\": [\"a\"], \"display_order\": 7, \"hide\": true,
-        \"disable_help_flag\": true, \"subcommands\": [{\"name\": \"run\"}, {\"name\": \"stop\"}]}";
+        \"disable_help_flag\": true, \"disable_help_subcommand\": true,
+        \"subcommands\": [{\"name\": \"run\"}, {\"name\": \"stop\"}]}";
 
     #[test]
     fn each_key_of_a_command_sets_its_field(rt: HostRuntime) -> Result<(), Fail> {
         let mut command = read(rt.alloc(), COMMAND)?;
+        command.build(rt.alloc())?;
+        has_the_fields_of_a_command(&rt, &command)
+    }
+
+    fn has_the_fields_of_a_command(rt: &impl Abort, command: &Command) -> Result<(), Fail> {
         assert_eq!(rt; command.get_name(), "app");
         assert_eq!(rt; command.get_bin_name(), Some("the-app"));
         assert_eq!(rt; command.get_about(), Some("Does it"));
@@ -278,9 +285,17 @@ mod tests {
         assert_eq!(rt; command.get_display_order(), 7);
         assert!(rt; command.is_hide_set());
         assert_eq!(rt; command.get_subcommands().len(), 2);
-        command.build(rt.alloc())?;
         let id = command.get_arguments().first().map(Arg::get_id);
         assert_eq!(rt; id, Some("version"));
+        Ok(())
+    }
+
+    #[test]
+    fn a_version_flag_is_disabled_by_its_key(rt: HostRuntime) -> Result<(), Fail> {
+        let text = "{\"name\": \"app\", \"version\": \"1.2\", \"disable_version_flag\": true}";
+        let mut command = read(rt.alloc(), text)?;
+        command.build(rt.alloc())?;
+        assert_eq!(rt; command.get_arguments().len(), 1);
         Ok(())
     }
 
@@ -292,7 +307,13 @@ mod tests {
     #[test]
     fn each_key_of_an_argument_sets_its_field(rt: HostRuntime) -> Result<(), Fail> {
         let command = read(rt.alloc(), ARGUMENT)?;
-        let arg = command.get_arguments().first().ok_or("no argument")?;
+        match command.get_arguments().first() {
+            Some(arg) => has_the_fields_of_an_argument(&rt, arg),
+            None => Err(Fail::from("no argument")),
+        }
+    }
+
+    fn has_the_fields_of_an_argument(rt: &impl Abort, arg: &Arg) -> Result<(), Fail> {
         assert_eq!(rt; arg.get_id(), "o");
         assert_eq!(rt; arg.get_short(), Some('ö'));
         assert_eq!(rt; arg.get_long(), Some("out"));

@@ -1,0 +1,33 @@
+//! Words that lead from a command to its children, over the numbered nodes.
+
+use crate::fixtures::my_app;
+use cc_flat::{Flat, Found, Index};
+use clap_complete::Error;
+use std::alloc::Global;
+use std::test::Fail;
+
+// What a word leads to from the root of `myapp`.
+fn found(alloc: Global, word: &str) -> Result<Option<Found>, Error> {
+    let command = my_app(alloc)?;
+    let index = Index::new(alloc, Flat::new(alloc, &command)?)?;
+    if index.flat().len() == 0 {
+        return Ok(None);
+    }
+    Ok(index.find(0, word))
+}
+
+#[test]
+fn a_word_leads_to_the_child_of_that_name_or_alias(rt: HostRuntime) -> Result<(), Fail> {
+    let shown = Found {
+        child: 1,
+        visible: true,
+    };
+    let hidden = Found {
+        child: 1,
+        visible: false,
+    };
+    assert_eq!(rt; found(rt.alloc(), "test")?, Some(shown));
+    assert_eq!(rt; found(rt.alloc(), "t")?, Some(hidden));
+    assert_eq!(rt; found(rt.alloc(), "config")?, None);
+    Ok(())
+}
