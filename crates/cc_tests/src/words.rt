@@ -3,13 +3,19 @@
 use crate::fixtures::my_app;
 use cc_flat::{Flat, Found, Index};
 use clap_complete::Error;
+use clap_complete::command::Command;
 use std::alloc::Global;
 use std::test::Fail;
 
 // What a word leads to from the root of `myapp`.
 fn found(alloc: Global, word: &str) -> Result<Option<Found>, Error> {
-    let command = my_app(alloc)?;
-    let index = Index::new(alloc, Flat::new(alloc, &command)?)?;
+    let root = my_app(alloc)?;
+    found_below(alloc, &root, word)
+}
+
+fn found_below(alloc: Global, root: &Command, word: &str) -> Result<Option<Found>, Error> {
+    let flat = Flat::new(alloc, root)?;
+    let index = Index::new(alloc, flat)?;
     if index.flat().len() == 0 {
         return Ok(None);
     }
