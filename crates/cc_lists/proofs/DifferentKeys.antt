@@ -7,7 +7,6 @@ use Rattle.cc_command.specs.Plain.{is_plain_tree}
 use Rattle.cc_command.specs.PlainName.{name_byte, is_plain_name}
 use Rattle.cc_command.specs.PlainName.NameByte.{foreign}
 use Rattle.cc_lists.specs.Visits.{Visit, visits, key_of, DifferentKeys, DifferentPaths}
-use Rattle.cc_lists.proofs.Members.{AllByRecursion-weaker}
 use Rattle.cc_lists.proofs.PlainVisits.{IsPlainName, IsPlainVisit, plain_visits}
 use Rattle.cc_lists.proofs.PlainWords.{none_foreign}
 use Rattle.cc_lists.proofs.VisitsArePaths.{DifferentPaths-is_plain_tree}

@@ -1,98 +1,39 @@
 -- The Elvish script of a plain tree reads to the tree's tables.
-use Rattle.std.proofs.Common.{ℕ, ◌<◌, IsTrue, List, [], ◌∷◌, ◌++◌, flat_map, map, codes, encode_utf8, Option, Some, None, unwrap_or, refl, sym, subst, arith}
-use Rattle.std.specs.Char.{is_ascii_alphanumeric}
+use Rattle.std.proofs.Common.{ℕ, IsTrue, List, [], ◌∷◌, ◌++◌, flat_map, map, codes, refl, subst}
 use Rattle.std.specs.List.{AllByRecursion}
-use Rattle.std.proofs.lemmas.Bool.Decides.{nat_tests}
-use Rattle.std.proofs.lemmas.Str.{encode_ascii}
 use Rattle.cc_quote.specs.ElvishTokens.{IsBareWord, HasNoQuote}
 use Rattle.cc_quote.proofs.ElvishCutting.{HasNoQuote-append}
-use Rattle.cc_arg.specs.declared.arg.Arg.{Arg}
-use Rattle.cc_command.specs.declared.node.Node.{Node}
-use Rattle.cc_command.specs.Tree.{Forest, none, more, Tree}
-use Rattle.cc_command.specs.ArgumentLists.{options, flags}
-use Rattle.cc_command.specs.Names.{full_name, visible_names}
-use Rattle.cc_command.specs.PlainName.{is_plain_name}
-use Rattle.cc_command.specs.Plain.{is_plain_tree, is_plain_forest, passes_if_some}
-use Rattle.cc_lists.specs.CommandTable.{short_row, short_rows, long_row, long_rows, argument_rows, name_row, child_rows, children_rows, node_rows, visit_table, tree_tables}
-use Rattle.cc_lists.specs.ElvishReading.{Row, IsReadable}
+use Rattle.cc_command.specs.Tree.{Tree}
+use Rattle.cc_command.specs.Names.{full_name}
+use Rattle.cc_command.specs.Plain.{is_plain_tree}
+use Rattle.cc_lists.specs.ElvishReading.{IsReadable}
 use Rattle.cc_lists.specs.ElvishReads.{ElvishReads}
 use Rattle.cc_lists.specs.ElvishScript.{elvish_script}
+use Rattle.cc_lists.specs.ElvishTable.{offer_row, node_rows, visit_table, tree_tables}
+use Rattle.cc_lists.specs.Offers.{Offered, word, node_offers}
+use Rattle.cc_lists.specs.Offers.Offered.{short, long, subcommand}
 use Rattle.cc_lists.specs.Visits.{Visit, visits, key_of, DifferentKeys}
 use Rattle.cc_lists.proofs.DifferentKeys.{different_keys}
 use Rattle.cc_lists.proofs.ElvishReadsBack.{elvish_reads_back}
-use Rattle.cc_lists.proofs.Members.{AllByRecursion-weaker, AllByRecursion-append, AllByRecursion-map, AllByRecursion-flat_map}
-use Rattle.cc_lists.proofs.PlainVisits.{IsPlainName, IsPlainShort, IsPlainArgument, plain_node, IsPlainBelow, IsPlainVisit, plain_visits, plain_full_name, plain_more}
+use Rattle.cc_lists.proofs.Members.{AllByRecursion-weaker, AllByRecursion-map}
+use Rattle.cc_lists.proofs.PlainOffers.{encoded_short, IsPlainOffered, IsPlainOffer, node_plain}
+use Rattle.cc_lists.proofs.PlainVisits.{IsPlainName, IsPlainBelow, IsPlainVisit, plain_visits, plain_full_name}
 use Rattle.cc_lists.proofs.PlainWords.{IsBare-is_plain_name, IsBareWord-is_plain_name, IsBareWord-short, IsBareWord-long, HasNoQuote-is_plain_name}
 use Rattle.cc_lists.proofs.VisitsArePaths.{visits_are_paths, DifferentPaths-is_plain_tree}
 
--- each word is bare
-abbrev HasBareWords : List Row → Type 0
-HasBareWords rows = AllByRecursion (λ row. IsBareWord row.word) rows
-
--- a letter or a digit is an ASCII character
-below_ascii : (short : ℕ) → IsPlainShort short → short < 128
-below_ascii short h = grind (arith, nat_tests)
-
--- so is the word of a short bare
-short_word : (short : ℕ) → IsPlainShort short → IsBareWord (codes "-" ++ encode_utf8 short)
-short_word short h = subst (λ text. IsBareWord (45 ∷ text)) (sym (encode_ascii short (below_ascii short h))) (IsBareWord-short short h)
-
--- the words of shorts
-shorts_bare : (argument : Arg) (short : Option ℕ) → IsTrue (passes_if_some is_ascii_alphanumeric short) → AllByRecursion IsPlainShort argument.visible_short_aliases →
-    HasBareWords (short_rows argument short)
-unfolding short_rows
-shorts_bare argument None h k = tt
-shorts_bare argument (Some short) h k =
-    AllByRecursion-map (λ row. IsBareWord row.word) (short_row (unwrap_or argument.help (encode_utf8 short))) (short ∷ argument.visible_short_aliases)
-    (short_word short h, AllByRecursion-weaker IsPlainShort (λ name. IsBareWord (codes "-" ++ encode_utf8 name)) short_word argument.visible_short_aliases k)
-
--- the words of longs
-longs_bare : (argument : Arg) (long : Option (List ℕ)) → IsTrue (passes_if_some is_plain_name long) → AllByRecursion IsPlainName argument.visible_aliases →
-    HasBareWords (long_rows argument long)
-unfolding long_rows
-longs_bare argument None h k = tt
-longs_bare argument (Some long) h k =
-    AllByRecursion-map (λ row. IsBareWord row.word) (long_row (unwrap_or argument.help long)) (long ∷ argument.visible_aliases)
-    (IsBareWord-long long h, AllByRecursion-weaker IsPlainName (λ name. IsBareWord (codes "--" ++ name)) IsBareWord-long argument.visible_aliases k)
-
--- the words of an argument
-argument_bare : (argument : Arg) → IsPlainArgument argument → HasBareWords (argument_rows argument)
-unfolding argument_rows
-argument_bare argument h =
-    AllByRecursion-append (λ row. IsBareWord row.word) (short_rows argument argument.short) (long_rows argument argument.long)
-    (shorts_bare argument argument.short h.short h.shorts) (longs_bare argument argument.long h.long h.longs)
-
--- the words of some arguments
-arguments_bare : (arguments : List Arg) → AllByRecursion IsPlainArgument arguments → HasBareWords (flat_map argument_rows arguments)
-arguments_bare arguments h =
-    AllByRecursion-flat_map (λ row. IsBareWord row.word) argument_rows arguments
-    (AllByRecursion-weaker IsPlainArgument (λ argument. HasBareWords (argument_rows argument)) argument_bare arguments h)
-
--- the words of a child
-child_bare : (child : Node) → AllByRecursion IsPlainName (visible_names child) → HasBareWords (child_rows child)
-unfolding child_rows
-child_bare child h =
-    AllByRecursion-map (λ row. IsBareWord row.word) (name_row child.about) (visible_names child)
-    (AllByRecursion-weaker IsPlainName IsBareWord IsBareWord-is_plain_name (visible_names child) h)
-
--- the words of some siblings
-children_bare : (forest : Forest) → IsTrue (is_plain_forest forest) → HasBareWords (children_rows forest)
-unfolding children_rows
-children_bare none h = tt
-children_bare (more child below rest) h =
-    let each = plain_more child below rest h in
-    AllByRecursion-append (λ row. IsBareWord row.word) (child_rows child) (children_rows rest)
-    (child_bare child (plain_node child each.first.node).names) (children_bare rest each.behind)
+-- the word of what is offered is bare
+word_bare : (offered : Offered) → IsPlainOffered offered → IsBareWord (word offered)
+word_bare (short character) h = subst (λ text. IsBareWord (45 ∷ text)) (encoded_short character h) (IsBareWord-short character h)
+word_bare (long name) h = IsBareWord-long name h
+word_bare (subcommand name) h = IsBareWord-is_plain_name name h
 
 -- the words at a plain node
-node_bare : (tree : Tree) → IsPlainBelow tree → HasBareWords (node_rows tree)
+node_bare : (tree : Tree) → IsPlainBelow tree → AllByRecursion (λ row. IsBareWord row.word) (node_rows tree)
 unfolding node_rows
 node_bare tree h =
-    let node = plain_node tree.node h.node in
-    AllByRecursion-append (λ row. IsBareWord row.word) (flat_map argument_rows (options tree.node) ++ flat_map argument_rows (flags tree.node)) (children_rows tree.children)
-    (AllByRecursion-append (λ row. IsBareWord row.word) (flat_map argument_rows (options tree.node)) (flat_map argument_rows (flags tree.node))
-    (arguments_bare (options tree.node) node.options) (arguments_bare (flags tree.node) node.flags))
-    (children_bare tree.children h.children)
+    AllByRecursion-map (λ row. IsBareWord row.word) offer_row (node_offers tree)
+    (AllByRecursion-weaker (IsPlainOffer ⊥) (λ offer. IsBareWord (word offer.offered)) (λ offer plain. word_bare offer.offered plain.offered)
+    (node_offers tree) (node_plain ⊥ tree h (λ known. absurd known)))
 
 -- plain names behind a `;` each have no quote
 names_unquoted : (names : List (List ℕ)) → AllByRecursion IsPlainName names → HasNoQuote (flat_map (λ name. codes ";" ++ name) names)

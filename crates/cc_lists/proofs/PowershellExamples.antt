@@ -1,15 +1,16 @@
 -- Texts and scripts that are cut, written and read as the definitions say, byte by byte.
-use Rattle.std.proofs.Common.{◌≡◌, List, [], ◌∷◌, Some, None, codes, refl, encode_utf8_all}
+use Rattle.std.proofs.Common.{◌≡◌, List, [], ◌∷◌, Some, None, codes, map, refl, encode_utf8_all}
 use Rattle.std.specs.Char.{encode_utf8}
 use Rattle.std.specs.Str.{chars}
 use Rattle.cc_quote.specs.Tokens.{is_word, strip_words, after_words}
 use Rattle.cc_quote.specs.Tokens.Piece.{bare, quoted, unclosed}
 use Rattle.cc_quote.specs.PowershellTokens.{sign, cut, powershell_tokens}
+use Rattle.cc_lists.specs.Offers.{short_offers, long_offers, argument_offers}
 use Rattle.cc_lists.specs.PowershellReading.{Table, part, kind_of, with_row, next, answer, read, tables_begin, powershell_tables}
 use Rattle.cc_lists.specs.PowershellReading.Kind.{parameter_name, parameter_value}
 use Rattle.cc_arg.specs.declared.arg.Arg.{Arg}
 use Rattle.cc_arg.specs.Arguments.{new_arg}
-use Rattle.cc_lists.specs.PowershellTable.{short_rows, long_rows, argument_rows}
+use Rattle.cc_lists.specs.PowershellTable.{offer_row}
 use Rattle.cc_lists.specs.PowershellScript.{kind_text, powershell_row, powershell_rows, powershell_table, powershell_body, powershell_script}
 
 -- either quote closes the other, two in a row are the second, and quotes may be left open
@@ -66,16 +67,16 @@ abbrev switch : Arg
 switch = record (new_arg (codes "switch")) { short = Some 83; visible_short_aliases = 120 ∷ []; help = Some [] }
 
 -- its rows: a space stands behind the capital, and the short describes both
-switch_rows : powershell_rows (argument_rows switch) ≡ codes "\n            [CompletionResult]::new('-S', '-S ', [CompletionResultType]::ParameterName, 'S')\n            [CompletionResult]::new('-x', '-x', [CompletionResultType]::ParameterName, 'S')"
-unfolding chars encode_utf8 short_rows long_rows argument_rows kind_text powershell_row powershell_rows
+switch_rows : powershell_rows (map offer_row (argument_offers switch)) ≡ codes "\n            [CompletionResult]::new('-S', '-S ', [CompletionResultType]::ParameterName, 'S')\n            [CompletionResult]::new('-x', '-x', [CompletionResultType]::ParameterName, 'S')"
+unfolding chars encode_utf8 short_offers long_offers argument_offers kind_text powershell_row powershell_rows
 switch_rows = refl
 
 -- a long is described by its help, and an alias by the same
-level_rows : argument_rows (record (new_arg (codes "level")) { long = Some (codes "level"); visible_aliases = codes "depth" ∷ []; help = Some (codes "How deep") })
+level_rows : map offer_row (argument_offers (record (new_arg (codes "level")) { long = Some (codes "level"); visible_aliases = codes "depth" ∷ []; help = Some (codes "How deep") }))
     ≡ record { word = codes "--level"; list = codes "--level"; kind = parameter_name; text = codes "How deep" }
     ∷ record { word = codes "--depth"; list = codes "--depth"; kind = parameter_name; text = codes "How deep" }
     ∷ []
-unfolding short_rows long_rows argument_rows
+unfolding short_offers long_offers argument_offers
 level_rows = refl
 
 -- a script with these tables reads back to them

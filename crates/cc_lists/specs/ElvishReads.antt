@@ -1,7 +1,7 @@
 -- What the Elvish script of a tree reads to.
 use Rattle.std.specs.Prelude.{◌≡◌, ◌↔◌, ℕ, List, Some, map, Contains}
 use Rattle.cc_command.specs.Tree.{Tree}
-use Rattle.cc_lists.specs.CommandTable.{tree_tables}
+use Rattle.cc_lists.specs.ElvishTable.{tree_tables}
 use Rattle.cc_lists.specs.ElvishReading.{elvish_tables, spaced_table}
 use Rattle.cc_lists.specs.Paths.{LeadsTo}
 use Rattle.cc_lists.specs.Visits.{Visit, visits, DifferentKeys, DifferentPaths}

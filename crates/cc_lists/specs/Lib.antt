@@ -1,10 +1,12 @@
 pub mod ArgumentNames
-pub mod CommandTable
 pub mod ElvishReading
 pub mod ElvishReads
 pub mod ElvishScript
+pub mod ElvishTable
 pub mod Generators
 pub mod KeyedVisits
+pub mod OfferRows
+pub mod Offers
 pub mod Paths
 pub mod Pending
 pub mod PowershellReading

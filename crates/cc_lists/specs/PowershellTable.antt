@@ -1,76 +1,45 @@
--- What a PowerShell script offers at a node.
-use Rattle.std.specs.Prelude.{ℕ, List, [], ◌∷◌, ◌++◌, map, codes, encode_utf8, if◌then◌else◌, Option, Some, None}
+-- The tables of a PowerShell script.
+use Rattle.std.specs.Prelude.{ℕ, List, [], ◌∷◌, ◌++◌, map, codes, if◌then◌else◌, Option, Some, None}
 use Rattle.std.specs.Char.{is_ascii_uppercase}
-use Rattle.std.specs.List.{flat_map}
-use Rattle.cc_arg.specs.declared.arg.Arg.{Arg}
-use Rattle.cc_command.specs.declared.node.Node.{Node}
-use Rattle.cc_command.specs.Tree.{Forest, none, more, Tree}
-use Rattle.cc_command.specs.ArgumentLists.{options, flags}
-use Rattle.cc_command.specs.Names.{full_name, visible_names}
+use Rattle.cc_command.specs.Tree.{Tree}
+use Rattle.cc_command.specs.Names.{full_name}
+use Rattle.cc_lists.specs.Offers.{Offered, Offer, word, node_offers}
+use Rattle.cc_lists.specs.Offers.Offered.{short, long, subcommand}
 use Rattle.cc_lists.specs.Visits.{Visit, visits, key_of}
-use Rattle.cc_lists.specs.PowershellReading.{Row, Table}
+use Rattle.cc_lists.specs.PowershellReading.{Kind, Row, Table}
 use Rattle.cc_lists.specs.PowershellReading.Kind.{parameter_name, parameter_value}
 
--- the help where there is one and it is not empty, else the text that stands in for it
+-- the help or the about where there is one and it is not empty, else the text that stands in for it
 abbrev pub description : Option (List ℕ) → List ℕ → List ℕ
 description None stand_in = stand_in
 description (Some []) stand_in = stand_in
 description (Some (byte ∷ help)) stand_in = byte ∷ help
 
--- a short as it is typed
-abbrev pub short_word : ℕ → List ℕ
-short_word short = codes "-" ++ encode_utf8 short
+-- what is offered, as lists show it: behind a short that is an ASCII capital stands a space
+abbrev pub listed : Offered → List ℕ
+listed (short character) =
+    if is_ascii_uppercase character then word (short character) ++ codes " " else word (short character)
+listed (long name) = word (long name)
+listed (subcommand name) = word (subcommand name)
 
--- a short as lists show it: behind an ASCII capital stands a space
-abbrev pub short_listed : ℕ → List ℕ
-short_listed short = if is_ascii_uppercase short then short_word short ++ codes " " else short_word short
+-- a short or a long is a parameter's name, and a name of a child is a value
+abbrev pub kind : Offered → Kind
+kind (short character) = parameter_name
+kind (long name) = parameter_name
+kind (subcommand name) = parameter_value
 
--- the row of a short, with this description
-abbrev pub short_row : List ℕ → ℕ → Row
-short_row text short =
-    record { word = short_word short; list = short_listed short; kind = parameter_name; text = text }
+-- the row of an offer
+abbrev pub offer_row : Offer → Row
+offer_row offer = record {
+  word = word offer.offered;
+  list = listed offer.offered;
+  kind = kind offer.offered;
+  text = description offer.description offer.stand_in;
+}
 
--- the row of a long, with this description
-abbrev pub long_row : List ℕ → List ℕ → Row
-long_row text long =
-    record { word = codes "--" ++ long; list = codes "--" ++ long; kind = parameter_name; text = text }
-
--- a row for each short that is shown: the short, then its visible aliases. They are described by the
--- help where there is one that is not empty, else by the short.
-unfoldable pub short_rows : Arg → Option ℕ → List Row
-short_rows argument None = []
-short_rows argument (Some short) =
-    map (short_row (description argument.help (encode_utf8 short))) (short ∷ argument.visible_short_aliases)
-
--- a row for each long that is shown: the long, then its visible aliases. They are described by the
--- help where there is one that is not empty, else by the long.
-unfoldable pub long_rows : Arg → Option (List ℕ) → List Row
-long_rows argument None = []
-long_rows argument (Some long) =
-    map (long_row (description argument.help long)) (long ∷ argument.visible_aliases)
-
--- the rows of an argument: of its shorts, then of its longs
-unfoldable pub argument_rows : Arg → List Row
-argument_rows argument = short_rows argument argument.short ++ long_rows argument argument.long
-
--- the row of a visible name of a child, described by its about where there is one that is not empty, else
--- by the name
-abbrev pub name_row : Option (List ℕ) → List ℕ → Row
-name_row about name =
-    record { word = name; list = name; kind = parameter_value; text = description about name }
-
--- a row for each visible name of a child
-unfoldable pub child_rows : Node → List Row
-child_rows child = map (name_row child.about) (visible_names child)
-
--- the rows of some siblings
-unfoldable pub children_rows : Forest → List Row
-children_rows none = []
-children_rows (more child below rest) = child_rows child ++ children_rows rest
-
--- the rows at a node: of its options, then of its flags, then of its children
+-- the rows at a node
 unfoldable pub node_rows : Tree → List Row
-node_rows tree = flat_map argument_rows (options tree.node) ++ flat_map argument_rows (flags tree.node) ++ children_rows tree.children
+node_rows tree = map offer_row (node_offers tree)
 
 -- the table of a visit: its key, and the rows at its node
 unfoldable pub visit_table : List ℕ → Visit → Table

@@ -1,22 +1,20 @@
 //! The Elvish script: a frame, and in it a table for each visible path.
 
-ghost use Rattle.std.specs.Prelude.{◌≡◌, ◌++◌, ℕ, List, None, map, codes, encode_utf8, filter, IfOk, IfErr, OnOk};
-ghost use Rattle.std.specs.List.{flat_map};
-ghost use Rattle.std.specs.Option.{option_copied};
+ghost use Rattle.std.specs.Prelude.{◌≡◌, ◌++◌, ℕ, List, None, codes, IfOk, IfErr, OnOk};
 ghost use Rattle.std.specs.String.{string_bytes};
-ghost use Rattle.cc_base.specs.Sink.{Counts, IsMemoryOrWrite, IsWrite};
-ghost use Rattle.cc_command.specs.Tree.{forest_of};
+ghost use Rattle.cc_base.specs.Sink.{Counts, IsWrite};
 ghost use Rattle.cc_command.specs.Names.{full_name};
-ghost use Rattle.cc_command.specs.ArgumentLists.{is_option, is_flag};
-ghost use Rattle.cc_lists.specs.CommandTable.{argument_rows, child_rows, children_rows, long_row, long_rows, name_row, node_rows, short_row, short_rows, tree_tables};
 ghost use Rattle.cc_lists.specs.ElvishReads.{ElvishReads};
-ghost use Rattle.cc_lists.specs.ElvishScript.{elvish_row, elvish_rows, elvish_script, elvish_table};
+ghost use Rattle.cc_lists.specs.ElvishScript.{elvish_row, elvish_script, elvish_table};
+ghost use Rattle.cc_lists.specs.ElvishTable.{node_rows, offer_row, tree_tables};
+ghost use Rattle.cc_lists.specs.OfferRows.{offered_of};
+ghost use Rattle.cc_lists.specs.Offers.{word};
 
 use crate::generator::Generator;
+use crate::rows::{Offered, RowScript, push_word, write_rows};
 use crate::utils::full_name;
 use crate::walk::{TableScript, write_tables};
-use cc_arg::Arg;
-use cc_base::{Error, Sink, Text, put_all};
+use cc_base::{Error, Sink, put_all};
 use cc_command::Command;
 use cc_flat::Flat;
 use cc_quote::elvish_escape;
@@ -81,9 +79,32 @@ pub const ELVISH_ROW_END: &str = "'";
 #[derive(Clone, Copy, PartialEq, Eq, Debug)]
 pub struct Elvish;
 
+impl RowScript for Elvish {
+    ghost offer_text = { λ _ offer. elvish_row (offer_row offer) };
+
+    #[tactic(auto, unfolding(crate::specs::ElvishScript::elvish_row))]
+    fn row_text(
+        &self,
+        alloc: Global,
+        offered: Offered<'_>,
+        description: Option<&str>,
+        stand_in: &str,
+    ) -> Result<String, Error> {
+        let text = description.unwrap_or(stand_in);
+        let escaped = elvish_escape(alloc, text)?;
+        let mut row = String::from_str(alloc, ELVISH_WORD)?;
+        push_word(&mut row, offered)?;
+        row.push_str(ELVISH_TEXT)?;
+        row.push_str(escaped.as_str())?;
+        row.push_str(ELVISH_ROW_END)?;
+        Ok(row)
+    }
+}
+
 impl TableScript for Elvish {
     ghost table = { λ _ key tree. elvish_table (record { key = key; rows = node_rows tree }) };
 
+    #[tactic(auto, using(crate::proofs::ElvishScripts::table_text), unfolding(crate::specs::ElvishScript::elvish_table))]
     fn write_table<W: Sink>(
         &self,
         alloc: Global,
@@ -91,7 +112,10 @@ impl TableScript for Elvish {
         command: &Command,
         sink: &mut W,
     ) -> Result<(), Error> {
-        write_table(sink, alloc, key, command)
+        let key = key_text(alloc, key)?;
+        put_all(sink, key.as_bytes())?;
+        write_rows(self, alloc, command, sink)?;
+        put_all(sink, ELVISH_TABLE_END.as_bytes())
     }
 }
 
@@ -139,25 +163,6 @@ fn write_head<W: Sink>(sink: &mut W, bin_name: &str) -> Result<(), Error>
     put_all(sink, ELVISH_COMPLETIONS.as_bytes())
 }
 
-// Writes a table: its key, the rows of the options, of the flags and of the children.
-#[tactic(auto, using(crate::proofs::ElvishRows::table_text), unfolding(crate::specs::ElvishScript::elvish_table))]
-fn write_table<W: Sink>(
-    sink: &mut W,
-    alloc: Global,
-    key: &str,
-    command: &Command,
-) -> Result<(), Error>
-    ensures ok { OnOk result (W.taken sink.new
-        ≡ W.taken sink.old ++ elvish_table (record { key = key.now; rows = node_rows command.now })) }
-    ensures failures { Counts result (W.failed sink.old) (W.failed sink.new) }
-    ensures kinds { IfErr result IsMemoryOrWrite }
-{
-    let key = key_text(alloc, key)?;
-    put_all(sink, key.as_bytes())?;
-    write_rows(sink, alloc, command)?;
-    put_all(sink, ELVISH_TABLE_END.as_bytes())
-}
-
 // What begins a table.
 fn key_text(alloc: Global, key: &str) -> Result<String, Error>
     ensures ok { IfOk result (λ text.
@@ -168,253 +173,4 @@ fn key_text(alloc: Global, key: &str) -> Result<String, Error>
     text.push_str(key)?;
     text.push_str(ELVISH_ROWS)?;
     Ok(text)
-}
-
-// Writes the rows at a node.
-#[tactic(auto, using(crate::proofs::ElvishRows::rows_append), unfolding(crate::specs::CommandTable::node_rows))]
-fn write_rows<W: Sink>(sink: &mut W, alloc: Global, command: &Command) -> Result<(), Error>
-    ensures ok { OnOk result (W.taken sink.new
-        ≡ W.taken sink.old ++ elvish_rows (node_rows command.now)) }
-    ensures failures { Counts result (W.failed sink.old) (W.failed sink.new) }
-    ensures kinds { IfErr result IsMemoryOrWrite }
-{
-    write_options(sink, alloc, command.get_arguments())?;
-    write_flags(sink, alloc, command.get_arguments())?;
-    write_children(sink, alloc, command.get_subcommands())
-}
-
-// Writes the rows of the options.
-fn write_options<W: Sink>(sink: &mut W, alloc: Global, arguments: &[Arg]) -> Result<(), Error>
-    ensures ok { OnOk result (W.taken sink.new
-        ≡ W.taken sink.old ++ elvish_rows (flat_map argument_rows (filter is_option arguments.now))) }
-    ensures failures { Counts result (W.failed sink.old) (W.failed sink.new) }
-    ensures kinds { IfErr result IsMemoryOrWrite }
-{
-    for argument in arguments {
-        if argument.is_positional() || !argument.takes_values() {
-            continue;
-        }
-        write_argument(sink, alloc, argument)?;
-    }
-    Ok(())
-}
-
-// Writes the rows of the flags.
-fn write_flags<W: Sink>(sink: &mut W, alloc: Global, arguments: &[Arg]) -> Result<(), Error>
-    ensures ok { OnOk result (W.taken sink.new
-        ≡ W.taken sink.old ++ elvish_rows (flat_map argument_rows (filter is_flag arguments.now))) }
-    ensures failures { Counts result (W.failed sink.old) (W.failed sink.new) }
-    ensures kinds { IfErr result IsMemoryOrWrite }
-{
-    for argument in arguments {
-        if argument.is_positional() || argument.takes_values() {
-            continue;
-        }
-        write_argument(sink, alloc, argument)?;
-    }
-    Ok(())
-}
-
-// Writes the rows of an argument: of its shorts, then of its longs.
-#[tactic(auto, using(crate::proofs::ElvishRows::rows_append), unfolding(crate::specs::CommandTable::argument_rows))]
-fn write_argument<W: Sink>(sink: &mut W, alloc: Global, argument: &Arg) -> Result<(), Error>
-    ensures ok { OnOk result (W.taken sink.new ≡ W.taken sink.old ++ elvish_rows (argument_rows argument.now)) }
-    ensures failures { Counts result (W.failed sink.old) (W.failed sink.new) }
-    ensures kinds { IfErr result IsMemoryOrWrite }
-{
-    write_shorts(sink, alloc, argument)?;
-    write_longs(sink, alloc, argument)
-}
-
-// Writes a row for the short and for each of its visible aliases.
-#[tactic(auto, using(crate::proofs::ElvishRows::rows_cons), unfolding(crate::specs::CommandTable::short_rows))]
-fn write_shorts<W: Sink>(sink: &mut W, alloc: Global, argument: &Arg) -> Result<(), Error>
-    ensures ok { OnOk result (W.taken sink.new
-        ≡ W.taken sink.old ++ elvish_rows (short_rows argument.now argument.now.short)) }
-    ensures failures { Counts result (W.failed sink.old) (W.failed sink.new) }
-    ensures kinds { IfErr result IsMemoryOrWrite }
-{
-    match argument.get_short() {
-        None => Ok(()),
-        Some(short) => {
-            let name = short_name(alloc, short)?;
-            let text = argument.get_help().unwrap_or(name.as_str());
-            write_short(sink, alloc, short, text)?;
-            write_short_aliases(sink, alloc, argument.get_visible_short_aliases(), text)
-        }
-    }
-}
-
-// A short as a text.
-fn short_name(alloc: Global, short: char) -> Result<String, Error>
-    ensures ok { IfOk result (λ name. string_bytes name ≡ encode_utf8 short) }
-    ensures memory { IfErr result (λ error. error ≡ Error.Memory) }
-{
-    let mut name = String::new(alloc);
-    name.push(short)?;
-    Ok(name)
-}
-
-// Writes a row for each of these shorts.
-#[tactic(auto, using(crate::proofs::ElvishRows::rows_cons))]
-fn write_short_aliases<W: Sink>(
-    sink: &mut W,
-    alloc: Global,
-    shorts: &[char],
-    text: &str,
-) -> Result<(), Error>
-    ensures ok { OnOk result (W.taken sink.new
-        ≡ W.taken sink.old ++ elvish_rows (map (short_row text.now) shorts.now)) }
-    ensures failures { Counts result (W.failed sink.old) (W.failed sink.new) }
-    ensures kinds { IfErr result IsMemoryOrWrite }
-{
-    for short in shorts {
-        write_short(sink, alloc, *short, text)?;
-    }
-    Ok(())
-}
-
-// Writes the row of a short.
-fn write_short<W: Sink>(sink: &mut W, alloc: Global, short: char, text: &str) -> Result<(), Error>
-    ensures ok { OnOk result (W.taken sink.new ≡ W.taken sink.old ++ elvish_row (short_row text.now short)) }
-    ensures failures { Counts result (W.failed sink.old) (W.failed sink.new) }
-    ensures kinds { IfErr result IsMemoryOrWrite }
-{
-    let mut word = String::from_str(alloc, "-")?;
-    word.push(short)?;
-    write_row(sink, alloc, word.as_str(), text)
-}
-
-// Writes a row for the long and for each of its visible aliases.
-#[tactic(auto, using(crate::proofs::ElvishRows::rows_cons), unfolding(crate::specs::CommandTable::long_rows))]
-fn write_longs<W: Sink>(sink: &mut W, alloc: Global, argument: &Arg) -> Result<(), Error>
-    ensures ok { OnOk result (W.taken sink.new
-        ≡ W.taken sink.old ++ elvish_rows (long_rows argument.now argument.now.long)) }
-    ensures failures { Counts result (W.failed sink.old) (W.failed sink.new) }
-    ensures kinds { IfErr result IsMemoryOrWrite }
-{
-    match argument.get_long() {
-        None => Ok(()),
-        Some(long) => {
-            let text = argument.get_help().unwrap_or(long);
-            write_long(sink, alloc, long, text)?;
-            write_long_aliases(sink, alloc, argument.get_visible_aliases(), text)
-        }
-    }
-}
-
-// Writes a row for each of these longs.
-#[tactic(auto, using(crate::proofs::ElvishRows::rows_cons))]
-fn write_long_aliases<W: Sink>(
-    sink: &mut W,
-    alloc: Global,
-    longs: &[Text],
-    text: &str,
-) -> Result<(), Error>
-    ensures ok { OnOk result (W.taken sink.new
-        ≡ W.taken sink.old ++ elvish_rows (map (long_row text.now) longs.now)) }
-    ensures failures { Counts result (W.failed sink.old) (W.failed sink.new) }
-    ensures kinds { IfErr result IsMemoryOrWrite }
-{
-    for long in longs {
-        write_long(sink, alloc, long.as_str(), text)?;
-    }
-    Ok(())
-}
-
-// Writes the row of a long.
-fn write_long<W: Sink>(sink: &mut W, alloc: Global, long: &str, text: &str) -> Result<(), Error>
-    ensures ok { OnOk result (W.taken sink.new ≡ W.taken sink.old ++ elvish_row (long_row text.now long.now)) }
-    ensures failures { Counts result (W.failed sink.old) (W.failed sink.new) }
-    ensures kinds { IfErr result IsMemoryOrWrite }
-{
-    let mut word = String::from_str(alloc, "--")?;
-    word.push_str(long)?;
-    write_row(sink, alloc, word.as_str(), text)
-}
-
-// Writes the rows of the children.
-fn write_children<W: Sink>(sink: &mut W, alloc: Global, children: &[Command]) -> Result<(), Error>
-    ensures ok { OnOk result (W.taken sink.new
-        ≡ W.taken sink.old ++ elvish_rows (children_rows (forest_of children.now))) }
-    ensures failures { Counts result (W.failed sink.old) (W.failed sink.new) }
-    ensures kinds { IfErr result IsMemoryOrWrite }
-{
-    for child in children {
-        write_child(sink, alloc, child)?;
-    }
-    Ok(())
-}
-
-// Writes a row for each visible name of a child.
-#[tactic(auto, using(crate::proofs::ElvishRows::rows_cons), unfolding(crate::specs::CommandTable::child_rows))]
-fn write_child<W: Sink>(sink: &mut W, alloc: Global, child: &Command) -> Result<(), Error>
-    ensures ok { OnOk result (W.taken sink.new
-        ≡ W.taken sink.old ++ elvish_rows (child_rows child.now.node)) }
-    ensures failures { Counts result (W.failed sink.old) (W.failed sink.new) }
-    ensures kinds { IfErr result IsMemoryOrWrite }
-{
-    write_name(sink, alloc, child.get_name(), child.get_about())?;
-    write_names(sink, alloc, child.get_visible_aliases(), child.get_about())
-}
-
-// Writes a row for each of these names of a child.
-#[tactic(auto, using(crate::proofs::ElvishRows::rows_cons))]
-fn write_names<W: Sink>(
-    sink: &mut W,
-    alloc: Global,
-    names: &[Text],
-    about: Option<&str>,
-) -> Result<(), Error>
-    ensures ok { OnOk result (W.taken sink.new
-        ≡ W.taken sink.old ++ elvish_rows (map (name_row (option_copied about.entry)) names.now)) }
-    ensures failures { Counts result (W.failed sink.old) (W.failed sink.new) }
-    ensures kinds { IfErr result IsMemoryOrWrite }
-{
-    for name in names {
-        write_name(sink, alloc, name.as_str(), about)?;
-    }
-    Ok(())
-}
-
-// Writes the row of a name of a child.
-fn write_name<W: Sink>(
-    sink: &mut W,
-    alloc: Global,
-    name: &str,
-    about: Option<&str>,
-) -> Result<(), Error>
-    ensures ok { OnOk result (W.taken sink.new
-        ≡ W.taken sink.old ++ elvish_row (name_row (option_copied about.entry) name.now)) }
-    ensures failures { Counts result (W.failed sink.old) (W.failed sink.new) }
-    ensures kinds { IfErr result IsMemoryOrWrite }
-{
-    write_row(sink, alloc, name, about.unwrap_or(name))
-}
-
-// Writes the row of a word with its description.
-fn write_row<W: Sink>(sink: &mut W, alloc: Global, word: &str, text: &str) -> Result<(), Error>
-    ensures ok { OnOk result (W.taken sink.new
-        ≡ W.taken sink.old ++ elvish_row (record { word = word.now; text = text.now })) }
-    ensures failures { Counts result (W.failed sink.old) (W.failed sink.new) }
-    ensures kinds { IfErr result IsMemoryOrWrite }
-{
-    let row = row_text(alloc, word, text)?;
-    put_all(sink, row.as_bytes())
-}
-
-// The row of a word with its description.
-#[tactic(auto, unfolding(crate::specs::ElvishScript::elvish_row))]
-fn row_text(alloc: Global, word: &str, text: &str) -> Result<String, Error>
-    ensures ok { IfOk result (λ row.
-        string_bytes row ≡ elvish_row (record { word = word.now; text = text.now })) }
-    ensures memory { IfErr result (λ error. error ≡ Error.Memory) }
-{
-    let escaped = elvish_escape(alloc, text)?;
-    let mut row = String::from_str(alloc, ELVISH_WORD)?;
-    row.push_str(word)?;
-    row.push_str(ELVISH_TEXT)?;
-    row.push_str(escaped.as_str())?;
-    row.push_str(ELVISH_ROW_END)?;
-    Ok(row)
 }

@@ -5,6 +5,7 @@
 pub mod elvish;
 pub mod generator;
 pub mod powershell;
+mod rows;
 pub mod utils;
 mod walk;
 
