@@ -28,8 +28,9 @@ IsPlainOffered (short character) = IsPlainShort character
 IsPlainOffered (long name) = IsPlainName name
 IsPlainOffered (subcommand name) = IsPlainName name
 
+-- where `Known` holds, the descriptions of the tree are UTF-8
 module _ (Known : Type 0) where
-  -- an offer of one; what stands in for its description is UTF-8, and so is that where it is known of the tree
+  -- an offer of one, whose stand-in is UTF-8, and whose description is UTF-8 where those of the tree are
   pub record IsPlainOffer (offer : Offer) : Type 0 where
     pub offered : IsPlainOffered offer.offered
     pub description : Known → IfSome offer.description IsUtf8

@@ -4,8 +4,8 @@ use Rattle.std.specs.Str.{bytes_eq}
 use Rattle.cc_command.specs.Built.{built_under}
 use Rattle.cc_command.specs.Names.{full_name}
 use Rattle.cc_command.specs.Tree.{Tree}
-use Rattle.cc_lists.specs.ElvishTable.{tree_tables as elvish_tables}
 use Rattle.cc_lists.specs.ElvishScript.{elvish_script}
+use Rattle.cc_lists.specs.ElvishTable.{tree_tables as elvish_tables}
 use Rattle.cc_lists.specs.PowershellScript.{powershell_script}
 use Rattle.cc_lists.specs.PowershellTable.{tree_tables as powershell_tables}
 
