@@ -1,5 +1,5 @@
 -- Texts and scripts that are cut, written and read as the definitions say, byte by byte.
-use Rattle.std.proofs.Common.{◌≡◌, List, [], ◌∷◌, Some, None, codes, refl}
+use Rattle.std.proofs.Common.{◌≡◌, List, [], ◌∷◌, Some, None, codes, map, refl}
 use Rattle.std.specs.Char.{encode_utf8}
 use Rattle.cc_arg.specs.declared.action.ArgAction.TheVariants.{SetTrue}
 use Rattle.cc_arg.specs.Arguments.{new_arg}
@@ -10,8 +10,9 @@ use Rattle.cc_quote.specs.Tokens.Piece.{bare, quoted, unclosed}
 use Rattle.cc_quote.specs.ElvishTokens.{sign, cut, elvish_tokens}
 use Rattle.cc_lists.specs.ElvishReading.{Table, part, with_row, next, answer, read, tables_begin, elvish_tables}
 use Rattle.cc_lists.specs.ElvishScript.{elvish_row, elvish_rows, elvish_table, elvish_body, elvish_script}
-use Rattle.cc_lists.specs.ElvishTable.{node_rows}
+use Rattle.cc_lists.specs.ElvishTable.{node_rows, visit_table, tree_tables}
 use Rattle.cc_lists.specs.Offers.{short_offers, long_offers, argument_offers, child_offers, children_offers, node_offers}
+use Rattle.cc_lists.specs.Visits.{visits_under}
 
 -- pieces of a token, a quote mark, a line feed within quotes, and quotes that are left open
 tokens_cut : elvish_tokens (codes "&text' '(spaces ''\t'it''s\nfine'\n\n'a' 'b")
@@ -59,6 +60,20 @@ app_rows : node_rows app
     ∷ []
 unfolding encode_utf8 short_offers long_offers argument_offers child_offers children_offers node_offers node_rows
 app_rows = refl
+
+-- `app` with a child `run`, shown as `r` too and hidden as `go`, that has a child `job`
+abbrev nested : Tree
+nested = record {
+  node = new_node (codes "app");
+  children = more (record (new_node (codes "run")) { visible_aliases = codes "r" ∷ []; aliases = codes "go" ∷ [] })
+      (more (new_node (codes "job")) none none) none;
+}
+
+-- its tables stand under each visible path
+nested_keys : map (λ table. table.key) (tree_tables nested)
+    ≡ codes "app" ∷ codes "app;run" ∷ codes "app;r" ∷ codes "app;run;job" ∷ codes "app;r;job" ∷ []
+unfolding visits_under visit_table tree_tables
+nested_keys = refl
 
 -- two tables as a program's help gives them
 abbrev given : List Table

@@ -1,8 +1,8 @@
 -- The tables that a PowerShell script spells: behind the bare words `@(switch`, `($command)` and `{` stand
--- groups of a quoted key, `{`, rows, `break` and `}`, up to a bare word that begins with `}`. A row is a call
+-- groups of a quoted key, `{`, rows, `break` and `}`, up to the bare word `})`. A row is a call
 -- `[CompletionResult]::new(` with four arguments and `)`. What follows is not read.
-use Rattle.std.specs.Prelude.{ℕ, List, [], ◌∷◌, ◌++◌, ◌&&◌, if◌then◌else◌, Option, Some, None, bytes_eq, nat_eq, codes, map, IsUtf8}
-use Rattle.std.specs.List.{AllByRecursion, starts_with}
+use Rattle.std.specs.Prelude.{ℕ, List, [], ◌∷◌, ◌++◌, ◌&&◌, if◌then◌else◌, Option, Some, None, bytes_eq, codes, map, IsUtf8}
+use Rattle.std.specs.List.{AllByRecursion}
 use Rattle.cc_quote.specs.Tokens.{Token, after_words}
 use Rattle.cc_quote.specs.Tokens.Piece.{bare, quoted}
 use Rattle.cc_quote.specs.QuotedWord.{line_feeds_as_spaces}
@@ -69,7 +69,7 @@ with_row table row = record table { rows = table.rows ++ row ∷ [] }
 -- the state behind a token; what does not belong where it stands is malformed
 unfoldable pub next : State → Part → State
 next (between_tables tables) (key name) = after_key tables name
-next (between_tables tables) (word run) = if starts_with nat_eq run (codes "}") then finished tables else malformed
+next (between_tables tables) (word run) = if bytes_eq run (codes "})") then finished tables else malformed
 next (after_key tables name) (word run) =
     if bytes_eq run (codes "{") then in_table tables (record { key = name; rows = [] }) else malformed
 next (in_table tables table) (first run) = after_word tables table run
