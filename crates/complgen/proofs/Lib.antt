@@ -2,4 +2,5 @@ pub mod CommandLineLemmas
 pub mod GivenValues
 pub mod NestingLemmas
 pub mod RefusalLemmas
+pub mod TreeFormExamples
 pub mod TreeFormLemmas

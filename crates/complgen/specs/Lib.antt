@@ -1,3 +1,5 @@
+pub mod ArgumentForm
+pub mod CommandForm
 pub mod CommandLine
 pub mod Plans
 pub mod Refusals

@@ -7,7 +7,7 @@ use Rattle.std.specs.Option.{option_map_or}
 use Rattle.std.specs.Str.{bytes_eq, chars}
 use Rattle.serde_json.specs.Data.{Data, null, boolean, number, string, array, object, Items, item}
 use Rattle.serde_json.specs.Data.{no_items, Members, member, no_members}
-use Rattle.serde_json.specs.Find.{as_array, as_number, as_object, as_str, as_u64}
+use Rattle.serde_json.specs.Find.{as_array, as_number, as_object, as_str, as_u64, get}
 use Rattle.cc_arg.specs.declared.action.ArgAction.{ArgAction}
 use Rattle.cc_arg.specs.declared.action.ArgAction.TheVariants.{Set, Append, SetTrue, SetFalse}
 use Rattle.cc_arg.specs.declared.action.ArgAction.TheVariants.{Count, Help, HelpShort, HelpLong}
@@ -29,6 +29,11 @@ IsOfForm BadForm = Unit {0}
 IsOfForm Memory = Unit {0}
 IsOfForm NotJson = ⊥
 
+-- what follows from a value, where there is one
+infixl 10 ◌>>=◌
+abbrev pub ◌>>=◌ : {A B : Type 0} → Option A → (A → Option B) → Option B
+o >>= f = option_and_then f o
+
 -- a whole number that fits 64 bits
 abbrev pub number_of : Data → Option ℕ
 number_of d = option_and_then as_u64 (as_number d)
@@ -48,6 +53,14 @@ abbrev pub all_of : {X : Type 0} → (Data → Option X) → Items → Option (L
 all_of read no_items = Some []
 all_of read (item d ds) =
     option_and_then (λ x. option_map (λ xs. x ∷ xs) (all_of read ds)) (read d)
+
+-- a list of texts
+abbrev pub texts_of : Data → Option (List (List ℕ))
+texts_of d = option_and_then (all_of as_str) (as_array d)
+
+-- a list of texts of one character each
+abbrev pub characters_of : Data → Option (List ℕ)
+characters_of d = option_and_then (all_of character_of) (as_array d)
 
 -- the greatest number of values where there is no bound
 abbrev pub no_bound : ℕ
@@ -98,3 +111,13 @@ is_one_of keys key = list_any (λ known. bytes_eq known key) keys
 -- an object with no key but these
 abbrev pub has_only : List (List ℕ) → Data → Bool
 has_only keys d = option_map_or (λ ms. list_all (is_one_of keys) (keys_in ms)) (as_object d) false
+
+-- what a value sets in a subject: nothing where there is no value, and there is no answer where the
+-- value is of another kind
+abbrev pub with_value : {S X : Type 0} → (Data → Option X) → (S → X → S) → S → Option Data → Option S
+with_value kind set subject None = Some subject
+with_value kind set subject (Some d) = option_map (set subject) (kind d)
+
+-- what the value at a key sets in a subject
+abbrev pub with_key : {S X : Type 0} → List ℕ → (Data → Option X) → (S → X → S) → Data → S → Option S
+with_key key kind set d subject = with_value kind set subject (get key d)

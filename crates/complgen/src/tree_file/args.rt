@@ -1,7 +1,9 @@
 //! The arguments of a tree file.
 
-ghost use Rattle.std.specs.Prelude.{IfErr};
-ghost use Rattle.complgen.specs.TreeForm.{IsOfForm};
+ghost use Rattle.std.specs.Prelude.{◌≡◌, Some, fold, map, string_bytes};
+ghost use Rattle.serde_json.specs.View.{view};
+ghost use Rattle.complgen.specs.ArgumentForm as form;
+ghost use Rattle.complgen.specs.TreeForm.{Gives, has_only};
 
 use crate::tree_file::TreeError;
 use crate::tree_file::values::{
@@ -28,18 +30,32 @@ const KEYS: [&str; 12] = [
 
 /// The argument that an object describes.
 pub fn arg(alloc: Global, tree: &Value) -> Result<Arg, TreeError>
-    ensures { IfErr result IsOfForm }
+    ensures { Gives (λ a. a) result (form.argument_of (view tree.now)) }
 {
-    if !has_only_keys(tree, KEYS.as_slice()) {
+    let id = id(alloc, tree)?;
+    with_rest(alloc, Arg::new(alloc, id), tree)
+}
+
+// The id, of an object with no other keys than an argument's.
+fn id(alloc: Global, tree: &Value) -> Result<String, TreeError>
+    ensures { Gives string_bytes result (form.id_of (view tree.now)) }
+{
+    if !has_argument_keys(tree) {
         return Err(TreeError::BadForm);
     }
-    let id = tree.get("id").ok_or(TreeError::BadForm)?;
-    with_rest(alloc, Arg::new(alloc, text(alloc, id)?), tree)
+    text(alloc, tree.get("id").ok_or(TreeError::BadForm)?)
+}
+
+#[tactic(auto, unfolding(crate::specs::ArgumentForm::argument_keys))]
+fn has_argument_keys(tree: &Value) -> bool
+    ensures { result ≡ has_only form.argument_keys (view tree.now) }
+{
+    has_only_keys(tree, KEYS.as_slice())
 }
 
 // What the keys besides the id say.
 fn with_rest(alloc: Global, arg: Arg, tree: &Value) -> Result<Arg, TreeError>
-    ensures { IfErr result IsOfForm }
+    ensures { Gives (λ a. a) result (form.with_rest (view tree.now) arg) }
 {
     let arg = with_names(alloc, arg, tree)?;
     let arg = with_values(alloc, arg, tree)?;
@@ -48,7 +64,7 @@ fn with_rest(alloc: Global, arg: Arg, tree: &Value) -> Result<Arg, TreeError>
 }
 
 fn with_names(alloc: Global, arg: Arg, tree: &Value) -> Result<Arg, TreeError>
-    ensures { IfErr result IsOfForm }
+    ensures { Gives (λ a. a) result (form.with_names (view tree.now) arg) }
 {
     let arg = with_short(arg, tree)?;
     let arg = with_long(alloc, arg, tree)?;
@@ -56,7 +72,7 @@ fn with_names(alloc: Global, arg: Arg, tree: &Value) -> Result<Arg, TreeError>
 }
 
 fn with_short(arg: Arg, tree: &Value) -> Result<Arg, TreeError>
-    ensures { IfErr result IsOfForm }
+    ensures { Gives (λ a. a) result (form.with_short (view tree.now) arg) }
 {
     match tree.get("short") {
         Some(value) => Ok(arg.short(character(value)?)),
@@ -65,7 +81,7 @@ fn with_short(arg: Arg, tree: &Value) -> Result<Arg, TreeError>
 }
 
 fn with_long(alloc: Global, arg: Arg, tree: &Value) -> Result<Arg, TreeError>
-    ensures { IfErr result IsOfForm }
+    ensures { Gives (λ a. a) result (form.with_long (view tree.now) arg) }
 {
     match tree.get("long") {
         Some(value) => Ok(arg.long(text(alloc, value)?)),
@@ -74,7 +90,7 @@ fn with_long(alloc: Global, arg: Arg, tree: &Value) -> Result<Arg, TreeError>
 }
 
 fn with_help(alloc: Global, arg: Arg, tree: &Value) -> Result<Arg, TreeError>
-    ensures { IfErr result IsOfForm }
+    ensures { Gives (λ a. a) result (form.with_help (view tree.now) arg) }
 {
     match tree.get("help") {
         Some(value) => Ok(arg.help(text(alloc, value)?)),
@@ -83,7 +99,7 @@ fn with_help(alloc: Global, arg: Arg, tree: &Value) -> Result<Arg, TreeError>
 }
 
 fn with_values(alloc: Global, arg: Arg, tree: &Value) -> Result<Arg, TreeError>
-    ensures { IfErr result IsOfForm }
+    ensures { Gives (λ a. a) result (form.with_values (view tree.now) arg) }
 {
     let arg = with_action(arg, tree)?;
     let arg = with_num_args(arg, tree)?;
@@ -91,7 +107,7 @@ fn with_values(alloc: Global, arg: Arg, tree: &Value) -> Result<Arg, TreeError>
 }
 
 fn with_action(arg: Arg, tree: &Value) -> Result<Arg, TreeError>
-    ensures { IfErr result IsOfForm }
+    ensures { Gives (λ a. a) result (form.with_action (view tree.now) arg) }
 {
     match tree.get("action") {
         Some(value) => Ok(arg.action(action(value)?)),
@@ -100,7 +116,7 @@ fn with_action(arg: Arg, tree: &Value) -> Result<Arg, TreeError>
 }
 
 fn with_num_args(arg: Arg, tree: &Value) -> Result<Arg, TreeError>
-    ensures { IfErr result IsOfForm }
+    ensures { Gives (λ a. a) result (form.with_num_args (view tree.now) arg) }
 {
     match tree.get("num_args") {
         Some(value) => Ok(arg.num_args(range(value)?)),
@@ -109,7 +125,7 @@ fn with_num_args(arg: Arg, tree: &Value) -> Result<Arg, TreeError>
 }
 
 fn with_value_names(alloc: Global, arg: Arg, tree: &Value) -> Result<Arg, TreeError>
-    ensures { IfErr result IsOfForm }
+    ensures { Gives (λ a. a) result (form.with_value_names (view tree.now) arg) }
 {
     match tree.get("value_names") {
         Some(value) => add_value_names(arg, texts(alloc, value)?),
@@ -118,7 +134,7 @@ fn with_value_names(alloc: Global, arg: Arg, tree: &Value) -> Result<Arg, TreeEr
 }
 
 fn add_value_names(arg: Arg, names: Vec<String>) -> Result<Arg, TreeError>
-    ensures { IfErr result IsOfForm }
+    ensures { Gives (λ a. a) result (Some (fold form.with_value_name arg (map string_bytes names.items))) }
 {
     let mut arg = arg;
     for name in names {
@@ -128,7 +144,7 @@ fn add_value_names(arg: Arg, names: Vec<String>) -> Result<Arg, TreeError>
 }
 
 fn with_hide(arg: Arg, tree: &Value) -> Result<Arg, TreeError>
-    ensures { IfErr result IsOfForm }
+    ensures { Gives (λ a. a) result (form.with_hide (view tree.now) arg) }
 {
     match tree.get("hide") {
         Some(value) => Ok(arg.hide(boolean(value)?)),
@@ -137,7 +153,7 @@ fn with_hide(arg: Arg, tree: &Value) -> Result<Arg, TreeError>
 }
 
 fn with_all_aliases(alloc: Global, arg: Arg, tree: &Value) -> Result<Arg, TreeError>
-    ensures { IfErr result IsOfForm }
+    ensures { Gives (λ a. a) result (form.with_all_aliases (view tree.now) arg) }
 {
     let arg = with_short_aliases(alloc, arg, tree)?;
     let arg = with_visible_short_aliases(alloc, arg, tree)?;
@@ -146,7 +162,7 @@ fn with_all_aliases(alloc: Global, arg: Arg, tree: &Value) -> Result<Arg, TreeEr
 }
 
 fn with_short_aliases(alloc: Global, arg: Arg, tree: &Value) -> Result<Arg, TreeError>
-    ensures { IfErr result IsOfForm }
+    ensures { Gives (λ a. a) result (form.with_short_aliases (view tree.now) arg) }
 {
     match tree.get("short_aliases") {
         Some(value) => add_short_aliases(arg, characters(alloc, value)?),
@@ -155,7 +171,7 @@ fn with_short_aliases(alloc: Global, arg: Arg, tree: &Value) -> Result<Arg, Tree
 }
 
 fn add_short_aliases(arg: Arg, names: Vec<char>) -> Result<Arg, TreeError>
-    ensures { IfErr result IsOfForm }
+    ensures { Gives (λ a. a) result (Some (fold form.with_short_alias arg names.items)) }
 {
     let mut arg = arg;
     for name in names {
@@ -165,7 +181,7 @@ fn add_short_aliases(arg: Arg, names: Vec<char>) -> Result<Arg, TreeError>
 }
 
 fn with_visible_short_aliases(alloc: Global, arg: Arg, tree: &Value) -> Result<Arg, TreeError>
-    ensures { IfErr result IsOfForm }
+    ensures { Gives (λ a. a) result (form.with_visible_short_aliases (view tree.now) arg) }
 {
     match tree.get("visible_short_aliases") {
         Some(value) => add_visible_short_aliases(arg, characters(alloc, value)?),
@@ -174,7 +190,7 @@ fn with_visible_short_aliases(alloc: Global, arg: Arg, tree: &Value) -> Result<A
 }
 
 fn add_visible_short_aliases(arg: Arg, names: Vec<char>) -> Result<Arg, TreeError>
-    ensures { IfErr result IsOfForm }
+    ensures { Gives (λ a. a) result (Some (fold form.with_visible_short_alias arg names.items)) }
 {
     let mut arg = arg;
     for name in names {
@@ -184,7 +200,7 @@ fn add_visible_short_aliases(arg: Arg, names: Vec<char>) -> Result<Arg, TreeErro
 }
 
 fn with_aliases(alloc: Global, arg: Arg, tree: &Value) -> Result<Arg, TreeError>
-    ensures { IfErr result IsOfForm }
+    ensures { Gives (λ a. a) result (form.with_aliases (view tree.now) arg) }
 {
     match tree.get("aliases") {
         Some(value) => add_aliases(arg, texts(alloc, value)?),
@@ -193,7 +209,7 @@ fn with_aliases(alloc: Global, arg: Arg, tree: &Value) -> Result<Arg, TreeError>
 }
 
 fn add_aliases(arg: Arg, names: Vec<String>) -> Result<Arg, TreeError>
-    ensures { IfErr result IsOfForm }
+    ensures { Gives (λ a. a) result (Some (fold form.with_alias arg (map string_bytes names.items))) }
 {
     let mut arg = arg;
     for name in names {
@@ -203,7 +219,7 @@ fn add_aliases(arg: Arg, names: Vec<String>) -> Result<Arg, TreeError>
 }
 
 fn with_visible_aliases(alloc: Global, arg: Arg, tree: &Value) -> Result<Arg, TreeError>
-    ensures { IfErr result IsOfForm }
+    ensures { Gives (λ a. a) result (form.with_visible_aliases (view tree.now) arg) }
 {
     match tree.get("visible_aliases") {
         Some(value) => add_visible_aliases(arg, texts(alloc, value)?),
@@ -212,7 +228,7 @@ fn with_visible_aliases(alloc: Global, arg: Arg, tree: &Value) -> Result<Arg, Tr
 }
 
 fn add_visible_aliases(arg: Arg, names: Vec<String>) -> Result<Arg, TreeError>
-    ensures { IfErr result IsOfForm }
+    ensures { Gives (λ a. a) result (Some (fold form.with_visible_alias arg (map string_bytes names.items))) }
 {
     let mut arg = arg;
     for name in names {

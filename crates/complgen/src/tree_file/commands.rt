@@ -1,7 +1,9 @@
 //! The command of a tree file.
 
-ghost use Rattle.std.specs.Prelude.{IfErr};
-ghost use Rattle.complgen.specs.TreeForm.{IsOfForm};
+ghost use Rattle.std.specs.Prelude.{◌≡◌, IfErr, Some, fold, map, option_map, string_bytes};
+ghost use Rattle.serde_json.specs.View.{view};
+ghost use Rattle.complgen.specs.CommandForm as form;
+ghost use Rattle.complgen.specs.TreeForm.{Gives, IsOfForm, has_only};
 
 use crate::tree_file::TreeError;
 use crate::tree_file::args::arg;
@@ -54,18 +56,32 @@ fn with_children(alloc: Global, parent: Command, value: &Value) -> Result<Comman
 
 // The command that an object describes, without its children.
 fn own(alloc: Global, tree: &Value) -> Result<Command, TreeError>
-    ensures { IfErr result IsOfForm }
+    ensures { Gives (λ tree. tree) result (form.own_of (view tree.now)) }
 {
-    if !has_only_keys(tree, KEYS.as_slice()) {
+    let name = name(alloc, tree)?;
+    with_rest(alloc, Command::new(alloc, name), tree)
+}
+
+// The name, of an object with no other keys than a command's.
+fn name(alloc: Global, tree: &Value) -> Result<String, TreeError>
+    ensures { Gives string_bytes result (form.name_of (view tree.now)) }
+{
+    if !has_command_keys(tree) {
         return Err(TreeError::BadForm);
     }
-    let name = tree.get("name").ok_or(TreeError::BadForm)?;
-    with_rest(alloc, Command::new(alloc, text(alloc, name)?), tree)
+    text(alloc, tree.get("name").ok_or(TreeError::BadForm)?)
+}
+
+#[tactic(auto, unfolding(crate::specs::CommandForm::command_keys))]
+fn has_command_keys(tree: &Value) -> bool
+    ensures { result ≡ has_only form.command_keys (view tree.now) }
+{
+    has_only_keys(tree, KEYS.as_slice())
 }
 
 // What the keys besides the name and the children say.
 fn with_rest(alloc: Global, command: Command, tree: &Value) -> Result<Command, TreeError>
-    ensures { IfErr result IsOfForm }
+    ensures { Gives (λ tree. tree) result (form.with_rest (view tree.now) command) }
 {
     let command = with_texts(alloc, command, tree)?;
     let command = with_all_aliases(alloc, command, tree)?;
@@ -75,7 +91,7 @@ fn with_rest(alloc: Global, command: Command, tree: &Value) -> Result<Command, T
 }
 
 fn with_texts(alloc: Global, command: Command, tree: &Value) -> Result<Command, TreeError>
-    ensures { IfErr result IsOfForm }
+    ensures { Gives (λ tree. tree) result (form.with_texts (view tree.now) command) }
 {
     let command = with_bin_name(alloc, command, tree)?;
     let command = with_about(alloc, command, tree)?;
@@ -84,7 +100,7 @@ fn with_texts(alloc: Global, command: Command, tree: &Value) -> Result<Command, 
 }
 
 fn with_bin_name(alloc: Global, command: Command, tree: &Value) -> Result<Command, TreeError>
-    ensures { IfErr result IsOfForm }
+    ensures { Gives (λ tree. tree) result (form.with_bin_name (view tree.now) command) }
 {
     match tree.get("bin_name") {
         Some(value) => Ok(command.bin_name(text(alloc, value)?)),
@@ -93,7 +109,7 @@ fn with_bin_name(alloc: Global, command: Command, tree: &Value) -> Result<Comman
 }
 
 fn with_about(alloc: Global, command: Command, tree: &Value) -> Result<Command, TreeError>
-    ensures { IfErr result IsOfForm }
+    ensures { Gives (λ tree. tree) result (form.with_about (view tree.now) command) }
 {
     match tree.get("about") {
         Some(value) => Ok(command.about(text(alloc, value)?)),
@@ -102,7 +118,7 @@ fn with_about(alloc: Global, command: Command, tree: &Value) -> Result<Command, 
 }
 
 fn with_version(alloc: Global, command: Command, tree: &Value) -> Result<Command, TreeError>
-    ensures { IfErr result IsOfForm }
+    ensures { Gives (λ tree. tree) result (form.with_version (view tree.now) command) }
 {
     match tree.get("version") {
         Some(value) => Ok(command.version(text(alloc, value)?)),
@@ -115,7 +131,7 @@ fn with_subcommand_help_heading(
     command: Command,
     tree: &Value,
 ) -> Result<Command, TreeError>
-    ensures { IfErr result IsOfForm }
+    ensures { Gives (λ tree. tree) result (form.with_subcommand_help_heading (view tree.now) command) }
 {
     match tree.get("subcommand_help_heading") {
         Some(value) => Ok(command.subcommand_help_heading(text(alloc, value)?)),
@@ -124,14 +140,14 @@ fn with_subcommand_help_heading(
 }
 
 fn with_all_aliases(alloc: Global, command: Command, tree: &Value) -> Result<Command, TreeError>
-    ensures { IfErr result IsOfForm }
+    ensures { Gives (λ tree. tree) result (form.with_all_aliases (view tree.now) command) }
 {
     let command = with_aliases(alloc, command, tree)?;
     with_visible_aliases(alloc, command, tree)
 }
 
 fn with_aliases(alloc: Global, command: Command, tree: &Value) -> Result<Command, TreeError>
-    ensures { IfErr result IsOfForm }
+    ensures { Gives (λ tree. tree) result (form.with_aliases (view tree.now) command) }
 {
     match tree.get("aliases") {
         Some(value) => add_aliases(command, texts(alloc, value)?),
@@ -140,7 +156,7 @@ fn with_aliases(alloc: Global, command: Command, tree: &Value) -> Result<Command
 }
 
 fn add_aliases(command: Command, names: Vec<String>) -> Result<Command, TreeError>
-    ensures { IfErr result IsOfForm }
+    ensures { Gives (λ tree. tree) result (Some (fold form.with_alias command (map string_bytes names.items))) }
 {
     let mut command = command;
     for name in names {
@@ -150,7 +166,7 @@ fn add_aliases(command: Command, names: Vec<String>) -> Result<Command, TreeErro
 }
 
 fn with_visible_aliases(alloc: Global, command: Command, tree: &Value) -> Result<Command, TreeError>
-    ensures { IfErr result IsOfForm }
+    ensures { Gives (λ tree. tree) result (form.with_visible_aliases (view tree.now) command) }
 {
     match tree.get("visible_aliases") {
         Some(value) => add_visible_aliases(command, texts(alloc, value)?),
@@ -159,7 +175,7 @@ fn with_visible_aliases(alloc: Global, command: Command, tree: &Value) -> Result
 }
 
 fn add_visible_aliases(command: Command, names: Vec<String>) -> Result<Command, TreeError>
-    ensures { IfErr result IsOfForm }
+    ensures { Gives (λ tree. tree) result (Some (fold form.with_visible_alias command (map string_bytes names.items))) }
 {
     let mut command = command;
     for name in names {
@@ -169,7 +185,7 @@ fn add_visible_aliases(command: Command, names: Vec<String>) -> Result<Command, 
 }
 
 fn with_display_order(command: Command, tree: &Value) -> Result<Command, TreeError>
-    ensures { IfErr result IsOfForm }
+    ensures { Gives (λ tree. tree) result (form.with_display_order (view tree.now) command) }
 {
     match tree.get("display_order") {
         Some(value) => Ok(command.display_order(number(value)?)),
@@ -178,7 +194,7 @@ fn with_display_order(command: Command, tree: &Value) -> Result<Command, TreeErr
 }
 
 fn with_flags(command: Command, tree: &Value) -> Result<Command, TreeError>
-    ensures { IfErr result IsOfForm }
+    ensures { Gives (λ tree. tree) result (form.with_flags (view tree.now) command) }
 {
     let command = with_hide(command, tree)?;
     let command = with_disable_help_flag(command, tree)?;
@@ -187,7 +203,7 @@ fn with_flags(command: Command, tree: &Value) -> Result<Command, TreeError>
 }
 
 fn with_hide(command: Command, tree: &Value) -> Result<Command, TreeError>
-    ensures { IfErr result IsOfForm }
+    ensures { Gives (λ tree. tree) result (form.with_hide (view tree.now) command) }
 {
     match tree.get("hide") {
         Some(value) => Ok(command.hide(boolean(value)?)),
@@ -196,7 +212,7 @@ fn with_hide(command: Command, tree: &Value) -> Result<Command, TreeError>
 }
 
 fn with_disable_help_flag(command: Command, tree: &Value) -> Result<Command, TreeError>
-    ensures { IfErr result IsOfForm }
+    ensures { Gives (λ tree. tree) result (form.with_disable_help_flag (view tree.now) command) }
 {
     match tree.get("disable_help_flag") {
         Some(value) => Ok(command.disable_help_flag(boolean(value)?)),
@@ -205,7 +221,7 @@ fn with_disable_help_flag(command: Command, tree: &Value) -> Result<Command, Tre
 }
 
 fn with_disable_version_flag(command: Command, tree: &Value) -> Result<Command, TreeError>
-    ensures { IfErr result IsOfForm }
+    ensures { Gives (λ tree. tree) result (form.with_disable_version_flag (view tree.now) command) }
 {
     match tree.get("disable_version_flag") {
         Some(value) => Ok(command.disable_version_flag(boolean(value)?)),
@@ -214,7 +230,7 @@ fn with_disable_version_flag(command: Command, tree: &Value) -> Result<Command, 
 }
 
 fn with_disable_help_subcommand(command: Command, tree: &Value) -> Result<Command, TreeError>
-    ensures { IfErr result IsOfForm }
+    ensures { Gives (λ tree. tree) result (form.with_disable_help_subcommand (view tree.now) command) }
 {
     match tree.get("disable_help_subcommand") {
         Some(value) => Ok(command.disable_help_subcommand(boolean(value)?)),
@@ -223,7 +239,7 @@ fn with_disable_help_subcommand(command: Command, tree: &Value) -> Result<Comman
 }
 
 fn with_args(alloc: Global, command: Command, tree: &Value) -> Result<Command, TreeError>
-    ensures { IfErr result IsOfForm }
+    ensures { Gives (λ tree. tree) result (form.with_args (view tree.now) command) }
 {
     match tree.get("args") {
         Some(value) => add_args(alloc, command, value),
@@ -233,7 +249,8 @@ fn with_args(alloc: Global, command: Command, tree: &Value) -> Result<Command, T
 
 // The command with the arguments that a list describes, each added as it is read.
 fn add_args(alloc: Global, command: Command, value: &Value) -> Result<Command, TreeError>
-    ensures { IfErr result IsOfForm }
+    ensures { Gives (λ tree. tree) result
+        (option_map (fold form.add_argument command) (form.arguments_of (view value.now))) }
 {
     let items = value.as_array().ok_or(TreeError::BadForm)?;
     let mut command = command;
