@@ -1,3 +1,4 @@
+pub mod ChildrenLemmas
 pub mod CommandLineLemmas
 pub mod GivenValues
 pub mod NestingLemmas

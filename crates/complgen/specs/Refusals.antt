@@ -1,5 +1,6 @@
 -- Why the program ends without an answer.
-use Rattle.std.specs.Prelude.{◌≡◌, ◌⊎◌, ◌++◌, ℕ, List, Result, Ok, Err, String, codes, string_bytes}
+use Rattle.std.specs.Prelude.{◌≡◌, ◌⊎◌, ◌++◌, ℕ, List, Option, None, Some, Result, Ok, Err}
+use Rattle.std.specs.Prelude.{String, codes, string_bytes}
 use Rattle.std.specs.Cow.{cow_str_bytes}
 use Rattle.std.specs.declared.alloc.AllocError.{AllocError}
 use Rattle.std.specs.declared.alloc.Global.{Global}
@@ -7,6 +8,7 @@ use Rattle.cc_base.specs.ErrorText.{error_text}
 use Rattle.cc_base.specs.Sink.{raised}
 use Rattle.cc_base.specs.declared.error.Error.{Error}
 use Rattle.cc_base.specs.declared.error.Error.TheVariants.{InvalidVariant, LabelClash, NoArguments, NoCompletion, UnknownShell, Write, Memory as NoMemory}
+use Rattle.complgen.specs.TreeFile.{ReadsTree}
 use Rattle.complgen.specs.declared.tree_file.TreeError.{TreeError}
 use Rattle.complgen.specs.declared.tree_file.TreeError.TheVariants.{BadForm, Memory, NotJson}
 use Rattle.complgen.specs.declared.types.Refusal.{Refusal}
@@ -52,20 +54,21 @@ abbrev pub RefusesWithText : Result (String Global) AllocError → Refusal → T
 RefusesWithText (Ok text) refusal = IsRefusal (string_bytes text) refusal
 RefusesWithText (Err refused) refusal = IsWantOfMemory refusal
 
--- how a tree file is refused
-abbrev pub RefusesFile : Refusal → Type 0
-RefusesFile refusal = IsRefusal (codes "tree: unreadable\n") refusal
-    ⊎ ((error : TreeError) × RefusesTree error refusal)
+-- how a tree file is refused: one that can't be read, and one that holds these bytes
+abbrev pub RefusesFile : Option (List ℕ) → Refusal → Type 0
+RefusesFile None refusal = IsRefusal (codes "tree: unreadable\n") refusal
+RefusesFile (Some bytes) refusal =
+    (error : TreeError) × RefusesTree error refusal × ReadsTree bytes (Err error)
 
 -- how a script is refused, once the shell is known, where no write failed: for want of memory, for
 -- its tree file, or for a label that two commands share
-abbrev pub RefusesScript : Refusal → Type 0
-RefusesScript refusal = IsWantOfMemory refusal ⊎ (RefusesFile refusal
+abbrev pub RefusesScript : Option (List ℕ) → Refusal → Type 0
+RefusesScript file refusal = IsWantOfMemory refusal ⊎ (RefusesFile file refusal
     ⊎ ((label : List ℕ) × IsRefusal (error_text (LabelClash label) ++ codes "\n") refusal))
 
 -- A failed write is refused as such, and the sink's count of failures rises exactly then.
-abbrev pub CountsRefusal : {A : Type 0} → Result A Refusal → ℕ → ℕ → Type 0
-CountsRefusal (Ok _) before after = after ≡ before
-CountsRefusal (Err refusal) before after =
+abbrev pub CountsRefusal : {A : Type 0} → Option (List ℕ) → Result A Refusal → ℕ → ℕ → Type 0
+CountsRefusal file (Ok _) before after = after ≡ before
+CountsRefusal file (Err refusal) before after =
     (IsRefusal (codes "write failed\n") refusal × (after ≡ raised before))
-    ⊎ (RefusesScript refusal × (after ≡ before))
+    ⊎ (RefusesScript file refusal × (after ≡ before))

@@ -1,5 +1,5 @@
 -- Which script the program writes.
-use Rattle.std.specs.Prelude.{◌≡◌, ◌++◌, ℕ, List, Some, if◌then◌else◌, codes}
+use Rattle.std.specs.Prelude.{◌≡◌, ◌++◌, ℕ, List, Option, Some, if◌then◌else◌, codes}
 use Rattle.std.specs.Str.{bytes_eq}
 use Rattle.cc_command.specs.Built.{built_under}
 use Rattle.cc_command.specs.Names.{full_name}
@@ -8,6 +8,7 @@ use Rattle.cc_lists.specs.ElvishScript.{elvish_script}
 use Rattle.cc_lists.specs.ElvishTable.{tree_tables as elvish_tables}
 use Rattle.cc_lists.specs.PowershellScript.{powershell_script}
 use Rattle.cc_lists.specs.PowershellTable.{tree_tables as powershell_tables}
+use Rattle.complgen.specs.TreeFile.{HoldsTree}
 
 -- the Elvish script of a built command
 abbrev pub elvish_of : Tree → List ℕ
@@ -21,7 +22,9 @@ powershell_of tree = powershell_script (full_name tree.node) (powershell_tables 
 abbrev pub script_for : List ℕ → Tree → List ℕ
 script_for shell = if bytes_eq shell (codes "elvish") then elvish_of else powershell_of
 
--- what was taken grew by the script of some command, built under this bin name
-pub record TakesScript (script : Tree → List ℕ) (bin before after : List ℕ) : Type 0 where
+-- what was taken grew by the script of the command that the file holds, built under this bin name
+pub record TakesScript (script : Tree → List ℕ) (bin : List ℕ) (file : Option (List ℕ))
+    (before after : List ℕ) : Type 0 where
   pub tree : Tree
+  pub held : HoldsTree file tree
   pub grew : after ≡ before ++ script (built_under (Some bin) tree)

@@ -1,10 +1,12 @@
 -- What the bytes of a tree file are read as.
-use Rattle.std.specs.Prelude.{◌≡◌, ℕ, List, None, Result, Ok, Err, Some}
+use Rattle.std.specs.Prelude.{◌≡◌, ℕ, List, Option, None, Some, Result, Ok, Err}
 use Rattle.std.specs.Str.{IsUtf8}
 use Rattle.serde_json.specs.Data.{Data}
 use Rattle.serde_json.specs.Read.{read}
 use Rattle.serde_json.specs.View.{view}
 use Rattle.serde_json.specs.declared.value.Value.{Value}
+use Rattle.cc_command.specs.Tree.{Tree}
+use Rattle.complgen.specs.CommandForm.{command_of}
 use Rattle.complgen.specs.declared.tree_file.TreeError.{TreeError}
 use Rattle.complgen.specs.declared.tree_file.TreeError.TheVariants.{BadForm, Memory, NotJson}
 
@@ -22,9 +24,19 @@ ReadsJson bytes (Err NotJson) = SpellsNone bytes
 ReadsJson bytes (Err BadForm) = ⊥
 ReadsJson bytes (Err Memory) = Unit {0}
 
--- bad form comes only of JSON
-abbrev pub ReadsTree : {C : Type 0} → List ℕ → Result C TreeError → Type 0
-ReadsTree bytes (Ok command) = (d : Data) × Spells bytes d
+-- the bytes spell JSON, which describes this command, or none
+abbrev pub Describes : List ℕ → Option Tree → Type 0
+Describes bytes described = (d : Data) × Spells bytes d × (command_of d ≡ described)
+
+-- no JSON is refused as such, and JSON that describes no command as bad form; what else is read is
+-- the command that is described
+abbrev pub ReadsTree : List ℕ → Result Tree TreeError → Type 0
+ReadsTree bytes (Ok command) = Describes bytes (Some command)
 ReadsTree bytes (Err NotJson) = SpellsNone bytes
-ReadsTree bytes (Err BadForm) = (d : Data) × Spells bytes d
+ReadsTree bytes (Err BadForm) = Describes bytes None
 ReadsTree bytes (Err Memory) = Unit {0}
+
+-- the file can be read, and its bytes describe this command
+abbrev pub HoldsTree : Option (List ℕ) → Tree → Type 0
+HoldsTree None command = ⊥
+HoldsTree (Some bytes) command = Describes bytes (Some command)

@@ -23,12 +23,6 @@ Gives view (Err BadForm) defined = defined ≡ None
 Gives view (Err NotJson) defined = ⊥
 Gives view (Err Memory) defined = Unit {0}
 
--- an error of a reader: the value has another form, or memory runs out
-abbrev pub IsOfForm : TreeError → Type 0
-IsOfForm BadForm = Unit {0}
-IsOfForm Memory = Unit {0}
-IsOfForm NotJson = ⊥
-
 -- what follows from a value, where there is one
 infixl 10 ◌>>=◌
 abbrev pub ◌>>=◌ : {A B : Type 0} → Option A → (A → Option B) → Option B

@@ -1,11 +1,13 @@
 //! Does what a plan asks for.
 
-ghost use Rattle.std.specs.Prelude.{◌≡◌, ◌⊎◌, IfErr, IsErrAnd, OnOk, false, true};
+ghost use Rattle.std.specs.Prelude.{◌≡◌, ◌⊎◌, IfErr, IfOk, IsErrAnd, OnOk, false, option_copied};
+ghost use Rattle.std.specs.Prelude.{true};
 ghost use Rattle.complgen.specs.Plans.{bin_of, is_known_shell, shell_of};
 ghost use Rattle.complgen.specs.Refusals.{IsRefusal, IsWantOfMemory, RefusesError, RefusesTree};
 ghost use Rattle.complgen.specs.Refusals.{CountsRefusal, RefusesFile, RefusesWithText};
 ghost use Rattle.complgen.specs.Refusals.{invalid_variant as the_invalid_variant};
 ghost use Rattle.complgen.specs.Scripts.{TakesScript, script_for};
+ghost use Rattle.complgen.specs.TreeFile.{HoldsTree};
 
 use crate::tree_file::{TreeError, read_tree};
 use crate::types::{Plan, Refusal};
@@ -43,9 +45,9 @@ pub fn run<W: Sink>(
         → IsErrAnd result (IsRefusal UNREADABLE.now) }
     ensures unreadable_writes_nothing { file.entry ≡ None → W.taken out.new ≡ W.taken out.old }
     ensures failures { is_known_shell (shell_of plan.now) ≡ true
-        → CountsRefusal result (W.failed out.old) (W.failed out.new) }
+        → CountsRefusal (option_copied file.entry) result (W.failed out.old) (W.failed out.new) }
     ensures ok { OnOk result (TakesScript (script_for (shell_of plan.now)) (bin_of plan.now)
-        (W.taken out.old) (W.taken out.new)) }
+        (option_copied file.entry) (W.taken out.old) (W.taken out.new)) }
 {
     let Plan::Script(shell, bin, _) = plan;
     match shell.as_str() {
@@ -65,9 +67,10 @@ fn script<G: Generator + Drop, W: Sink>(
 ) -> Result<(), Refusal>
     ensures unreadable { file.entry ≡ None → IsErrAnd result (IsRefusal UNREADABLE.now) }
     ensures unreadable_writes_nothing { file.entry ≡ None → W.taken out.new ≡ W.taken out.old }
-    ensures failures { CountsRefusal result (W.failed out.old) (W.failed out.new) }
+    ensures failures { CountsRefusal (option_copied file.entry) result
+        (W.failed out.old) (W.failed out.new) }
     ensures ok { OnOk result (TakesScript (λ tree. G.script generator tree) bin.now
-        (W.taken out.old) (W.taken out.new)) }
+        (option_copied file.entry) (W.taken out.old) (W.taken out.new)) }
 {
     let mut command = tree(alloc, file)?;
     let bin = String::from_str(alloc, bin)?;
@@ -79,8 +82,9 @@ fn script<G: Generator + Drop, W: Sink>(
 
 // The tree that a file holds.
 fn tree(alloc: Global, file: Option<&[u8]>) -> Result<Command, Refusal>
+    ensures ok { IfOk result (λ command. HoldsTree (option_copied file.entry) command) }
     ensures unreadable { file.entry ≡ None → IsErrAnd result (IsRefusal UNREADABLE.now) }
-    ensures err { IfErr result RefusesFile }
+    ensures err { IfErr result (RefusesFile (option_copied file.entry)) }
 {
     let Some(bytes) = file else {
         return Err(Refusal::fixed(1, UNREADABLE));

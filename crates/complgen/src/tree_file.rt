@@ -53,7 +53,7 @@ impl From<clap_complete::Error> for TreeError {
 }
 
 /// The command that the bytes of a tree file describe. Bytes that are no JSON are refused with
-/// `NotJson`, and JSON of another form with `BadForm`.
+/// `NotJson`, and JSON that describes no command with `BadForm`.
 pub fn read_tree(alloc: Global, bytes: &[u8]) -> Result<Command, TreeError>
     ensures { ReadsTree bytes.now result }
 {

@@ -1,9 +1,10 @@
 //! The command of a tree file.
 
-ghost use Rattle.std.specs.Prelude.{◌≡◌, IfErr, Some, fold, map, option_map, string_bytes};
+ghost use Rattle.std.specs.Prelude.{◌≡◌, Some, fold, map, option_map, string_bytes};
 ghost use Rattle.serde_json.specs.View.{view};
+ghost use Rattle.cc_command.specs.Made.{with_child};
 ghost use Rattle.complgen.specs.CommandForm as form;
-ghost use Rattle.complgen.specs.TreeForm.{Gives, IsOfForm, has_only};
+ghost use Rattle.complgen.specs.TreeForm.{Gives, has_only};
 
 use crate::tree_file::TreeError;
 use crate::tree_file::args::arg;
@@ -32,7 +33,7 @@ const KEYS: [&str; 14] = [
 /// The command that an object describes, with its children.
 #[cycle(commands)]
 pub fn command(alloc: Global, tree: &Value) -> Result<Command, TreeError>
-    ensures { IfErr result IsOfForm }
+    ensures { Gives (λ tree. tree) result (form.command_of (view tree.now)) }
 {
     let command = own(alloc, tree)?;
     match tree.get("subcommands") {
@@ -44,7 +45,8 @@ pub fn command(alloc: Global, tree: &Value) -> Result<Command, TreeError>
 // The command with the children that a list describes, each added as it is read.
 #[cycle(commands)]
 fn with_children(alloc: Global, parent: Command, value: &Value) -> Result<Command, TreeError>
-    ensures { IfErr result IsOfForm }
+    ensures { Gives (λ tree. tree) result
+        (option_map (fold with_child parent) (form.commands_of (view value.now))) }
 {
     let items = value.as_array().ok_or(TreeError::BadForm)?;
     let mut parent = parent;

@@ -1,7 +1,11 @@
-use Rattle.std.proofs.Common.{◌≡◌, ◌<◌, Some, arith, codes, length, rules, subst, sym}
+use Rattle.std.proofs.Common.{◌≡◌, ◌<◌, None, Some, arith, codes, length, rules, subst, sym}
 use Rattle.serde_json.specs.Data.{depth}
 use Rattle.serde_json.specs.Find.{as_array, get}
 use Rattle.serde_json.specs.View.{items_view, view}
+use Rattle.cc_command.specs.Tree.{Tree}
+use Rattle.complgen.specs.CommandForm.{own_of}
+use Rattle.complgen.specs.TreeForm.{Gives}
+use Rattle.complgen.proofs.ChildrenLemmas.{own_alone, own_with_children}
 use Rattle.complgen.proofs.NestingLemmas.{found_is_flatter, item_is_flatter}
 use Rattle.complgen.proofs.tree_file.commands.+commands.Goals as goal
 
@@ -21,3 +25,16 @@ with_children-command-requires t c =
     subst (λ v. depth (view v) < depth (view c.args.value.now)) (sym c.item-item.is)
     (item_is_flatter (view c.args.value.now) items c.loop-item.item-index c.item-item.result is inside) in
     search rules
+
+pub command-returns-in-None : goal.command-returns-in-None
+command-returns-in-None t c =
+    let own : own_of (view c.args.tree.now) ≡ Some c.in_ok-command.command = search rules in
+    let missing : get (codes "subcommands") (view c.args.tree.now) ≡ None = search rules in
+    own_alone (view c.args.tree.now) c.in_ok-command.command own missing
+
+pub command-returns-in-Some : goal.command-returns-in-Some
+command-returns-in-Some t c =
+    let own : own_of (view c.args.tree.now) ≡ Some c.in_ok-command.command = search rules in
+    let there : get (codes "subcommands") (view c.args.tree.now) ≡ Some (view c.in-Some.value.now) = search rules in
+    subst (Gives (λ (tree : Tree). tree) c.with_children.result)
+    (sym (own_with_children _ _ c.in_ok-command.command own there)) c.with_children.ensures

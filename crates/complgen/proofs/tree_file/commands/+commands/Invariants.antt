@@ -1,5 +1,8 @@
+use Rattle.std.specs.Prelude.{◌≡◌, drop, fold, option_map}
 use Rattle.serde_json.specs.Data.{depth}
-use Rattle.serde_json.specs.View.{view}
+use Rattle.serde_json.specs.View.{items_view, view}
+use Rattle.cc_command.specs.Made.{with_child}
+use Rattle.complgen.specs.CommandForm.{each_command}
 use Rattle.complgen.proofs.tree_file.commands.+commands.Given as goal
 
 abbrev pub decreases-command : goal.decreases-command
@@ -7,3 +10,9 @@ decreases-command l = depth (view l.tree.now)
 
 abbrev pub decreases-with_children : goal.decreases-with_children
 decreases-with_children l = depth (view l.value.now)
+
+-- with the children that are left it is the whole
+abbrev pub invariant-with_children-loop-item : goal.invariant-with_children-loop-item
+invariant-with_children-loop-item l =
+    option_map (fold with_child l.parent) (each_command (items_view (drop l.item-index l.item-items)))
+    ≡ option_map (fold with_child l.fn.parent) (each_command (items_view l.item-items))
