@@ -3,6 +3,8 @@ use Rattle.std.proofs.Common.{◌≡◌, [], ◌∷◌, None, Some, codes, refl,
 use Rattle.std.specs.Str.{chars}
 use Rattle.serde_json.specs.Data.{Data, null, array, boolean, object, string, item, no_items}
 use Rattle.serde_json.specs.Data.{member, no_members}
+use Rattle.serde_json.specs.Read.{read}
+use Rattle.serde_json.proofs.OnLiterals.{serde_json_on_literals}
 use Rattle.cc_arg.specs.Arguments.{new_arg}
 use Rattle.cc_arg.specs.declared.action.ArgAction.TheVariants.{SetTrue}
 use Rattle.cc_command.specs.Made.{new_node, new_tree}
@@ -17,10 +19,16 @@ verbose = object (member (codes "action") (string (codes "SetTrue"))
     (member (codes "long") (string (codes "verbose"))
     (member (codes "short") (string (codes "v")) no_members)))))
 
--- `{"name":"app","args":[..]}`
+-- `{"name":"app","args":[..]}`, likewise
 abbrev app : Data
 app = object (member (codes "args") (array (item verbose no_items))
     (member (codes "name") (string (codes "app")) no_members))
+
+-- it is read from this text
+app_read : read (codes "{\"name\":\"app\",\"args\":[{\"id\":\"v\",\"short\":\"v\",\"long\":\"verbose\",\"action\":\"SetTrue\",\"help\":\"Be loud\"}]}")
+    ≡ Some app
+unfolding serde_json_on_literals
+app_read = refl
 
 -- each key sets its field, and the argument takes the first display order
 with_an_argument : command_of app ≡ Some (record (new_tree (codes "app")) {
@@ -49,6 +57,12 @@ abbrev parent : Data
 parent = object (member (codes "hide") (boolean true) (member (codes "name") (string (codes "app"))
     (member (codes "subcommands") (array (item run (item
     (object (member (codes "name") (string (codes "stop")) no_members)) no_items))) no_members)))
+
+-- it is read from this text
+parent_read : read (codes "{\"subcommands\":[{\"visible_aliases\":[\"r\",\"go\"],\"name\":\"run\"},{\"name\":\"stop\"}],\"name\":\"app\",\"hide\":true}")
+    ≡ Some parent
+unfolding serde_json_on_literals
+parent_read = refl
 
 -- the children stand in their order, each with the next display order
 with_children : command_of parent ≡ Some (record {
