@@ -8,7 +8,7 @@ use Rattle.cc_command.specs.Tree.{Tree, none, more}
 use Rattle.cc_quote.specs.Tokens.{is_word, strip_words, after_words}
 use Rattle.cc_quote.specs.Tokens.Piece.{bare, quoted, unclosed}
 use Rattle.cc_quote.specs.ElvishTokens.{sign, cut, elvish_tokens}
-use Rattle.cc_lists.specs.ElvishReading.{Table, part, with_row, next, answer, read, tables_begin, elvish_tables}
+use Rattle.cc_lists.specs.ElvishReader.{Table, part, with_row, next, answer, read, tables_begin, elvish_tables}
 use Rattle.cc_lists.specs.ElvishScript.{elvish_row, elvish_rows, elvish_table, elvish_body, elvish_script}
 use Rattle.cc_lists.specs.ElvishTable.{node_rows, visit_table, tree_tables}
 use Rattle.cc_lists.specs.Offers.{short_offers, long_offers, argument_offers, child_offers, children_offers, node_offers}

@@ -6,7 +6,7 @@ use Rattle.cc_quote.proofs.ElvishCutting.{HasNoQuote-append}
 use Rattle.cc_command.specs.Tree.{Tree}
 use Rattle.cc_command.specs.Names.{full_name}
 use Rattle.cc_command.specs.Plain.{is_plain_tree}
-use Rattle.cc_lists.specs.ElvishReading.{IsReadable}
+use Rattle.cc_lists.specs.ElvishReader.{IsReadable}
 use Rattle.cc_lists.specs.ElvishReads.{ElvishReads}
 use Rattle.cc_lists.specs.ElvishScript.{elvish_script}
 use Rattle.cc_lists.specs.ElvishTable.{offer_row, node_rows, visit_table, tree_tables}

@@ -6,8 +6,8 @@ use Rattle.cc_quote.specs.Tokens.Piece.{bare}
 use Rattle.cc_quote.specs.Tokens.{is_word, strip_words, after_words}
 use Rattle.cc_quote.specs.ElvishTokens.{sign, Place, cut, elvish_tokens, IsBare, IsBareWord}
 use Rattle.cc_quote.specs.ElvishTokens.Place.{between, in_bare}
-use Rattle.cc_lists.specs.ElvishReading.{Row, Table, State, part, with_row, next, answer, read, tables_begin, elvish_tables, IsReadable, spaced_row, spaced_table}
-use Rattle.cc_lists.specs.ElvishReading.State.{between_tables, after_key, in_table, after_cand, after_word}
+use Rattle.cc_lists.specs.ElvishReader.{Row, Table, State, part, with_row, next, answer, read, tables_begin, elvish_tables, IsReadable, spaced_row, spaced_table}
+use Rattle.cc_lists.specs.ElvishReader.State.{between_tables, after_key, in_table, after_cand, after_word}
 use Rattle.cc_quote.specs.ElvishQuote.{elvish_escaped}
 use Rattle.cc_lists.specs.ElvishScript.{elvish_row, elvish_rows, elvish_table, elvish_body, elvish_script}
 use Rattle.cc_quote.proofs.ElvishCutting.{bare_run, bare_word, quoted_text, escaped_text, HasNoQuote-IsBare}

@@ -3,7 +3,7 @@ use Rattle.std.proofs.Common.{◌≡◌, ℕ, List, append_assoc}
 use Rattle.std.proofs.lemmas.List.Folds.{flat_map-map}
 use Rattle.cc_command.specs.Tree.{Tree}
 use Rattle.cc_command.specs.Names.{full_name}
-use Rattle.cc_lists.specs.ElvishReading.{Table}
+use Rattle.cc_lists.specs.ElvishReader.{Table}
 use Rattle.cc_lists.specs.ElvishScript.{elvish_row, elvish_rows, elvish_body, elvish_table}
 use Rattle.cc_lists.specs.ElvishTable.{offer_row, node_rows, visit_table, tree_tables}
 use Rattle.cc_lists.specs.KeyedVisits.{keyed_text, keyed_visits}

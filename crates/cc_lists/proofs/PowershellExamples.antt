@@ -6,8 +6,8 @@ use Rattle.cc_quote.specs.Tokens.{is_word, strip_words, after_words}
 use Rattle.cc_quote.specs.Tokens.Piece.{bare, quoted, unclosed}
 use Rattle.cc_quote.specs.PowershellTokens.{sign, cut, powershell_tokens}
 use Rattle.cc_lists.specs.Offers.{short_offers, long_offers, argument_offers}
-use Rattle.cc_lists.specs.PowershellReading.{Table, part, kind_of, with_row, next, answer, read, tables_begin, powershell_tables}
-use Rattle.cc_lists.specs.PowershellReading.Kind.{parameter_name, parameter_value}
+use Rattle.cc_lists.specs.PowershellReader.{Table, part, kind_of, with_row, next, answer, read, tables_begin, powershell_tables}
+use Rattle.cc_lists.specs.PowershellReader.Kind.{parameter_name, parameter_value}
 use Rattle.cc_arg.specs.declared.arg.Arg.{Arg}
 use Rattle.cc_arg.specs.Arguments.{new_arg}
 use Rattle.cc_lists.specs.PowershellTable.{offer_row}

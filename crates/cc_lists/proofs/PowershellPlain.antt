@@ -11,7 +11,7 @@ use Rattle.cc_command.specs.Plain.{is_plain_tree}
 use Rattle.cc_lists.specs.Offers.{Offered, Offer, word, node_offers}
 use Rattle.cc_lists.specs.Offers.Offered.{short, long, subcommand}
 use Rattle.cc_lists.specs.Paths.{IsSibling, LeadsTo}
-use Rattle.cc_lists.specs.PowershellReading.{IsReadableRow, IsReadable}
+use Rattle.cc_lists.specs.PowershellReader.{IsReadableRow, IsReadable}
 use Rattle.cc_lists.specs.PowershellReads.{AreDescribedInUtf8, HasUtf8Descriptions, PowershellReads}
 use Rattle.cc_lists.specs.PowershellScript.{powershell_script}
 use Rattle.cc_lists.specs.PowershellTable.{description, listed, offer_row, node_rows, visit_table, tree_tables}

@@ -8,9 +8,9 @@ use Rattle.cc_quote.specs.Tokens.{Piece, is_word, strip_words, after_words}
 use Rattle.cc_quote.specs.Tokens.Piece.{bare}
 use Rattle.cc_quote.specs.PowershellTokens.{sign, Place, cut, powershell_tokens, IsUnquoted}
 use Rattle.cc_quote.specs.PowershellTokens.Place.{between, in_bare, in_quotes}
-use Rattle.cc_lists.specs.PowershellReading.{Kind, Row, Table, State, part, kind_of, with_row, next, answer, read, tables_begin, powershell_tables, IsReadableRow, IsReadable, spaced_row, spaced_table}
-use Rattle.cc_lists.specs.PowershellReading.Kind.{parameter_name, parameter_value}
-use Rattle.cc_lists.specs.PowershellReading.State.{between_tables, in_table, after_word, after_list, after_kind}
+use Rattle.cc_lists.specs.PowershellReader.{Kind, Row, Table, State, part, kind_of, with_row, next, answer, read, tables_begin, powershell_tables, IsReadableRow, IsReadable, spaced_row, spaced_table}
+use Rattle.cc_lists.specs.PowershellReader.Kind.{parameter_name, parameter_value}
+use Rattle.cc_lists.specs.PowershellReader.State.{between_tables, in_table, after_word, after_list, after_kind}
 use Rattle.cc_quote.specs.PowershellQuote.{powershell_escaped}
 use Rattle.cc_lists.specs.PowershellScript.{kind_text, powershell_row, powershell_rows, powershell_table, powershell_body, powershell_script}
 use Rattle.cc_lists.proofs.Lines.{IsLine, regroup_six, regroup_seven, regroup_ten}

@@ -3,7 +3,7 @@ use Rattle.std.proofs.Common.{◌≡◌, ℕ, List, append_assoc}
 use Rattle.std.proofs.lemmas.List.Folds.{flat_map-map}
 use Rattle.cc_command.specs.Tree.{Tree}
 use Rattle.cc_command.specs.Names.{full_name}
-use Rattle.cc_lists.specs.PowershellReading.{Table}
+use Rattle.cc_lists.specs.PowershellReader.{Table}
 use Rattle.cc_lists.specs.PowershellScript.{powershell_row, powershell_rows, powershell_body, powershell_table}
 use Rattle.cc_lists.specs.PowershellTable.{offer_row, node_rows, visit_table, tree_tables}
 use Rattle.cc_lists.specs.KeyedVisits.{keyed_text, keyed_visits}

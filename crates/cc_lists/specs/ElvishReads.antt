@@ -2,7 +2,7 @@
 use Rattle.std.specs.Prelude.{◌≡◌, ◌↔◌, ℕ, List, Some, map, Contains}
 use Rattle.cc_command.specs.Tree.{Tree}
 use Rattle.cc_lists.specs.ElvishTable.{tree_tables}
-use Rattle.cc_lists.specs.ElvishReading.{elvish_tables, spaced_table}
+use Rattle.cc_lists.specs.ElvishReader.{elvish_tables, spaced_table}
 use Rattle.cc_lists.specs.Paths.{LeadsTo}
 use Rattle.cc_lists.specs.Visits.{Visit, visits, DifferentKeys, DifferentPaths}
 

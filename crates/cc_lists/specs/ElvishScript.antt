@@ -2,7 +2,7 @@
 use Rattle.std.specs.Prelude.{ℕ, List, ◌++◌, flat_map}
 use Rattle.cc_lists.specs.declared.elvish.TheConstants.{ELVISH_HEAD, ELVISH_FUNCTIONS, ELVISH_COMPLETIONS, ELVISH_TAIL, ELVISH_KEY, ELVISH_ROWS, ELVISH_TABLE_END, ELVISH_WORD, ELVISH_TEXT, ELVISH_ROW_END}
 use Rattle.cc_quote.specs.ElvishQuote.{elvish_escaped}
-use Rattle.cc_lists.specs.ElvishReading.{Row, Table}
+use Rattle.cc_lists.specs.ElvishReader.{Row, Table}
 
 -- a line feed, twelve spaces and `cand word 'text'`
 unfoldable pub elvish_row : Row → List ℕ

@@ -4,7 +4,7 @@ use Rattle.cc_command.specs.Tree.{Tree}
 use Rattle.cc_command.specs.Names.{full_name}
 use Rattle.cc_lists.specs.Offers.{Offer, word, node_offers}
 use Rattle.cc_lists.specs.Visits.{Visit, visits, key_of}
-use Rattle.cc_lists.specs.ElvishReading.{Row, Table}
+use Rattle.cc_lists.specs.ElvishReader.{Row, Table}
 
 -- the row of an offer, described by the help or the about where there is one
 abbrev pub offer_row : Offer → Row

@@ -1,5 +1,5 @@
 pub mod ArgumentNames
-pub mod ElvishReading
+pub mod ElvishReader
 pub mod ElvishReads
 pub mod ElvishScript
 pub mod ElvishTable
@@ -9,7 +9,7 @@ pub mod OfferRows
 pub mod Offers
 pub mod Paths
 pub mod Pending
-pub mod PowershellReading
+pub mod PowershellReader
 pub mod PowershellReads
 pub mod PowershellScript
 pub mod PowershellTable

@@ -4,7 +4,7 @@ use Rattle.std.specs.List.{AllByRecursion}
 use Rattle.cc_command.specs.declared.node.Node.{Node}
 use Rattle.cc_command.specs.Tree.{Forest, none, more, Tree}
 use Rattle.cc_lists.specs.PowershellTable.{tree_tables}
-use Rattle.cc_lists.specs.PowershellReading.{powershell_tables, spaced_table}
+use Rattle.cc_lists.specs.PowershellReader.{powershell_tables, spaced_table}
 use Rattle.cc_lists.specs.Paths.{LeadsTo}
 use Rattle.cc_lists.specs.Visits.{Visit, visits, DifferentKeys, DifferentPaths}
 

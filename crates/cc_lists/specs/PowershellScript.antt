@@ -2,8 +2,8 @@
 use Rattle.std.specs.Prelude.{ℕ, List, ◌++◌, flat_map}
 use Rattle.cc_lists.specs.declared.powershell.TheConstants.{POWERSHELL_HEAD, POWERSHELL_COMMAND, POWERSHELL_COMPLETIONS, POWERSHELL_TAIL, POWERSHELL_KEY, POWERSHELL_ROWS, POWERSHELL_TABLE_END, POWERSHELL_WORD, POWERSHELL_LIST, POWERSHELL_KIND, POWERSHELL_PARAMETER_NAME, POWERSHELL_PARAMETER_VALUE, POWERSHELL_TEXT, POWERSHELL_ROW_END}
 use Rattle.cc_quote.specs.PowershellQuote.{powershell_escaped}
-use Rattle.cc_lists.specs.PowershellReading.{Kind, Row, Table}
-use Rattle.cc_lists.specs.PowershellReading.Kind.{parameter_name, parameter_value}
+use Rattle.cc_lists.specs.PowershellReader.{Kind, Row, Table}
+use Rattle.cc_lists.specs.PowershellReader.Kind.{parameter_name, parameter_value}
 
 -- the name of a kind
 unfoldable pub kind_text : Kind → List ℕ

@@ -6,8 +6,8 @@ use Rattle.cc_command.specs.Names.{full_name}
 use Rattle.cc_lists.specs.Offers.{Offered, Offer, word, node_offers}
 use Rattle.cc_lists.specs.Offers.Offered.{short, long, subcommand}
 use Rattle.cc_lists.specs.Visits.{Visit, visits, key_of}
-use Rattle.cc_lists.specs.PowershellReading.{Kind, Row, Table}
-use Rattle.cc_lists.specs.PowershellReading.Kind.{parameter_name, parameter_value}
+use Rattle.cc_lists.specs.PowershellReader.{Kind, Row, Table}
+use Rattle.cc_lists.specs.PowershellReader.Kind.{parameter_name, parameter_value}
 
 -- the help or the about where there is one and it is not empty, else the text that stands in for it
 abbrev pub description : Option (List ℕ) → List ℕ → List ℕ
