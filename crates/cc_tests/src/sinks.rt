@@ -116,17 +116,41 @@ const BROKEN: Option<ErrorKind> = Some(ErrorKind::BrokenPipe);
 
 const ROOMY: (usize, Option<ErrorKind>) = (usize::MAX, None);
 
+const ZERO: Option<ErrorKind> = Some(ErrorKind::WriteZero);
+
+// Whether a writer with too little room, for each such room, is reported as it is to be, and a call
+// with room enough then writes the whole script.
+fn reports_each<G: Generator + Drop + Copy>(
+    alloc: Global,
+    generator: G,
+    command: &mut Command,
+    kinds: (Option<ErrorKind>, Option<ErrorKind>),
+    whole: &str,
+) -> Result<bool, Error> {
+    let (kind, reported) = kinds;
+    for room in 0..whole.len() {
+        if end_of(alloc, generator, command, (room, kind), whole)? != (reported, 1, room, true) {
+            return Ok(false);
+        }
+    }
+    let again = end_of(alloc, generator, command, ROOMY, whole)?;
+    Ok(again == (None, 0, whole.len(), true))
+}
+
+// The same over the fixture `app`.
+fn reports<G: Generator + Drop + Copy>(
+    alloc: Global,
+    generator: G,
+    kinds: (Option<ErrorKind>, Option<ErrorKind>),
+) -> Result<bool, Error> {
+    let whole = script(alloc, generator, app(alloc))?;
+    let mut command = app(alloc)?;
+    reports_each(alloc, generator, &mut command, kinds, whole.as_str())
+}
+
 #[test]
 fn elvish_reports_a_writer_that_fails_and_is_whole_afterwards(rt: HostRuntime) -> Result<(), Fail> {
-    let whole = script(rt.alloc(), Elvish, app(rt.alloc()))?;
-    let whole = whole.as_str();
-    let mut command = app(rt.alloc())?;
-    for room in 0..whole.len() {
-        let end = end_of(rt.alloc(), Elvish, &mut command, (room, BROKEN), whole)?;
-        assert_eq!(rt; end, (BROKEN, 1, room, true));
-    }
-    let again = end_of(rt.alloc(), Elvish, &mut command, ROOMY, whole)?;
-    assert_eq!(rt; again, (None, 0, whole.len(), true));
+    assert!(rt; reports(rt.alloc(), Elvish, (BROKEN, BROKEN))?);
     Ok(())
 }
 
@@ -134,27 +158,19 @@ fn elvish_reports_a_writer_that_fails_and_is_whole_afterwards(rt: HostRuntime) -
 fn powershell_reports_a_writer_that_fails_and_is_whole_afterwards(
     rt: HostRuntime,
 ) -> Result<(), Fail> {
-    let whole = script(rt.alloc(), PowerShell, app(rt.alloc()))?;
-    let whole = whole.as_str();
-    let mut command = app(rt.alloc())?;
-    for room in 0..whole.len() {
-        let end = end_of(rt.alloc(), PowerShell, &mut command, (room, BROKEN), whole)?;
-        assert_eq!(rt; end, (BROKEN, 1, room, true));
-    }
-    let again = end_of(rt.alloc(), PowerShell, &mut command, ROOMY, whole)?;
-    assert_eq!(rt; again, (None, 0, whole.len(), true));
+    assert!(rt; reports(rt.alloc(), PowerShell, (BROKEN, BROKEN))?);
     Ok(())
 }
 
 #[test]
-fn a_writer_that_takes_nothing_more_is_reported(rt: HostRuntime) -> Result<(), Fail> {
-    let whole = script(rt.alloc(), Elvish, app(rt.alloc()))?;
-    let whole = whole.as_str();
-    let mut command = app(rt.alloc())?;
-    for room in 0..whole.len() {
-        let end = end_of(rt.alloc(), Elvish, &mut command, (room, None), whole)?;
-        assert_eq!(rt; end, (Some(ErrorKind::WriteZero), 1, room, true));
-    }
+fn elvish_reports_a_writer_that_takes_nothing_more(rt: HostRuntime) -> Result<(), Fail> {
+    assert!(rt; reports(rt.alloc(), Elvish, (None, ZERO))?);
+    Ok(())
+}
+
+#[test]
+fn powershell_reports_a_writer_that_takes_nothing_more(rt: HostRuntime) -> Result<(), Fail> {
+    assert!(rt; reports(rt.alloc(), PowerShell, (None, ZERO))?);
     Ok(())
 }
 
