@@ -1,6 +1,6 @@
 //! What the words of the command line ask for.
 
-ghost use Rattle.std.specs.Prelude.{◌≡◌, IfOk, IfErr, IsSome, Some, codes, map, string_bytes, true};
+ghost use Rattle.std.specs.Prelude.{◌≡◌, [], IfOk, IfErr, IsSome, Some, codes, map, string_bytes, true};
 ghost use Rattle.clap.specs.Words.{fault_of, first_of, found_of, kind_of, rows_of, subcommand_of};
 ghost use Rattle.clap.specs.Words.{subcommand_rows_of, takes};
 ghost use Rattle.complgen.specs.CommandLine.{AsksFor, EntersSomeScript, HasScriptValues};
@@ -18,6 +18,7 @@ use std::borrow::CowStr;
 /// doesn't take are refused with status 2, and words that ask for help with status 0 and that help.
 pub fn plan(alloc: Global, words: &[String]) -> Result<Plan, Refusal>
     ensures ok { IfOk result (AsksFor (subcommand_of program_line (map string_bytes words.now))) }
+    ensures fits { IfOk result (λ _. fault_of program_line (map string_bytes words.now) ≡ []) }
     ensures taken { IfErr result (λ refusal.
         takes program_line (map string_bytes words.now) ≡ true → IsWantOfMemory refusal) }
     ensures err { IfErr result (RefusesWords (fault_of program_line (map string_bytes words.now))) }

@@ -7,7 +7,7 @@ ghost use Rattle.complgen.specs.Refusals.{IsRefusal, IsWantOfMemory, RefusesErro
 ghost use Rattle.complgen.specs.Refusals.{CountsRefusal, RefusesFile, RefusesWithText};
 ghost use Rattle.complgen.specs.Refusals.{invalid_variant as the_invalid_variant};
 ghost use Rattle.complgen.specs.Scripts.{TakesScript, script_for};
-ghost use Rattle.complgen.specs.TreeFile.{HoldsTree};
+ghost use Rattle.complgen.specs.TreeFile.{HoldsNoTree, HoldsTree};
 
 use crate::tree_file::{TreeError, read_tree};
 use crate::types::{Plan, Refusal};
@@ -43,7 +43,8 @@ pub fn run<W: Sink>(
     ensures nothing_failed { is_known_shell (shell_of plan.now) ≡ false → W.failed out.new ≡ W.failed out.old }
     ensures unreadable { is_known_shell (shell_of plan.now) ≡ true → file.entry ≡ None
         → IsErrAnd result (IsRefusal UNREADABLE.now) }
-    ensures unreadable_writes_nothing { file.entry ≡ None → W.taken out.new ≡ W.taken out.old }
+    ensures no_tree_written { HoldsNoTree (option_copied file.entry) → W.taken out.new ≡ W.taken out.old }
+    ensures no_tree_failed { HoldsNoTree (option_copied file.entry) → W.failed out.new ≡ W.failed out.old }
     ensures failures { is_known_shell (shell_of plan.now) ≡ true
         → CountsRefusal (option_copied file.entry) result (W.failed out.old) (W.failed out.new) }
     ensures ok { OnOk result (TakesScript (script_for (shell_of plan.now)) (bin_of plan.now)
@@ -66,7 +67,8 @@ fn script<G: Generator + Drop, W: Sink>(
     out: &mut W,
 ) -> Result<(), Refusal>
     ensures unreadable { file.entry ≡ None → IsErrAnd result (IsRefusal UNREADABLE.now) }
-    ensures unreadable_writes_nothing { file.entry ≡ None → W.taken out.new ≡ W.taken out.old }
+    ensures no_tree_written { HoldsNoTree (option_copied file.entry) → W.taken out.new ≡ W.taken out.old }
+    ensures no_tree_failed { HoldsNoTree (option_copied file.entry) → W.failed out.new ≡ W.failed out.old }
     ensures failures { CountsRefusal (option_copied file.entry) result
         (W.failed out.old) (W.failed out.new) }
     ensures ok { OnOk result (TakesScript (λ tree. G.script generator tree) bin.now

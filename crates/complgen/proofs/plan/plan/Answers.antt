@@ -30,3 +30,10 @@ returns-in-Err-clause-err c =
     refuses_words (fault_of program_line words) c.in-Err.error _
     (subst (λ (a : App). HasKind (fault_of a words) c.in-Err.error) line fails)
     c.refusal_of.ensures
+
+pub returns-in_ok-planned-in-Ok-clause-fits : goal.returns-in_ok-planned-in-Ok-clause-fits
+returns-in_ok-planned-in-Ok-clause-fits c =
+    let words = map string_bytes c.args.words.now in
+    let line = c.in_ok-command.ensures in
+    subst (λ (a : App). fault_of a words ≡ []) line
+    (c.in-Ok.ensures.kinds (ap is_simple_and_free line ∙ program_line_is_free))
