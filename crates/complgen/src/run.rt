@@ -214,14 +214,31 @@ mod tests {
     }
 
     #[test]
-    fn refuses_a_file(rt: HostRuntime) -> Result<(), Fail> {
-        let unreadable = refused(rt.alloc(), "elvish", None)?;
-        assert_eq!(rt; unreadable.text.as_str(), "tree: unreadable\n");
-        let cut = refused(rt.alloc(), "elvish", Some(b"{"))?;
-        assert_eq!(rt; cut.status, 1);
-        assert_eq!(rt; cut.text.as_str(), "tree: not JSON\n");
-        let float = refused(rt.alloc(), "elvish", Some(b"{\"name\":1.5}"))?;
-        assert_eq!(rt; float.text.as_str(), "tree: bad form\n");
+    fn refuses_a_file_that_is_not_there(rt: HostRuntime) -> Result<(), Fail> {
+        let refusal = refused(rt.alloc(), "elvish", None)?;
+        assert_eq!(rt; refusal.status, 1);
+        assert_eq!(rt; refusal.text.as_str(), "tree: unreadable\n");
+        Ok(())
+    }
+
+    // A brace left open, an empty file, bytes that are not UTF-8, and a number too large for a float.
+    const NOT_JSON: [&[u8]; 4] = [b"{", b"", b"{\"name\":\"\xff\"}", b"{\"name\":1e999}"];
+
+    #[test]
+    fn refuses_a_file_that_is_not_json(rt: HostRuntime) -> Result<(), Fail> {
+        for bytes in NOT_JSON {
+            let refusal = refused(rt.alloc(), "elvish", Some(bytes))?;
+            assert_eq!(rt; refusal.status, 1);
+            assert_eq!(rt; refusal.text.as_str(), "tree: not JSON\n");
+        }
+        Ok(())
+    }
+
+    #[test]
+    fn refuses_a_file_of_another_form(rt: HostRuntime) -> Result<(), Fail> {
+        let refusal = refused(rt.alloc(), "elvish", Some(b"{\"name\":1.5}"))?;
+        assert_eq!(rt; refusal.status, 1);
+        assert_eq!(rt; refusal.text.as_str(), "tree: bad form\n");
         Ok(())
     }
 }

@@ -310,6 +310,13 @@ mod tests {
     }
 
     #[test]
+    fn the_last_value_of_a_key_counts(rt: HostRuntime) -> Result<(), Fail> {
+        let command = read(rt.alloc(), "{\"name\": \"a\", \"name\": \"b\"}")?;
+        assert_eq!(rt; command.get_name(), "b");
+        Ok(())
+    }
+
+    #[test]
     fn a_version_flag_is_disabled_by_its_key(rt: HostRuntime) -> Result<(), Fail> {
         let text = "{\"name\": \"app\", \"version\": \"1.2\", \"disable_version_flag\": true}";
         let mut command = read(rt.alloc(), text)?;
