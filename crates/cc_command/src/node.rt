@@ -6,20 +6,33 @@ use cc_base::{Items, Text};
 /// What one command of a tree holds besides its children.
 #[derive(Drop)]
 pub struct Node {
+    /// The name by which it is called, besides its aliases.
     pub name: Text,
+    /// The name of the program; below the root, after a build, the command's name in full.
     pub bin_name: Option<Text>,
+    /// What the command says of itself.
     pub about: Option<Text>,
+    /// The version that its flag `version` shows.
     pub version: Option<Text>,
+    /// Names that work and are not shown.
     pub aliases: Items<Text>,
+    /// Names that work and are shown.
     pub visible_aliases: Items<Text>,
+    /// The heading over its children in help texts.
     pub subcommand_help_heading: Option<Text>,
+    /// Its display order among its siblings, given or handed out.
     pub display_order: Option<usize>,
     /// The display order of the next argument or child that is added without one.
     pub next_order: usize,
+    /// Its arguments, in the order in which they were added.
     pub arguments: Items<Arg>,
+    /// Whether it is left out of help texts.
     pub hide: bool,
+    /// Whether building adds no flag `help`.
     pub disable_help_flag: bool,
+    /// Whether building adds no flag `version`.
     pub disable_version_flag: bool,
+    /// Whether building adds no child `help`.
     pub disable_help_subcommand: bool,
     /// Whether building made this node.
     pub generated: bool,

@@ -18,8 +18,11 @@ use std::alloc::Global;
 /// What is offered: a short or a long of an argument, or a name of a child.
 #[derive(Clone, Copy)]
 pub enum Offered<'a> {
+    /// A short of an argument, without its dash.
     Short(char),
+    /// A long of an argument, without its dashes.
     Long(&'a str),
+    /// A name of a child.
     Subcommand(&'a str),
 }
 

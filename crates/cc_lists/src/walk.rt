@@ -32,11 +32,12 @@ pub trait TableScript {
         ensures kinds { IfErr result IsMemoryOrWrite };
 }
 
-// A node whose tables, and those of all below it, are still to be written, with the key of its
-// parent.
+/// A node whose tables, and those of all below it, are still to be written.
 #[derive(Drop)]
 pub struct Pending {
+    /// The number of the node.
     pub number: usize,
+    /// The key of its parent.
     pub key: Text,
 }
 
