@@ -60,11 +60,10 @@ RefusesFile None refusal = IsRefusal (codes "tree: unreadable\n") refusal
 RefusesFile (Some bytes) refusal =
     (error : TreeError) × RefusesTree error refusal × ReadsTree bytes (Err error)
 
--- how a script is refused, once the shell is known, where no write failed: for want of memory, for
--- its tree file, or for a label that two commands share
+-- how a script is refused, once the shell is known, where no write failed: for want of memory, or for
+-- its tree file
 abbrev pub RefusesScript : Option (List ℕ) → Refusal → Type 0
-RefusesScript file refusal = IsWantOfMemory refusal ⊎ (RefusesFile file refusal
-    ⊎ ((label : List ℕ) × IsRefusal (error_text (LabelClash label) ++ codes "\n") refusal))
+RefusesScript file refusal = IsWantOfMemory refusal ⊎ RefusesFile file refusal
 
 -- A failed write is refused as such, and the sink's count of failures rises exactly then.
 abbrev pub CountsRefusal : {A : Type 0} → Option (List ℕ) → Result A Refusal → ℕ → ℕ → Type 0

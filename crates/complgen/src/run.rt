@@ -2,6 +2,7 @@
 
 ghost use Rattle.std.specs.Prelude.{◌≡◌, ◌⊎◌, IfErr, IfOk, IsErrAnd, OnOk, false, option_copied};
 ghost use Rattle.std.specs.Prelude.{true};
+ghost use Rattle.cc_command.specs.Tree.{Tree};
 ghost use Rattle.complgen.specs.Plans.{bin_of, is_known_shell, shell_of};
 ghost use Rattle.complgen.specs.Refusals.{IsRefusal, IsWantOfMemory, RefusesError, RefusesTree};
 ghost use Rattle.complgen.specs.Refusals.{CountsRefusal, RefusesFile, RefusesWithText};
@@ -69,8 +70,8 @@ fn script<G: Generator + Drop, W: Sink>(
     ensures unreadable { file.entry ≡ None → IsErrAnd result (IsRefusal UNREADABLE.now) }
     ensures no_tree_written { HoldsNoTree (option_copied file.entry) → W.taken out.new ≡ W.taken out.old }
     ensures no_tree_failed { HoldsNoTree (option_copied file.entry) → W.failed out.new ≡ W.failed out.old }
-    ensures failures { CountsRefusal (option_copied file.entry) result
-        (W.failed out.old) (W.failed out.new) }
+    ensures failures { ((tree : Tree) → G.clash generator tree ≡ None)
+        → CountsRefusal (option_copied file.entry) result (W.failed out.old) (W.failed out.new) }
     ensures ok { OnOk result (TakesScript (λ tree. G.script generator tree) bin.now
         (option_copied file.entry) (W.taken out.old) (W.taken out.new)) }
 {
