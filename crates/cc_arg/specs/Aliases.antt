@@ -1,5 +1,5 @@
 -- What the iterators over joined names have left.
-use Rattle.std.specs.Prelude.{ℕ, List, ◌++◌, Option}
+use Rattle.std.specs.Prelude.{ℕ, List, ◌++◌}
 use Rattle.std.specs.Option.{option_to_list, option_copied}
 use Rattle.cc_arg.specs.declared.aliases.ShortAndVisibleAliases.{ShortAndVisibleAliases}
 use Rattle.cc_arg.specs.declared.aliases.LongAndVisibleAliases.{LongAndVisibleAliases}

@@ -1,5 +1,5 @@
 -- What an argument is as it is made, and what it counts as where nothing was given.
-use Rattle.std.specs.Prelude.{ℕ, List, [], length, max, Bool, true, false, cond, Option, Some, None, unwrap_or, is_some, ◌||◌, ◌&&◌, not, ◌==◌, nat_lt}
+use Rattle.std.specs.Prelude.{ℕ, List, [], length, max, Bool, false, if◌then◌else◌, Option, Some, None, unwrap_or, is_some, ◌||◌, ◌&&◌, not, ◌==◌, nat_lt}
 use Rattle.cc_arg.specs.declared.arg.Arg.{Arg}
 use Rattle.cc_arg.specs.declared.range.ValueRange.{ValueRange}
 use Rattle.cc_arg.specs.declared.action.ArgAction.{ArgAction}
@@ -37,7 +37,7 @@ exactly count = record { least = count; greatest = count }
 -- name, and at least one
 abbrev pub range_by_action : Option ArgAction → ℕ → ValueRange
 range_by_action None names = exactly (max names 1)
-range_by_action (Some action) names = exactly (cond (action_takes_values action) (max names 1) 0)
+range_by_action (Some action) names = exactly (if action_takes_values action then max names 1 else 0)
 
 -- the range that counts: the given one, or the one that the action and the value names imply
 abbrev pub range_of : Arg → ValueRange
@@ -50,8 +50,8 @@ takes_values arg = nat_lt 0 (range_of arg).greatest
 -- the action that counts: the given one; else the flag's where there are no values, and for a
 -- positional without a bound the one that keeps every use
 abbrev pub action_of : Arg → ArgAction
-action_of arg = unwrap_or arg.action (cond ((range_of arg).greatest == 0) SetTrue
-    (cond (is_positional arg && ((range_of arg).greatest == 18446744073709551615)) Append Set))
+action_of arg = unwrap_or arg.action (if (range_of arg).greatest == 0 then SetTrue
+    else (if is_positional arg && ((range_of arg).greatest == 18446744073709551615) then Append else Set))
 
 -- the argument with its range and its action filled in
 abbrev pub filled : Arg → Arg

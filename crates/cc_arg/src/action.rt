@@ -1,18 +1,18 @@
-//! What an argument does when it is met.
+//! What an argument does when it is given.
 
 ghost use Rattle.std.specs.Prelude.{◌≡◌};
 ghost use Rattle.cc_arg.specs.Action.{action_takes_values};
 
-/// What an argument does when it is met on a command line.
+/// What an argument does when it is given on a command line.
 #[derive(Clone, Copy, PartialEq, Eq, Debug)]
 pub enum ArgAction {
-    /// Keeps the values, and those of a later use instead.
+    /// Keeps the values of the last use.
     Set,
     /// Keeps the values of every use.
     Append,
-    /// Is `true` where it is met.
+    /// Is `true` where it is given.
     SetTrue,
-    /// Is `false` where it is met.
+    /// Is `false` where it is given.
     SetFalse,
     /// Counts its uses.
     Count,

@@ -1,6 +1,6 @@
 //! The joined lists of an argument's names: the short or long itself, then its visible aliases.
 
-ghost use Rattle.std.specs.Prelude.{◌≡◌, ◌++◌, List, ℕ};
+ghost use Rattle.std.specs.Prelude.{◌≡◌};
 ghost use Rattle.std.specs.Iterator.{YieldsFirst, YieldsFirstBy, item_count};
 
 use cc_base::Text;

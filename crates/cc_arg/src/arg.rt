@@ -1,6 +1,6 @@
 //! An argument: its builders and getters.
 
-ghost use Rattle.std.specs.Prelude.{◌≡◌, List, ℕ, [], ◌∷◌, ◌++◌, Some, None, Option, unwrap_or, IfOk, IfErr};
+ghost use Rattle.std.specs.Prelude.{◌≡◌, [], ◌∷◌, ◌++◌, Some, None, Option, unwrap_or, IfOk, IfErr};
 ghost use Rattle.std.specs.Option.{option_map, option_copied};
 ghost use Rattle.std.specs.String.{string_bytes};
 ghost use Rattle.cc_arg.specs.Aliases.{shorts_left, longs_left};
@@ -16,7 +16,7 @@ use std::alloc::Global;
 /// an option or a flag, as it takes values or not.
 ///
 /// Builders take the argument and answer the changed one; those that grow a list may be refused
-/// memory, and then drop it. An alias counts only where its short (long) stands.
+/// memory, and then drop it. An alias takes effect only where the short (long) is set.
 #[derive(Drop)]
 pub struct Arg {
     id: Text,
@@ -36,7 +36,7 @@ pub struct Arg {
 }
 
 impl Arg {
-    /// An argument with this id and nothing else; its lists grow by `alloc`.
+    /// An argument with this id and nothing else; its lists take memory from `alloc`.
     pub fn new(alloc: Global, id: String) -> Arg
         ensures { result ≡ new_arg (string_bytes id) }
     {
@@ -287,8 +287,8 @@ impl Arg {
         self.short.is_none() && self.long.is_none()
     }
 
-    /// Whether the argument takes values. One that is not built counts by its action and by its
-    /// value names.
+    /// Whether the argument takes values, by the range that was given, else by the one that a
+    /// build would fill in.
     pub fn takes_values(&self) -> bool
         ensures { result ≡ takes_values self.now }
     {
@@ -351,7 +351,8 @@ impl Arg {
     }
 }
 
-// Filling in is done by free functions, so that programs, which are not given them, don't see them.
+// Filling in is done by free functions, so that `clap_complete` can leave them out of what it gives
+// out.
 
 /// Fills in the range and the action where none was given, as building a command does.
 pub fn fill(argument: &mut Arg)

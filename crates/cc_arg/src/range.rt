@@ -11,7 +11,8 @@ pub struct ValueRange {
 }
 
 impl ValueRange {
-    /// The range from `least` to `greatest`.
+    /// The range from `least`, which is at most 255, to `greatest`, which is no less; `usize::MAX`
+    /// is no bound.
     pub fn new(least: usize, greatest: usize) -> ValueRange
         requires ordered { least ≤ greatest }
         requires small { least ≤ 255 }

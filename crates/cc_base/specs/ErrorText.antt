@@ -3,6 +3,7 @@ use Rattle.std.specs.Prelude.{ℕ, List, ◌++◌, codes}
 use Rattle.cc_base.specs.declared.error.Error.{Error}
 use Rattle.cc_base.specs.declared.error.Error.TheVariants.{Memory, Write, LabelClash, NoCompletion, NoArguments, UnknownShell, InvalidVariant}
 
+-- the text, with no line feed
 abbrev pub error_text : Error → List ℕ
 error_text Memory = codes "out of memory"
 error_text (Write _) = codes "write failed"

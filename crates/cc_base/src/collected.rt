@@ -17,7 +17,7 @@ pub struct Collected {
 }
 
 impl Collected {
-    /// A sink that has taken nothing, which grows by `alloc`.
+    /// A sink that has taken nothing; it takes memory from `alloc`.
     pub fn new(alloc: Global) -> Collected
         ensures bytes { collected_bytes result ≡ [] }
         ensures failures { collected_failures result ≡ 0 }
@@ -35,7 +35,7 @@ impl Collected {
         self.bytes.as_slice()
     }
 
-    /// The bytes taken, without memory.
+    /// The bytes taken. Takes no memory.
     pub fn into_vec(self) -> Vec<u8>
         ensures { result.items ≡ collected_bytes self }
     {

@@ -22,9 +22,9 @@ pub enum Error {
     NoCompletion,
     /// The list of arguments is empty.
     NoArguments,
-    /// No shell has the name that was asked for; this is the whole message.
+    /// No shell has the name that was asked for. It holds the whole message.
     UnknownShell(Text),
-    /// No shell is written as this text; this is the whole message.
+    /// A text names no shell. It holds the whole message.
     InvalidVariant(Text),
 }
 

@@ -28,7 +28,7 @@ impl<T> From<Vec<T>> for Items<T> {
 }
 
 impl<T> Items<T> {
-    /// The empty list, which grows by `alloc`.
+    /// The empty list; it takes memory from `alloc`.
     pub fn new(alloc: Global) -> Items<T>
         ensures empty { result ≡ [] }
     {
@@ -51,7 +51,7 @@ impl<T> Items<T> {
         self.items.as_slice()
     }
 
-    /// The items as a `Vec`, without memory.
+    /// The items as a `Vec`. Takes no memory.
     pub fn into_vec(self) -> Vec<T>
         ensures items { result.items ≡ self }
     {
@@ -60,7 +60,7 @@ impl<T> Items<T> {
 }
 
 impl<T: Copy> Items<T> {
-    /// A copy of a list that was lent.
+    /// A copy of borrowed items.
     pub fn copy_of(alloc: Global, items: &[T]) -> Result<Items<T>, AllocError>
         ensures copied { IfOk result (λ copy. copy ≡ items.now) }
     {
@@ -71,7 +71,7 @@ impl<T: Copy> Items<T> {
 }
 
 impl Items<Text> {
-    /// A copy of a list of texts that was lent, each text copied.
+    /// A copy of borrowed texts, each text copied.
     pub fn copy_of_texts(alloc: Global, texts: &[Text]) -> Result<Items<Text>, AllocError>
         ensures copied { IfOk result (λ copy. copy ≡ texts.now) }
     {

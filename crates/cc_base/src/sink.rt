@@ -8,24 +8,27 @@ use std::io::ErrorKind;
 
 /// Something that takes bytes and counts its failures.
 pub trait Sink {
+    // the bytes taken so far
     ghost taken: { Self → List ℕ };
 
+    // how many writes failed
     ghost failed: { Self → ℕ };
 
-    /// Takes a beginning of the slice and answers its length.
+    /// Takes a prefix of the slice and answers its length. Where it fails, what it took is left
+    /// open.
     fn put(&mut self, bytes: &[u8]) -> Result<usize, ErrorKind>
         ensures within { IfOk result (λ count. count ≤ length bytes.now) }
         ensures ok { IfOk result (λ count. taken self.new ≡ taken self.old ++ take count bytes.now) }
         ensures failures { failed self.new
             ≡ (if is_failure result bytes.now then raised (failed self.old) else failed self.old) };
 
-    /// How many puts failed: those that were an error, or took nothing of a slice that isn't
-    /// empty. The count stays at `u64::MAX` once it is there.
+    /// How many writes failed: puts that were an error or took nothing of a slice that isn't
+    /// empty, and flushes that failed. The count stays at `u64::MAX` once it is there.
     fn failures(&self) -> u64
         ensures { result ≡ failed self.now };
 }
 
-/// Puts until all is taken or a put fails. An empty slice is not handed on.
+/// Puts until all is taken or a put fails. No empty slice is handed on.
 ///
 /// Fails with `Write` and the kind of the put that failed, which is `WriteZero` where it took
 /// nothing.

@@ -29,7 +29,7 @@ impl From<String> for Text {
 }
 
 impl Text {
-    /// A copy of a text that was lent.
+    /// A copy of a borrowed text.
     pub fn copy_of(alloc: Global, text: &str) -> Result<Text, AllocError>
         ensures copied { IfOk result (λ copy. copy ≡ text.now) }
     {
@@ -45,14 +45,14 @@ impl Text {
         self.inner.as_str()
     }
 
-    /// The text as a `String`, without memory.
+    /// The text as a `String`. Takes no memory.
     pub fn into_string(self) -> String
         ensures text { string_bytes result ≡ self }
     {
         self.inner
     }
 
-    /// A copy of a text that was lent, where there is one.
+    /// A copy of a borrowed text, where there is one.
     pub fn copy_of_some(alloc: Global, text: Option<&str>) -> Result<Option<Text>, AllocError>
         ensures copied { IfOk result (λ copy. copy ≡ option_copied text.entry) }
     {
@@ -62,7 +62,7 @@ impl Text {
         }
     }
 
-    /// An equal text of its own.
+    /// A copy of the text.
     pub fn try_clone(&self, alloc: Global) -> Result<Text, AllocError>
         ensures equal { IfOk result (λ copy. copy ≡ self.now) }
     {

@@ -1,5 +1,5 @@
 -- Building a built tree changes nothing.
-use Rattle.std.proofs.Common.{◌≡◌, ℕ, suc, List, [], ◌∷◌, ◌++◌, Bool, true, false, cond, not, ◌&&◌, ◌||◌, Option, Some, None, map, refl, ap, ◌∙◌, sym}
+use Rattle.std.proofs.Common.{◌≡◌, ℕ, suc, List, [], ◌∷◌, ◌++◌, Bool, true, false, cond, not, ◌&&◌, ◌||◌, Option, Some, map, refl, ap, ◌∙◌, sym}
 use Rattle.std.specs.Str.{bytes_eq}
 use Rattle.std.proofs.lemmas.Slice.Eq.{bytes_eq-Decides}
 use Rattle.cc_arg.specs.declared.arg.Arg.{Arg}
@@ -9,7 +9,7 @@ use Rattle.cc_command.specs.declared.node.TheConstants.{HELP, HELP_ABOUT}
 use Rattle.cc_command.specs.Tree.{Forest, none, more, join, Tree}
 use Rattle.cc_command.specs.Names.{has_id, has_child, answers_to, full_name, joined_name}
 use Rattle.cc_command.specs.Generated.{generated_arguments, generated_node, copies, help_command, needs_help_child, help_child}
-use Rattle.cc_command.specs.Built.{with_missing, lacks_index, with_index, index_behind, indexed, inherited_by, built_arguments, built_node, built_forest, built_under, built_tree}
+use Rattle.cc_command.specs.Built.{with_missing, lacks_index, with_index, index_behind, indexed, inherited_by, built_node, built_forest, built_under, built_tree}
 
 and_false : (b : Bool) → (b && false) ≡ false
 and_false true = refl
@@ -154,10 +154,6 @@ has_child-built : (inherited : List Arg) (parent : List ℕ) (forest : Forest) (
 has_child-built inherited parent none word = refl
 has_child-built inherited parent (more node below rest) word =
     ap (λ t. answers_to node word || t) (has_child-built inherited parent rest word)
-
--- a generated `help` answers to `help`
-has_child-help : (parent : List ℕ) (children : Forest) → has_child (help_command parent children) HELP.now ≡ true
-has_child-help parent children = refl
 
 -- where the help child is disabled none is missing
 needs_help_child-disabled : (node : Node) (forest : Forest) → node.disable_help_subcommand ≡ true → needs_help_child node forest ≡ false

@@ -1,5 +1,5 @@
 -- Trees that are built as the definitions say, and the texts of what building adds.
-use Rattle.std.proofs.Common.{◌≡◌, ℕ, List, [], ◌∷◌, ◌++◌, Option, Some, map, codes, refl}
+use Rattle.std.proofs.Common.{◌≡◌, ℕ, List, [], ◌∷◌, ◌++◌, Some, map, codes, refl}
 use Rattle.cc_command.specs.declared.node.TheConstants.{HELP, HELP_HELP, HELP_ABOUT, VERSION, VERSION_HELP}
 use Rattle.cc_command.specs.Tree.{Forest, none, more, Tree}
 use Rattle.cc_command.specs.Names.{full_name}

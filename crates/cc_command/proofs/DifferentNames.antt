@@ -1,10 +1,13 @@
--- Names that differ, list by list.
-use Rattle.std.proofs.Common.{◌≡◌, ℕ, List, [], ◌∷◌, ◌++◌, Bool, true, false, not, ◌&&◌, ◌||◌, refl, ap, ◌∙◌}
+-- Names that differ, list by list and sibling by sibling.
+use Rattle.std.proofs.Common.{◌≡◌, ℕ, ◌+◌, ◌<◌, ◌≤◌, List, [], ◌∷◌, ◌++◌, length, drop, get_or, Bool, true, false, not, ◌&&◌, ◌||◌, refl, ap, ap₂, sym, ◌∙◌}
 use Rattle.std.specs.List.{list_all}
 use Rattle.std.specs.Str.{bytes_eq}
+use Rattle.std.proofs.lemmas.List.{at_drop_more, at_drop_all}
 use Rattle.std.proofs.lemmas.List.Folds.{list_any-append}
-use Rattle.cc_command.specs.Names.{contains_name}
-use Rattle.cc_command.specs.Plain.{all_differ}
+use Rattle.cc_command.specs.declared.node.Node.{Node}
+use Rattle.cc_command.specs.Names.{answers_to, contains_name, has_child}
+use Rattle.cc_command.specs.Plain.{all_differ, names_of, names_of_all, siblings_differ}
+use Rattle.cc_command.specs.Tree.{Forest, none, more, Tree, forest_of}
 
 pub contains_name_append : (names others : List (List ℕ)) (word : List ℕ) →
     contains_name (names ++ others) word ≡ (contains_name names word || contains_name others word)
@@ -25,3 +28,84 @@ all_differ_append (name ∷ names) others =
     ap (λ b. not (contains_name names name || contains_name others name) && b) (all_differ_append names others) ∙
     regroup (contains_name names name) (contains_name others name) (all_differ names)
     (list_all (λ name. not (contains_name others name)) names) (all_differ others)
+
+and_assoc : (a b c : Bool) → (a && (b && c)) ≡ ((a && b) && c)
+and_assoc true b c = refl
+and_assoc false b c = refl
+
+or_assoc : (a b c : Bool) → (a || (b || c)) ≡ ((a || b) || c)
+or_assoc true b c = refl
+or_assoc false b c = refl
+
+-- a command answers to its names and to no other word
+contains_name-names_of : (node : Node) (word : List ℕ) → contains_name (names_of node) word ≡ answers_to node word
+contains_name-names_of node word =
+    ap (λ b. bytes_eq node.name word || b) (contains_name_append node.visible_aliases node.aliases word) ∙
+    or_assoc (bytes_eq node.name word) (contains_name node.visible_aliases word) (contains_name node.aliases word)
+
+-- one of some siblings answers to their names and to no other word
+contains_name-names_of_all : (siblings : Forest) (word : List ℕ) → contains_name (names_of_all siblings) word ≡ has_child siblings word
+contains_name-names_of_all none word = refl
+contains_name-names_of_all (more node below rest) word =
+    contains_name_append (names_of node) (names_of_all rest) word ∙
+    ap₂ (λ a b. a || b) (contains_name-names_of node word) (contains_name-names_of_all rest word)
+
+-- no sibling answers to one of the names
+abbrev pub are_apart_from : Forest → List (List ℕ) → Bool
+are_apart_from siblings names = list_all (λ name. not (has_child siblings name)) names
+
+-- so the names differ from all of theirs
+none_contained : (siblings : Forest) (names : List (List ℕ)) →
+    list_all (λ name. not (contains_name (names_of_all siblings) name)) names ≡ are_apart_from siblings names
+none_contained siblings [] = refl
+none_contained siblings (name ∷ names) =
+    ap₂ (λ a b. not a && b) (contains_name-names_of_all siblings name) (none_contained siblings names)
+
+siblings_differ-none : siblings_differ none ≡ true
+unfolding siblings_differ
+siblings_differ-none = refl
+
+-- siblings differ where the names of the first one do, none behind it answers to one of them, and those
+-- behind it differ
+pub siblings_differ-more : (node : Node) (below rest : Forest) →
+    siblings_differ (more node below rest) ≡
+    (all_differ (names_of node) && (are_apart_from rest (names_of node) && siblings_differ rest))
+unfolding siblings_differ
+siblings_differ-more node below rest =
+    all_differ_append (names_of node) (names_of_all rest) ∙
+    ap (λ b. all_differ (names_of node) && (b && all_differ (names_of_all rest))) (none_contained rest (names_of node))
+
+-- ---- siblings, one place after another
+
+-- the names of one sibling differ from each other and from all names behind it
+abbrev pub differs_from : Tree → List Tree → Bool
+differs_from sibling behind = all_differ (names_of sibling.node) && are_apart_from (forest_of behind) (names_of sibling.node)
+
+siblings_differ-at : (siblings : List Tree) (place : ℕ) (sibling : Tree) → place < length siblings → get_or siblings place sibling ≡ sibling →
+    siblings_differ (forest_of (drop place siblings)) ≡ (differs_from sibling (drop (place + 1) siblings) && siblings_differ (forest_of (drop (place + 1) siblings)))
+siblings_differ-at siblings place sibling below is =
+    at_drop_more (λ trees. siblings_differ (forest_of trees)) siblings place sibling below ∙
+    ap (λ first. siblings_differ (forest_of (first ∷ drop (place + 1) siblings))) is ∙
+    siblings_differ-more sibling.node sibling.children (forest_of (drop (place + 1) siblings)) ∙
+    and_assoc (all_differ (names_of sibling.node))
+    (are_apart_from (forest_of (drop (place + 1) siblings)) (names_of sibling.node))
+    (siblings_differ (forest_of (drop (place + 1) siblings)))
+
+-- a sibling whose names do not differ
+pub siblings_differ-refused : (siblings : List Tree) (place : ℕ) (sibling : Tree) (whole : Bool) → place < length siblings → get_or siblings place sibling ≡ sibling →
+    siblings_differ (forest_of (drop place siblings)) ≡ whole → differs_from sibling (drop (place + 1) siblings) ≡ false → false ≡ whole
+siblings_differ-refused siblings place sibling whole below at is refused =
+    sym (ap (λ b. b && siblings_differ (forest_of (drop (place + 1) siblings))) refused) ∙ sym (siblings_differ-at siblings place sibling below at) ∙ is
+
+-- a sibling whose names do
+pub siblings_differ-passed : (siblings : List Tree) (place : ℕ) (sibling : Tree) (whole : Bool) → place < length siblings → get_or siblings place sibling ≡ sibling →
+    siblings_differ (forest_of (drop place siblings)) ≡ whole → differs_from sibling (drop (place + 1) siblings) ≡ true →
+    siblings_differ (forest_of (drop (place + 1) siblings)) ≡ whole
+siblings_differ-passed siblings place sibling whole below at is passed =
+    sym (ap (λ b. b && siblings_differ (forest_of (drop (place + 1) siblings))) passed) ∙ sym (siblings_differ-at siblings place sibling below at) ∙ is
+
+-- behind the last sibling
+pub siblings_differ-done : (siblings : List Tree) (place : ℕ) (whole : Bool) → length siblings ≤ place →
+    siblings_differ (forest_of (drop place siblings)) ≡ whole → true ≡ whole
+siblings_differ-done siblings place whole past is =
+    sym siblings_differ-none ∙ sym (at_drop_all (λ trees. siblings_differ (forest_of trees)) siblings place past) ∙ is

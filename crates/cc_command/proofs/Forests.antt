@@ -1,5 +1,5 @@
 -- Definitions over forests, at the forest of a list of trees.
-use Rattle.std.proofs.Common.{◌≡◌, ℕ, suc, ◌+◌, List, [], ◌∷◌, ◌++◌, length, Bool, cond, not, ◌&&◌, ◌||◌, ◌==◌, Option, Some, None, refl, ap, ◌∙◌, sym, arith, add-zero, zero-add, true, false}
+use Rattle.std.proofs.Common.{◌≡◌, ℕ, suc, ◌+◌, List, [], ◌∷◌, ◌++◌, length, cond, not, ◌&&◌, ◌||◌, ◌==◌, Some, refl, ap, ◌∙◌, sym, arith, add-zero, zero-add, true, false}
 use Rattle.std.specs.List.{list_any}
 use Rattle.std.proofs.lemmas.Bool.Decides.{nat_tests}
 use Rattle.cc_arg.specs.declared.arg.Arg.{Arg}
@@ -8,7 +8,7 @@ use Rattle.cc_command.specs.declared.node.TheConstants.{HELP}
 use Rattle.cc_command.specs.Tree.{Forest, none, more, join, has_nodes, Tree, forest_of}
 use Rattle.cc_command.specs.Names.{has_child, has_id, answers_to, joined_name}
 use Rattle.cc_command.specs.Generated.{copies, generated_node, help_command, needs_help_child, help_child}
-use Rattle.cc_command.specs.Built.{built_forest, built_under, with_missing, inherited_by}
+use Rattle.cc_command.specs.Built.{built_forest, built_under, with_missing}
 use Rattle.cc_command.proofs.BuiltAgain.{built_forest-join, join-none, helped}
 
 pub forest_of-append : (xs ys : List Tree) → forest_of (xs ++ ys) ≡ join (forest_of xs) (forest_of ys)
@@ -91,7 +91,3 @@ needs_help_child-forest_of node (tree ∷ trees) =
 pub with_missing-append : (xs ys zs : List Arg) → with_missing xs (ys ++ zs) ≡ with_missing (with_missing xs ys) zs
 with_missing-append xs [] zs = refl
 with_missing-append xs (y ∷ ys) zs = with_missing-append (cond (has_id xs y.id) xs (xs ++ y ∷ [])) ys zs
-
--- where nothing comes from above nothing is inherited
-pub inherited_by-none : (node : Node) → inherited_by node [] ≡ []
-inherited_by-none node = elim node.generated as (λ b. (let xs : List Arg = cond b [] [] in xs) ≡ []) [ true ↦ refl | false ↦ refl ]

@@ -1,5 +1,5 @@
 -- The tree that building makes.
-use Rattle.std.specs.Prelude.{ℕ, suc, List, [], ◌∷◌, ◌++◌, Bool, true, not, cond, ◌&&◌, Option, Some, is_some, map}
+use Rattle.std.specs.Prelude.{ℕ, suc, List, [], ◌∷◌, ◌++◌, Bool, true, not, if◌then◌else◌, ◌&&◌, Option, Some, is_some, map}
 use Rattle.cc_arg.specs.declared.arg.Arg.{Arg}
 use Rattle.cc_arg.specs.Arguments.{filled, is_positional}
 use Rattle.cc_command.specs.declared.node.Node.{Node}
@@ -11,7 +11,7 @@ use Rattle.cc_command.specs.Generated.{generated_arguments, help_child}
 abbrev pub with_missing : List Arg → List Arg → List Arg
 with_missing arguments [] = arguments
 with_missing arguments (other ∷ others) =
-    with_missing (cond (has_id arguments other.id) arguments (arguments ++ other ∷ [])) others
+    with_missing (if has_id arguments other.id then arguments else arguments ++ other ∷ []) others
 
 -- the argument is a positional whose index is not given
 abbrev pub lacks_index : Arg → Bool
@@ -19,11 +19,11 @@ lacks_index argument = is_positional argument && not (is_some argument.index)
 
 -- the argument with this index, if it lacks one
 abbrev pub with_index : ℕ → Arg → Arg
-with_index number argument = cond (lacks_index argument) (record argument { index = Some number }) argument
+with_index number argument = if lacks_index argument then record argument { index = Some number } else argument
 
 -- the index that is free behind an argument
 abbrev pub index_behind : ℕ → Arg → ℕ
-index_behind number argument = cond (lacks_index argument) (suc number) number
+index_behind number argument = if lacks_index argument then suc number else number
 
 -- the positionals that lack an index get those from this one on, in order
 abbrev pub indexed : ℕ → List Arg → List Arg
@@ -32,7 +32,7 @@ indexed number (argument ∷ arguments) = with_index number argument ∷ indexed
 
 -- what a node inherits: nothing, where building made it
 abbrev pub inherited_by : Node → List Arg → List Arg
-inherited_by node inherited = cond node.generated [] inherited
+inherited_by node inherited = if node.generated then [] else inherited
 
 -- a node's arguments: its own, then those that it inherits, then `help`, then `version`, each with
 -- its range, its action and its index

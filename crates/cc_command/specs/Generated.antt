@@ -1,5 +1,5 @@
 -- What building adds to a tree: the arguments `help` and `version`, and the child `help`.
-use Rattle.std.specs.Prelude.{ℕ, suc, List, [], ◌∷◌, ◌++◌, Bool, true, false, not, cond, ◌&&◌, Option, Some, None, is_some, codes}
+use Rattle.std.specs.Prelude.{ℕ, suc, List, [], ◌∷◌, ◌++◌, Bool, true, false, not, if◌then◌else◌, ◌&&◌, Option, Some, None, is_some}
 use Rattle.cc_arg.specs.declared.arg.Arg.{Arg}
 use Rattle.cc_arg.specs.declared.action.ArgAction.TheVariants.{Help, Version}
 use Rattle.cc_arg.specs.Arguments.{new_arg}
@@ -30,11 +30,11 @@ version_argument = record (new_arg VERSION.now) {
 
 -- the flag `help`, unless it is disabled
 abbrev pub generated_help : Node → List Arg
-generated_help node = cond node.disable_help_flag [] (help_argument ∷ [])
+generated_help node = if node.disable_help_flag then [] else help_argument ∷ []
 
 -- the flag `version`, where there is a version and the flag is not disabled
 abbrev pub generated_version : Node → List Arg
-generated_version node = cond (is_some node.version && not node.disable_version_flag) (version_argument ∷ []) []
+generated_version node = if is_some node.version && not node.disable_version_flag then version_argument ∷ [] else []
 
 -- the flags that building adds where no argument has their ids
 abbrev pub generated_arguments : Node → List Arg
@@ -84,6 +84,6 @@ needs_help_child node (more child below rest) =
 -- the generated child `help`, where it is missing: copies of the children, and last a `help`
 abbrev pub help_child : List ℕ → Node → Forest → Forest
 help_child parent node children =
-    cond (needs_help_child node children)
-    (help_command parent (join (copies (joined_name parent HELP.now) 0 children) (help_command (joined_name parent HELP.now) none)))
-    none
+    if needs_help_child node children
+    then help_command parent (join (copies (joined_name parent HELP.now) 0 children) (help_command (joined_name parent HELP.now) none))
+    else none

@@ -1,9 +1,9 @@
 -- A command as it is made, and the trees that its builders make of others.
-use Rattle.std.specs.Prelude.{ℕ, suc, List, [], ◌∷◌, ◌++◌, Bool, true, false, cond, Option, Some, None, unwrap_or, is_some, min, ◌+◌}
+use Rattle.std.specs.Prelude.{ℕ, List, [], ◌∷◌, ◌++◌, false, if◌then◌else◌, Some, None, unwrap_or, min, ◌+◌}
 use Rattle.cc_arg.specs.declared.arg.Arg.{Arg}
 use Rattle.cc_arg.specs.Arguments.{is_positional}
 use Rattle.cc_command.specs.declared.node.Node.{Node}
-use Rattle.cc_command.specs.Tree.{Forest, none, more, join, Tree}
+use Rattle.cc_command.specs.Tree.{none, more, join, Tree}
 
 -- a node of which only the name was given
 abbrev pub new_node : List ℕ → Node
@@ -35,19 +35,20 @@ abbrev pub order_behind : ℕ → ℕ
 order_behind order = min (order + 1) 18446744073709551615
 
 -- the argument with this display order, if it has none of its own
-abbrev pub ordered : ℕ → Arg → Arg
-ordered order argument = record argument { display_order = Some (unwrap_or argument.display_order order) }
+abbrev pub ordered_argument : ℕ → Arg → Arg
+ordered_argument order argument = record argument { display_order = Some (unwrap_or argument.display_order order) }
 
 -- the node with one more argument. One that is no positional takes the next display order, unless
 -- it has its own; the order is used up all the same.
 abbrev pub with_argument : Node → Arg → Node
-with_argument node argument = cond (is_positional argument)
-    (record node { arguments = node.arguments ++ argument ∷ []; built = false })
-    (record node {
-      arguments = node.arguments ++ ordered node.next_order argument ∷ [];
+with_argument node argument =
+    if is_positional argument
+    then record node { arguments = node.arguments ++ argument ∷ []; built = false }
+    else record node {
+      arguments = node.arguments ++ ordered_argument node.next_order argument ∷ [];
       next_order = order_behind node.next_order;
       built = false;
-    })
+    }
 
 -- the node with this display order, if it has none of its own
 abbrev pub ordered_node : ℕ → Node → Node

@@ -1,5 +1,5 @@
 -- The names of commands and arguments: who answers to a word, and what a name in full is.
-use Rattle.std.specs.Prelude.{ℕ, List, [], ◌∷◌, ◌++◌, Bool, false, ◌||◌, cond, Option, Some, None, unwrap_or, codes}
+use Rattle.std.specs.Prelude.{ℕ, List, ◌∷◌, ◌++◌, Bool, false, ◌||◌, if◌then◌else◌, Option, Some, None, unwrap_or, codes}
 use Rattle.std.specs.List.{list_any}
 use Rattle.std.specs.Str.{bytes_eq}
 use Rattle.cc_arg.specs.declared.arg.Arg.{Arg}
@@ -22,7 +22,7 @@ visible_names node = node.name ∷ node.visible_aliases
 abbrev pub find_child : Forest → List ℕ → Option Tree
 find_child none word = None
 find_child (more node below rest) word =
-    cond (answers_to node word) (Some (record { node = node; children = below })) (find_child rest word)
+    if answers_to node word then Some (record { node = node; children = below }) else find_child rest word
 
 -- one of the siblings answers to the word
 abbrev pub has_child : Forest → List ℕ → Bool

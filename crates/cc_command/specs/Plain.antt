@@ -1,12 +1,12 @@
 -- Which trees are plain: those whose names a script can hold as they are.
-use Rattle.std.specs.Prelude.{ℕ, List, [], ◌∷◌, ◌++◌, Bool, true, false, not, ◌&&◌, ◌||◌, ◌==◌, Option, Some, None, is_some}
-use Rattle.std.specs.List.{list_all, list_any}
+use Rattle.std.specs.Prelude.{ℕ, List, [], ◌∷◌, ◌++◌, Bool, true, not, ◌&&◌, ◌==◌, Option, Some, None}
+use Rattle.std.specs.List.{list_all}
 use Rattle.std.specs.Char.{is_ascii_alphanumeric}
 use Rattle.cc_arg.specs.declared.arg.Arg.{Arg}
 use Rattle.cc_command.specs.declared.node.Node.{Node}
 use Rattle.cc_command.specs.Tree.{Forest, none, more, Tree}
 use Rattle.cc_command.specs.PlainName.{is_plain_name}
-use Rattle.cc_command.specs.Names.{contains_name, has_child}
+use Rattle.cc_command.specs.Names.{contains_name}
 
 -- the value, where there is one, passes
 abbrev pub passes_if_some : {A : Type 0} → (A → Bool) → Option A → Bool
@@ -46,13 +46,14 @@ abbrev pub all_differ : List (List ℕ) → Bool
 all_differ [] = true
 all_differ (name ∷ names) = not (contains_name names name) && all_differ names
 
+-- every name by which some siblings are called, one sibling behind another
+abbrev pub names_of_all : Forest → List (List ℕ)
+names_of_all none = []
+names_of_all (more node below rest) = names_of node ++ names_of_all rest
+
 -- no two names or aliases of siblings are the same, those of one command among themselves too
-abbrev pub siblings_differ : Forest → Bool
-siblings_differ none = true
-siblings_differ (more node below rest) =
-    all_differ (names_of node) &&
-    (list_all (λ name. not (has_child rest name)) (names_of node) &&
-    siblings_differ rest)
+unfoldable pub siblings_differ : Forest → Bool
+siblings_differ siblings = all_differ (names_of_all siblings)
 
 -- every node of the forest is plain, and below each the names of siblings differ
 abbrev pub is_plain_forest : Forest → Bool

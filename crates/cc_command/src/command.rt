@@ -1,10 +1,11 @@
-//! A command: what it means, and its builders.
+//! A command, and what it means.
 
-ghost use Rattle.std.specs.Prelude.{◌≡◌, Some, IfOk, IfErr, false};
+ghost use Rattle.std.specs.Prelude.{◌≡◌};
 ghost use Rattle.std.specs.String.{string_bytes};
-ghost use Rattle.cc_command.specs.Made.{new_tree, with_argument};
+ghost use Rattle.cc_command.specs.Made.{new_tree};
 
 mod build;
+mod builders;
 mod children;
 mod getters;
 mod iterators;
@@ -13,8 +14,7 @@ mod plain;
 pub use crate::command::build::build_as;
 pub use crate::command::iterators::{NameAndVisibleAliases, Options, Positionals};
 use crate::node::Node;
-use cc_arg::{Arg, fill_display_order};
-use cc_base::{Error, Items, Text};
+use cc_base::{Items, Text};
 use std::alloc::Global;
 use std::marker::Model;
 
@@ -40,7 +40,8 @@ impl Model for Command {
 
     ghost view = { λ c. record { node = c.node; children = forest_of c.children.items } };
 
-    ghost invariant = { λ c. StaysIfMarked (record { node = c.node; children = forest_of c.children.items }) };
+    ghost invariant = { λ c.
+        StaysIfMarked (record { node = c.node; children = forest_of c.children.items }) };
 
     ghost size = { tree_size };
 
@@ -48,7 +49,7 @@ impl Model for Command {
 }
 
 impl Command {
-    /// A command with this name and nothing else; its lists grow by `alloc`.
+    /// A command with this name and nothing else; its lists take memory from `alloc`.
     pub fn new(alloc: Global, name: String) -> Command
         ensures { result ≡ new_tree (string_bytes name) }
     {
@@ -73,91 +74,5 @@ impl Command {
             },
             children: Vec::new(alloc),
         }
-    }
-
-    /// Sets the name by which the program is called.
-    pub fn bin_name(mut self, name: String) -> Command
-        ensures { result ≡ record self {
-          node =
-              record self.node { bin_name = Some (string_bytes name); built = false };
-        } }
-    {
-        self.set_bin_name(name);
-        self
-    }
-
-    /// Sets the name by which the program is called, in place.
-    pub fn set_bin_name(&mut self, name: String)
-        ensures { self.new ≡ record self.old {
-          node =
-              record self.old.node { bin_name = Some (string_bytes name); built = false };
-        } }
-    {
-        self.node.built = false;
-        self.node.bin_name = Some(Text::from(name));
-    }
-
-    /// Sets what the command says of itself.
-    pub fn about(mut self, about: String) -> Command
-        ensures { result ≡ record self {
-          node =
-              record self.node { about = Some (string_bytes about); built = false };
-        } }
-    {
-        self.node.built = false;
-        self.node.about = Some(Text::from(about));
-        self
-    }
-
-    /// Sets the version, which a flag shows.
-    pub fn version(mut self, version: String) -> Command
-        ensures { result ≡ record self {
-          node =
-              record self.node { version = Some (string_bytes version); built = false };
-        } }
-    {
-        self.node.built = false;
-        self.node.version = Some(Text::from(version));
-        self
-    }
-
-    /// Adds an argument. The display order of one that is no positional is the next free one,
-    /// unless it has its own.
-    pub fn arg(mut self, mut argument: Arg) -> Result<Command, Error>
-        ensures ok { IfOk result (λ command.
-            command ≡ record self { node = with_argument self.node argument }) }
-        ensures memory { IfErr result (λ error. error ≡ Error.Memory) }
-    {
-        self.node.built = false;
-        if !argument.is_positional() {
-            fill_display_order(&mut argument, self.node.next_order);
-            self.node.next_order = self.node.next_order.saturating_add(1);
-        }
-        self.node.arguments.push(argument)?;
-        Ok(self)
-    }
-
-    /// Says whether the flag `help` is left out.
-    pub fn disable_help_flag(mut self, disable: bool) -> Command
-        ensures { result ≡ record self {
-          node =
-              record self.node { disable_help_flag = disable; built = false };
-        } }
-    {
-        self.node.built = false;
-        self.node.disable_help_flag = disable;
-        self
-    }
-
-    /// Says whether the flag `version` is left out.
-    pub fn disable_version_flag(mut self, disable: bool) -> Command
-        ensures { result ≡ record self {
-          node =
-              record self.node { disable_version_flag = disable; built = false };
-        } }
-    {
-        self.node.built = false;
-        self.node.disable_version_flag = disable;
-        self
     }
 }

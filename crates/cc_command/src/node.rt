@@ -36,7 +36,7 @@ pub struct Node {
     pub disable_help_subcommand: bool,
     /// Whether building made this node.
     pub generated: bool,
-    /// Whether building leaves the tree from here on as it is.
+    /// Whether this node and all below it are built.
     pub built: bool,
 }
 

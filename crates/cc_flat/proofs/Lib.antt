@@ -1,4 +1,3 @@
-pub mod Children
 pub mod Names
 pub mod Numbering
 pub mod Numbers

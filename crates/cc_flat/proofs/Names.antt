@@ -6,9 +6,8 @@ use Rattle.std.specs.Map.{update}
 use Rattle.std.specs.BTreeMap.{BTreeMap}
 use Rattle.std.specs.Str.{bytes_eq}
 use Rattle.std.proofs.lemmas.Slice.Eq.{bytes_eq-Decides}
-use Rattle.cc_command.specs.declared.node.Node.{Node}
 use Rattle.cc_command.specs.Tree.{Forest, none, more, Tree, forest_of}
-use Rattle.cc_command.specs.Names.{answers_to, contains_name, has_child, find_child}
+use Rattle.cc_command.specs.Names.{answers_to, has_child, find_child}
 use Rattle.cc_flat.specs.declared.index.Found.{Found}
 use Rattle.cc_flat.specs.Flat.{Entry, entry_at, tree_at, trees_at, numbers_between, children_at, IsChildAt, HasItsChildren}
 use Rattle.cc_flat.specs.Index.{answer_of, is_visible_name, find_from, find_at, name_at, IsIndex}
@@ -41,43 +40,6 @@ pub name-added : (before after : List ℕ → Option Found) (name : List ℕ) (f
 name-added before after name found absent updates word =
     updates word ∙ added_or-kept (before word) found (bytes_eq name word)
     (λ same. ap before (sym ((bytes_eq-Decides name word).0 same)) ∙ none-is (before name) absent)
-
-kept-if-some : (answer : Option Found) (found : Found) (same : Bool) → (same ≡ true → is_some answer ≡ true) → answer ≡ option_or answer (cond same (Some found) None)
-kept-if-some None found true there = let e : false ≡ true = there refl in cc
-kept-if-some None found false there = refl
-kept-if-some (Some x) found same there = refl
-
--- a name that leads to a child already
-pub name-kept : (before : List ℕ → Option Found) (name : List ℕ) (found : Found) → is_some (before name) ≡ true →
-    (word : List ℕ) → before word ≡ option_or (before word) (cond (bytes_eq name word) (Some found) None)
-name-kept before name found there word =
-    kept-if-some (before word) found (bytes_eq name word)
-    (λ same. ap (λ w. is_some (before w)) (sym ((bytes_eq-Decides name word).0 same)) ∙ there)
-
--- one more name of the same child
-pub option_or-either : (answer : Option Found) (a b : Bool) (found : Found) →
-    option_or (option_or answer (cond a (Some found) None)) (cond b (Some found) None) ≡ option_or answer (cond (a || b) (Some found) None)
-option_or-either None true b found = refl
-option_or-either None false b found = refl
-option_or-either (Some x) a b found = refl
-
-answers : (answer : Option Found) (child : ℕ) (name visible hidden : Bool) →
-    option_or (option_or (option_or answer (cond name (Some (record { child = child; visible = true })) None))
-    (cond visible (Some (record { child = child; visible = true })) None)) (cond hidden (Some (record { child = child; visible = false })) None)
-    ≡ option_or answer (cond (name || visible || hidden) (Some (record { child = child; visible = name || visible })) None)
-answers (Some x) child name visible hidden = refl
-answers None child true visible hidden = refl
-answers None child false true hidden = refl
-answers None child false false true = refl
-answers None child false false false = refl
-
--- the names of one child
-pub child-added : (answer : Option Found) (child : ℕ) (node : Node) (word : List ℕ) →
-    option_or (option_or (option_or answer (cond (bytes_eq node.name word) (Some (record { child = child; visible = true })) None))
-    (cond (contains_name node.visible_aliases word) (Some (record { child = child; visible = true })) None))
-    (cond (contains_name node.aliases word) (Some (record { child = child; visible = false })) None)
-    ≡ option_or answer (answer_of child node word)
-child-added answer child node word = answers answer child (bytes_eq node.name word) (contains_name node.visible_aliases word) (contains_name node.aliases word)
 
 -- one more of the siblings
 pub find_from-more : (flat : List Entry) (start end : ℕ) (word : List ℕ) → start < end →

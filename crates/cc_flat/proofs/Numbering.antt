@@ -46,18 +46,6 @@ pub record IsFlatUpTo (root : Tree) (done : ℕ) (flat : List Entry) : Type 0 wh
   pub children : (number : ℕ) → number < done → HasItsChildren flat number
   pub parents : (number : ℕ) → 0 < number → number < length flat → IsPlaced flat done number
 
--- the list of the root alone
-pub IsFlatUpTo-start : (root : Tree) → IsFlatUpTo root 0 (unnumbered None root ∷ [])
-IsFlatUpTo-start root = record {
-  within = omega arith;
-  inhabited = omega arith;
-  root_tree = refl;
-  root_parent = refl;
-  size = omega arith;
-  children = λ number low. absurd (omega arith);
-  parents = λ number low high. absurd (omega arith);
-}
-
 -- a whole list
 pub IsFlat-whole : (root : Tree) (done : ℕ) (flat : List Entry) → IsFlatUpTo root done flat → length flat ≤ done → IsFlat flat
 IsFlat-whole root done flat up_to whole =

@@ -41,27 +41,6 @@ pub numbers_between_first : (start end : ℕ) → start < end → numbers_betwee
 numbers_between_first start end low =
     let one_less : end - start ≡ suc (end - (start + 1)) = omega arith in ap (range_with_len start) one_less
 
--- the number before the end comes last
-range_with_len-last : (start count : ℕ) → range_with_len start (suc count) ≡ range_with_len start count ++ (start + count) ∷ []
-range_with_len-last start zero = ap (λ n. n ∷ []) (let e : start ≡ start + 0 = omega arith in e)
-range_with_len-last start (suc count) =
-    ap (λ ns. start ∷ ns) (range_with_len-last (start + 1) count ∙
-    ap (λ n. range_with_len (start + 1) count ++ n ∷ []) (let e : start + 1 + count ≡ start + suc count = omega arith in e))
-
-pub numbers_between_last : (start end : ℕ) → start ≤ end → numbers_between start (end + 1) ≡ numbers_between start end ++ end ∷ []
-numbers_between_last start end low =
-    let one_more : end + 1 - start ≡ suc (end - start) = omega arith in
-    let last : start + (end - start) ≡ end = omega arith in
-    ap (range_with_len start) one_more ∙ range_with_len-last start (end - start) ∙ ap (λ n. numbers_between start end ++ n ∷ []) last
-
--- no numbers are left
-pub numbers_between_none : (start end : ℕ) → end ≤ start → numbers_between start end ≡ []
-numbers_between_none start end high = let nothing : end - start ≡ zero = omega arith in ap (range_with_len start) nothing
-
--- so many numbers
-pub numbers_between_count : (start count : ℕ) → numbers_between start (start + count) ≡ range_with_len start count
-numbers_between_count start count = let all : start + count - start ≡ count = omega arith in ap (range_with_len start) all
-
 -- every node but the root has a parent, which is before it and whose child it is
 abbrev pub HasParentOrNone : List Entry → ℕ → Option ℕ → Type 0
 HasParentOrNone flat number None = number ≡ 0

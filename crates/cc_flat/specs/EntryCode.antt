@@ -5,6 +5,7 @@ use Rattle.cc_command.specs.Tree.{Tree}
 use Rattle.cc_command.specs.TreeCode.{tree_code}
 use Rattle.cc_flat.specs.Flat.{Entry}
 
+-- an entry is stored as its fields
 abbrev pub entry_code : Coded Entry
 entry_code =
     code_by (Tree × (Option ℕ × (ℕ × ℕ))) (coded× tree_code (coded× (coded_option coded_ℕ) (coded× coded_ℕ coded_ℕ)))

@@ -1,5 +1,5 @@
 -- Where words lead from a node: to the first child that has them as a name or an alias.
-use Rattle.std.specs.Prelude.{◌≡◌, ℕ, ◌+◌, ◌<◌, List, length, Bool, cond, Option, Some, None, slice_index_or}
+use Rattle.std.specs.Prelude.{◌≡◌, ℕ, ◌+◌, ◌<◌, List, length, Bool, if◌then◌else◌, Option, Some, None, slice_index_or}
 use Rattle.std.specs.Option.{option_or}
 use Rattle.std.specs.Ordering.{nat_cmp}
 use Rattle.std.specs.Cmp.Lexicographic.{slice_cmp}
@@ -18,7 +18,7 @@ is_visible_name node word = contains_name (visible_names node) word
 -- where the word leads if this node alone, with this number, may answer to it
 abbrev pub answer_of : ℕ → Node → List ℕ → Option Found
 answer_of number node word =
-    cond (answers_to node word) (Some (record { child = number; visible = is_visible_name node word })) None
+    if answers_to node word then Some (record { child = number; visible = is_visible_name node word }) else None
 
 -- where the word leads among siblings that are numbered from this number on: the first that answers
 abbrev pub find_from : ℕ → Forest → List ℕ → Option Found

@@ -43,8 +43,8 @@ impl<'a> Model for Flat<'a> {
 }
 
 impl<'a> Flat<'a> {
-    /// Numbers the nodes of a tree, in time and memory that grow with their count. Refused only for
-    /// want of memory.
+    /// Numbers the nodes of a tree, in time and memory that grow with their count. Fails with
+    /// `Memory` alone.
     pub fn new(alloc: Global, root: &'a Command) -> Result<Flat<'a>, Error>
         ensures root { IfOk result (λ flat. tree_at flat 0 ≡ root.now) }
         ensures flat { IfOk result IsFlat }

@@ -1,6 +1,6 @@
 //! The children's names by node, so that a word finds the child it leads to.
 
-ghost use Rattle.std.specs.Prelude.{◌≡◌, ℕ, ◌<◌, List, length, IfOk, IfErr, IfSome, OnOk, Some, None, cond, is_some};
+ghost use Rattle.std.specs.Prelude.{◌≡◌, ℕ, ◌<◌, List, length, IfOk, IfErr, IfSome, OnOk, Some, None, if◌then◌else◌, is_some};
 ghost use Rattle.std.specs.Option.{option_or, option_map};
 ghost use Rattle.std.specs.Str.{bytes_eq};
 ghost use Rattle.cc_command.specs.Names.{contains_name, has_child, find_child};
@@ -48,7 +48,7 @@ impl<'a> Model for Index<'a> {
 }
 
 impl<'a> Index<'a> {
-    /// Gathers the names of all nodes' children. Refused only for want of memory.
+    /// Gathers the names of all nodes' children. Fails with `Memory` alone.
     pub fn new(alloc: Global, flat: Flat<'a>) -> Result<Index<'a>, Error>
         ensures same { IfOk result (λ index. index ≡ flat.entry) }
         ensures memory { IfErr result (λ error. error ≡ Error.Memory) }
@@ -128,7 +128,7 @@ fn add_names<'a>(
     found: Found,
 ) -> Result<(), Error>
     ensures ok { OnOk result ((word : List ℕ) → name_at names.new word
-        ≡ option_or (name_at names.old word) (cond (contains_name added.now word) (Some found) None)) }
+        ≡ option_or (name_at names.old word) (if contains_name added.now word then Some found else None)) }
     ensures memory { IfErr result (λ error. error ≡ Error.Memory) }
 {
     for name in added {
@@ -144,7 +144,7 @@ fn add_name<'a>(
     found: Found,
 ) -> Result<(), Error>
     ensures ok { OnOk result ((word : List ℕ) → name_at names.new word
-        ≡ option_or (name_at names.old word) (cond (bytes_eq name.now word) (Some found) None)) }
+        ≡ option_or (name_at names.old word) (if bytes_eq name.now word then Some found else None)) }
     ensures memory { IfErr result (λ error. error ≡ Error.Memory) }
 {
     if names.contains_key(name) {

@@ -5,9 +5,9 @@ use Rattle.cc_arg.specs.declared.action.ArgAction.TheVariants.{SetTrue}
 use Rattle.cc_arg.specs.Arguments.{new_arg}
 use Rattle.cc_command.specs.Made.{new_node}
 use Rattle.cc_command.specs.Tree.{Tree, none, more}
-use Rattle.cc_quote.specs.Tokens.{is_word, strip_words, after_words}
+use Rattle.cc_quote.specs.Tokens.{cut, is_word, strip_words, after_words}
 use Rattle.cc_quote.specs.Tokens.Piece.{bare, quoted, unclosed}
-use Rattle.cc_quote.specs.ElvishTokens.{sign, cut, elvish_tokens}
+use Rattle.cc_quote.specs.ElvishTokens.{sign, elvish_tokens}
 use Rattle.cc_lists.specs.ElvishReader.{Table, part, with_row, next, answer, read, tables_begin, elvish_tables}
 use Rattle.cc_lists.specs.ElvishScript.{elvish_row, elvish_rows, elvish_table, elvish_body, elvish_script}
 use Rattle.cc_lists.specs.ElvishTable.{node_rows, visit_table, tree_tables}

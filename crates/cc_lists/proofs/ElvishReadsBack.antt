@@ -2,10 +2,10 @@
 use Rattle.std.proofs.Common.{◌≡◌, ℕ, List, [], ◌∷◌, ◌++◌, map, Option, Some, codes, refl, sym, ap, ◌∙◌, append_assoc, append-nil}
 use Rattle.std.specs.List.{AllByRecursion}
 use Rattle.cc_lists.specs.declared.elvish.TheConstants.{ELVISH_HEAD, ELVISH_FUNCTIONS, ELVISH_COMPLETIONS, ELVISH_TAIL, ELVISH_KEY, ELVISH_ROWS, ELVISH_TABLE_END, ELVISH_WORD, ELVISH_TEXT, ELVISH_ROW_END}
+use Rattle.cc_quote.specs.Tokens.{Place, cut, is_word, strip_words, after_words}
 use Rattle.cc_quote.specs.Tokens.Piece.{bare}
-use Rattle.cc_quote.specs.Tokens.{is_word, strip_words, after_words}
-use Rattle.cc_quote.specs.ElvishTokens.{sign, Place, cut, elvish_tokens, IsBare, IsBareWord}
-use Rattle.cc_quote.specs.ElvishTokens.Place.{between, in_bare}
+use Rattle.cc_quote.specs.Tokens.Place.{between, in_bare}
+use Rattle.cc_quote.specs.ElvishTokens.{sign, elvish_tokens, IsBare, IsBareWord}
 use Rattle.cc_lists.specs.ElvishReader.{Row, Table, State, part, with_row, next, answer, read, tables_begin, elvish_tables, IsReadable, spaced_row, spaced_table}
 use Rattle.cc_lists.specs.ElvishReader.State.{between_tables, after_key, in_table, after_cand, after_word}
 use Rattle.cc_quote.specs.ElvishQuote.{elvish_escaped}

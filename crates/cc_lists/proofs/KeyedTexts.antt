@@ -2,6 +2,7 @@
 use Rattle.std.proofs.Common.{◌≡◌, ℕ, zero, suc, subst, ◌+◌, ◌<◌, ◌≤◌, List, [], ◌∷◌, ◌++◌, length, reverse, refl, ap, ◌∙◌, sym, append_assoc, append-nil, arith}
 use Rattle.std.specs.List.{flat_map, range_with_len}
 use Rattle.std.proofs.lemmas.List.{reverse-append, reverse-reverse, length-append}
+use Rattle.std.proofs.lemmas.List.Concat.{flat_map-append}
 use Rattle.cc_command.specs.Tree.{Tree, forest_of}
 use Rattle.cc_flat.specs.Flat.{Entry, HasItsChildren, children_at, entry_at, tree_at, trees_at}
 use Rattle.cc_command.specs.Names.{visible_names}
@@ -16,15 +17,6 @@ pub keyed_text-IsText : (table : List ℕ → Tree → List ℕ) (tree : Tree) �
 unfolding keyed_text
 keyed_text-IsText table tree = record { none = refl; first = λ key keys. refl }
 
-pub keyed_text-nil : (table : List ℕ → Tree → List ℕ) → keyed_text table [] ≡ []
-unfolding keyed_text
-keyed_text-nil table = refl
-
-pub keyed_text-cons : (table : List ℕ → Tree → List ℕ) (keyed : KeyedTree) (trees : List KeyedTree) →
-    keyed_text table (keyed ∷ trees) ≡ table keyed.key keyed.tree ++ keyed_text table trees
-unfolding keyed_text
-keyed_text-cons table keyed trees = refl
-
 pub keyed_text-append : (table : List ℕ → Tree → List ℕ) (xs ys : List KeyedTree) → keyed_text table (xs ++ ys) ≡ keyed_text table xs ++ keyed_text table ys
 unfolding keyed_text
 keyed_text-append table [] ys = refl
@@ -32,10 +24,6 @@ keyed_text-append table (x ∷ xs) ys =
     ap (λ t. table x.key x.tree ++ t) (keyed_text-append table xs ys) ∙ sym (append_assoc (table x.key x.tree) (keyed_text table xs) (keyed_text table ys))
 
 -- ---- pending items
-
-flat_map-append : {A B : Type 0} (f : A → List B) (xs ys : List A) → flat_map f (xs ++ ys) ≡ flat_map f xs ++ flat_map f ys
-flat_map-append f [] ys = refl
-flat_map-append f (x ∷ xs) ys = ap (λ t. f x ++ t) (flat_map-append f xs ys) ∙ sym (append_assoc (f x) (flat_map f xs) (flat_map f ys))
 
 keyed_of-nil : (flat : List Entry) → keyed_of flat [] ≡ []
 unfolding keyed_of
@@ -127,10 +115,6 @@ AreListed-front : (flat : List Entry) (xs ys : List Pending) → AreListed flat 
 AreListed-front flat [] ys a = tt
 AreListed-front flat (x ∷ xs) ys a = (a.0, AreListed-front flat xs ys a.1)
 
-AreListed-back : (flat : List Entry) (xs : List Pending) (y : Pending) → AreListed flat (xs ++ y ∷ []) → y.number < length flat
-AreListed-back flat [] y a = a.0
-AreListed-back flat (x ∷ xs) y a = AreListed-back flat xs y a.1
-
 AreListed-reverse : (flat : List Entry) (xs : List Pending) → AreListed flat xs → AreListed flat (reverse xs)
 AreListed-reverse flat [] a = tt
 AreListed-reverse flat (x ∷ xs) a =
@@ -163,12 +147,6 @@ AreListed-step flat stack rest after top keys popped its pushed listed =
     let P : List Pending → Type 0 = AreListed flat in
     subst P (sym pushed) (AreListed-append flat rest (reverse (children_pending (children_at flat top.number) keys))
     (AreListed-front flat rest (top ∷ []) (subst P popped listed)) (AreListed-children flat top.number keys its))
-
--- the item on top is listed
-pub AreListed-top : (flat : List Entry) (stack rest : List Pending) (top : Pending) → stack ≡ rest ++ top ∷ [] → AreListed flat stack → top.number < length flat
-AreListed-top flat stack rest top popped listed =
-    let P : List Pending → Type 0 = AreListed flat in
-    AreListed-back flat rest top (subst P popped listed)
 
 -- the root and all below it, where the stack begins with the root's children
 pub walk_begins : (table : List ℕ → Tree → List ℕ) (flat : List Entry) (key : List ℕ) (root : Tree) (stack : List Pending) → tree_at flat 0 ≡ root →

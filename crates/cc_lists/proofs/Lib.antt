@@ -1,3 +1,4 @@
+pub mod Booleans
 pub mod DifferentKeys
 pub mod ElvishExamples
 pub mod ElvishPlain
@@ -18,6 +19,5 @@ pub mod PowershellScripts
 pub mod PowershellWords
 pub mod RowTexts
 pub mod TableTexts
-pub mod Tests
 pub mod VisitsArePaths
 pub mod Written

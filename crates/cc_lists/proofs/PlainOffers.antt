@@ -34,7 +34,7 @@ module _ (Known : Type 0) where
   pub record IsPlainOffer (offer : Offer) : Type 0 where
     pub offered : IsPlainOffered offer.offered
     pub description : Known → IfSome offer.description IsUtf8
-    pub stand_in : IsUtf8 offer.stand_in
+    pub fallback : IsUtf8 offer.fallback
 
   abbrev pub ArePlainOffers : List Offer → Type 0
   ArePlainOffers offers = AllByRecursion IsPlainOffer offers
@@ -47,7 +47,7 @@ module _ (Known : Type 0) where
   shorts_plain argument (Some first) utf8 h k =
       let offer : ℕ → Offer = short_offer argument.help (encode_utf8 first) in
       let plain : (character : ℕ) → IsPlainShort character → IsPlainOffer (offer character) =
-      λ character p. record { offered = p; description = utf8; stand_in = subst IsUtf8 (encoded_short first h) (IsUnquoted-alphanumeric first h).0 } in
+      λ character p. record { offered = p; description = utf8; fallback = subst IsUtf8 (encoded_short first h) (IsUnquoted-alphanumeric first h).0 } in
       AllByRecursion-map IsPlainOffer offer (first ∷ argument.visible_short_aliases)
       (plain first h, AllByRecursion-weaker IsPlainShort (λ character. IsPlainOffer (offer character)) plain argument.visible_short_aliases k)
 
@@ -59,7 +59,7 @@ module _ (Known : Type 0) where
   longs_plain argument (Some first) utf8 h k =
       let offer : List ℕ → Offer = long_offer argument.help first in
       let plain : (name : List ℕ) → IsPlainName name → IsPlainOffer (offer name) =
-      λ name p. record { offered = p; description = utf8; stand_in = (IsUnquoted-is_plain_name first h).0 } in
+      λ name p. record { offered = p; description = utf8; fallback = (IsUnquoted-is_plain_name first h).0 } in
       AllByRecursion-map IsPlainOffer offer (first ∷ argument.visible_aliases)
       (plain first h, AllByRecursion-weaker IsPlainName (λ name. IsPlainOffer (offer name)) plain argument.visible_aliases k)
 
@@ -80,7 +80,7 @@ module _ (Known : Type 0) where
   unfolding child_offers
   child_plain child utf8 h =
       let plain : (name : List ℕ) → IsPlainName name → IsPlainOffer (name_offer child.about name) =
-      λ name p. record { offered = p; description = utf8; stand_in = (IsUnquoted-is_plain_name name p).0 } in
+      λ name p. record { offered = p; description = utf8; fallback = (IsUnquoted-is_plain_name name p).0 } in
       AllByRecursion-map IsPlainOffer (name_offer child.about) (visible_names child)
       (AllByRecursion-weaker IsPlainName (λ name. IsPlainOffer (name_offer child.about name)) plain (visible_names child) h)
 

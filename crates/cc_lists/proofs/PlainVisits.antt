@@ -12,7 +12,7 @@ use Rattle.cc_command.specs.Plain.{is_plain_tree, is_plain_forest, is_plain_node
 use Rattle.cc_lists.specs.Paths.{IsSibling, LeadsTo}
 use Rattle.cc_lists.specs.Visits.{visits}
 use Rattle.cc_lists.proofs.Members.{IsIn-from_Contains, Contains-from_IsIn, AllByRecursion-IsIn, AllByRecursion-from_IsIn, AllByRecursion-weaker, AllByRecursion-filter}
-use Rattle.cc_lists.proofs.Tests.{both_true, each_passes}
+use Rattle.cc_lists.proofs.Booleans.{both_true, each_passes}
 use Rattle.cc_lists.proofs.VisitsArePaths.{visits_are_paths}
 
 -- the name is plain

@@ -1,12 +1,12 @@
 -- Plain names, and the words that are made of them, are bare words without a quote.
-use Rattle.std.proofs.Common.{◌≡◌, ◌≢◌, ℕ, Bool, true, false, ◌||◌, cond, List, [], ◌∷◌, ◌++◌, map, ◌==◌, IsTrue, codes, refl, arith}
+use Rattle.std.proofs.Common.{◌≡◌, ◌≢◌, ℕ, Bool, true, false, ◌||◌, cond, List, [], ◌∷◌, map, ◌==◌, IsTrue, codes, refl, arith}
 use Rattle.std.specs.Char.{is_ascii_alphanumeric}
 use Rattle.std.specs.List.{AllByRecursion}
 use Rattle.std.proofs.lemmas.Bool.Decides.{nat_tests}
 use Rattle.cc_quote.specs.ElvishTokens.{is_bare, IsBare, IsBareWord, HasNoQuote}
 use Rattle.cc_command.specs.PlainName.{NameByte, name_byte, is_joined, is_plain_name}
 use Rattle.cc_command.specs.PlainName.NameByte.{letter, joiner, foreign}
-use Rattle.cc_quote.proofs.ElvishCutting.{HasNoQuote-IsBare, HasNoQuote-append}
+use Rattle.cc_quote.proofs.ElvishCutting.{HasNoQuote-IsBare}
 
 -- names that are plain, and texts that are not
 examples : (is_plain_name (codes "sub-command_2") ≡ true)
@@ -78,7 +78,3 @@ IsBareWord-long name h = (λ e. cc, (refl, (refl, IsBare-is_plain_name name h)))
 -- a plain name has no quote
 pub HasNoQuote-is_plain_name : (name : List ℕ) → IsTrue (is_plain_name name) → HasNoQuote name
 HasNoQuote-is_plain_name name h = HasNoQuote-IsBare name (IsBare-is_plain_name name h)
-
--- nor has a key with a further plain name behind a `;`
-pub HasNoQuote-key : (key name : List ℕ) → HasNoQuote key → IsTrue (is_plain_name name) → HasNoQuote (key ++ 59 ∷ name)
-HasNoQuote-key key name h k = HasNoQuote-append key (59 ∷ name) h (refl, HasNoQuote-is_plain_name name k)

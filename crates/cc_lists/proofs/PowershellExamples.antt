@@ -2,9 +2,9 @@
 use Rattle.std.proofs.Common.{◌≡◌, List, [], ◌∷◌, Some, None, codes, map, refl, encode_utf8_all}
 use Rattle.std.specs.Char.{encode_utf8}
 use Rattle.std.specs.Str.{chars}
-use Rattle.cc_quote.specs.Tokens.{is_word, strip_words, after_words}
+use Rattle.cc_quote.specs.Tokens.{cut, is_word, strip_words, after_words}
 use Rattle.cc_quote.specs.Tokens.Piece.{bare, quoted, unclosed}
-use Rattle.cc_quote.specs.PowershellTokens.{sign, cut, powershell_tokens}
+use Rattle.cc_quote.specs.PowershellTokens.{sign, powershell_tokens}
 use Rattle.cc_lists.specs.Offers.{short_offers, long_offers, argument_offers}
 use Rattle.cc_lists.specs.PowershellReader.{Table, part, kind_of, with_row, next, answer, read, tables_begin, powershell_tables}
 use Rattle.cc_lists.specs.PowershellReader.Kind.{parameter_name, parameter_value}

@@ -27,10 +27,10 @@ use Rattle.cc_lists.proofs.VisitsArePaths.{visits_are_paths, DifferentPaths-is_p
 -- ---- rows
 
 -- a description is UTF-8
-description_utf8 : (help : Option (List ℕ)) (stand_in : List ℕ) → IfSome help IsUtf8 → IsUtf8 stand_in → IsUtf8 (description help stand_in)
-description_utf8 None stand_in h k = k
-description_utf8 (Some []) stand_in h k = k
-description_utf8 (Some (byte ∷ help)) stand_in h k = h
+description_utf8 : (help : Option (List ℕ)) (fallback : List ℕ) → IfSome help IsUtf8 → IsUtf8 fallback → IsUtf8 (description help fallback)
+description_utf8 None fallback h k = k
+description_utf8 (Some []) fallback h k = k
+description_utf8 (Some (byte ∷ help)) fallback h k = h
 
 -- the word of what is offered has no quote
 word_unquoted : (offered : Offered) → IsPlainOffered offered → IsUnquoted (word offered)
@@ -53,7 +53,7 @@ offer_readable : (offer : Offer) → IsPlainOffer ⊤ offer → IsReadableRow (o
 offer_readable offer h = record {
   word = word_unquoted offer.offered h.offered;
   list = listed_unquoted offer.offered h.offered;
-  text = description_utf8 offer.description offer.stand_in (h.description tt) h.stand_in;
+  text = description_utf8 offer.description offer.fallback (h.description tt) h.fallback;
 }
 
 -- so can the rows at a plain node

@@ -4,10 +4,10 @@ use Rattle.std.specs.Char.{encode_utf8}
 use Rattle.std.specs.List.{AllByRecursion}
 use Rattle.std.specs.Str.{chars}
 use Rattle.cc_lists.specs.declared.powershell.TheConstants.{POWERSHELL_HEAD, POWERSHELL_COMMAND, POWERSHELL_COMPLETIONS, POWERSHELL_TAIL, POWERSHELL_KEY, POWERSHELL_ROWS, POWERSHELL_TABLE_END, POWERSHELL_WORD, POWERSHELL_LIST, POWERSHELL_KIND, POWERSHELL_PARAMETER_NAME, POWERSHELL_PARAMETER_VALUE, POWERSHELL_TEXT, POWERSHELL_ROW_END}
-use Rattle.cc_quote.specs.Tokens.{Piece, is_word, strip_words, after_words}
+use Rattle.cc_quote.specs.Tokens.{Piece, Place, cut, is_word, strip_words, after_words}
 use Rattle.cc_quote.specs.Tokens.Piece.{bare}
-use Rattle.cc_quote.specs.PowershellTokens.{sign, Place, cut, powershell_tokens, IsUnquoted}
-use Rattle.cc_quote.specs.PowershellTokens.Place.{between, in_bare, in_quotes}
+use Rattle.cc_quote.specs.Tokens.Place.{between, in_bare, in_quotes}
+use Rattle.cc_quote.specs.PowershellTokens.{sign, powershell_tokens, IsUnquoted}
 use Rattle.cc_lists.specs.PowershellReader.{Kind, Row, Table, State, part, kind_of, with_row, next, answer, read, tables_begin, powershell_tables, IsReadableRow, IsReadable, spaced_row, spaced_table}
 use Rattle.cc_lists.specs.PowershellReader.Kind.{parameter_name, parameter_value}
 use Rattle.cc_lists.specs.PowershellReader.State.{between_tables, in_table, after_word, after_list, after_kind}

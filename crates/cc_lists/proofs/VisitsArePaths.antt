@@ -7,10 +7,11 @@ use Rattle.std.proofs.lemmas.Slice.Eq.{bytes_eq-Decides}
 use Rattle.cc_command.specs.declared.node.Node.{Node}
 use Rattle.cc_command.specs.Tree.{Forest, none, more, Tree}
 use Rattle.cc_command.specs.Names.{contains_name, answers_to, has_child, visible_names}
+use Rattle.cc_command.proofs.DifferentNames.{siblings_differ-more}
 use Rattle.cc_command.specs.Plain.{is_plain_tree, is_plain_forest, is_plain_node, siblings_differ, all_differ, names_of, passes_if_some}
 use Rattle.cc_command.specs.PlainName.{is_plain_name}
 use Rattle.cc_lists.proofs.Members.{IsIn, IsIn-from_Contains, Contains-from_IsIn, IsIn-append_left, IsIn-append_right, IsIn-append, IsIn-map, map-IsIn, IsIn-flat_map, flat_map-IsIn, AllByRecursion-IsIn, AllByRecursion-from_IsIn}
-use Rattle.cc_lists.proofs.Tests.{both_true, or-left, or-right, not_both, each_passes}
+use Rattle.cc_lists.proofs.Booleans.{both_true, or-left, or-right, not_both, each_passes}
 use Rattle.cc_lists.specs.Paths.{IsSibling, LeadsTo}
 use Rattle.cc_lists.specs.Visits.{Visit, longer, visits_at, visits_under, visits, DifferentPaths}
 
@@ -327,7 +328,7 @@ pub DifferentPaths-visits_under : (forest : Forest) (paths : List (List (List �
 unfolding visits_under
 DifferentPaths-visits_under none paths apart differ plain = tt
 DifferentPaths-visits_under (more node below rest) paths apart differ plain =
-    let d = both_true (all_differ (names_of node)) (list_all (λ name. not (has_child rest name)) (names_of node) && siblings_differ rest) differ in
+    let d = both_true (all_differ (names_of node)) (list_all (λ name. not (has_child rest name)) (names_of node) && siblings_differ rest) (subst IsTrue (siblings_differ-more node below rest) differ) in
     let behind = both_true (list_all (λ name. not (has_child rest name)) (names_of node)) (siblings_differ rest) d.1 in
     let p = both_true (is_plain_node node) (siblings_differ below && (is_plain_forest below && is_plain_forest rest)) plain in
     let q = both_true (siblings_differ below) (is_plain_forest below && is_plain_forest rest) p.1 in

@@ -8,7 +8,7 @@ use Rattle.cc_lists.specs.ElvishReader.{Row, Table}
 
 -- the row of an offer, described by the help or the about where there is one
 abbrev pub offer_row : Offer → Row
-offer_row offer = record { word = word offer.offered; text = unwrap_or offer.description offer.stand_in }
+offer_row offer = record { word = word offer.offered; text = unwrap_or offer.description offer.fallback }
 
 -- the rows at a node
 unfoldable pub node_rows : Tree → List Row

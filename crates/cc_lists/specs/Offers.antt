@@ -17,7 +17,7 @@ pub data Offered : Type 0 where
 pub record Offer : Type 0 where
   pub offered : Offered
   pub description : Option (List ℕ)
-  pub stand_in : List ℕ
+  pub fallback : List ℕ
 
 -- what is offered, as it is typed
 abbrev pub word : Offered → List ℕ
@@ -27,11 +27,11 @@ word (subcommand name) = name
 
 -- the offer of a short, with this help
 abbrev pub short_offer : Option (List ℕ) → List ℕ → ℕ → Offer
-short_offer help stand_in character = record { offered = short character; description = help; stand_in = stand_in }
+short_offer help fallback character = record { offered = short character; description = help; fallback = fallback }
 
 -- the offer of a long, with this help
 abbrev pub long_offer : Option (List ℕ) → List ℕ → List ℕ → Offer
-long_offer help stand_in name = record { offered = long name; description = help; stand_in = stand_in }
+long_offer help fallback name = record { offered = long name; description = help; fallback = fallback }
 
 -- each short that is shown: the short, then its visible aliases. For all of them the short stands in.
 unfoldable pub short_offers : Arg → Option ℕ → List Offer
@@ -50,7 +50,7 @@ argument_offers argument = short_offers argument argument.short ++ long_offers a
 
 -- the offer of a visible name of a child, with this about; the name stands in
 abbrev pub name_offer : Option (List ℕ) → List ℕ → Offer
-name_offer about name = record { offered = subcommand name; description = about; stand_in = name }
+name_offer about name = record { offered = subcommand name; description = about; fallback = name }
 
 -- each visible name of a child
 unfoldable pub child_offers : Node → List Offer

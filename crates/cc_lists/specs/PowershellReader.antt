@@ -1,7 +1,7 @@
 -- The tables that a PowerShell script spells: behind the bare words `@(switch`, `($command)` and `{` stand
 -- groups of a quoted key, `{`, rows, `break` and `}`, up to the bare word `})`. A row is a call
 -- `[CompletionResult]::new(` with four arguments and `)`. What follows is not read.
-use Rattle.std.specs.Prelude.{ℕ, List, [], ◌∷◌, ◌++◌, ◌&&◌, if◌then◌else◌, Option, Some, None, bytes_eq, codes, map, IsUtf8}
+use Rattle.std.specs.Prelude.{ℕ, List, [], ◌∷◌, ◌++◌, ◌&&◌, if◌then◌else◌, Option, Some, None, option_map, unwrap_or, bytes_eq, codes, map, IsUtf8}
 use Rattle.std.specs.List.{AllByRecursion}
 use Rattle.cc_quote.specs.Tokens.{Token, after_words}
 use Rattle.cc_quote.specs.Tokens.Piece.{bare, quoted}
@@ -76,7 +76,7 @@ next (in_table tables table) (first run) = after_word tables table run
 next (in_table tables table) (word run) = if bytes_eq run (codes "break") then after_break tables table else malformed
 next (after_word tables table run) (further list) = after_list tables table run list
 next (after_list tables table run list) (word name) =
-    elim (kind_of name) [ Some kind ↦ after_kind tables table run list kind | None ↦ malformed ]
+    unwrap_or (option_map (after_kind tables table run list) (kind_of name)) malformed
 next (after_kind tables table run list kind) (last text) =
     in_table tables (with_row table (record { word = run; list = list; kind = kind; text = text }))
 next (after_break tables table) (word run) =

@@ -11,9 +11,9 @@ use Rattle.cc_lists.specs.PowershellReader.Kind.{parameter_name, parameter_value
 
 -- the help or the about where there is one and it is not empty, else the text that stands in for it
 abbrev pub description : Option (List ℕ) → List ℕ → List ℕ
-description None stand_in = stand_in
-description (Some []) stand_in = stand_in
-description (Some (byte ∷ help)) stand_in = byte ∷ help
+description None fallback = fallback
+description (Some []) fallback = fallback
+description (Some (byte ∷ help)) fallback = byte ∷ help
 
 -- what is offered, as lists show it: behind a short that is an ASCII capital stands a space
 abbrev pub listed : Offered → List ℕ
@@ -34,7 +34,7 @@ offer_row offer = record {
   word = word offer.offered;
   list = listed offer.offered;
   kind = kind offer.offered;
-  text = description offer.description offer.stand_in;
+  text = description offer.description offer.fallback;
 }
 
 -- the rows at a node

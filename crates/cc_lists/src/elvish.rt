@@ -1,13 +1,12 @@
 //! The Elvish script: a frame, and in it a table for each visible path.
 
-ghost use Rattle.std.specs.Prelude.{◌≡◌, ◌++◌, ℕ, List, None, codes, IfOk, IfErr, OnOk};
+ghost use Rattle.std.specs.Prelude.{◌≡◌, ◌++◌, None, codes, IfOk, IfErr, OnOk};
 ghost use Rattle.std.specs.String.{string_bytes};
 ghost use Rattle.cc_base.specs.Sink.{Counts, IsWrite};
 ghost use Rattle.cc_command.specs.Names.{full_name};
 ghost use Rattle.cc_lists.specs.ElvishReads.{ElvishReads};
 ghost use Rattle.cc_lists.specs.ElvishScript.{elvish_row, elvish_script, elvish_table};
 ghost use Rattle.cc_lists.specs.ElvishTable.{node_rows, offer_row, tree_tables};
-ghost use Rattle.cc_lists.specs.OfferRows.{offered_of};
 ghost use Rattle.cc_lists.specs.Offers.{word};
 
 use crate::generator::Generator;
@@ -88,9 +87,9 @@ impl RowScript for Elvish {
         alloc: Global,
         offered: Offered<'_>,
         description: Option<&str>,
-        stand_in: &str,
+        fallback: &str,
     ) -> Result<String, Error> {
-        let text = description.unwrap_or(stand_in);
+        let text = description.unwrap_or(fallback);
         let escaped = elvish_escape(alloc, text)?;
         let mut row = String::from_str(alloc, ELVISH_WORD)?;
         push_word(&mut row, offered)?;

@@ -26,16 +26,16 @@ pub trait Generator {
     // the name of the file for a program of this name
     ghost file: { Self → List ℕ → List ℕ };
 
-    /// The name of the file that the shell looks for, for a program of this name. Refused only for
-    /// want of memory.
+    /// The name of the file that the shell looks for, for a program of this name. Fails with
+    /// `Memory` alone.
     fn file_name(&self, alloc: Global, name: &str) -> Result<String, Error>
         ensures ok { IfOk result (λ text. string_bytes text ≡ file self.now name.now) }
         ensures memory { IfErr result (λ error. error ≡ Error.Memory) };
 
     /// Writes the script of a command that is built and has a bin name, piece by piece.
     ///
-    /// Refused with `Write` where the sink failed, with `LabelClash` where the script needs labels
-    /// and two nodes share one, before anything is written, and with `Memory`. How much a sink took
+    /// Fails with `Write` where the sink failed, with `LabelClash` where the script needs labels and
+    /// two nodes share one, before anything is written, and with `Memory`. How much a sink took
     /// before `Write` or `Memory` is left open.
     fn generate<W: Sink>(&self, alloc: Global, command: &Command, sink: &mut W) -> Result<(), Error>
         requires ready { IsReady command.now }
@@ -67,7 +67,7 @@ pub trait Generator {
 
 /// Sets the bin name, builds the command and writes the generator's script.
 ///
-/// Refused as the build or the generator is. A build that was refused leaves the command as it was,
+/// Fails as `build_as` and `Generator::generate` do. A build that failed leaves the command as it was,
 /// and nothing is written; one that was finished stays.
 pub fn generate<G: Generator + Drop, W: Sink>(
     alloc: Global,

@@ -1,5 +1,5 @@
-//! Scripts that are lists: the trait of every generator, the lists that generators share, and the
-//! generators of table-shaped scripts.
+//! The trait of every generator, the lists that generators share, and the generators of scripts that
+//! are tables.
 #![tactic(auto)]
 
 pub mod elvish;

@@ -1,12 +1,11 @@
 //! The PowerShell script: a frame, and in it a table for each visible path.
 
-ghost use Rattle.std.specs.Prelude.{◌≡◌, ◌++◌, ℕ, List, None, codes, IfOk, IfErr, OnOk};
+ghost use Rattle.std.specs.Prelude.{◌≡◌, ◌++◌, None, codes, IfOk, IfErr, OnOk};
 ghost use Rattle.std.specs.Option.{option_copied};
 ghost use Rattle.std.specs.String.{string_bytes};
 ghost use Rattle.cc_base.specs.Sink.{Counts, IsWrite};
 ghost use Rattle.cc_command.specs.Names.{full_name};
 ghost use Rattle.cc_lists.specs.OfferRows.{offered_of};
-ghost use Rattle.cc_lists.specs.Offers.{word};
 ghost use Rattle.cc_lists.specs.PowershellReads.{PowershellReads};
 ghost use Rattle.cc_lists.specs.PowershellScript.{kind_text, powershell_row, powershell_script, powershell_table};
 ghost use Rattle.cc_lists.specs.PowershellTable.{description, kind, listed, node_rows, offer_row, tree_tables};
@@ -107,9 +106,9 @@ impl RowScript for PowerShell {
         alloc: Global,
         offered: Offered<'_>,
         description: Option<&str>,
-        stand_in: &str,
+        fallback: &str,
     ) -> Result<String, Error> {
-        let text = shown_description(description, stand_in);
+        let text = shown_description(description, fallback);
         let escaped = powershell_escape(alloc, text)?;
         let mut row = String::from_str(alloc, POWERSHELL_WORD)?;
         push_word(&mut row, offered)?;
@@ -202,7 +201,8 @@ fn key_text(alloc: Global, key: &str) -> Result<String, Error>
 // Adds what is offered, as lists show it. Those of PowerShell take no account of case, so a space
 // tells a capital apart.
 fn push_listed(row: &mut String, offered: Offered<'_>) -> Result<(), Error>
-    ensures ok { OnOk result (string_bytes row.new ≡ string_bytes row.old ++ listed (offered_of offered.entry)) }
+    ensures ok { OnOk result
+        (string_bytes row.new ≡ string_bytes row.old ++ listed (offered_of offered.entry)) }
     ensures memory { IfErr result (λ error. error ≡ Error.Memory) }
 {
     push_word(row, offered)?;
@@ -225,11 +225,11 @@ fn kind_name(offered: Offered<'_>) -> &'static str
 }
 
 // The help or the about where there is one and it is not empty, else the text that stands in for it.
-fn shown_description<'a>(help: Option<&'a str>, stand_in: &'a str) -> &'a str
-    ensures { result.now ≡ description (option_copied help.entry) stand_in.now }
+fn shown_description<'a>(help: Option<&'a str>, fallback: &'a str) -> &'a str
+    ensures { result.now ≡ description (option_copied help.entry) fallback.now }
 {
     match help {
         Some(help) if !help.is_empty() => help,
-        _ => stand_in,
+        _ => fallback,
     }
 }

@@ -37,19 +37,20 @@ pub trait RowScript {
         alloc: Global,
         offered: Offered<'_>,
         description: Option<&str>,
-        stand_in: &str,
+        fallback: &str,
     ) -> Result<String, Error>
         ensures ok { IfOk result (λ row. string_bytes row ≡ offer_text self.now (record {
           offered = offered_of offered.entry;
           description = option_copied description.entry;
-          stand_in = stand_in.now;
+          fallback = fallback.now;
         })) }
         ensures memory { IfErr result (λ error. error ≡ Error.Memory) };
 }
 
 /// Adds what is offered, as it is typed.
 pub(crate) fn push_word(text: &mut String, offered: Offered<'_>) -> Result<(), Error>
-    ensures ok { OnOk result (string_bytes text.new ≡ string_bytes text.old ++ word (offered_of offered.entry)) }
+    ensures ok { OnOk result
+        (string_bytes text.new ≡ string_bytes text.old ++ word (offered_of offered.entry)) }
     ensures memory { IfErr result (λ error. error ≡ Error.Memory) }
 {
     match offered {
@@ -160,17 +161,17 @@ fn write_shorts<S: RowScript, W: Sink>(
         return Ok(());
     };
     let help = argument.get_help();
-    let stand_in = short_text(alloc, short)?;
+    let fallback = short_text(alloc, short)?;
     write_row(
         script,
         alloc,
         Offered::Short(short),
         help,
-        stand_in.as_str(),
+        fallback.as_str(),
         sink,
     )?;
     let aliases = argument.get_visible_short_aliases();
-    write_short_aliases(script, alloc, aliases, help, stand_in.as_str(), sink)
+    write_short_aliases(script, alloc, aliases, help, fallback.as_str(), sink)
 }
 
 // A short as a text.
@@ -190,16 +191,16 @@ fn write_short_aliases<S: RowScript, W: Sink>(
     alloc: Global,
     shorts: &[char],
     help: Option<&str>,
-    stand_in: &str,
+    fallback: &str,
     sink: &mut W,
 ) -> Result<(), Error>
     ensures ok { OnOk result (W.taken sink.new ≡ W.taken sink.old ++ rows_text (S.offer_text script.now)
-        (map (short_offer (option_copied help.entry) stand_in.now) shorts.now)) }
+        (map (short_offer (option_copied help.entry) fallback.now) shorts.now)) }
     ensures failures { Counts result (W.failed sink.old) (W.failed sink.new) }
     ensures kinds { IfErr result IsMemoryOrWrite }
 {
     for short in shorts {
-        write_row(script, alloc, Offered::Short(*short), help, stand_in, sink)?;
+        write_row(script, alloc, Offered::Short(*short), help, fallback, sink)?;
     }
     Ok(())
 }
@@ -239,11 +240,11 @@ fn write_long_aliases<S: RowScript, W: Sink>(
     alloc: Global,
     longs: &[Text],
     help: Option<&str>,
-    stand_in: &str,
+    fallback: &str,
     sink: &mut W,
 ) -> Result<(), Error>
     ensures ok { OnOk result (W.taken sink.new ≡ W.taken sink.old ++ rows_text (S.offer_text script.now)
-        (map (long_offer (option_copied help.entry) stand_in.now) longs.now)) }
+        (map (long_offer (option_copied help.entry) fallback.now) longs.now)) }
     ensures failures { Counts result (W.failed sink.old) (W.failed sink.new) }
     ensures kinds { IfErr result IsMemoryOrWrite }
 {
@@ -253,7 +254,7 @@ fn write_long_aliases<S: RowScript, W: Sink>(
             alloc,
             Offered::Long(long.as_str()),
             help,
-            stand_in,
+            fallback,
             sink,
         )?;
     }
@@ -324,17 +325,17 @@ fn write_row<S: RowScript, W: Sink>(
     alloc: Global,
     offered: Offered<'_>,
     description: Option<&str>,
-    stand_in: &str,
+    fallback: &str,
     sink: &mut W,
 ) -> Result<(), Error>
     ensures ok { OnOk result (W.taken sink.new ≡ W.taken sink.old ++ S.offer_text script.now (record {
       offered = offered_of offered.entry;
       description = option_copied description.entry;
-      stand_in = stand_in.now;
+      fallback = fallback.now;
     })) }
     ensures failures { Counts result (W.failed sink.old) (W.failed sink.new) }
     ensures kinds { IfErr result IsMemoryOrWrite }
 {
-    let row = script.row_text(alloc, offered, description, stand_in)?;
+    let row = script.row_text(alloc, offered, description, fallback)?;
     put_all(sink, row.as_bytes())
 }

@@ -1,9 +1,9 @@
 //! The lists that generators share.
 
-ghost use Rattle.std.specs.Prelude.{◌≡◌, ◌++◌, ◌∷◌, [], map, filter, true, IfOk, IfErr, OnOk};
+ghost use Rattle.std.specs.Prelude.{◌≡◌, ◌++◌, ◌∷◌, [], map, true, IfOk, IfErr, OnOk};
 ghost use Rattle.std.specs.Option.{option_copied};
 ghost use Rattle.std.specs.String.{string_bytes};
-ghost use Rattle.cc_command.specs.ArgumentLists.{flags, is_flag};
+ghost use Rattle.cc_command.specs.ArgumentLists.{flags};
 ghost use Rattle.cc_command.specs.Names.{full_name};
 ghost use Rattle.cc_command.specs.Tree.{forest_of};
 ghost use Rattle.cc_lists.specs.ArgumentNames.{all_longs, all_shorts, aliases_then};
@@ -15,7 +15,7 @@ use cc_command::Command;
 use std::alloc::Global;
 
 /// The names of the children: of each its name, then each visible alias, with the child's full
-/// name. Refused only for want of memory.
+/// name. Fails with `Memory` alone.
 pub fn subcommands(alloc: Global, command: &Command) -> Result<Vec<(String, String)>, Error>
     requires built { command.now.node.built ≡ true }
     ensures ok { IfOk result (λ found. texts_of found.items
@@ -28,7 +28,7 @@ pub fn subcommands(alloc: Global, command: &Command) -> Result<Vec<(String, Stri
 }
 
 /// The names of all commands below: `subcommands`, then the same of each child in turn and of all
-/// below it. Refused only for want of memory.
+/// below it. Fails with `Memory` alone.
 pub fn all_subcommands(alloc: Global, command: &Command) -> Result<Vec<(String, String)>, Error>
     requires built { command.now.node.built ≡ true }
     ensures ok { IfOk result (λ found. texts_of found.items
@@ -41,7 +41,7 @@ pub fn all_subcommands(alloc: Global, command: &Command) -> Result<Vec<(String, 
 }
 
 /// The command that a path of words leads to: each word leads to the first child with that name or
-/// alias. None where a word leads to no child.
+/// alias. `None` where a word leads to no child.
 pub fn find_subcommand_with_path<'a>(command: &'a Command, path: &[&str]) -> Option<&'a Command>
     ensures { option_copied result ≡ find_path command.now (map (λ word. word.now) path.now) }
 {
@@ -131,8 +131,7 @@ fn push_pair(
     Ok(())
 }
 
-/// The arguments that are no positionals and take no values, in order. Refused only for want of
-/// memory.
+/// The arguments that are no positionals and take no values, in order. Fails with `Memory` alone.
 pub fn flags<'a>(alloc: Global, command: &'a Command) -> Result<Vec<&'a Arg>, Error>
     ensures ok { IfOk result (λ found. map (λ argument. argument.now) found.items ≡ flags command.now.node) }
     ensures memory { IfErr result (λ error. error ≡ Error.Memory) }
@@ -147,8 +146,8 @@ pub fn flags<'a>(alloc: Global, command: &'a Command) -> Result<Vec<&'a Arg>, Er
     Ok(found)
 }
 
-/// The shorts: of each argument that has one its visible aliases, then the short itself. Refused
-/// only for want of memory.
+/// The shorts: of each argument that has one its visible aliases, then the short itself. Fails with
+/// `Memory` alone.
 #[tactic(auto, unfolding(crate::specs::ArgumentNames::all_shorts))]
 pub fn shorts_and_visible_aliases(alloc: Global, command: &Command) -> Result<Vec<char>, Error>
     ensures ok { IfOk result (λ shorts. shorts.items ≡ all_shorts command.now.node.arguments) }
@@ -175,8 +174,8 @@ fn push_shorts(shorts: &mut Vec<char>, argument: &Arg) -> Result<(), Error>
     Ok(())
 }
 
-/// The longs: of each argument that has one its visible aliases, then the long itself. Refused only
-/// for want of memory.
+/// The longs: of each argument that has one its visible aliases, then the long itself. Fails with
+/// `Memory` alone.
 #[tactic(auto, unfolding(crate::specs::ArgumentNames::all_longs))]
 pub fn longs_and_visible_aliases(alloc: Global, command: &Command) -> Result<Vec<String>, Error>
     ensures ok { IfOk result (λ longs. map string_bytes longs.items ≡ all_longs command.now.node.arguments) }
@@ -205,7 +204,8 @@ fn push_longs(longs: &mut Vec<String>, alloc: Global, argument: &Arg) -> Result<
 
 // Adds copies of the texts.
 fn push_texts(longs: &mut Vec<String>, alloc: Global, texts: &[Text]) -> Result<(), Error>
-    ensures ok { OnOk result (map string_bytes longs.new.items ≡ map string_bytes longs.old.items ++ texts.now) }
+    ensures ok { OnOk result
+        (map string_bytes longs.new.items ≡ map string_bytes longs.old.items ++ texts.now) }
     ensures memory { IfErr result (λ error. error ≡ Error.Memory) }
 {
     for text in texts {

@@ -1,12 +1,11 @@
 //! The walk over the visible paths of a tree, which writes a table for each.
 
-ghost use Rattle.std.specs.Prelude.{◌≡◌, ◌++◌, ◌<◌, ℕ, List, [], ◌∷◌, length, map, reverse, codes, IfOk, IfErr, OnOk};
-ghost use Rattle.std.specs.List.{flat_map};
+ghost use Rattle.std.specs.Prelude.{◌≡◌, ◌++◌, ◌<◌, ℕ, List, length, reverse, IfOk, IfErr, OnOk};
 ghost use Rattle.cc_base.specs.Sink.{Counts, IsMemoryOrWrite};
 ghost use Rattle.cc_command.specs.Tree.{Tree};
 ghost use Rattle.cc_flat.specs.Flat.{HasItsChildren, children_at, tree_at};
 ghost use Rattle.cc_command.specs.Names.{visible_names};
-ghost use Rattle.cc_lists.specs.KeyedVisits.{keyed_at, keyed_from, keyed_text, keyed_under, keyed_visits, keys_below, longer_key};
+ghost use Rattle.cc_lists.specs.KeyedVisits.{keyed_at, keyed_text, keyed_visits, keys_below, longer_key};
 ghost use Rattle.cc_lists.specs.Pending.{AreListed, children_pending, keyed_of, pending_of};
 
 use cc_base::{Error, Sink, Text};

@@ -1,21 +1,21 @@
 -- How an Elvish script is cut, for any text behind the part that each lemma speaks of.
 use Rattle.std.proofs.Common.{◌≡◌, ℕ, Bool, true, false, not, ◌||◌, cond, List, [], ◌∷◌, ◌++◌, map, ◌==◌, IsTrue, refl, sym, ap, ◌∙◌, append_assoc, append-nil, arith}
 use Rattle.std.proofs.lemmas.Bool.Decides.{Decides-eqb}
-use Rattle.cc_quote.specs.Tokens.{Piece}
-use Rattle.cc_quote.specs.ElvishTokens.{Sign, sign, cut, is_bare, IsBare, IsBareWord, HasNoQuote}
-use Rattle.cc_quote.specs.ElvishTokens.Sign.{blank, quote, other}
-use Rattle.cc_quote.specs.ElvishTokens.Place.{between, in_bare, in_quotes}
+use Rattle.cc_quote.specs.Tokens.{Piece, Sign, cut}
+use Rattle.cc_quote.specs.Tokens.Sign.{blank, quote, other}
+use Rattle.cc_quote.specs.Tokens.Place.{between, in_bare, in_quotes}
+use Rattle.cc_quote.specs.ElvishTokens.{sign, is_bare, IsBare, IsBareWord, HasNoQuote}
 use Rattle.cc_quote.specs.ElvishQuote.{elvish_escaped_byte, elvish_escaped}
 use Rattle.cc_quote.specs.QuotedWord.{is_blank, space_for_line_feed, line_feeds_as_spaces}
 
 -- ---- one byte
 
 -- a bare byte is neither a quote nor a blank
-sign-is_bare : (byte : ℕ) → IsTrue (is_bare byte) → sign byte ≡ other byte
+sign-is_bare : (byte : ℕ) → IsTrue (is_bare byte) → sign byte ≡ other (byte ∷ [])
 unfolding sign is_bare
 sign-is_bare byte h = by_tests (byte == 39) (is_blank byte) h
   where
-    by_tests : (q b : Bool) → IsTrue (not (q || b)) → cond q quote (cond b (blank byte) (other byte)) ≡ other byte
+    by_tests : (q b : Bool) → IsTrue (not (q || b)) → cond q (quote (byte ∷ [])) (cond b (blank (byte ∷ [])) (other (byte ∷ []))) ≡ other (byte ∷ [])
     by_tests true b p = cc
     by_tests false true p = cc
     by_tests false false p = refl
@@ -27,7 +27,7 @@ unfolding sign cut
 kept_byte byte signs pieces text h = by_tests (byte == 39) (is_blank byte) h
   where
     by_tests : (q b : Bool) → IsTrue (not q)
-        → cut (in_quotes pieces text) (cond q quote (cond b (blank byte) (other byte)) ∷ signs) ≡ cut (in_quotes pieces (text ++ byte ∷ [])) signs
+        → cut (in_quotes pieces text) (cond q (quote (byte ∷ [])) (cond b (blank (byte ∷ [])) (other (byte ∷ []))) ∷ signs) ≡ cut (in_quotes pieces (text ++ byte ∷ [])) signs
     by_tests true b p = cc
     by_tests false true p = refl
     by_tests false false p = refl

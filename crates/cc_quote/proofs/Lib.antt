@@ -1,9 +1,9 @@
-mod Rows
 pub mod Blanks
-pub mod Escapes
-pub mod Words
-pub mod ElvishWords
 pub mod Characters
-pub mod PowershellWords
 pub mod ElvishCutting
+pub mod ElvishWords
+pub mod Escapes
+mod Examples
 pub mod PowershellCutting
+pub mod PowershellWords
+pub mod Words

@@ -6,10 +6,10 @@ use Rattle.std.specs.Str.{chars, chars_after, all_scalars}
 use Rattle.std.proofs.lemmas.Bool.Decides.{Decides-eqb, nat_tests}
 use Rattle.std.proofs.lemmas.Str.{IsUtf8-from_ascii, IsUtf8-append, chars-IsAscii, chars-append, chars-encodes, encodes-chars, scalars-chars}
 use Rattle.std.proofs.lemmas.Str.Ascii.{IsAscii-nil, IsAscii-cons}
-use Rattle.cc_quote.specs.Tokens.{Piece}
-use Rattle.cc_quote.specs.PowershellTokens.{Sign, sign, Place, cut, IsUnquoted}
-use Rattle.cc_quote.specs.PowershellTokens.Sign.{blank, quote, other}
-use Rattle.cc_quote.specs.PowershellTokens.Place.{in_quotes}
+use Rattle.cc_quote.specs.Tokens.{Piece, Sign, Place, cut}
+use Rattle.cc_quote.specs.Tokens.Sign.{blank, quote, other}
+use Rattle.cc_quote.specs.Tokens.Place.{in_quotes}
+use Rattle.cc_quote.specs.PowershellTokens.{sign, IsUnquoted}
 use Rattle.cc_quote.specs.QuotedWord.{is_blank, space_for_line_feed, line_feeds_as_spaces}
 use Rattle.cc_quote.specs.PowershellQuote.{is_powershell_mark, powershell_escaped_character, powershell_escaped}
 use Rattle.cc_quote.proofs.Characters.{scalars-append, spaces_in_characters}

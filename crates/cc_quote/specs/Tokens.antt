@@ -1,5 +1,7 @@
--- What a script is cut into: tokens, and the pieces that a token keeps.
-use Rattle.std.specs.Prelude.{ℕ, Bool, true, false, List, [], ◌∷◌, Option, Some, None, bytes_eq}
+-- The tokens of a script. It is cut at blanks and line feeds outside quotes, and two quotes in a row within
+-- quotes stand for the second.
+use Rattle.std.specs.Prelude.{ℕ, Bool, false, List, [], ◌∷◌, ◌++◌, if◌then◌else◌, Option, Some, None, unwrap_or, bytes_eq}
+use Rattle.cc_quote.specs.QuotedWord.{is_blank}
 
 -- a piece of a token: a run outside quotes, or what quotes hold; `unclosed`: the text ends within them
 pub data Piece : Type 0 where
@@ -11,6 +13,46 @@ pub data Piece : Type 0 where
 abbrev pub Token : Type 0
 Token = List Piece
 
+-- what an item of a script, which is a byte or a character, is to the cutting, with its bytes: a space, a
+-- tab or a line feed; a quote; any other item
+pub data Sign : Type 0 where
+  blank : List ℕ → Sign
+  quote : List ℕ → Sign
+  other : List ℕ → Sign
+
+-- the sign of an item that has these bytes, where a test tells the quotes
+abbrev pub sign_of : (ℕ → Bool) → ℕ → List ℕ → Sign
+sign_of is_mark item bytes =
+    if is_mark item then quote bytes else (if is_blank item then blank bytes else other bytes)
+
+-- where the cutting stands: between two tokens, or in one, with the pieces that it has so far and the text
+-- of the piece that is open. Behind a quote that may close the text, or be the first of two, is a place of
+-- its own.
+pub data Place : Type 0 where
+  between : Place
+  in_bare : List Piece → List ℕ → Place
+  in_quotes : List Piece → List ℕ → Place
+  after_quotes : List Piece → List ℕ → Place
+
+-- the tokens that the signs give from a place on
+unfoldable pub cut : Place → List Sign → List Token
+cut between [] = []
+cut between (blank bytes ∷ signs) = cut between signs
+cut between (quote bytes ∷ signs) = cut (in_quotes [] []) signs
+cut between (other bytes ∷ signs) = cut (in_bare [] bytes) signs
+cut (in_bare pieces run) [] = (pieces ++ bare run ∷ []) ∷ []
+cut (in_bare pieces run) (blank bytes ∷ signs) = (pieces ++ bare run ∷ []) ∷ cut between signs
+cut (in_bare pieces run) (quote bytes ∷ signs) = cut (in_quotes (pieces ++ bare run ∷ []) []) signs
+cut (in_bare pieces run) (other bytes ∷ signs) = cut (in_bare pieces (run ++ bytes)) signs
+cut (in_quotes pieces text) [] = (pieces ++ unclosed text ∷ []) ∷ []
+cut (in_quotes pieces text) (blank bytes ∷ signs) = cut (in_quotes pieces (text ++ bytes)) signs
+cut (in_quotes pieces text) (quote bytes ∷ signs) = cut (after_quotes pieces text) signs
+cut (in_quotes pieces text) (other bytes ∷ signs) = cut (in_quotes pieces (text ++ bytes)) signs
+cut (after_quotes pieces text) [] = (pieces ++ quoted text ∷ []) ∷ []
+cut (after_quotes pieces text) (blank bytes ∷ signs) = (pieces ++ quoted text ∷ []) ∷ cut between signs
+cut (after_quotes pieces text) (quote bytes ∷ signs) = cut (in_quotes pieces (text ++ bytes)) signs
+cut (after_quotes pieces text) (other bytes ∷ signs) = cut (in_bare (pieces ++ quoted text ∷ []) bytes) signs
+
 -- whether a token is this bare word and nothing else
 unfoldable pub is_word : List ℕ → Token → Bool
 is_word word (bare run ∷ []) = bytes_eq run word
@@ -21,10 +63,10 @@ unfoldable pub strip_words : List (List ℕ) → List Token → Option (List Tok
 strip_words [] tokens = Some tokens
 strip_words (word ∷ words) [] = None
 strip_words (word ∷ words) (token ∷ tokens) =
-    elim (is_word word token) [ true ↦ strip_words words tokens | false ↦ None ]
+    if is_word word token then strip_words words tokens else None
 
 -- the tokens behind the first place where these bare words stand in a row; none, if there is no such place
 unfoldable pub after_words : List (List ℕ) → List Token → List Token
 after_words words [] = []
 after_words words (token ∷ tokens) =
-    elim (strip_words words (token ∷ tokens)) [ Some rest ↦ rest | None ↦ after_words words tokens ]
+    unwrap_or (strip_words words (token ∷ tokens)) (after_words words tokens)

@@ -2,7 +2,6 @@
 
 ghost use Rattle.std.specs.Prelude.{◌≡◌, ◌≢◌, ℕ, List, [], ◌∷◌, ◌++◌, map, codes, encode_utf8, IfOk, IfErr, OnOk, Some};
 ghost use Rattle.std.specs.String.{string_bytes};
-ghost use Rattle.cc_base.specs.declared.error.Error.TheVariants.{Memory};
 ghost use Rattle.cc_quote.specs.ElvishQuote.{elvish_escaped, elvish_word_of, elvish_sign};
 ghost use Rattle.cc_quote.specs.QuotedWord.{contents, line_feeds_as_spaces, quoted, word_from};
 
@@ -11,7 +10,7 @@ use cc_base::Error;
 use std::alloc::{AllocError, Global};
 
 /// The text as it stands between two `'` in Elvish: each `'` as `''`, and each line feed as a
-/// space. Refused where memory is.
+/// space. Fails with `Memory` alone.
 #[tactic(auto, using(crate::proofs::ElvishWords::elvish_escaped_push))]
 pub fn elvish_escape(alloc: Global, text: &str) -> Result<String, Error>
     ensures escaped { IfOk result (λ escaped. string_bytes escaped ≡ elvish_escaped text.now) }
@@ -20,7 +19,7 @@ pub fn elvish_escape(alloc: Global, text: &str) -> Result<String, Error>
     ensures read_back { IfOk result
         (λ escaped. elvish_word_of (codes "'" ++ string_bytes escaped ++ codes "'")
         ≡ Some (line_feeds_as_spaces text.now, [])) }
-    ensures memory { IfErr result (λ e. e ≡ Memory) }
+    ensures memory { IfErr result (λ error. error ≡ Error.Memory) }
 {
     let mut escaped = String::new(alloc);
     for character in text.chars() {
@@ -46,10 +45,10 @@ fn push_escaped(escaped: &mut String, character: char) -> Result<(), AllocError>
 /// The word that a text begins with, and what follows it. A word that begins with `'` goes to its
 /// closing `'`, and a `''` in it is one quote; any other ends before the first space, tab or line
 /// feed, and in it a quote is a character like any other. `None` where the text is empty or begins
-/// with a blank, or where a quote is open at its end. Refused where memory is.
+/// with a blank, or where a quote is open at its end. Fails with `Memory` alone.
 pub fn elvish_word(alloc: Global, text: &str) -> Result<Option<(String, &str)>, Error>
     ensures word { IfOk result (λ read. contents read ≡ elvish_word_of text.now) }
-    ensures memory { IfErr result (λ e. e ≡ Memory) }
+    ensures memory { IfErr result (λ error. error ≡ Error.Memory) }
 {
     match text.strip_prefix('\'') {
         Some(quoted) => quoted_word(alloc, quoted),
@@ -61,7 +60,7 @@ pub fn elvish_word(alloc: Global, text: &str) -> Result<Option<(String, &str)>, 
 fn quoted_word(alloc: Global, text: &str) -> Result<Option<(String, &str)>, Error>
     ensures word { IfOk result
         (λ read. contents read ≡ word_from (quoted []) (map elvish_sign text.now)) }
-    ensures memory { IfErr result (λ e. e ≡ Memory) }
+    ensures memory { IfErr result (λ error. error ≡ Error.Memory) }
 {
     let mut word = String::new(alloc);
     let mut rest = text;
@@ -82,7 +81,7 @@ fn quoted_word(alloc: Global, text: &str) -> Result<Option<(String, &str)>, Erro
 fn bare_word(alloc: Global, text: &str) -> Result<Option<(String, &str)>, Error>
     requires unquoted { (rest : List ℕ) → text.now ≢ 39 ∷ rest }
     ensures word { IfOk result (λ read. contents read ≡ elvish_word_of text.now) }
-    ensures memory { IfErr result (λ e. e ≡ Memory) }
+    ensures memory { IfErr result (λ error. error ≡ Error.Memory) }
 {
     let (word, rest) = split_at_blank(text);
     if word.is_empty() {

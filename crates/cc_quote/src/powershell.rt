@@ -4,7 +4,6 @@
 ghost use Rattle.std.specs.Prelude.{◌≡◌, [], ◌++◌, map, codes, IfOk, IfErr, OnOk, MatchOption, Some};
 ghost use Rattle.std.specs.Str.{chars, encode_utf8_all};
 ghost use Rattle.std.specs.String.{string_bytes};
-ghost use Rattle.cc_base.specs.declared.error.Error.TheVariants.{Memory};
 ghost use Rattle.cc_quote.specs.PowershellQuote.{powershell_escaped, powershell_escaped_character, powershell_word_of, powershell_sign, is_powershell_mark, in_utf8};
 ghost use Rattle.cc_quote.specs.QuotedWord.{contents, line_feeds_as_spaces, quoted, word_from, BeginsWithMark, BeginsWithNoMark};
 
@@ -15,7 +14,7 @@ use std::alloc::{AllocError, Global};
 const QUOTE_MARKS: [char; 2] = ['\'', '\u{2019}'];
 
 /// The text as it stands between two `'` in PowerShell: each `'` as `''`, each `’` (U+2019) as
-/// `'’`, and each line feed as a space. Refused where memory is.
+/// `'’`, and each line feed as a space. Fails with `Memory` alone.
 #[tactic(auto, using(crate::proofs::PowershellWords::powershell_escaped_push))]
 pub fn powershell_escape(alloc: Global, text: &str) -> Result<String, Error>
     ensures escaped { IfOk result (λ escaped. string_bytes escaped ≡ powershell_escaped text.now) }
@@ -24,7 +23,7 @@ pub fn powershell_escape(alloc: Global, text: &str) -> Result<String, Error>
     ensures read_back { IfOk result
         (λ escaped. powershell_word_of (codes "'" ++ string_bytes escaped ++ codes "'")
         ≡ Some (line_feeds_as_spaces text.now, [])) }
-    ensures memory { IfErr result (λ e. e ≡ Memory) }
+    ensures memory { IfErr result (λ error. error ≡ Error.Memory) }
 {
     let mut escaped = String::new(alloc);
     for character in text.chars() {
@@ -51,10 +50,10 @@ fn push_escaped(escaped: &mut String, character: char) -> Result<(), AllocError>
 /// which is `'` or `’` (U+2019), goes to the mark that closes it, and two marks in a row in it are
 /// the second; any other ends before the first space, tab or line feed, and in it a mark is a
 /// character like any other. `None` where the text is empty or begins with a blank, or where a quote
-/// is open at its end. Refused where memory is.
+/// is open at its end. Fails with `Memory` alone.
 pub fn powershell_word(alloc: Global, text: &str) -> Result<Option<(String, &str)>, Error>
     ensures word { IfOk result (λ read. contents read ≡ powershell_word_of text.now) }
-    ensures memory { IfErr result (λ e. e ≡ Memory) }
+    ensures memory { IfErr result (λ error. error ≡ Error.Memory) }
 {
     match split_quote_mark(text) {
         Some((_, quoted)) => quoted_word(alloc, quoted),
@@ -81,7 +80,7 @@ fn quoted_word(alloc: Global, text: &str) -> Result<Option<(String, &str)>, Erro
     ensures word { IfOk result
         (λ read. contents read
         ≡ in_utf8 (word_from (quoted []) (map powershell_sign (chars text.now)))) }
-    ensures memory { IfErr result (λ e. e ≡ Memory) }
+    ensures memory { IfErr result (λ error. error ≡ Error.Memory) }
 {
     let mut word = String::new(alloc);
     let mut rest = text;
@@ -102,7 +101,7 @@ fn quoted_word(alloc: Global, text: &str) -> Result<Option<(String, &str)>, Erro
 fn bare_word(alloc: Global, text: &str) -> Result<Option<(String, &str)>, Error>
     requires unquoted { BeginsWithNoMark is_powershell_mark (chars text.now) }
     ensures word { IfOk result (λ read. contents read ≡ powershell_word_of text.now) }
-    ensures memory { IfErr result (λ e. e ≡ Memory) }
+    ensures memory { IfErr result (λ error. error ≡ Error.Memory) }
 {
     let (word, rest) = split_at_blank(text);
     if word.is_empty() {

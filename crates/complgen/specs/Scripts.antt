@@ -5,18 +5,18 @@ use Rattle.cc_command.specs.Built.{built_under}
 use Rattle.cc_command.specs.Names.{full_name}
 use Rattle.cc_command.specs.Tree.{Tree}
 use Rattle.cc_lists.specs.ElvishScript.{elvish_script}
-use Rattle.cc_lists.specs.ElvishTable.{tree_tables as elvish_tables}
+use Rattle.cc_lists.specs.ElvishTable.{tree_tables as elvish_tree_tables}
 use Rattle.cc_lists.specs.PowershellScript.{powershell_script}
-use Rattle.cc_lists.specs.PowershellTable.{tree_tables as powershell_tables}
+use Rattle.cc_lists.specs.PowershellTable.{tree_tables as powershell_tree_tables}
 use Rattle.complgen.specs.TreeFile.{HoldsTree}
 
 -- the Elvish script of a built command
 abbrev pub elvish_of : Tree → List ℕ
-elvish_of tree = elvish_script (full_name tree.node) (elvish_tables tree)
+elvish_of tree = elvish_script (full_name tree.node) (elvish_tree_tables tree)
 
 -- the PowerShell script of a built command
 abbrev pub powershell_of : Tree → List ℕ
-powershell_of tree = powershell_script (full_name tree.node) (powershell_tables tree)
+powershell_of tree = powershell_script (full_name tree.node) (powershell_tree_tables tree)
 
 -- what the script for a shell of this name is, which is a known one
 abbrev pub script_for : List ℕ → Tree → List ℕ

@@ -1,7 +1,6 @@
 //! Building a command: what is missing is added and filled in, all the way down.
 
 ghost use Rattle.std.specs.Prelude.{◌≡◌, [], Some, IfOk, IfErr, OnOk, OnErr};
-ghost use Rattle.std.specs.Option.{option_copied};
 ghost use Rattle.std.specs.String.{string_bytes};
 ghost use Rattle.cc_command.specs.Tree.{forest_of, join};
 ghost use Rattle.cc_command.specs.Generated.{help_child};
@@ -18,17 +17,21 @@ use cc_base::{Error, Text};
 use std::alloc::Global;
 
 impl Command {
-    /// Builds the command and all below it: adds the arguments `help` and `version` and the child
-    /// `help` where they are missing and not disabled, fills in ranges, actions and indexes, and
-    /// names every child in full. Building a built command changes nothing.
+    /// Builds the command and all below it: adds the flag `help`, the flag `version` where there
+    /// is a version, and the child `help` where there are children, each unless it is disabled or
+    /// there already; fills in ranges, actions and indexes; and names every child in full. Building
+    /// a built command changes nothing.
     ///
-    /// Refused only for want of memory; the command is then unchanged.
+    /// Fails with `Memory` alone; the command is then unchanged.
     pub fn build(&mut self, alloc: Global) -> Result<(), Error>
         ensures ok { OnOk result (self.new ≡ built_tree self.old) }
         ensures whole { OnOk result (built_tree self.new ≡ self.new) }
         ensures err { OnErr result (self.new ≡ self.old) }
         ensures memory { IfErr result (λ error. error ≡ Error.Memory) }
     {
+        if self.is_built() {
+            return Ok(());
+        }
         let bin_name = Text::copy_of_some(alloc, self.get_bin_name())?;
         *self = self.built_under(alloc, bin_name)?;
         Ok(())
@@ -67,10 +70,10 @@ impl Command {
     }
 }
 
-/// Sets the bin name of a command and builds it, both or neither. It is no method, so that programs,
-/// which are not given it, don't see it.
+/// Sets the bin name of a command and builds it, both or neither. A free function, so that
+/// `clap_complete` can leave it out of what it gives out.
 ///
-/// Refused only for want of memory; the command is then unchanged.
+/// Fails with `Memory` alone; the command is then unchanged.
 pub fn build_as(command: &mut Command, alloc: Global, bin_name: String) -> Result<(), Error>
     ensures ok { OnOk result (command.new ≡ built_under (Some (string_bytes bin_name)) command.old) }
     ensures whole { OnOk result (built_tree command.new ≡ command.new) }

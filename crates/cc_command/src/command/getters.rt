@@ -1,13 +1,13 @@
 //! What a command answers about itself.
 
-ghost use Rattle.std.specs.Prelude.{◌≡◌, ◌&&◌, is_some};
+ghost use Rattle.std.specs.Prelude.{◌≡◌, ◌&&◌, is_some, unwrap_or};
 ghost use Rattle.std.specs.Option.{option_copied};
-ghost use Rattle.cc_command.specs.Tree.{forest_of};
-ghost use Rattle.cc_command.specs.Names.{answers_to, contains_name, has_child};
+ghost use Rattle.cc_command.specs.Names.{answers_to, contains_name, visible_names};
 ghost use Rattle.cc_command.specs.ArgumentLists.{options, positionals};
-ghost use Rattle.cc_command.specs.Iterators.{options_left, positionals_left};
+ghost use Rattle.cc_command.specs.Marked.{StaysIfMarked};
+ghost use Rattle.cc_command.specs.Iterators.{names_left, options_left, positionals_left};
 
-use crate::command::{Command, Options, Positionals};
+use crate::command::{Command, NameAndVisibleAliases, Options, Positionals};
 use cc_arg::Arg;
 use cc_base::Text;
 
@@ -40,6 +40,51 @@ impl Command {
         }
     }
 
+    /// The names that are shown besides the name.
+    pub fn get_visible_aliases(&self) -> &[Text]
+        ensures { result.now ≡ self.now.node.visible_aliases }
+    {
+        self.node.visible_aliases.as_slice()
+    }
+
+    /// The names that work and are not shown.
+    pub fn get_aliases(&self) -> &[Text]
+        ensures { result.now ≡ self.now.node.aliases }
+    {
+        self.node.aliases.as_slice()
+    }
+
+    /// The name, then its visible aliases.
+    pub fn get_name_and_visible_aliases(&self) -> NameAndVisibleAliases<'_>
+        ensures { names_left result ≡ visible_names self.now.node }
+    {
+        NameAndVisibleAliases::new(self.get_name(), self.get_visible_aliases())
+    }
+
+    /// The heading above the children in help texts.
+    pub fn get_subcommand_help_heading(&self) -> Option<&str>
+        ensures { option_copied result ≡ self.now.node.subcommand_help_heading }
+    {
+        match &self.node.subcommand_help_heading {
+            Some(heading) => Some(heading.as_str()),
+            None => None,
+        }
+    }
+
+    /// The display order among the children of a parent; 999 where none was given.
+    pub fn get_display_order(&self) -> usize
+        ensures { result ≡ unwrap_or self.now.node.display_order 999 }
+    {
+        self.node.display_order.unwrap_or(999)
+    }
+
+    /// Whether the command is left out of help texts.
+    pub fn is_hide_set(&self) -> bool
+        ensures { result ≡ self.now.node.hide }
+    {
+        self.node.hide
+    }
+
     /// The arguments in the order in which they were added.
     pub fn get_arguments(&self) -> &[Arg]
         ensures { result.now ≡ self.now.node.arguments }
@@ -62,9 +107,12 @@ impl Command {
         Positionals::new(self.node.arguments.as_slice())
     }
 
-    /// Whether the command is built: nothing was set since.
+    /// Whether the command was built and nothing was set since.
     pub fn is_built(&self) -> bool
-        ensures { result ≡ self.now.node.built }
+        ensures value { result ≡ self.now.node.built }
+
+        // Building it again would change nothing.
+        ensures stays { StaysIfMarked self.now }
     {
         self.node.built
     }
@@ -74,13 +122,6 @@ impl Command {
         ensures { result ≡ (self.now.node.built && is_some self.now.node.bin_name) }
     {
         self.node.built && self.node.bin_name.is_some()
-    }
-
-    /// The children in the order in which they were added.
-    pub fn get_subcommands(&self) -> &[Command]
-        ensures { forest_of result.now ≡ self.now.children }
-    {
-        &self.children
     }
 
     /// Whether the word is the name or an alias, visible or hidden.
@@ -98,16 +139,4 @@ pub(super) fn contains_name(names: &[Text], word: &str) -> bool
     ensures { result ≡ contains_name names.now word.now }
 {
     names.iter().any(|name| name.as_str() == word)
-}
-
-// Whether one of the siblings answers to the word.
-pub(super) fn has_child(siblings: &[Command], word: &str) -> bool
-    ensures { result ≡ has_child (forest_of siblings.now) word.now }
-{
-    for sibling in siblings {
-        if sibling.answers_to(word) {
-            return true;
-        }
-    }
-    false
 }

@@ -10,7 +10,8 @@ ghost use Rattle.cc_command.specs.PlainName.{is_plain_name};
 ghost use Rattle.cc_command.specs.Plain.{all_differ, has_no_quote, is_plain_argument, is_plain_forest, is_plain_node, is_plain_tree, names_of, passes_if_some, siblings_differ};
 
 use crate::command::Command;
-use crate::command::getters::{contains_name, has_child};
+use crate::command::children::has_child;
+use crate::command::getters::contains_name;
 use crate::node::Node;
 use cc_arg::Arg;
 use cc_base::Text;

@@ -1,7 +1,7 @@
 //! The arguments of a built command: what it was given, then `help` and `version` where they are
 //! missing, each filled in.
 
-ghost use Rattle.std.specs.Prelude.{◌≡◌, ◌++◌, ◌∷◌, [], Some, cond, map, is_ok, IfOk, IfErr, OnOk};
+ghost use Rattle.std.specs.Prelude.{◌≡◌, ◌∷◌, [], Some, map, IfOk, IfErr, OnOk};
 ghost use Rattle.cc_arg.specs.Arguments.{filled};
 ghost use Rattle.cc_command.specs.Names.{has_id};
 ghost use Rattle.cc_command.specs.Generated.{generated_help, generated_version, help_argument, version_argument};

@@ -1,6 +1,6 @@
 //! The generated child `help`, with its copies of the children.
 
-ghost use Rattle.std.specs.Prelude.{◌≡◌, ◌++◌, ◌∷◌, [], Some, IfOk, IfErr};
+ghost use Rattle.std.specs.Prelude.{◌≡◌, ◌∷◌, [], Some, IfOk, IfErr};
 ghost use Rattle.std.specs.Option.{option_copied};
 ghost use Rattle.cc_command.specs.Tree.{forest_of, none, join};
 ghost use Rattle.cc_command.specs.Built.{built_forest};
@@ -9,7 +9,7 @@ ghost use Rattle.cc_command.specs.Generated.{copies, generated_node, help_comman
 
 use crate::command::Command;
 use crate::command::build::joined_name;
-use crate::command::getters::has_child;
+use crate::command::children::has_child;
 use crate::node::{HELP, HELP_ABOUT, Node};
 use cc_base::{Error, Items, Text};
 use std::alloc::Global;

@@ -9,7 +9,7 @@ use Rattle.cc_lists.proofs.rows.write_long_aliases.Goals as goal
 pub loop-long-preserved : goal.loop-long-preserved
 loop-long-preserved g c =
     let row = g.S.RowScript.offer_text c.args.script.now in
-    let offer = long_offer (option_copied c.args.help) c.args.stand_in.now in
+    let offer = long_offer (option_copied c.args.help) c.args.fallback.now in
     let name = c.long-item.result in
     record {
       whole = written_more (λ x. row (offer x)) (λ xs. rows_text row (map offer xs)) (made-IsText row offer)
@@ -20,6 +20,6 @@ loop-long-preserved g c =
 pub returns-clause-ok : goal.returns-clause-ok
 returns-clause-ok g c =
     let row = g.S.RowScript.offer_text c.args.script.now in
-    let offer = long_offer (option_copied c.args.help) c.args.stand_in.now in
+    let offer = long_offer (option_copied c.args.help) c.args.fallback.now in
     written_all (λ x. row (offer x)) (λ xs. rows_text row (map offer xs)) (made-IsText row offer)
     c.args.longs.now c.loop-long.long-index _ _ c.loop-long-test.false c.loop-long.invariant.whole

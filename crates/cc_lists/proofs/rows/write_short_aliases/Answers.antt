@@ -9,7 +9,7 @@ use Rattle.cc_lists.proofs.rows.write_short_aliases.Goals as goal
 pub loop-short-preserved : goal.loop-short-preserved
 loop-short-preserved g c =
     let row = g.S.RowScript.offer_text c.args.script.now in
-    let offer = short_offer (option_copied c.args.help) c.args.stand_in.now in
+    let offer = short_offer (option_copied c.args.help) c.args.fallback.now in
     let name = c.short-item.result in
     record {
       whole = written_more (λ x. row (offer x)) (λ xs. rows_text row (map offer xs)) (made-IsText row offer)
@@ -20,6 +20,6 @@ loop-short-preserved g c =
 pub returns-clause-ok : goal.returns-clause-ok
 returns-clause-ok g c =
     let row = g.S.RowScript.offer_text c.args.script.now in
-    let offer = short_offer (option_copied c.args.help) c.args.stand_in.now in
+    let offer = short_offer (option_copied c.args.help) c.args.fallback.now in
     written_all (λ x. row (offer x)) (λ xs. rows_text row (map offer xs)) (made-IsText row offer)
     c.args.shorts.now c.loop-short.short-index _ _ c.loop-short-test.false c.loop-short.invariant.whole

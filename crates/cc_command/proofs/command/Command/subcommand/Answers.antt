@@ -1,6 +1,4 @@
-use Rattle.std.proofs.Common.{◌≡◌, ◌∷◌, [], ◌++◌, ap, ◌∙◌, rules}
-use Rattle.cc_command.specs.Tree.{Tree, forest_of}
-use Rattle.cc_command.specs.Made.{ordered_node}
+use Rattle.std.proofs.Common.{◌≡◌, ◌∷◌, [], ◌++◌, rules}
 use Rattle.cc_command.proofs.Forests.{forest_of-append}
 use Rattle.cc_command.proofs.command.Command.subcommand.Goals as goal
 

@@ -1,4 +1,4 @@
-use Rattle.std.proofs.Common.{◌≡◌, ◌+◌, ◌≤◌, ◌++◌, suc, map, length, vec_len}
+use Rattle.std.proofs.Common.{◌≡◌, ◌+◌, ◌≤◌, ◌++◌, suc, map, length}
 use Rattle.std.specs.Vec.Iter.{into_iter_items}
 use Rattle.cc_arg.specs.Arguments.{filled}
 use Rattle.cc_command.specs.Built.{indexed}

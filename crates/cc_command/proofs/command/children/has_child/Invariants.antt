@@ -1,7 +1,7 @@
 use Rattle.std.proofs.Common.{◌≡◌, drop}
 use Rattle.cc_command.specs.Tree.{forest_of}
 use Rattle.cc_command.specs.Names.{has_child}
-use Rattle.cc_command.proofs.command.getters.has_child.Given as goal
+use Rattle.cc_command.proofs.command.children.has_child.Given as goal
 
 -- none of the siblings that were passed over answers to the word
 abbrev pub invariant-loop-sibling : goal.invariant-loop-sibling

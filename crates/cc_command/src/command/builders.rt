@@ -1,0 +1,207 @@
+//! What can be set of a command.
+
+ghost use Rattle.std.specs.Prelude.{◌≡◌, ◌++◌, ◌∷◌, [], Some, IfOk, IfErr, OnOk, false};
+ghost use Rattle.std.specs.String.{string_bytes};
+ghost use Rattle.cc_command.specs.Made.{ordered_node, with_argument, with_child};
+
+use crate::command::Command;
+use cc_arg::{Arg, fill_display_order};
+use cc_base::{Error, Text};
+
+impl Command {
+    /// Sets the name by which the program is called.
+    pub fn bin_name(mut self, name: String) -> Command
+        ensures { result ≡ record self {
+          node =
+              record self.node { bin_name = Some (string_bytes name); built = false };
+        } }
+    {
+        self.set_bin_name(name);
+        self
+    }
+
+    /// Sets the name by which the program is called, in place.
+    pub fn set_bin_name(&mut self, name: String)
+        ensures { self.new ≡ record self.old {
+          node =
+              record self.old.node { bin_name = Some (string_bytes name); built = false };
+        } }
+    {
+        self.node.built = false;
+        self.node.bin_name = Some(Text::from(name));
+    }
+
+    /// Sets what the command says of itself.
+    pub fn about(mut self, about: String) -> Command
+        ensures { result ≡ record self {
+          node =
+              record self.node { about = Some (string_bytes about); built = false };
+        } }
+    {
+        self.node.built = false;
+        self.node.about = Some(Text::from(about));
+        self
+    }
+
+    /// Sets the version, which a flag shows.
+    pub fn version(mut self, version: String) -> Command
+        ensures { result ≡ record self {
+          node =
+              record self.node { version = Some (string_bytes version); built = false };
+        } }
+    {
+        self.node.built = false;
+        self.node.version = Some(Text::from(version));
+        self
+    }
+
+    /// Adds a name that works and is not shown.
+    pub fn alias(mut self, alias: String) -> Result<Command, Error>
+        ensures ok { IfOk result (λ command. command ≡ record self {
+          node =
+              record self.node { aliases = self.node.aliases ++ string_bytes alias ∷ []; built = false };
+        }) }
+        ensures memory { IfErr result (λ error. error ≡ Error.Memory) }
+    {
+        self.node.built = false;
+        self.node.aliases.push(Text::from(alias))?;
+        Ok(self)
+    }
+
+    /// Adds a name that is shown.
+    pub fn visible_alias(mut self, alias: String) -> Result<Command, Error>
+        ensures ok { IfOk result (λ command. command ≡ record self {
+          node =
+              record self.node {
+                visible_aliases = self.node.visible_aliases ++ string_bytes alias ∷ [];
+                built = false;
+              };
+        }) }
+        ensures memory { IfErr result (λ error. error ≡ Error.Memory) }
+    {
+        self.node.built = false;
+        self.node.visible_aliases.push(Text::from(alias))?;
+        Ok(self)
+    }
+
+    /// Says whether the command is left out of help texts.
+    pub fn hide(mut self, hide: bool) -> Command
+        ensures { result ≡ record self {
+          node =
+              record self.node { hide = hide; built = false };
+        } }
+    {
+        self.node.built = false;
+        self.node.hide = hide;
+        self
+    }
+
+    /// Sets the display order among the children of a parent.
+    pub fn display_order(mut self, order: usize) -> Command
+        ensures { result ≡ record self {
+          node =
+              record self.node { display_order = Some order; built = false };
+        } }
+    {
+        self.node.built = false;
+        self.node.display_order = Some(order);
+        self
+    }
+
+    /// Sets the heading above the children in help texts.
+    pub fn subcommand_help_heading(mut self, heading: String) -> Command
+        ensures { result ≡ record self {
+          node =
+              record self.node { subcommand_help_heading = Some (string_bytes heading); built = false };
+        } }
+    {
+        self.node.built = false;
+        self.node.subcommand_help_heading = Some(Text::from(heading));
+        self
+    }
+
+    /// Adds an argument. One that is no positional takes the command's next display order, unless
+    /// it has its own; the order is used up all the same.
+    pub fn arg(mut self, mut argument: Arg) -> Result<Command, Error>
+        ensures ok { IfOk result (λ command.
+            command ≡ record self { node = with_argument self.node argument }) }
+        ensures memory { IfErr result (λ error. error ≡ Error.Memory) }
+    {
+        self.node.built = false;
+        if !argument.is_positional() {
+            fill_display_order(&mut argument, self.node.next_order);
+            self.node.next_order = self.node.next_order.saturating_add(1);
+        }
+        self.node.arguments.push(argument)?;
+        Ok(self)
+    }
+
+    /// Adds a child. It takes the command's next display order, unless it has its own; the order
+    /// is used up all the same.
+    pub fn subcommand(mut self, mut child: Command) -> Result<Command, Error>
+        ensures ok { IfOk result (λ command. command ≡ with_child self child) }
+        ensures memory { IfErr result (λ error. error ≡ Error.Memory) }
+    {
+        self.node.built = false;
+        child.fill_display_order(self.node.next_order);
+        self.node.next_order = self.node.next_order.saturating_add(1);
+        push_child(&mut self.children, child)?;
+        Ok(self)
+    }
+
+    /// Says whether the flag `help` is left out.
+    pub fn disable_help_flag(mut self, disable: bool) -> Command
+        ensures { result ≡ record self {
+          node =
+              record self.node { disable_help_flag = disable; built = false };
+        } }
+    {
+        self.node.built = false;
+        self.node.disable_help_flag = disable;
+        self
+    }
+
+    /// Says whether the flag `version` is left out.
+    pub fn disable_version_flag(mut self, disable: bool) -> Command
+        ensures { result ≡ record self {
+          node =
+              record self.node { disable_version_flag = disable; built = false };
+        } }
+    {
+        self.node.built = false;
+        self.node.disable_version_flag = disable;
+        self
+    }
+
+    /// Says whether the child `help` is left out.
+    pub fn disable_help_subcommand(mut self, disable: bool) -> Command
+        ensures { result ≡ record self {
+          node =
+              record self.node { disable_help_subcommand = disable; built = false };
+        } }
+    {
+        self.node.built = false;
+        self.node.disable_help_subcommand = disable;
+        self
+    }
+
+    // Sets the display order where the command has none. This keeps a built command built.
+    fn fill_display_order(&mut self, order: usize)
+        ensures { self.new ≡ record self.old { node = ordered_node order self.old.node } }
+    {
+        self.node.display_order = Some(self.node.display_order.unwrap_or(order));
+    }
+}
+
+// Adds a child. The first one gets room for itself alone, since a `Vec` would begin with room for
+// four, and in a deep tree most commands have one child.
+fn push_child(children: &mut Vec<Command>, child: Command) -> Result<(), Error>
+    ensures ok { OnOk result (children.new.items ≡ children.old.items ++ child ∷ []) }
+    ensures memory { IfErr result (λ error. error ≡ Error.Memory) }
+{
+    if children.is_empty() {
+        children.reserve_exact(1)?;
+    }
+    children.push(child)?;
+    Ok(())
+}
