@@ -5,6 +5,11 @@
 //! [`generate`]:
 //!
 //! ```rust
+//! use clap_complete::aot::{Collected, Elvish};
+//! use clap_complete::command::{Arg, Command};
+//! use clap_complete::{Error, generate};
+//! use std::alloc::Global;
+//!
 //! fn elvish_script(alloc: Global) -> Result<Vec<u8>, Error> {
 //!     let out = Arg::new(alloc, String::from_str(alloc, "out")?).short('o');
 //!     let mut command = Command::new(alloc, String::from_str(alloc, "app")?).arg(out)?;

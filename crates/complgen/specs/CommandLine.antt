@@ -40,6 +40,7 @@ pub record EntersScript (entered : Option (Text × List Row)) (shell bin tree : 
   pub has_bin : first_of (codes "bin") rows ≡ Some bin
   pub has_tree : first_of (codes "tree") rows ≡ Some tree
 
+-- the subcommand that was entered is `script`, with a value for each of its arguments
 abbrev pub EntersSomeScript : Option (Text × List Row) → Type 0
 EntersSomeScript entered =
     (shell : Text) × (bin : Text) × (tree : Text) × EntersScript entered shell bin tree

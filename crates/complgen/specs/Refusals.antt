@@ -27,8 +27,8 @@ abbrev pub IsWantOfMemory : Refusal → Type 0
 IsWantOfMemory = IsRefusal (codes "out of memory\n")
 
 -- no shell is written so
-abbrev pub invalid_variant : List ℕ → List ℕ
-invalid_variant shell = codes "invalid variant: " ++ shell ++ codes "\n"
+abbrev pub invalid_variant_text : List ℕ → List ℕ
+invalid_variant_text shell = codes "invalid variant: " ++ shell ++ codes "\n"
 
 -- how the error of a tree file is refused
 abbrev pub RefusesTree : TreeError → Refusal → Type 0

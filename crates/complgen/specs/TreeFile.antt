@@ -18,6 +18,8 @@ Spells bytes d = IsUtf8 bytes × (read bytes ≡ Some d)
 abbrev pub SpellsNone : List ℕ → Type 0
 SpellsNone bytes = IsUtf8 bytes → read bytes ≡ None
 
+-- what reading bytes as JSON answers: the value that they spell, or `NotJson` where they spell none, unless
+-- memory runs out
 abbrev pub ReadsJson : List ℕ → Result Value TreeError → Type 0
 ReadsJson bytes (Ok value) = Spells bytes (view value)
 ReadsJson bytes (Err NotJson) = SpellsNone bytes

@@ -74,11 +74,13 @@ abbrev pub range_between : ℕ → ℕ → Option ValueRange
 range_between least greatest = if nat_le least greatest && nat_le least 255
     then Some (record { least = least; greatest = greatest }) else None
 
+-- the range that a list of two numbers stands for
 abbrev pub pair_of : Items → Option ValueRange
 pair_of (item least (item greatest no_items)) = option_and_then (λ l.
     option_and_then (range_between l) (bound_of greatest)) (number_of least)
 pair_of _ = None
 
+-- the range that a value stands for
 abbrev pub range_of : Data → Option ValueRange
 range_of d = option_and_then pair_of (as_array d)
 
@@ -95,10 +97,12 @@ action_of name = if bytes_eq name (codes "Set") then Some Set
     else if bytes_eq name (codes "Version") then Some Version
     else None
 
+-- the keys of some members
 abbrev pub keys_in : Members → List (List ℕ)
 keys_in no_members = []
 keys_in (member key d ms) = key ∷ keys_in ms
 
+-- the key is one of these
 abbrev pub is_one_of : List (List ℕ) → List ℕ → Bool
 is_one_of keys key = list_any (λ known. bytes_eq known key) keys
 

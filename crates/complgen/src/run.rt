@@ -6,7 +6,7 @@ ghost use Rattle.cc_command.specs.Tree.{Tree};
 ghost use Rattle.complgen.specs.Plans.{bin_of, is_known_shell, shell_of};
 ghost use Rattle.complgen.specs.Refusals.{IsRefusal, IsWantOfMemory, RefusesError, RefusesTree};
 ghost use Rattle.complgen.specs.Refusals.{CountsRefusal, RefusesFile, RefusesWithText};
-ghost use Rattle.complgen.specs.Refusals.{invalid_variant as the_invalid_variant};
+ghost use Rattle.complgen.specs.Refusals.{invalid_variant_text};
 ghost use Rattle.complgen.specs.Scripts.{TakesScript, script_for};
 ghost use Rattle.complgen.specs.TreeFile.{HoldsNoTree, HoldsTree};
 
@@ -39,9 +39,10 @@ pub fn run<W: Sink>(
     out: &mut W,
 ) -> Result<(), Refusal>
     ensures shell { is_known_shell (shell_of plan.now) ≡ false → IsErrAnd result
-        (λ r. IsWantOfMemory r ⊎ IsRefusal (the_invalid_variant (shell_of plan.now)) r) }
+        (λ r. IsWantOfMemory r ⊎ IsRefusal (invalid_variant_text (shell_of plan.now)) r) }
     ensures nothing_written { is_known_shell (shell_of plan.now) ≡ false → W.taken out.new ≡ W.taken out.old }
-    ensures nothing_failed { is_known_shell (shell_of plan.now) ≡ false → W.failed out.new ≡ W.failed out.old }
+    ensures nothing_failed { is_known_shell (shell_of plan.now) ≡ false →
+        W.failed out.new ≡ W.failed out.old }
     ensures unreadable { is_known_shell (shell_of plan.now) ≡ true → file.entry ≡ None
         → IsErrAnd result (IsRefusal UNREADABLE.now) }
     ensures no_tree_written { HoldsNoTree (option_copied file.entry) → W.taken out.new ≡ W.taken out.old }
@@ -97,7 +98,7 @@ fn tree(alloc: Global, file: Option<&[u8]>) -> Result<Command, Refusal>
 
 // Says that no shell is written as this text.
 fn invalid_variant(alloc: Global, shell: &str) -> Refusal
-    ensures { IsWantOfMemory result ⊎ IsRefusal (the_invalid_variant shell.now) result }
+    ensures { IsWantOfMemory result ⊎ IsRefusal (invalid_variant_text shell.now) result }
 {
     with_text(format!(in alloc; "invalid variant: {shell}\n"))
 }
@@ -176,15 +177,17 @@ mod tests {
         Ok(())
     }
 
-    // The script for this shell of a tree with a child.
-    fn written(alloc: Global, shell: &str) -> Result<Vec<u8>, Fail> {
+    // A tree with a child.
+    const PARENT: &str = "{\"name\": \"app\", \"disable_help_flag\": true, \"subcommands\": [
+        {\"name\": \"run\", \"visible_aliases\": [\"r\"], \"aliases\": [\"go\"]}]}";
+
+    // The script for this shell of the tree in a file.
+    fn script_of(alloc: Global, shell: &str, file: &[u8]) -> Result<Vec<u8>, Fail> {
         let bin = String::from_str(alloc, "app")?;
         let path = String::from_str(alloc, "tree.json")?;
         let plan = Plan::Script(String::from_str(alloc, shell)?, bin, path);
-        let file = "{\"name\": \"app\", \"disable_help_flag\": true, \"subcommands\": [
-            {\"name\": \"run\", \"visible_aliases\": [\"r\"], \"aliases\": [\"go\"]}]}";
         let mut out = Collected::new(alloc);
-        match run(alloc, &plan, Some(file.as_bytes()), &mut out) {
+        match run(alloc, &plan, Some(file), &mut out) {
             Ok(()) => Ok(out.into_vec()),
             Err(_) => Err(Fail::from("a refusal")),
         }
@@ -192,7 +195,7 @@ mod tests {
 
     #[test]
     fn writes_the_keys_of_a_child(rt: HostRuntime) -> Result<(), Fail> {
-        let script = written(rt.alloc(), "elvish")?;
+        let script = script_of(rt.alloc(), "elvish", PARENT.as_bytes())?;
         let script = String::from_utf8_lossy(rt.alloc(), script.as_slice())?;
         assert!(rt; script.as_str().contains("&'app'= {"));
         assert!(rt; script.as_str().contains("&'app;run'= {"));
@@ -203,7 +206,7 @@ mod tests {
 
     #[test]
     fn writes_for_powershell(rt: HostRuntime) -> Result<(), Fail> {
-        let script = written(rt.alloc(), "powershell")?;
+        let script = script_of(rt.alloc(), "powershell", PARENT.as_bytes())?;
         let script = String::from_utf8_lossy(rt.alloc(), script.as_slice())?;
         assert!(rt;
             script
@@ -232,6 +235,37 @@ mod tests {
             assert_eq!(rt; refusal.status, 1);
             assert_eq!(rt; refusal.text.as_str(), "tree: not JSON\n");
         }
+        Ok(())
+    }
+
+    // Adds a text so many times.
+    fn push_times(text: &mut String, part: &str, times: usize) -> Result<(), Fail> {
+        for _ in 0..times {
+            text.push_str(part)?;
+        }
+        Ok(())
+    }
+
+    #[test]
+    fn refuses_a_million_open_brackets(rt: HostRuntime) -> Result<(), Fail> {
+        let mut text = String::new(rt.alloc());
+        push_times(&mut text, "[", 1_000_000)?;
+        let refusal = refused(rt.alloc(), "elvish", Some(text.as_bytes()))?;
+        assert_eq!(rt; refusal.status, 1);
+        assert_eq!(rt; refusal.text.as_str(), "tree: not JSON\n");
+        Ok(())
+    }
+
+    // Each parent is an object and a list, so 63 of them and a child nest as deep as JSON may.
+    #[test]
+    fn writes_the_script_of_the_deepest_tree(rt: HostRuntime) -> Result<(), Fail> {
+        let mut text = String::new(rt.alloc());
+        push_times(&mut text, "{\"name\":\"a\",\"subcommands\":[", 63)?;
+        text.push_str("{\"name\":\"a\"}")?;
+        push_times(&mut text, "]}", 63)?;
+        let script = script_of(rt.alloc(), "elvish", text.as_bytes())?;
+        let script = String::from_utf8_lossy(rt.alloc(), script.as_slice())?;
+        assert!(rt; script.as_str().contains("&'app;a;a;a'= {"));
         Ok(())
     }
 

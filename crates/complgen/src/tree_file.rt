@@ -71,3 +71,20 @@ fn json(alloc: Global, bytes: &[u8]) -> Result<Value, TreeError>
         Err(_) => Err(TreeError::NotJson),
     }
 }
+
+#[cfg(test)]
+mod tests {
+    use super::TreeError;
+    use std::test::Fail;
+
+    #[test]
+    fn each_error_shows_its_text(rt: HostRuntime) -> Result<(), Fail> {
+        let not_json = format!(in rt.alloc(); "{} {:?}", TreeError::NotJson, TreeError::NotJson)?;
+        assert_eq!(rt; not_json.as_str(), "tree: not JSON NotJson");
+        let bad_form = format!(in rt.alloc(); "{} {:?}", TreeError::BadForm, TreeError::BadForm)?;
+        assert_eq!(rt; bad_form.as_str(), "tree: bad form BadForm");
+        let memory = format!(in rt.alloc(); "{} {:?}", TreeError::Memory, TreeError::Memory)?;
+        assert_eq!(rt; memory.as_str(), "out of memory Memory");
+        Ok(())
+    }
+}

@@ -158,7 +158,8 @@ fn with_aliases(alloc: Global, command: Command, tree: &Value) -> Result<Command
 }
 
 fn add_aliases(command: Command, names: Vec<String>) -> Result<Command, TreeError>
-    ensures { Gives (λ tree. tree) result (Some (fold form.with_alias command (map string_bytes names.items))) }
+    ensures { Gives (λ tree. tree) result
+        (Some (fold form.with_alias command (map string_bytes names.items))) }
 {
     let mut command = command;
     for name in names {
@@ -177,7 +178,8 @@ fn with_visible_aliases(alloc: Global, command: Command, tree: &Value) -> Result
 }
 
 fn add_visible_aliases(command: Command, names: Vec<String>) -> Result<Command, TreeError>
-    ensures { Gives (λ tree. tree) result (Some (fold form.with_visible_alias command (map string_bytes names.items))) }
+    ensures { Gives (λ tree. tree) result
+        (Some (fold form.with_visible_alias command (map string_bytes names.items))) }
 {
     let mut command = command;
     for name in names {
