@@ -39,12 +39,12 @@ fn long(alloc: Global, name: &str) -> Result<Arg, Error> {
     Ok(Arg::new(alloc, id).long(long))
 }
 
-// `app` with no arguments and no help flag.
+/// `app` with no arguments and no help flag.
 pub fn bare(alloc: Global) -> Result<Command, Error> {
     Ok(named(alloc, "app")?.disable_help_flag(true))
 }
 
-// `app` with a flag `-v`, `--verbose` and an option `--out`.
+/// `app` with a flag `-v`, `--verbose` and an option `--out`.
 pub fn app(alloc: Global) -> Result<Command, Error> {
     with(with(named(alloc, "app"), verbose(alloc)), out(alloc))
 }
@@ -59,7 +59,7 @@ fn out(alloc: Global) -> Result<Arg, Error> {
     Ok(long(alloc, "out")?.action(ArgAction::Set))
 }
 
-// `app` with a child `run`, shown as `r` too, that has a child `job`; nothing is generated.
+/// `app` with a child `run`, shown as `r` too, that has a child `job`; nothing is generated.
 pub fn nested(alloc: Global) -> Result<Command, Error> {
     let run = holding(run(alloc), plain(alloc, "job"));
     holding(plain(alloc, "app"), run)
@@ -70,13 +70,14 @@ fn run(alloc: Global) -> Result<Command, Error> {
     plain(alloc, "run")?.visible_alias(alias)
 }
 
-// `test`, hidden as `t`, with a flag `-f`, `--file`, shown as `-p` and `--path` too, and hidden as
-// `-q` and `--old`.
+/// `test`, hidden as `t`, with a flag `-f`, `--file`, shown as `-p` and `--path` too, and hidden as
+/// `-q` and `--old`.
 pub fn test(alloc: Global) -> Result<Command, Error> {
     let alias = String::from_str(alloc, "t")?;
     with(named(alloc, "test")?.alias(alias), file(alloc))
 }
 
+/// The flag of `test`.
 pub fn file(alloc: Global) -> Result<Arg, Error> {
     let alias = String::from_str(alloc, "path")?;
     let hidden = String::from_str(alloc, "old")?;
@@ -88,7 +89,7 @@ fn with_shorts(arg: Arg) -> Result<Arg, Error> {
     arg.short('f').visible_short_alias('p')?.short_alias('q')
 }
 
-// `app` with one flag of this short and help, and no other.
+/// `app` with one flag of this short and help, and no other.
 pub fn flag(alloc: Global, short: char, help: &str) -> Result<Command, Error> {
     let help = String::from_str(alloc, help)?;
     let id = String::from_str(alloc, "flag")?;
@@ -96,15 +97,15 @@ pub fn flag(alloc: Global, short: char, help: &str) -> Result<Command, Error> {
     with(bare(alloc), Ok(flag.action(ArgAction::SetTrue)))
 }
 
-// `app` with a child `c` that says this of itself; nothing is generated.
+/// `app` with a child `c` that says this of itself; nothing is generated.
 pub fn described(alloc: Global, about: &str) -> Result<Command, Error> {
     let about = String::from_str(alloc, about)?;
     let child = plain(alloc, "c")?.about(about);
     holding(plain(alloc, "app"), Ok(child))
 }
 
-// The chain `app`, `n1` to `n199`, each the only child of the one before, and the last with a flag
-// `--end`; nothing is generated.
+/// The chain `app`, `n1` to `n199`, each the only child of the one before, and the last with a flag
+/// `--end`; nothing is generated.
 pub fn chain(alloc: Global) -> Result<Command, Error> {
     let mut chain = with(numbered(alloc, 199), end(alloc));
     for number in (1..199).rev() {
@@ -122,7 +123,7 @@ fn end(alloc: Global) -> Result<Arg, Error> {
     Ok(long(alloc, "end")?.action(ArgAction::SetTrue))
 }
 
-// `app` with the options `--o1` to `--o500`, and nothing else.
+/// `app` with the options `--o1` to `--o500`, and nothing else.
 pub fn many(alloc: Global) -> Result<Command, Error> {
     let mut command = bare(alloc);
     for number in 1..=500 {
@@ -136,8 +137,13 @@ fn option(alloc: Global, number: usize) -> Result<Arg, Error> {
     Ok(long(alloc, name.as_str())?.action(ArgAction::Set))
 }
 
-// `myapp`, called `my-cmd`, of a version, with the children `test`, which has a flag and holds
-// `config`, and `hello`.
+/// `my-app` with a child `test`, and all that building adds.
+pub fn helped(alloc: Global) -> Result<Command, Error> {
+    holding(named(alloc, "my-app"), named(alloc, "test"))
+}
+
+/// `myapp`, called `my-cmd`, of a version, with the children `test`, which has a flag and holds
+/// `config`, and `hello`.
 pub fn my_app(alloc: Global) -> Result<Command, Error> {
     let test = holding(test(alloc), named(alloc, "config"));
     holding(holding(versioned(alloc), test), named(alloc, "hello"))
@@ -150,6 +156,7 @@ fn versioned(alloc: Global) -> Result<Command, Error> {
     Ok(command.bin_name(bin_name).version(version))
 }
 
+/// A command that was built.
 pub fn built(alloc: Global, command: Result<Command, Error>) -> Result<Command, Error> {
     let mut command = command?;
     command.build(alloc)?;

@@ -5,20 +5,22 @@
 #[cfg(test)]
 mod calls;
 #[cfg(test)]
+mod debug;
+#[cfg(test)]
+mod elvish;
+#[cfg(test)]
 mod example;
 #[cfg(test)]
 mod fixtures;
+#[cfg(test)]
+mod index;
 #[cfg(test)]
 mod lists;
 #[cfg(test)]
 mod powershell;
 #[cfg(test)]
-mod scripts;
-#[cfg(test)]
 mod sinks;
 #[cfg(test)]
 mod trees;
-#[cfg(test)]
-mod words;
 #[cfg(test)]
 mod written;

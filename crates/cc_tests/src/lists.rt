@@ -1,6 +1,6 @@
 //! The lists that generators share, and the names of their files.
 
-use crate::fixtures::{built, my_app, nested, test};
+use crate::fixtures::{built, my_app, nested};
 use clap_complete::aot::{Elvish, PowerShell, utils};
 use clap_complete::command::Command;
 use clap_complete::{Error, Generator};
@@ -47,6 +47,14 @@ fn shorts_and_longs(alloc: Global, command: &Command) -> Result<String, Error> {
     Ok(line)
 }
 
+// The same of the command that a word leads to.
+fn shorts_and_longs_of(alloc: Global, command: &Command, word: &str) -> Result<String, Error> {
+    match utils::find_subcommand_with_path(command, [word].as_slice()) {
+        Some(child) => shorts_and_longs(alloc, child),
+        None => Ok(String::new(alloc)),
+    }
+}
+
 // The longs of the flags, with a space behind each.
 fn longs_of_flags(alloc: Global, command: &Command) -> Result<String, Error> {
     let mut longs = String::new(alloc);
@@ -57,10 +65,18 @@ fn longs_of_flags(alloc: Global, command: &Command) -> Result<String, Error> {
     Ok(longs)
 }
 
+// The longs of the flags of the command that a word leads to.
+fn longs_of_flags_of(alloc: Global, command: &Command, word: &str) -> Result<String, Error> {
+    match utils::find_subcommand_with_path(command, [word].as_slice()) {
+        Some(child) => longs_of_flags(alloc, child),
+        None => Ok(String::new(alloc)),
+    }
+}
+
 #[test]
 fn visible_aliases_stand_before_the_name(rt: HostRuntime) -> Result<(), Fail> {
-    let command = built(rt.alloc(), test(rt.alloc()))?;
-    let names = shorts_and_longs(rt.alloc(), &command)?;
+    let command = built(rt.alloc(), my_app(rt.alloc()))?;
+    let names = shorts_and_longs_of(rt.alloc(), &command, "test")?;
     assert_eq!(rt; names.as_str(), "p f h path file help ");
     Ok(())
 }
@@ -75,8 +91,8 @@ fn generated_flags_stand_behind(rt: HostRuntime) -> Result<(), Fail> {
 
 #[test]
 fn flags_take_no_values(rt: HostRuntime) -> Result<(), Fail> {
-    let command = built(rt.alloc(), test(rt.alloc()))?;
-    let longs = longs_of_flags(rt.alloc(), &command)?;
+    let command = built(rt.alloc(), my_app(rt.alloc()))?;
+    let longs = longs_of_flags_of(rt.alloc(), &command, "test")?;
     assert_eq!(rt; longs.as_str(), "file help ");
     Ok(())
 }

@@ -1,6 +1,6 @@
 //! Scripts written to sinks that take little, fail, take nothing, or measure what they take.
 
-use crate::fixtures::{app, many, nested};
+use crate::fixtures::{app, helped, many, nested};
 use crate::written::{script, write_script};
 use clap_complete::aot::{Counted, Elvish, PowerShell, Sink};
 use clap_complete::command::Command;
@@ -88,6 +88,24 @@ fn one_byte_a_call_is_the_same_powershell_script(rt: HostRuntime) -> Result<(), 
     let whole = script(rt.alloc(), PowerShell, nested(rt.alloc()))?;
     let by_bytes = by_bytes(rt.alloc(), PowerShell, nested(rt.alloc()))?;
     assert_eq!(rt; by_bytes.as_str(), whole.as_str());
+    Ok(())
+}
+
+#[test]
+fn one_byte_a_call_is_the_same_elvish_script_with_copies(rt: HostRuntime) -> Result<(), Fail> {
+    let whole = script(rt.alloc(), Elvish, helped(rt.alloc()))?;
+    let by_bytes = by_bytes(rt.alloc(), Elvish, helped(rt.alloc()))?;
+    assert_eq!(rt; by_bytes.as_str(), whole.as_str());
+    assert!(rt; whole.as_str().contains("&'app;help;test'= {"));
+    Ok(())
+}
+
+#[test]
+fn one_byte_a_call_is_the_same_powershell_script_with_copies(rt: HostRuntime) -> Result<(), Fail> {
+    let whole = script(rt.alloc(), PowerShell, helped(rt.alloc()))?;
+    let by_bytes = by_bytes(rt.alloc(), PowerShell, helped(rt.alloc()))?;
+    assert_eq!(rt; by_bytes.as_str(), whole.as_str());
+    assert!(rt; whole.as_str().contains("'app;help;test' {"));
     Ok(())
 }
 

@@ -5,7 +5,7 @@ use clap_complete::command::Command;
 use clap_complete::{Error, Generator, generate};
 use std::alloc::Global;
 
-// Writes the script of a command for the program `app`.
+/// Writes the script of a command for the program `app`.
 pub fn write_script<G: Generator + Drop, W: Sink>(
     alloc: Global,
     generator: G,
@@ -17,7 +17,7 @@ pub fn write_script<G: Generator + Drop, W: Sink>(
     generate(alloc, generator, &mut command, bin_name, sink)
 }
 
-// The script of a command for the program `app`.
+/// The script of a command for the program `app`.
 pub fn script<G: Generator + Drop>(
     alloc: Global,
     generator: G,
