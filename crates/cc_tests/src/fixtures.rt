@@ -40,12 +40,12 @@ fn long(alloc: Global, name: &str) -> Result<Arg, Error> {
 }
 
 /// `app` with no arguments and no help flag.
-pub fn bare(alloc: Global) -> Result<Command, Error> {
+pub(crate) fn bare(alloc: Global) -> Result<Command, Error> {
     Ok(named(alloc, "app")?.disable_help_flag(true))
 }
 
 /// `app` with a flag `-v`, `--verbose` and an option `--out`.
-pub fn app(alloc: Global) -> Result<Command, Error> {
+pub(crate) fn app(alloc: Global) -> Result<Command, Error> {
     with(with(named(alloc, "app"), verbose(alloc)), out(alloc))
 }
 
@@ -60,7 +60,7 @@ fn out(alloc: Global) -> Result<Arg, Error> {
 }
 
 /// `app` with a child `run`, shown as `r` too, that has a child `job`; nothing is generated.
-pub fn nested(alloc: Global) -> Result<Command, Error> {
+pub(crate) fn nested(alloc: Global) -> Result<Command, Error> {
     let run = holding(run(alloc), plain(alloc, "job"));
     holding(plain(alloc, "app"), run)
 }
@@ -72,13 +72,13 @@ fn run(alloc: Global) -> Result<Command, Error> {
 
 /// `test`, hidden as `t`, with a flag `-f`, `--file`, shown as `-p` and `--path` too, and hidden as
 /// `-q` and `--old`.
-pub fn test(alloc: Global) -> Result<Command, Error> {
+pub(crate) fn test(alloc: Global) -> Result<Command, Error> {
     let alias = String::from_str(alloc, "t")?;
     with(named(alloc, "test")?.alias(alias), file(alloc))
 }
 
 /// The flag of `test`.
-pub fn file(alloc: Global) -> Result<Arg, Error> {
+pub(crate) fn file(alloc: Global) -> Result<Arg, Error> {
     let alias = String::from_str(alloc, "path")?;
     let hidden = String::from_str(alloc, "old")?;
     let shown = with_shorts(long(alloc, "file")?)?.visible_alias(alias)?;
@@ -90,7 +90,7 @@ fn with_shorts(arg: Arg) -> Result<Arg, Error> {
 }
 
 /// `app` with one flag of this short and help, and no other.
-pub fn flag(alloc: Global, short: char, help: &str) -> Result<Command, Error> {
+pub(crate) fn flag(alloc: Global, short: char, help: &str) -> Result<Command, Error> {
     let help = String::from_str(alloc, help)?;
     let id = String::from_str(alloc, "flag")?;
     let flag = Arg::new(alloc, id).short(short).help(help);
@@ -98,7 +98,7 @@ pub fn flag(alloc: Global, short: char, help: &str) -> Result<Command, Error> {
 }
 
 /// `app` with a child `c` that says this of itself; nothing is generated.
-pub fn described(alloc: Global, about: &str) -> Result<Command, Error> {
+pub(crate) fn described(alloc: Global, about: &str) -> Result<Command, Error> {
     let about = String::from_str(alloc, about)?;
     let child = plain(alloc, "c")?.about(about);
     holding(plain(alloc, "app"), Ok(child))
@@ -106,7 +106,7 @@ pub fn described(alloc: Global, about: &str) -> Result<Command, Error> {
 
 /// The chain `app`, `n1` to `n199`, each the only child of the one before, and the last with a flag
 /// `--end`; nothing is generated.
-pub fn chain(alloc: Global) -> Result<Command, Error> {
+pub(crate) fn chain(alloc: Global) -> Result<Command, Error> {
     let mut chain = with(numbered(alloc, 199), end(alloc));
     for number in (1..199).rev() {
         chain = holding(numbered(alloc, number), chain);
@@ -124,7 +124,7 @@ fn end(alloc: Global) -> Result<Arg, Error> {
 }
 
 /// `app` with the options `--o1` to `--o500`, and nothing else.
-pub fn many(alloc: Global) -> Result<Command, Error> {
+pub(crate) fn many(alloc: Global) -> Result<Command, Error> {
     let mut command = bare(alloc);
     for number in 1..=500 {
         command = with(command, option(alloc, number));
@@ -138,13 +138,13 @@ fn option(alloc: Global, number: usize) -> Result<Arg, Error> {
 }
 
 /// `my-app` with a child `test`, and all that building adds.
-pub fn helped(alloc: Global) -> Result<Command, Error> {
+pub(crate) fn helped(alloc: Global) -> Result<Command, Error> {
     holding(named(alloc, "my-app"), named(alloc, "test"))
 }
 
 /// `myapp`, called `my-cmd`, of a version, with the children `test`, which has a flag and holds
 /// `config`, and `hello`.
-pub fn my_app(alloc: Global) -> Result<Command, Error> {
+pub(crate) fn my_app(alloc: Global) -> Result<Command, Error> {
     let test = holding(test(alloc), named(alloc, "config"));
     holding(holding(versioned(alloc), test), named(alloc, "hello"))
 }
@@ -157,7 +157,7 @@ fn versioned(alloc: Global) -> Result<Command, Error> {
 }
 
 /// A command that was built.
-pub fn built(alloc: Global, command: Result<Command, Error>) -> Result<Command, Error> {
+pub(crate) fn built(alloc: Global, command: Result<Command, Error>) -> Result<Command, Error> {
     let mut command = command?;
     command.build(alloc)?;
     Ok(command)

@@ -6,7 +6,7 @@ use clap_complete::{Error, Generator, generate};
 use std::alloc::Global;
 
 /// Writes the script of a command for the program `app`.
-pub fn write_script<G: Generator + Drop, W: Sink>(
+pub(crate) fn write_script<G: Generator + Drop, W: Sink>(
     alloc: Global,
     generator: G,
     command: Result<Command, Error>,
@@ -18,7 +18,7 @@ pub fn write_script<G: Generator + Drop, W: Sink>(
 }
 
 /// The script of a command for the program `app`.
-pub fn script<G: Generator + Drop>(
+pub(crate) fn script<G: Generator + Drop>(
     alloc: Global,
     generator: G,
     command: Result<Command, Error>,
