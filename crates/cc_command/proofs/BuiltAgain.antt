@@ -1,5 +1,6 @@
 -- Building a built tree changes nothing.
 use Rattle.std.proofs.Common.{◌≡◌, ℕ, suc, List, [], ◌∷◌, ◌++◌, Bool, true, false, cond, not, ◌&&◌, ◌||◌, Option, Some, map, refl, ap, ◌∙◌, sym}
+use Rattle.std.proofs.Math.Bool.{and-false, or-true, or_assoc}
 use Rattle.std.specs.Str.{bytes_eq}
 use Rattle.std.proofs.lemmas.Slice.Eq.{bytes_eq-Decides}
 use Rattle.cc_arg.specs.declared.arg.Arg.{Arg}
@@ -11,24 +12,12 @@ use Rattle.cc_command.specs.Names.{has_id, has_child, answers_to, full_name, joi
 use Rattle.cc_command.specs.Generated.{generated_arguments, generated_node, copies, help_command, needs_help_child, help_child}
 use Rattle.cc_command.specs.Built.{with_missing, lacks_index, with_index, index_behind, indexed, inherited_by, built_node, built_forest, built_under, built_tree}
 
-and_false : (b : Bool) → (b && false) ≡ false
-and_false true = refl
-and_false false = refl
-
 -- ---- arguments
 
 -- the ids of the others are all among the arguments'
 abbrev HasIds : List Arg → List Arg → Type 0
 HasIds arguments [] = Unit {0}
 HasIds arguments (other ∷ others) = (has_id arguments other.id ≡ true) × HasIds arguments others
-
-or_true : (b : Bool) → (b || true) ≡ true
-or_true true = refl
-or_true false = refl
-
-or_assoc : (a b c : Bool) → ((a || b) || c) ≡ (a || (b || c))
-or_assoc true b c = refl
-or_assoc false b c = refl
 
 has_id-append : (xs ys : List Arg) (id : List ℕ) → has_id (xs ++ ys) id ≡ (has_id xs id || has_id ys id)
 has_id-append [] ys id = refl
@@ -53,7 +42,7 @@ bytes_eq-self bytes = (bytes_eq-Decides bytes bytes).1 refl
 has_id-step : (xs : List Arg) (other : Arg) (b : Bool) → has_id xs other.id ≡ b → has_id (cond b xs (xs ++ other ∷ [])) other.id ≡ true
 has_id-step xs other true is = is
 has_id-step xs other false is =
-    has_id-append xs (other ∷ []) other.id ∙ ap (λ b. has_id xs other.id || (b || false)) (bytes_eq-self other.id) ∙ or_true (has_id xs other.id)
+    has_id-append xs (other ∷ []) other.id ∙ ap (λ b. has_id xs other.id || (b || false)) (bytes_eq-self other.id) ∙ or-true (has_id xs other.id)
 
 -- behind the adding all of the others' ids are there
 HasIds-with_missing : (xs others : List Arg) → HasIds (with_missing xs others) others
@@ -89,7 +78,7 @@ HasIds-same xs ys (other ∷ others) same there = (same other.id ∙ there.0, Ha
 
 -- an argument that has its place lacks none
 lacks_index-with : (place : ℕ) (x : Arg) (b : Bool) → lacks_index x ≡ b → lacks_index (cond b (record x { index = Some place }) x) ≡ false
-lacks_index-with place x true is = and_false (is_positional x)
+lacks_index-with place x true is = and-false (is_positional x)
 lacks_index-with place x false is = is
 
 with_index-again : (later place : ℕ) (x : Arg) → with_index later (with_index place x) ≡ with_index place x

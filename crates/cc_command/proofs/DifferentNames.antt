@@ -2,6 +2,7 @@
 use Rattle.std.proofs.Common.{◌≡◌, ℕ, ◌+◌, ◌<◌, ◌≤◌, List, [], ◌∷◌, ◌++◌, length, drop, get_or, Bool, true, false, not, ◌&&◌, ◌||◌, refl, ap, ap₂, sym, ◌∙◌}
 use Rattle.std.specs.List.{list_all}
 use Rattle.std.specs.Str.{bytes_eq}
+use Rattle.std.proofs.Math.Bool.{and_assoc, or_assoc}
 use Rattle.std.proofs.lemmas.List.{at_drop_more, at_drop_all}
 use Rattle.std.proofs.lemmas.List.Folds.{list_any-append}
 use Rattle.cc_command.specs.declared.node.Node.{Node}
@@ -29,19 +30,11 @@ all_differ_append (name ∷ names) others =
     regroup (contains_name names name) (contains_name others name) (all_differ names)
     (list_all (λ name. not (contains_name others name)) names) (all_differ others)
 
-and_assoc : (a b c : Bool) → (a && (b && c)) ≡ ((a && b) && c)
-and_assoc true b c = refl
-and_assoc false b c = refl
-
-or_assoc : (a b c : Bool) → (a || (b || c)) ≡ ((a || b) || c)
-or_assoc true b c = refl
-or_assoc false b c = refl
-
 -- a command answers to its names and to no other word
 contains_name-names_of : (node : Node) (word : List ℕ) → contains_name (names_of node) word ≡ answers_to node word
 contains_name-names_of node word =
     ap (λ b. bytes_eq node.name word || b) (contains_name_append node.visible_aliases node.aliases word) ∙
-    or_assoc (bytes_eq node.name word) (contains_name node.visible_aliases word) (contains_name node.aliases word)
+    sym (or_assoc (bytes_eq node.name word) (contains_name node.visible_aliases word) (contains_name node.aliases word))
 
 -- one of some siblings answers to their names and to no other word
 contains_name-names_of_all : (siblings : Forest) (word : List ℕ) → contains_name (names_of_all siblings) word ≡ has_child siblings word
@@ -87,9 +80,9 @@ siblings_differ-at siblings place sibling below is =
     at_drop_more (λ trees. siblings_differ (forest_of trees)) siblings place sibling below ∙
     ap (λ first. siblings_differ (forest_of (first ∷ drop (place + 1) siblings))) is ∙
     siblings_differ-more sibling.node sibling.children (forest_of (drop (place + 1) siblings)) ∙
-    and_assoc (all_differ (names_of sibling.node))
+    sym (and_assoc (all_differ (names_of sibling.node))
     (are_apart_from (forest_of (drop (place + 1) siblings)) (names_of sibling.node))
-    (siblings_differ (forest_of (drop (place + 1) siblings)))
+    (siblings_differ (forest_of (drop (place + 1) siblings))))
 
 -- a sibling whose names do not differ
 pub siblings_differ-refused : (siblings : List Tree) (place : ℕ) (sibling : Tree) (whole : Bool) → place < length siblings → get_or siblings place sibling ≡ sibling →

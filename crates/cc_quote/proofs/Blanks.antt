@@ -11,7 +11,8 @@ use Rattle.cc_quote.specs.QuotedWord.{is_blank, IsCutAtBlank}
 pub blanks_are : (x : ℕ) → char_set_contains (32 ∷ 9 ∷ 10 ∷ []) x ≡ is_blank x
 blanks_are x = grind (arith, nat_tests)
 
-is_blank-low : (x : ℕ) → is_blank x ≡ true → x < 128
+-- a blank is one byte
+pub is_blank-low : (x : ℕ) → is_blank x ≡ true → x < 128
 is_blank-low x h = grind (arith, nat_tests)
 
 module _ (F : List ℕ → Option (ℕ × ℕ) → Type 0) (text : List ℕ) (tells : (r : Option (ℕ × ℕ)) → F text r → FindsBy is_blank text r) where

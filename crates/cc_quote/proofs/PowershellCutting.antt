@@ -1,6 +1,6 @@
 -- How a PowerShell script is cut, for any text behind the part that each lemma speaks of.
 use Rattle.std.proofs.Common.{◌≡◌, ℕ, ◌<◌, Bool, true, false, not, ◌&&◌, ◌||◌, cond, List, [], ◌∷◌, ◌++◌, map, flat_map, ◌==◌, IsTrue, IsUtf8, encode_utf8_all, refl, sym, ap, ◌∙◌, append_assoc, append-nil, arith, ap₂, IsAscii, subst}
-use Rattle.std.specs.Char.{encode_utf8, is_ascii, IsScalar}
+use Rattle.std.specs.Char.{encode_utf8, is_ascii}
 use Rattle.std.specs.List.{AllByRecursion, list_all}
 use Rattle.std.specs.Str.{chars, chars_after, all_scalars}
 use Rattle.std.proofs.lemmas.Bool.Decides.{Decides-eqb, nat_tests}
@@ -12,7 +12,8 @@ use Rattle.cc_quote.specs.Tokens.Place.{in_quotes}
 use Rattle.cc_quote.specs.PowershellTokens.{sign, IsUnquoted}
 use Rattle.cc_quote.specs.QuotedWord.{is_blank, space_for_line_feed, line_feeds_as_spaces}
 use Rattle.cc_quote.specs.PowershellQuote.{is_powershell_mark, powershell_escaped_character, powershell_escaped}
-use Rattle.cc_quote.proofs.Characters.{scalars-append, spaces_in_characters}
+use Rattle.cc_quote.proofs.Characters.{spaces_in_characters}
+use Rattle.cc_quote.proofs.PowershellWords.{escaped_scalars}
 
 -- ---- characters
 
@@ -89,23 +90,6 @@ escaped_chars (char ∷ help) rest pieces text =
     ∙ escaped_chars help rest pieces (text ++ encode_utf8 (space_for_line_feed char))
     ∙ ap (λ t. cut (in_quotes pieces t) (map sign rest)) (append_assoc text (encode_utf8 (space_for_line_feed char)) (encode_utf8_all (map space_for_line_feed help)))
 
--- the escape of a character is of characters
-scalars-escaped_char : (char : ℕ) → IsScalar char → all_scalars (powershell_escaped_character char) ≡ true
-scalars-escaped_char char h = by_tests (char == 39) (char == 0x2019) (char == 10)
-  where
-    by_tests : (q r l : Bool) → all_scalars (cond q (39 ∷ 39 ∷ []) (cond r (39 ∷ 0x2019 ∷ []) (cond l (32 ∷ []) (char ∷ [])))) ≡ true
-    by_tests true r l = refl
-    by_tests false true l = refl
-    by_tests false false true = refl
-    by_tests false false false = ap (λ b. b && true) h
-
--- so is that of a text
-scalars-escaped : (help : List ℕ) → all_scalars help ≡ true → all_scalars (flat_map powershell_escaped_character help) ≡ true
-scalars-escaped [] h = refl
-scalars-escaped (char ∷ help) h =
-    let parts : IsScalar char × (all_scalars help ≡ true) = grind arith in
-    scalars-append (powershell_escaped_character char) (flat_map powershell_escaped_character help) (scalars-escaped_char char parts.0) (scalars-escaped help parts.1)
-
 -- ---- a text
 
 -- a text of ASCII, at any place
@@ -124,7 +108,7 @@ quoted_text kept rest pieces text h =
 chars-escaped : (help rest : List ℕ) → IsUtf8 help → chars (powershell_escaped help ++ rest) ≡ flat_map powershell_escaped_character (chars help) ++ chars rest
 chars-escaped help rest h =
     let escaped : List ℕ = flat_map powershell_escaped_character (chars help) in
-    let are : all_scalars escaped ≡ true = scalars-escaped (chars help) (scalars-chars help h) in
+    let are : all_scalars escaped ≡ true = escaped_scalars (chars help) (scalars-chars help h) in
     chars-append (powershell_escaped help) rest (escaped, (are, refl)) ∙ ap (λ cs. cs ++ chars rest) (chars-encodes escaped are)
 
 -- an escaped text, within quotes

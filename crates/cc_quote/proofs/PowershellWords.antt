@@ -9,6 +9,7 @@ use Rattle.std.proofs.lemmas.Bool.Decides.{nat_tests}
 use Rattle.std.proofs.lemmas.Str.{encodes-append, cons_from_encodes, encodes-chars, chars-encodes, scalars-chars, chars_from_encodes, chars-nil, chars_past_char, IsUtf8-nil, encode_ascii}
 use Rattle.cc_quote.specs.QuotedWord.{is_blank, IsCutAtBlank, BeginsWithMark, BeginsWithNoMark, before, quoted, behind_mark, word_from, space_for_line_feed, line_feeds_as_spaces}
 use Rattle.cc_quote.specs.PowershellQuote.{powershell_escaped, powershell_escaped_character, is_powershell_mark, powershell_word_of, in_utf8}
+use Rattle.cc_quote.proofs.Blanks.{is_blank-low}
 use Rattle.cc_quote.proofs.Characters.{run_and_rest, IsCutAtMark, scalars-append, spaces_in_characters}
 use Rattle.cc_quote.proofs.Words.{signs, quoted_item, run_and_mark, stays_open, second_mark, closes, blank_first, bare_word, escaped_run}
 
@@ -50,7 +51,7 @@ escaped_character_read c word rest =
     Read x = word_from (quoted word) (signs is_powershell_mark (powershell_escaped_character x ++ rest)) ≡ word_from (quoted (word ++ space_for_line_feed x ∷ [])) (signs is_powershell_mark rest)
 
 -- the escape is made of characters
-escaped_scalars : (cs : List ℕ) → all_scalars cs ≡ true → all_scalars (flat_map powershell_escaped_character cs) ≡ true
+pub escaped_scalars : (cs : List ℕ) → all_scalars cs ≡ true → all_scalars (flat_map powershell_escaped_character cs) ≡ true
 escaped_scalars [] h = refl
 escaped_scalars (c ∷ cs) h =
     let parts = and_parts _ _ h in
@@ -121,14 +122,11 @@ module _ (word : List ℕ) (gathered : List ℕ) (spelled : encode_utf8_all gath
 blank_is_no_mark : (c : ℕ) → is_blank c ≡ true → is_powershell_mark c ≡ false
 blank_is_no_mark c is = grind (arith, nat_tests)
 
-blank_is_ascii : (c : ℕ) → is_blank c ≡ true → c < 128
-blank_is_ascii c is = grind (arith, nat_tests)
-
 -- what is behind the first blank, by its characters
 characters_end : (es back : List ℕ) → encode_utf8_all es ≡ back → (back ≡ []) ⊎ ((b : ℕ) × (after : List ℕ) × (is_blank b ≡ true) × (back ≡ b ∷ after)) → (es ≡ []) ⊎ ((b : ℕ) × (after : List ℕ) × (is_blank b ≡ true) × (es ≡ b ∷ after))
 characters_end es back spelled (inl e) = inl (chars_from_encodes es [] IsUtf8-nil (spelled ∙ e) ∙ chars-nil)
 characters_end es back spelled (inr (b, after, is, e)) =
-    let one = cons_from_encodes es after b (spelled ∙ e ∙ ap (λ (bs : List ℕ). bs ++ after) (sym (encode_ascii b (blank_is_ascii b is)))) in
+    let one = cons_from_encodes es after b (spelled ∙ e ∙ ap (λ (bs : List ℕ). bs ++ after) (sym (encode_ascii b (is_blank-low b is)))) in
     inr (b, one.0, is, one.1)
 
 -- a text that is not quoted, cut at its first blank
@@ -157,5 +155,5 @@ powershell_no_word text front back utf8 cut none = by_end cut.ends
     by_end (inl e) = ap powershell_word_of (whole ∙ e) ∙ ap (λ (xs : List ℕ). in_utf8 (word_from before (signs is_powershell_mark xs))) chars-nil
     by_end (inr (b, after, is, e)) =
         ap (λ (xs : List ℕ). in_utf8 (word_from before (signs is_powershell_mark xs)))
-        (chars_past_char text after b utf8 (whole ∙ e ∙ ap (λ (bs : List ℕ). bs ++ after) (sym (encode_ascii b (blank_is_ascii b is)))))
+        (chars_past_char text after b utf8 (whole ∙ e ∙ ap (λ (bs : List ℕ). bs ++ after) (sym (encode_ascii b (is_blank-low b is)))))
         ∙ ap in_utf8 (blank_first is_powershell_mark b (chars after) (blank_is_no_mark b is) is)

@@ -6,6 +6,8 @@ use Rattle.std.specs.Prelude.{if◌then◌else◌, encode_utf8, find, fold, nat_
 use Rattle.std.specs.List.{list_all}
 use Rattle.std.specs.Option.{option_map_or}
 use Rattle.std.specs.Str.{bytes_eq, chars}
+use Rattle.std.proofs.Math.Bool.{or-true}
+use Rattle.std.proofs.lemmas.Bool.{and_from}
 use Rattle.std.proofs.lemmas.List.Folds.{list_all-append}
 use Rattle.clap.specs.Facts.{explicit_source, unwrap_or_range}
 use Rattle.clap.specs.Faults.{bundle_fault, bundle_step_fault, flag_word_fault, flags_fault, long_fault, option_fault, other_fault, positional_fault, react_fault, settle_fault, short_fault, step_fault, stray_fault, turn_fault, use_fault, walk_fault, word_fault}
@@ -25,17 +27,9 @@ use Rattle.clap.proofs.WalkLemmas.{both}
 
 -- ---- tests
 
-and_true : (a b : Bool) → a ≡ true → b ≡ true → (a && b) ≡ true
-and_true true b p q = q
-and_true false b p q = cc
-
 or_kept : (a b c : Bool) → (b ≡ true → c ≡ true) → (a || b) ≡ true → (a || c) ≡ true
 or_kept true b c f h = refl
 or_kept false b c f h = f h
-
-or_right : (a : Bool) → (a || true) ≡ true
-or_right true = refl
-or_right false = refl
 
 -- which of two is the one found
 found_at : {X : Type 0} (t : Bool) (y x : X) (rest : Option X)
@@ -94,12 +88,12 @@ some_grows (x ∷ xs) ys h = refl
 more_kept : (id : Text) (s : ValueSource) (values : List Text) (r : Row) → has_value id r ≡ true
     → have_values id (more_values s values r) ≡ true
 more_kept id s values r h =
-    and_true _ true (or_kept (not (bytes_eq r.id id)) _ _ (some_grows r.values values) h) refl
+    and_from _ true (or_kept (not (bytes_eq r.id id)) _ _ (some_grows r.values values) h) refl
 
 count_kept : (id : Text) (s : ValueSource) (n : ℕ) (r : Row) → has_value id r ≡ true
     → have_values id (new_count s n r) ≡ true
 count_kept id s n r h =
-    and_true _ true (or_kept (not (bytes_eq r.id id)) _ _ (some_grows r.values _) h) refl
+    and_from _ true (or_kept (not (bytes_eq r.id id)) _ _ (some_grows r.values _) h) refl
 
 at_row_kept : (id at : Text) (change : Row → List Row) (missing rows : List Row)
     → ((r : Row) → has_value id r ≡ true → have_values id (change r) ≡ true)
@@ -110,8 +104,8 @@ at_row_kept id at change missing (r ∷ rs) changes m h =
     let p = both (has_value id r) (have_values id rs) h in
     elim (bytes_eq r.id at) as (λ b. have_values id (if b then change r ++ rs
     else r ∷ at_row at change missing rs) ≡ true) [
-      | true ↦ list_all-append (has_value id) (change r) rs ∙ and_true _ _ (changes r p.0) p.1
-      | false ↦ and_true _ _ p.0 (at_row_kept id at change missing rs changes m p.1)
+      | true ↦ list_all-append (has_value id) (change r) rs ∙ and_from _ _ (changes r p.0) p.1
+      | false ↦ and_from _ _ p.0 (at_row_kept id at change missing rs changes m p.1)
     ]
 
 without_kept : (id at : Text) (rows : List Row) → have_values id rows ≡ true
@@ -126,12 +120,12 @@ with_values_kept : (id at : Text) (how : Reading) (s : ValueSource) (values : Li
     (rows : List Row) → fills id at values ≡ true → have_values id rows ≡ true
     → have_values id (with_values at how s values rows) ≡ true
 with_values_kept id at how s values rows given h =
-    at_row_kept id at (more_values s values) _ rows (more_kept id s values) (and_true _ true given refl) h
+    at_row_kept id at (more_values s values) _ rows (more_kept id s values) (and_from _ true given refl) h
 
 with_count_kept : (id at : Text) (how : Reading) (s : ValueSource) (n : ℕ) (rows : List Row)
     → have_values id rows ≡ true → have_values id (with_count at how s n rows) ≡ true
 with_count_kept id at how s n rows h = at_row_kept id at (new_count s n) _ rows (count_kept id s n)
-    (and_true _ true (or_right (not (bytes_eq at id))) refl) h
+    (and_from _ true (or-true (not (bytes_eq at id))) refl) h
 
 used_as_kept : (x : ArgAction) (id at : Text) (how : Reading) (values : List Text) (rows : List Row)
     → fills id at values ≡ true → have_values id rows ≡ true
@@ -399,7 +393,7 @@ module _ (s : Shape) (id : Text) (leaves : list_all (leaves_value id) s.rules �
           → have_values id (default_rows a.id (reading_by a) values rows) ≡ true
       given [] = k
       given (v ∷ vs) = with_values_kept id a.id _ DefaultValue (v ∷ vs) rows
-          (or_right (not (bytes_eq a.id id))) k
+          (or-true (not (bytes_eq a.id id))) k
 
       go : (t : Bool) → have_values id (if t then rows else default_rows a.id (reading_by a) a.defaults rows) ≡ true
       go true = k
