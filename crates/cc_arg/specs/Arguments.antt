@@ -1,9 +1,11 @@
 -- What an argument is as it is made, and what it counts as where nothing was given.
-use Rattle.std.specs.Prelude.{ℕ, List, [], length, max, Bool, false, if◌then◌else◌, Option, Some, None, unwrap_or, is_some, ◌||◌, ◌&&◌, not, ◌==◌, nat_lt}
+use Rattle.std.specs.Prelude.{ℕ, List, [], length, max, Bool, false, if◌then◌else◌, Option, Some, None, unwrap_or, is_some, ◌||◌, ◌&&◌, not, ◌==◌, nat_lt, ◌^◌, ◌-◌}
 use Rattle.cc_arg.specs.declared.arg.Arg.{Arg}
 use Rattle.cc_arg.specs.declared.range.ValueRange.{ValueRange}
 use Rattle.cc_arg.specs.declared.action.ArgAction.{ArgAction}
 use Rattle.cc_arg.specs.declared.action.ArgAction.TheVariants.{Set, Append, SetTrue}
+use Rattle.cc_arg.specs.declared.value_hint.ValueHint.TheVariants.{Unknown}
+use Rattle.cc_arg.specs.declared.possible_value.PossibleValue.{PossibleValue}
 use Rattle.cc_arg.specs.Action.{action_takes_values}
 
 -- an argument of which only the id was given
@@ -20,6 +22,8 @@ new_arg id = record {
   action = None;
   num_args = None;
   value_names = [];
+  possible_values = None;
+  value_hint = Unknown;
   index = None;
   display_order = None;
   hide = false;
@@ -37,7 +41,8 @@ exactly count = record { least = count; greatest = count }
 -- name, and at least one
 abbrev pub range_by_action : Option ArgAction → ℕ → ValueRange
 range_by_action None names = exactly (max names 1)
-range_by_action (Some action) names = exactly (if action_takes_values action then max names 1 else 0)
+range_by_action (Some action) names =
+    exactly (if action_takes_values action then max names 1 else 0)
 
 -- the range that counts: the given one, or the one that the action and the value names imply
 abbrev pub range_of : Arg → ValueRange
@@ -47,11 +52,15 @@ range_of arg = unwrap_or arg.num_args (range_by_action arg.action (length arg.va
 abbrev pub takes_values : Arg → Bool
 takes_values arg = nat_lt 0 (range_of arg).greatest
 
+-- the possible values, where a list of them was given and values are taken
+abbrev pub possible_values : Arg → Option (List PossibleValue)
+possible_values arg = if takes_values arg then arg.possible_values else None
+
 -- the action that counts: the given one; else the flag's where there are no values, and for a
 -- positional without a bound the one that keeps every use
 abbrev pub action_of : Arg → ArgAction
 action_of arg = unwrap_or arg.action (if (range_of arg).greatest == 0 then SetTrue
-    else (if is_positional arg && ((range_of arg).greatest == 18446744073709551615) then Append else Set))
+    else (if is_positional arg && ((range_of arg).greatest == 2 ^ 64 - 1) then Append else Set))
 
 -- the argument with its range and its action filled in
 abbrev pub filled : Arg → Arg

@@ -1,3 +1,5 @@
 pub mod Action
 pub mod Aliases
 pub mod Arguments
+pub mod PossibleValues
+pub mod ShownNames

@@ -38,6 +38,14 @@ impl ArgAction {
 #[cfg(test)]
 mod tests {
     use super::*;
+    use std::test::Fail;
+
+    #[test]
+    fn shows_its_variant(rt: HostRuntime) -> Result<(), Fail> {
+        let shown = format!(in rt.alloc(); "{:?}", ArgAction::SetTrue)?;
+        assert_eq!(rt; shown.as_str(), "SetTrue");
+        Ok(())
+    }
 
     #[test]
     fn only_two_take_values(rt: HostRuntime) {

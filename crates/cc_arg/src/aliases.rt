@@ -14,7 +14,7 @@ pub struct ShortAndVisibleAliases<'a> {
 
 impl<'a> ShortAndVisibleAliases<'a> {
     ghost use Rattle.cc_arg.specs.Aliases.{shorts_left};
-    ghost use Rattle.std.specs.Prelude.{◌∷◌, ◌≡◌};
+    ghost use Rattle.std.specs.Prelude.{◌∷◌, ◌≡◌, []};
 
     pub(crate) fn new(short: char, visible_aliases: &'a [char]) -> ShortAndVisibleAliases<'a>
         ensures { shorts_left result ≡ short ∷ visible_aliases.now }
@@ -22,6 +22,15 @@ impl<'a> ShortAndVisibleAliases<'a> {
         ShortAndVisibleAliases {
             short: Some(short),
             visible_aliases,
+        }
+    }
+
+    pub(crate) fn none() -> ShortAndVisibleAliases<'a>
+        ensures { shorts_left result ≡ [] }
+    {
+        ShortAndVisibleAliases {
+            short: None,
+            visible_aliases: &[],
         }
     }
 }
@@ -54,7 +63,7 @@ pub struct LongAndVisibleAliases<'a> {
 
 impl<'a> LongAndVisibleAliases<'a> {
     ghost use Rattle.cc_arg.specs.Aliases.{longs_left};
-    ghost use Rattle.std.specs.Prelude.{◌∷◌, ◌≡◌};
+    ghost use Rattle.std.specs.Prelude.{◌∷◌, ◌≡◌, []};
 
     pub(crate) fn new(long: &'a str, visible_aliases: &'a [Text]) -> LongAndVisibleAliases<'a>
         ensures { longs_left result ≡ long.now ∷ visible_aliases.now }
@@ -62,6 +71,15 @@ impl<'a> LongAndVisibleAliases<'a> {
         LongAndVisibleAliases {
             long: Some(long),
             visible_aliases,
+        }
+    }
+
+    pub(crate) fn none() -> LongAndVisibleAliases<'a>
+        ensures { longs_left result ≡ [] }
+    {
+        LongAndVisibleAliases {
+            long: None,
+            visible_aliases: &[],
         }
     }
 }

@@ -4,19 +4,22 @@ ghost use Rattle.std.specs.Prelude.{◌≡◌, [], ◌∷◌, ◌++◌, Some, No
 ghost use Rattle.std.specs.Option.{option_map, option_copied};
 ghost use Rattle.std.specs.String.{string_bytes};
 ghost use Rattle.cc_arg.specs.Aliases.{shorts_left, longs_left};
-ghost use Rattle.cc_arg.specs.Arguments.{new_arg, is_positional, range_of, action_of, takes_values, filled};
+ghost use Rattle.cc_arg.specs.Arguments.{new_arg, is_positional, range_of, action_of, takes_values, filled, possible_values};
 
 use crate::action::ArgAction;
 use crate::aliases::{LongAndVisibleAliases, ShortAndVisibleAliases};
+use crate::possible_value::{PossibleValue, copy_of_given};
 use crate::range::ValueRange;
+use crate::value_hint::ValueHint;
 use cc_base::{Error, Items, Text};
 use std::alloc::Global;
 
 /// An argument of a command. It is a positional where it has neither a short nor a long, and else
 /// an option or a flag, as it takes values or not.
 ///
-/// Builders take the argument and answer the changed one; those that grow a list may be refused
-/// memory, and then drop it. An alias takes effect only where the short (long) is set.
+/// Builders take the argument and return the changed one. Those that add to a list fail with
+/// `Memory` where the allocation fails, and then drop the argument. A visible alias is shown only
+/// where the short (long) is set.
 #[derive(Drop)]
 pub struct Arg {
     id: Text,
@@ -30,13 +33,15 @@ pub struct Arg {
     action: Option<ArgAction>,
     num_args: Option<ValueRange>,
     value_names: Items<Text>,
+    possible_values: Option<Items<PossibleValue>>,
+    value_hint: ValueHint,
     index: Option<usize>,
     display_order: Option<usize>,
     hide: bool,
 }
 
 impl Arg {
-    /// An argument with this id and nothing else; its lists take memory from `alloc`.
+    /// An argument with this id and nothing else; its lists allocate from `alloc`.
     pub fn new(alloc: Global, id: String) -> Arg
         ensures { result ≡ new_arg (string_bytes id) }
     {
@@ -52,6 +57,8 @@ impl Arg {
             action: None,
             num_args: None,
             value_names: Items::new(alloc),
+            possible_values: None,
+            value_hint: ValueHint::Unknown,
             index: None,
             display_order: None,
             hide: false,
@@ -74,7 +81,7 @@ impl Arg {
         self
     }
 
-    /// Adds a short that works and is not shown.
+    /// Adds a short that works and is not shown. Fails with `Memory` alone.
     pub fn short_alias(mut self, alias: char) -> Result<Arg, Error>
         ensures ok { IfOk result (λ arg.
             arg ≡ record self { short_aliases = self.short_aliases ++ alias ∷ [] }) }
@@ -84,7 +91,7 @@ impl Arg {
         Ok(self)
     }
 
-    /// Adds a short that is shown.
+    /// Adds a short that is shown. Fails with `Memory` alone.
     pub fn visible_short_alias(mut self, alias: char) -> Result<Arg, Error>
         ensures ok { IfOk result (λ arg. arg ≡
             record self { visible_short_aliases = self.visible_short_aliases ++ alias ∷ [] }) }
@@ -94,7 +101,7 @@ impl Arg {
         Ok(self)
     }
 
-    /// Adds a long that works and is not shown.
+    /// Adds a long that works and is not shown. Fails with `Memory` alone.
     pub fn alias(mut self, alias: String) -> Result<Arg, Error>
         ensures ok { IfOk result (λ arg.
             arg ≡ record self { aliases = self.aliases ++ string_bytes alias ∷ [] }) }
@@ -104,7 +111,7 @@ impl Arg {
         Ok(self)
     }
 
-    /// Adds a long that is shown.
+    /// Adds a long that is shown. Fails with `Memory` alone.
     pub fn visible_alias(mut self, alias: String) -> Result<Arg, Error>
         ensures ok { IfOk result (λ arg. arg ≡
             record self { visible_aliases = self.visible_aliases ++ string_bytes alias ∷ [] }) }
@@ -138,7 +145,7 @@ impl Arg {
         self
     }
 
-    /// Adds the name of a further value.
+    /// Adds the name of a further value. Fails with `Memory` alone.
     pub fn value_name(mut self, name: String) -> Result<Arg, Error>
         ensures ok { IfOk result (λ arg.
             arg ≡ record self { value_names = self.value_names ++ string_bytes name ∷ [] }) }
@@ -146,6 +153,22 @@ impl Arg {
     {
         self.value_names.push(Text::from(name))?;
         Ok(self)
+    }
+
+    /// Sets the possible values.
+    pub fn value_parser(mut self, values: Vec<PossibleValue>) -> Arg
+        ensures { result ≡ record self { possible_values = Some values.items } }
+    {
+        self.possible_values = Some(Items::from(values));
+        self
+    }
+
+    /// Sets what the values are.
+    pub fn value_hint(mut self, hint: ValueHint) -> Arg
+        ensures { result ≡ record self { value_hint = hint } }
+    {
+        self.value_hint = hint;
+        self
     }
 
     /// Says whether the argument is left out of help texts.
@@ -259,6 +282,13 @@ impl Arg {
         self.value_names.as_slice()
     }
 
+    /// What the values are.
+    pub fn get_value_hint(&self) -> ValueHint
+        ensures { result ≡ self.now.value_hint }
+    {
+        self.value_hint
+    }
+
     /// The index of a positional, counted from 1, once the command is built.
     pub fn get_index(&self) -> Option<usize>
         ensures { result ≡ self.now.index }
@@ -295,7 +325,7 @@ impl Arg {
         self.counted_range().takes_values()
     }
 
-    /// An equal argument.
+    /// An equal argument. Fails with `Memory` where an allocation fails.
     pub fn try_clone(&self, alloc: Global) -> Result<Arg, Error>
         ensures equal { IfOk result (λ copy. copy ≡ self.now) }
         ensures memory { IfErr result (λ error. error ≡ Error.Memory) }
@@ -312,6 +342,8 @@ impl Arg {
             action: self.action,
             num_args: self.num_args,
             value_names: Items::copy_of_texts(alloc, self.value_names.as_slice())?,
+            possible_values: copy_of_given(alloc, &self.possible_values)?,
+            value_hint: self.value_hint,
             index: self.index,
             display_order: self.display_order,
             hide: self.hide,
@@ -351,8 +383,20 @@ impl Arg {
     }
 }
 
-// Filling in is done by free functions, so that `clap_complete` can leave them out of what it gives
-// out.
+/// The possible values, where a list of them was given and the argument takes values.
+pub fn possible_values(argument: &Arg) -> Option<&[PossibleValue]>
+    ensures { option_copied result ≡ possible_values argument.now }
+{
+    if !argument.takes_values() {
+        return None;
+    }
+    match &argument.possible_values {
+        Some(values) => Some(values.as_slice()),
+        None => None,
+    }
+}
+
+// Filling in is done by free functions, so that `clap_complete` need not re-export them.
 
 /// Fills in the range and the action where none was given, as building a command does.
 pub fn fill(argument: &mut Arg)
@@ -390,7 +434,7 @@ mod tests {
     }
 
     #[test]
-    fn answers_the_shorts(rt: HostRuntime) -> Result<(), Fail> {
+    fn lists_the_shorts(rt: HostRuntime) -> Result<(), Fail> {
         let argument = argument(rt.alloc(), "file")?
             .short('f')
             .visible_short_alias('p')?
@@ -408,7 +452,7 @@ mod tests {
     }
 
     #[test]
-    fn answers_the_longs(rt: HostRuntime) -> Result<(), Fail> {
+    fn lists_the_longs(rt: HostRuntime) -> Result<(), Fail> {
         let alloc = rt.alloc();
         let argument = argument(alloc, "file")?
             .long(String::from_str(alloc, "file")?)
@@ -442,6 +486,38 @@ mod tests {
         assert_eq!(rt; copy.get_num_args(), Some(ValueRange::new(0, 1)));
         assert_eq!(rt; copy.get_display_order(), 3);
         assert!(rt; copy.takes_values() && copy.is_hide_set());
+        Ok(())
+    }
+
+    #[test]
+    fn lists_the_possible_values_where_values_are_taken(rt: HostRuntime) -> Result<(), Fail> {
+        let alloc = rt.alloc();
+        let mut values = Vec::new(alloc);
+        values.push(PossibleValue::new(String::from_str(alloc, "auto")?))?;
+        values.push(PossibleValue::new(String::from_str(alloc, "never")?))?;
+        let option = argument(alloc, "color")?
+            .short('c')
+            .value_parser(values)
+            .value_hint(ValueHint::Other);
+        assert_eq!(rt; option.get_value_hint(), ValueHint::Other);
+        let copy = option.try_clone(alloc)?;
+        assert_eq!(rt; copy.get_value_hint(), ValueHint::Other);
+        let listed = possible_values(&copy).ok_or("no values")?;
+        assert_eq!(rt; listed.len(), 2);
+        assert_eq!(rt; listed[1].get_name(), "never");
+        let flag = option.action(ArgAction::SetTrue);
+        assert!(rt; possible_values(&flag).is_none());
+        Ok(())
+    }
+
+    #[test]
+    fn lists_no_values_where_none_were_given(rt: HostRuntime) -> Result<(), Fail> {
+        let alloc = rt.alloc();
+        let file = argument(alloc, "file")?;
+        assert_eq!(rt; file.get_value_hint(), ValueHint::Unknown);
+        assert!(rt; possible_values(&file).is_none());
+        let empty = file.value_parser(Vec::new(alloc));
+        assert_eq!(rt; possible_values(&empty).ok_or("no list")?.len(), 0);
         Ok(())
     }
 

@@ -5,9 +5,15 @@
 mod action;
 mod aliases;
 mod arg;
+mod names;
+mod possible_value;
 mod range;
+mod value_hint;
 
 pub use crate::action::ArgAction;
 pub use crate::aliases::{LongAndVisibleAliases, ShortAndVisibleAliases};
-pub use crate::arg::{Arg, fill, fill_display_order, fill_index};
+pub use crate::arg::{Arg, fill, fill_display_order, fill_index, possible_values};
+pub use crate::names::{ShownName, ShownNames, shown_longs, shown_names, shown_shorts};
+pub use crate::possible_value::PossibleValue;
 pub use crate::range::ValueRange;
+pub use crate::value_hint::ValueHint;

@@ -1,8 +1,9 @@
 -- What a clause reads of a writer that is a sink.
 use Rattle.std.specs.Prelude.{ℕ, List}
 use Rattle.cc_base.specs.declared.counted.Counted.{Counted}
+use Rattle.cc_base.specs.Sink.{Failures}
 
--- the writer behind it
+-- the writer that takes the bytes
 abbrev pub counted_writer : {W : Type 0} → Counted W → W
 counted_writer counted = counted.writer
 
@@ -10,6 +11,6 @@ counted_writer counted = counted.writer
 abbrev pub counted_bytes : {W : Type 0} → Counted W → List ℕ
 counted_bytes counted = counted.history.bytes
 
--- how many of its writes and flushes failed
-abbrev pub counted_failures : {W : Type 0} → Counted W → ℕ
+-- its failed writes and flushes
+abbrev pub counted_failures : {W : Type 0} → Counted W → Failures
 counted_failures counted = counted.failures

@@ -1,4 +1,7 @@
 pub mod Collected
 pub mod Counted
+pub mod Differ
 pub mod ErrorText
 pub mod Sink
+pub mod Sorting
+pub mod Writes

@@ -1,9 +1,10 @@
 //! A sink in memory.
 
-ghost use Rattle.std.specs.Prelude.{◌≡◌, ◌≤◌, [], ◌++◌, take, length, if◌then◌else◌, IfOk, IfErr, OnErr};
-ghost use Rattle.cc_base.specs.Sink.{is_failure, raised};
+ghost use Rattle.std.specs.Prelude.{◌≡◌, ◌≤◌, [], ◌++◌, take, length, IfOk, IfErr, OnErr};
+ghost use Rattle.cc_base.specs.Sink.{after_put, none_failed};
 ghost use Rattle.cc_base.specs.Collected.{collected_bytes, collected_failures};
 
+use crate::failures::Failures;
 use crate::sink::Sink;
 use std::alloc::Global;
 use std::io::ErrorKind;
@@ -13,18 +14,18 @@ use std::io::ErrorKind;
 #[derive(Drop)]
 pub struct Collected {
     bytes: Vec<u8>,
-    failures: u64,
+    failures: Failures,
 }
 
 impl Collected {
-    /// A sink that has taken nothing; it takes memory from `alloc`.
+    /// A sink that has taken nothing; it allocates from `alloc`.
     pub fn new(alloc: Global) -> Collected
         ensures bytes { collected_bytes result ≡ [] }
-        ensures failures { collected_failures result ≡ 0 }
+        ensures failures { collected_failures result ≡ none_failed }
     {
         Collected {
             bytes: Vec::new(alloc),
-            failures: 0,
+            failures: Failures::none(),
         }
     }
 
@@ -35,7 +36,7 @@ impl Collected {
         self.bytes.as_slice()
     }
 
-    /// The bytes taken. Takes no memory.
+    /// The bytes taken. Allocates nothing.
     pub fn into_vec(self) -> Vec<u8>
         ensures { result.items ≡ collected_bytes self }
     {
@@ -48,27 +49,25 @@ impl Sink for Collected {
 
     ghost failed = { collected_failures };
 
-    #[tactic(auto, unfolding(crate::specs::Sink::raised))]
     fn put(&mut self, bytes: &[u8]) -> Result<usize, ErrorKind>
         ensures within { IfOk result (λ count. count ≤ length bytes.now) }
         ensures ok { IfOk result
             (λ count. collected_bytes self.new ≡ collected_bytes self.old ++ take count bytes.now) }
         ensures failures { collected_failures self.new
-            ≡ (if is_failure result bytes.now then raised (collected_failures self.old)
-            else collected_failures self.old) }
+            ≡ after_put result bytes.now (collected_failures self.old) }
         ensures whole { IfOk result (λ count. count ≡ length bytes.now) }
         ensures err { OnErr result (collected_bytes self.new ≡ collected_bytes self.old) }
         ensures kind { IfErr result (λ kind. kind ≡ ErrorKind.OutOfMemory) }
     {
         if self.bytes.extend_from_slice(bytes).is_err() {
-            self.failures = self.failures.saturating_add(1);
+            self.failures.raise(ErrorKind::OutOfMemory);
             return Err(ErrorKind::OutOfMemory);
         }
         Ok(bytes.len())
     }
 
     fn failures(&self) -> u64 {
-        self.failures
+        self.failures.count()
     }
 }
 

@@ -1,11 +1,13 @@
 //! A writer of the standard library as a sink.
 
-ghost use Rattle.std.specs.Prelude.{◌≡◌, ◌≤◌, [], ◌++◌, take, length, if◌then◌else◌, IfOk, IfErr};
+ghost use Rattle.std.specs.Prelude.{◌≡◌, ◌≤◌, [], ◌++◌, take, length, IfOk, IfErr, OnErr};
 ghost use Rattle.std.specs.Io.KnownBytes.{Keeps, WriteAppends};
-ghost use Rattle.cc_base.specs.Sink.{is_failure, raised, Counts, IsWrite};
+ghost use Rattle.cc_base.specs.Sink.{after_put, none_failed};
+ghost use Rattle.cc_base.specs.Writes.{CountsWrite, IsWrite};
 ghost use Rattle.cc_base.specs.Counted.{counted_writer, counted_bytes, counted_failures};
 
 use crate::error::Error;
+use crate::failures::Failures;
 use crate::history::History;
 use crate::sink::Sink;
 use std::io::{self, ErrorKind};
@@ -19,7 +21,7 @@ use std::io::{self, ErrorKind};
 #[derive(Drop)]
 pub struct Counted<W> {
     writer: W,
-    failures: u64,
+    failures: Failures,
     history: History,
 }
 
@@ -28,11 +30,11 @@ impl<W> Counted<W> {
     pub fn new(writer: W) -> Counted<W>
         ensures writer { counted_writer result ≡ writer }
         ensures bytes { counted_bytes result ≡ [] }
-        ensures failures { counted_failures result ≡ 0 }
+        ensures failures { counted_failures result ≡ none_failed }
     {
         Counted {
             writer,
-            failures: 0,
+            failures: Failures::none(),
             history: History::new(),
         }
     }
@@ -44,36 +46,30 @@ impl<W> Counted<W> {
         &self.writer
     }
 
-    /// Hands the writer back. It is not flushed.
+    /// The writer, which is not flushed.
     pub fn into_inner(self) -> W
         ensures { result ≡ counted_writer self }
     {
         self.writer
     }
-
-    #[tactic(auto, unfolding(crate::specs::Sink::raised))]
-    fn count_failure(&mut self)
-        ensures writer { counted_writer self.new ≡ counted_writer self.old }
-        ensures bytes { counted_bytes self.new ≡ counted_bytes self.old }
-        ensures failures { counted_failures self.new ≡ raised (counted_failures self.old) }
-    {
-        self.failures = self.failures.saturating_add(1);
-    }
 }
 
 impl<W: io::Write> Counted<W> {
-    /// Flushes the writer. A flush that fails is a failed write: it is counted, and answered as
-    /// `Write`.
+    /// Flushes the writer. A flush that fails is a failed write: it is counted.
+    ///
+    /// Fails with `Write` and the kind of the writer's error.
     pub fn flush(&mut self) -> Result<(), Error>
         ensures bytes { counted_bytes self.new ≡ counted_bytes self.old }
-        ensures failures { Counts result (counted_failures self.old) (counted_failures self.new) }
+        ensures failures { CountsWrite result
+            (counted_failures self.old) (counted_failures self.new) }
         ensures write_only { IfErr result IsWrite }
-        ensures kept { Keeps (W.contents (counted_writer self.old)) (W.contents (counted_writer self.new)) }
+        ensures kept { Keeps (W.contents (counted_writer self.old))
+            (W.contents (counted_writer self.new)) }
     {
         match self.writer.flush() {
             Ok(()) => Ok(()),
             Err(error) => {
-                self.count_failure();
+                self.failures.raise(error.kind());
                 Err(Error::Write(error.kind()))
             }
         }
@@ -85,33 +81,35 @@ impl<W: io::Write> Sink for Counted<W> {
 
     ghost failed = { counted_failures };
 
+    #[inline(always)]
     fn put(&mut self, bytes: &[u8]) -> Result<usize, ErrorKind>
         ensures within { IfOk result (λ count. count ≤ length bytes.now) }
         ensures ok { IfOk result
             (λ count. counted_bytes self.new ≡ counted_bytes self.old ++ take count bytes.now) }
+        ensures err { OnErr result (counted_bytes self.new ≡ counted_bytes self.old) }
         ensures failures { counted_failures self.new
-            ≡ (if is_failure result bytes.now then raised (counted_failures self.old)
-            else counted_failures self.old) }
+            ≡ after_put result bytes.now (counted_failures self.old) }
         ensures passed_on { WriteAppends (W.contents (counted_writer self.old))
             (W.contents (counted_writer self.new)) result bytes.now }
     {
         match self.writer.write(bytes) {
             Ok(count) => {
                 if count == 0 && !bytes.is_empty() {
-                    self.count_failure();
+                    self.failures.raise(ErrorKind::WriteZero);
                 }
                 self.history.append(&bytes[..count]);
                 Ok(count)
             }
             Err(error) => {
-                self.count_failure();
-                Err(error.kind())
+                let kind = error.kind();
+                self.failures.raise(kind);
+                Err(kind)
             }
         }
     }
 
     fn failures(&self) -> u64 {
-        self.failures
+        self.failures.count()
     }
 }
 
@@ -121,21 +119,21 @@ mod tests {
     use crate::sink::put_all;
     use std::test::Fail;
 
-    // Takes at most `at_once` bytes a call. Once it holds `room` bytes it fails with `refusal`,
+    // Takes at most `at_once` bytes a call. Once it holds `room` bytes it fails with `failure`,
     // or takes nothing where there is none.
     #[derive(Drop)]
     struct Limited {
         held: Vec<u8>,
         at_once: usize,
         room: usize,
-        refusal: Option<ErrorKind>,
+        failure: Option<ErrorKind>,
     }
 
     impl io::Write for Limited {
         fn write(&mut self, buf: &[u8]) -> io::Result<usize> {
             let left = self.room.saturating_sub(self.held.len());
             if left == 0 && !buf.is_empty() {
-                return match self.refusal {
+                return match self.failure {
                     Some(kind) => Err(io::Error::from(kind)),
                     None => Ok(0),
                 };
@@ -146,7 +144,7 @@ mod tests {
         }
 
         fn flush(&mut self) -> io::Result<()> {
-            match self.refusal {
+            match self.failure {
                 Some(kind) => Err(io::Error::from(kind)),
                 None => Ok(()),
             }
@@ -172,7 +170,7 @@ mod tests {
             held: Vec::new(rt.alloc()),
             at_once: 1,
             room: 3,
-            refusal: None,
+            failure: None,
         });
         put_all(&mut sink, b"abc")?;
         assert_eq!(rt; sink.failures(), 0);
@@ -188,13 +186,13 @@ mod tests {
                     held: Vec::new(rt.alloc()),
                     at_once: 2,
                     room,
-                    refusal: Some(kind),
+                    failure: Some(kind),
                 });
                 let put = put_all(&mut sink, b"abc");
-                assert!(rt; matches!(put, Err(Error::Write(answer)) if answer == kind));
+                assert!(rt; matches!(put, Err(Error::Write(failed)) if failed == kind));
                 assert_eq!(rt; sink.failures(), 1);
                 let flushed = sink.flush();
-                assert!(rt; matches!(flushed, Err(Error::Write(answer)) if answer == kind));
+                assert!(rt; matches!(flushed, Err(Error::Write(failed)) if failed == kind));
                 assert_eq!(rt; sink.failures(), 2);
                 assert_eq!(rt; sink.get_ref().held.len(), room);
             }
@@ -207,7 +205,7 @@ mod tests {
             held: Vec::new(rt.alloc()),
             at_once: 2,
             room: 0,
-            refusal: None,
+            failure: None,
         });
         assert!(rt; put_all(&mut sink, b"").is_ok());
         assert_eq!(rt; sink.failures(), 0);

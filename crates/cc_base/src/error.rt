@@ -2,21 +2,21 @@
 
 ghost use Rattle.std.specs.Prelude.{◌≡◌, Some};
 ghost use Rattle.cc_base.specs.ErrorText.{error_text};
-ghost use Rattle.cc_base.specs.declared.error.Error.TheVariants.{Memory as MemoryRefused};
+ghost use Rattle.cc_base.specs.declared.error.Error.TheVariants.{Memory as OutOfMemory};
 
 use crate::text::Text;
 use std::alloc::{AllocError, AllocFailed};
 use std::fmt;
 use std::io::ErrorKind;
 
-/// Why a call of this library was refused.
+/// Why a call of this library failed.
 #[derive(Debug, Drop)]
 pub enum Error {
-    /// A growth of memory was refused.
+    /// An allocation failed.
     Memory,
-    /// The writer, or the file written to, failed in this call.
+    /// A put or a flush of the sink failed in this call, with this kind.
     Write(ErrorKind),
-    /// Two commands would share this label of a bash script.
+    /// Two commands have this label in a bash script.
     LabelClash(Text),
     /// The index of the word to complete is not in range.
     NoCompletion,
@@ -50,17 +50,17 @@ impl fmt::Display for Error {
 impl std::error::Error for Error {}
 
 impl From<AllocError> for Error {
-    ghost from_gives = { λ _ error. error ≡ MemoryRefused };
+    ghost from_gives = { λ _ error. error ≡ OutOfMemory };
 
-    fn from(_refused: AllocError) -> Error {
+    fn from(_failure: AllocError) -> Error {
         Error::Memory
     }
 }
 
 impl<T: Drop> From<AllocFailed<T>> for Error {
-    ghost from_gives = { λ _ error. error ≡ MemoryRefused };
+    ghost from_gives = { λ _ error. error ≡ OutOfMemory };
 
-    fn from(_refused: AllocFailed<T>) -> Error {
+    fn from(_failure: AllocFailed<T>) -> Error {
         Error::Memory
     }
 }
@@ -95,6 +95,14 @@ mod tests {
             Error::InvalidVariant(Text::copy_of(alloc, "invalid")?),
         )?;
         assert_eq!(rt; invalid.as_str(), "invalid");
+        Ok(())
+    }
+
+    #[test]
+    fn shows_its_variant(rt: HostRuntime) -> Result<(), Fail> {
+        let write = Error::Write(ErrorKind::BrokenPipe);
+        let shown = format!(in rt.alloc(); "{write:?}")?;
+        assert_eq!(rt; shown.as_str(), "Write(BrokenPipe)");
         Ok(())
     }
 }

@@ -28,7 +28,7 @@ impl<T> From<Vec<T>> for Items<T> {
 }
 
 impl<T> Items<T> {
-    /// The empty list; it takes memory from `alloc`.
+    /// The empty list; it allocates from `alloc`.
     pub fn new(alloc: Global) -> Items<T>
         ensures empty { result ≡ [] }
     {
@@ -37,7 +37,9 @@ impl<T> Items<T> {
         }
     }
 
-    /// Adds an item at the end, or hands it back where memory is refused.
+    /// Adds an item at the end.
+    ///
+    /// Fails where the allocation does, and the error holds the item.
     pub fn push(&mut self, item: T) -> Result<(), AllocFailed<T>>
         ensures pushed { self.new ≡ (if is_ok result then self.old ++ item ∷ [] else self.old) }
     {
@@ -51,7 +53,7 @@ impl<T> Items<T> {
         self.items.as_slice()
     }
 
-    /// The items as a `Vec`. Takes no memory.
+    /// The items as a `Vec`. Allocates nothing.
     pub fn into_vec(self) -> Vec<T>
         ensures items { result.items ≡ self }
     {
@@ -60,7 +62,7 @@ impl<T> Items<T> {
 }
 
 impl<T: Copy> Items<T> {
-    /// A copy of borrowed items.
+    /// A copy of borrowed items. Fails where memory runs out.
     pub fn copy_of(alloc: Global, items: &[T]) -> Result<Items<T>, AllocError>
         ensures copied { IfOk result (λ copy. copy ≡ items.now) }
     {
@@ -71,7 +73,7 @@ impl<T: Copy> Items<T> {
 }
 
 impl Items<Text> {
-    /// A copy of borrowed texts, each text copied.
+    /// A copy of borrowed texts, each text copied. Fails where memory runs out.
     pub fn copy_of_texts(alloc: Global, texts: &[Text]) -> Result<Items<Text>, AllocError>
         ensures copied { IfOk result (λ copy. copy ≡ texts.now) }
     {
@@ -95,6 +97,29 @@ mod tests {
         items.push('b')?;
         assert_eq!(rt; items.as_slice(), ['a', 'b'].as_slice());
         assert_eq!(rt; items.into_vec().as_slice(), ['a', 'b'].as_slice());
+        Ok(())
+    }
+
+    #[test]
+    fn copies(rt: HostRuntime) -> Result<(), Fail> {
+        let alloc = rt.alloc();
+        let copy = Items::copy_of(alloc, &['a', 'b'])?;
+        assert_eq!(rt; copy.as_slice(), ['a', 'b'].as_slice());
+        let mut texts = Items::new(alloc);
+        texts.push(Text::copy_of(alloc, "one")?)?;
+        texts.push(Text::copy_of(alloc, "two")?)?;
+        let copy = Items::copy_of_texts(alloc, texts.as_slice())?;
+        assert_eq!(rt; copy.as_slice().len(), 2);
+        assert_eq!(rt; copy.as_slice()[0].as_str(), "one");
+        assert_eq!(rt; copy.as_slice()[1].as_str(), "two");
+        Ok(())
+    }
+
+    #[test]
+    fn shows_its_field(rt: HostRuntime) -> Result<(), Fail> {
+        let items = Items::copy_of(rt.alloc(), &['a', 'b'])?;
+        let shown = format!(in rt.alloc(); "{items:?}")?;
+        assert_eq!(rt; shown.as_str(), "Items { items: ['a', 'b'] }");
         Ok(())
     }
 }

@@ -1,7 +1,8 @@
 //! What scripts and replies are written to.
 
-ghost use Rattle.std.specs.Prelude.{◌≡◌, ◌≤◌, ℕ, List, [], ◌++◌, take, length, if◌then◌else◌, IfOk, IfErr, OnOk, IsOk};
-ghost use Rattle.cc_base.specs.Sink.{is_failure, raised, Counts, IsWrite};
+ghost use Rattle.std.specs.Prelude.{◌≡◌, ◌≤◌, ℕ, List, [], ◌++◌, take, length, IfOk, IfErr, IsOk};
+ghost use Rattle.cc_base.specs.Sink.{Failures, after_put};
+ghost use Rattle.cc_base.specs.Writes.{IsWrite, Writes};
 
 use crate::error::Error;
 use std::io::ErrorKind;
@@ -11,32 +12,52 @@ pub trait Sink {
     // the bytes taken so far
     ghost taken: { Self → List ℕ };
 
-    // how many writes failed
-    ghost failed: { Self → ℕ };
+    // how many writes failed, and the kind of the last failure
+    ghost failed: { Self → Failures };
 
-    /// Takes a prefix of the slice and answers its length. Where it fails, what it took is left
+    /// Takes a prefix of the slice and returns its length. Where it fails, what it took is left
     /// open.
+    ///
+    /// Fails with the kind of the failure.
     fn put(&mut self, bytes: &[u8]) -> Result<usize, ErrorKind>
         ensures within { IfOk result (λ count. count ≤ length bytes.now) }
-        ensures ok { IfOk result (λ count. taken self.new ≡ taken self.old ++ take count bytes.now) }
-        ensures failures { failed self.new
-            ≡ (if is_failure result bytes.now then raised (failed self.old) else failed self.old) };
+        ensures ok { IfOk result
+            (λ count. taken self.new ≡ taken self.old ++ take count bytes.now) }
+        ensures failures { failed self.new ≡ after_put result bytes.now (failed self.old) };
 
     /// How many writes failed: puts that were an error or took nothing of a slice that isn't
     /// empty, and flushes that failed. The count stays at `u64::MAX` once it is there.
     fn failures(&self) -> u64
-        ensures { result ≡ failed self.now };
+        ensures { result ≡ (failed self.now).count };
 }
 
-/// Puts until all is taken or a put fails. No empty slice is handed on.
+/// Puts until all is taken or a put fails. An empty slice is not put.
 ///
 /// Fails with `Write` and the kind of the put that failed, which is `WriteZero` where it took
 /// nothing.
+#[inline(always)]
 pub fn put_all<S: Sink>(sink: &mut S, bytes: &[u8]) -> Result<(), Error>
-    ensures ok { OnOk result (S.taken sink.new ≡ S.taken sink.old ++ bytes.now) }
-    ensures failures { Counts result (S.failed sink.old) (S.failed sink.new) }
+    ensures written { Writes S.taken S.failed result sink.old sink.new bytes.now }
     ensures write_only { IfErr result IsWrite }
     ensures empty { bytes.now ≡ [] → (IsOk result × (sink.new ≡ sink.old)) }
+{
+    if bytes.is_empty() {
+        return Ok(());
+    }
+    match sink.put(bytes) {
+        Ok(count) if count == bytes.len() => Ok(()),
+        Ok(0) => Err(Error::Write(ErrorKind::WriteZero)),
+        Ok(count) => put_rest(sink, &bytes[count..]),
+        Err(kind) => Err(Error::Write(kind)),
+    }
+}
+
+// What is left after a put that took a part.
+#[cold]
+#[inline(never)]
+fn put_rest<S: Sink>(sink: &mut S, bytes: &[u8]) -> Result<(), Error>
+    ensures written { Writes S.taken S.failed result sink.old sink.new bytes.now }
+    ensures write_only { IfErr result IsWrite }
 {
     let mut rest = bytes;
     while !rest.is_empty() {

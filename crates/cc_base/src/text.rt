@@ -29,7 +29,7 @@ impl From<String> for Text {
 }
 
 impl Text {
-    /// A copy of a borrowed text.
+    /// A copy of a borrowed text. Fails where memory runs out.
     pub fn copy_of(alloc: Global, text: &str) -> Result<Text, AllocError>
         ensures copied { IfOk result (λ copy. copy ≡ text.now) }
     {
@@ -45,14 +45,14 @@ impl Text {
         self.inner.as_str()
     }
 
-    /// The text as a `String`. Takes no memory.
+    /// The text as a `String`. Allocates nothing.
     pub fn into_string(self) -> String
         ensures text { string_bytes result ≡ self }
     {
         self.inner
     }
 
-    /// A copy of a borrowed text, where there is one.
+    /// A copy of a borrowed text, where there is one. Fails where memory runs out.
     pub fn copy_of_some(alloc: Global, text: Option<&str>) -> Result<Option<Text>, AllocError>
         ensures copied { IfOk result (λ copy. copy ≡ option_copied text.entry) }
     {
@@ -62,7 +62,7 @@ impl Text {
         }
     }
 
-    /// A copy of the text.
+    /// A copy of the text. Fails where memory runs out.
     pub fn try_clone(&self, alloc: Global) -> Result<Text, AllocError>
         ensures equal { IfOk result (λ copy. copy ≡ self.now) }
     {
@@ -81,6 +81,17 @@ mod tests {
         let copy = text.try_clone(rt.alloc())?;
         assert_eq!(rt; text.as_str(), "naïve");
         assert_eq!(rt; copy.into_string().as_str(), "naïve");
+        let some = Text::copy_of_some(rt.alloc(), Some("naïve"))?.ok_or("no copy")?;
+        assert_eq!(rt; some.as_str(), "naïve");
+        assert!(rt; Text::copy_of_some(rt.alloc(), None)?.is_none());
+        Ok(())
+    }
+
+    #[test]
+    fn shows_its_field(rt: HostRuntime) -> Result<(), Fail> {
+        let text = Text::copy_of(rt.alloc(), "it's")?;
+        let shown = format!(in rt.alloc(); "{text:?}")?;
+        assert_eq!(rt; shown.as_str(), "Text { inner: \"it's\" }");
         Ok(())
     }
 }

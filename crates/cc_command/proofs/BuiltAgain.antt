@@ -6,11 +6,11 @@ use Rattle.std.proofs.lemmas.Slice.Eq.{bytes_eq-Decides}
 use Rattle.cc_arg.specs.declared.arg.Arg.{Arg}
 use Rattle.cc_arg.specs.Arguments.{filled, is_positional}
 use Rattle.cc_command.specs.declared.node.Node.{Node}
-use Rattle.cc_command.specs.declared.node.TheConstants.{HELP, HELP_ABOUT}
+use Rattle.cc_command.specs.Texts.{help_name, help_about, last_order}
 use Rattle.cc_command.specs.Tree.{Forest, none, more, join, Tree}
-use Rattle.cc_command.specs.Names.{has_id, has_child, answers_to, full_name, joined_name}
+use Rattle.cc_command.specs.Names.{has_id, has_child, has_name, full_name, joined_name}
 use Rattle.cc_command.specs.Generated.{generated_arguments, generated_node, copies, help_command, needs_help_child, help_child}
-use Rattle.cc_command.specs.Built.{with_missing, lacks_index, with_index, index_behind, indexed, inherited_by, built_node, built_forest, built_under, built_tree}
+use Rattle.cc_command.specs.Built.{with_missing, lacks_index, with_index, next_index, indexed, inherited_by, built_node, built_forest, built_under, built_tree}
 
 -- ---- arguments
 
@@ -38,13 +38,13 @@ has_id-with_missing xs (other ∷ others) id there =
 bytes_eq-self : (bytes : List ℕ) → bytes_eq bytes bytes ≡ true
 bytes_eq-self bytes = (bytes_eq-Decides bytes bytes).1 refl
 
--- behind the step for one other its id is there
+-- after the step for one other its id is there
 has_id-step : (xs : List Arg) (other : Arg) (b : Bool) → has_id xs other.id ≡ b → has_id (cond b xs (xs ++ other ∷ [])) other.id ≡ true
 has_id-step xs other true is = is
 has_id-step xs other false is =
     has_id-append xs (other ∷ []) other.id ∙ ap (λ b. has_id xs other.id || (b || false)) (bytes_eq-self other.id) ∙ or-true (has_id xs other.id)
 
--- behind the adding all of the others' ids are there
+-- after the adding all of the others' ids are there
 HasIds-with_missing : (xs others : List Arg) → HasIds (with_missing xs others) others
 HasIds-with_missing xs [] = tt
 HasIds-with_missing xs (other ∷ others) = (
@@ -69,8 +69,8 @@ with_index-id place x = elim (lacks_index x) as (λ b. (let y : Arg = cond b (re
 has_id-indexed : (place : ℕ) (xs : List Arg) (id : List ℕ) → has_id (indexed place xs) id ≡ has_id xs id
 has_id-indexed place [] id = refl
 has_id-indexed place (x ∷ xs) id =
-    ap (λ i. bytes_eq i id || has_id (indexed (index_behind place x) xs) id) (with_index-id place x) ∙
-    ap (λ b. bytes_eq x.id id || b) (has_id-indexed (index_behind place x) xs id)
+    ap (λ i. bytes_eq i id || has_id (indexed (next_index place x) xs) id) (with_index-id place x) ∙
+    ap (λ b. bytes_eq x.id id || b) (has_id-indexed (next_index place x) xs id)
 
 HasIds-same : (xs ys others : List Arg) → ((id : List ℕ) → has_id ys id ≡ has_id xs id) → HasIds xs others → HasIds ys others
 HasIds-same xs ys [] same there = tt
@@ -89,8 +89,8 @@ with_index-again later place x =
 indexed-again : (later place : ℕ) (xs : List Arg) → indexed later (indexed place xs) ≡ indexed place xs
 indexed-again later place [] = refl
 indexed-again later place (x ∷ xs) =
-    ap (λ y. y ∷ indexed (index_behind later (with_index place x)) (indexed (index_behind place x) xs)) (with_index-again later place x) ∙
-    ap (λ ys. with_index place x ∷ ys) (indexed-again (index_behind later (with_index place x)) (index_behind place x) xs)
+    ap (λ y. y ∷ indexed (next_index later (with_index place x)) (indexed (next_index place x) xs)) (with_index-again later place x) ∙
+    ap (λ ys. with_index place x ∷ ys) (indexed-again (next_index later (with_index place x)) (next_index place x) xs)
 
 -- what is filled in stays
 filled-with_index : (place : ℕ) (x : Arg) → filled (with_index place (filled x)) ≡ with_index place (filled x)
@@ -100,8 +100,8 @@ filled-with_index place x =
 filled-indexed : (place : ℕ) (xs : List Arg) → map filled (indexed place (map filled xs)) ≡ indexed place (map filled xs)
 filled-indexed place [] = refl
 filled-indexed place (x ∷ xs) =
-    ap (λ y. y ∷ map filled (indexed (index_behind place (filled x)) (map filled xs))) (filled-with_index place x) ∙
-    ap (λ ys. with_index place (filled x) ∷ ys) (filled-indexed (index_behind place (filled x)) xs)
+    ap (λ y. y ∷ map filled (indexed (next_index place (filled x)) (map filled xs))) (filled-with_index place x) ∙
+    ap (λ ys. with_index place (filled x) ∷ ys) (filled-indexed (next_index place (filled x)) xs)
 
 finished-again : (xs others : List Arg) →
     indexed 1 (map filled (with_missing (indexed 1 (map filled (with_missing xs others))) others)) ≡ indexed 1 (map filled (with_missing xs others))
@@ -136,23 +136,23 @@ built_forest-join inherited parent (more node below rest) b =
 has_child-join : (a b : Forest) (word : List ℕ) → has_child (join a b) word ≡ (has_child a word || has_child b word)
 has_child-join none b word = refl
 has_child-join (more node below rest) b word =
-    ap (λ t. answers_to node word || t) (has_child-join rest b word) ∙ sym (or_assoc (answers_to node word) (has_child rest word) (has_child b word))
+    ap (λ t. has_name node word || t) (has_child-join rest b word) ∙ sym (or_assoc (has_name node word) (has_child rest word) (has_child b word))
 
-has_child-built : (inherited : List Arg) (parent : List ℕ) (forest : Forest) (word : List ℕ) →
+pub has_child-built : (inherited : List Arg) (parent : List ℕ) (forest : Forest) (word : List ℕ) →
     has_child (built_forest inherited parent forest) word ≡ has_child forest word
 has_child-built inherited parent none word = refl
 has_child-built inherited parent (more node below rest) word =
-    ap (λ t. answers_to node word || t) (has_child-built inherited parent rest word)
+    ap (λ t. has_name node word || t) (has_child-built inherited parent rest word)
 
 -- where the help child is disabled none is missing
 needs_help_child-disabled : (node : Node) (forest : Forest) → node.disable_help_subcommand ≡ true → needs_help_child node forest ≡ false
 needs_help_child-disabled node none disabled = refl
 needs_help_child-disabled node (more child below rest) disabled =
-    ap (λ b. not b && not (has_child (more child below rest) HELP.now)) disabled
+    ap (λ b. not b && not (has_child (more child below rest) help_name)) disabled
 
 help_child-disabled : (parent : List ℕ) (node : Node) (forest : Forest) → node.disable_help_subcommand ≡ true → help_child parent node forest ≡ none
 help_child-disabled parent node forest disabled =
-    ap (λ b. cond b (help_command parent (join (copies (joined_name parent HELP.now) 0 forest) (help_command (joined_name parent HELP.now) none))) none)
+    ap (λ b. cond b (help_command parent (join (copies (joined_name parent help_name) 0 forest) (help_command (joined_name parent help_name) none))) none)
     (needs_help_child-disabled node forest disabled)
 
 -- copies stay as they are
@@ -175,7 +175,7 @@ helped name forest = join (copies name 0 forest) (help_command name none)
 
 -- the node of a generated `help`
 abbrev the_help : List ℕ → Node
-the_help parent = generated_node HELP.now (joined_name parent HELP.now) (Some HELP_ABOUT.now) 999 false
+the_help parent = generated_node help_name (joined_name parent help_name) (Some help_about) last_order false
 
 pub built_forest-helped : (inherited : List Arg) (name : List ℕ) (forest : Forest) →
     built_forest inherited name (helped name forest) ≡ helped name forest
@@ -185,10 +185,10 @@ built_forest-helped inherited name forest =
 
 -- a generated `help` stays as it is
 built_forest-help_command : (inherited : List Arg) (parent : List ℕ) (forest : Forest) →
-    let name : List ℕ = joined_name parent HELP.now in
+    let name : List ℕ = joined_name parent help_name in
     built_forest inherited parent (help_command parent (helped name forest)) ≡ help_command parent (helped name forest)
 built_forest-help_command inherited parent forest =
-    let name : List ℕ = joined_name parent HELP.now in
+    let name : List ℕ = joined_name parent help_name in
     ap (λ f. help_command parent (join f (help_child name (the_help parent) (helped name forest)))) (built_forest-helped inherited name forest) ∙
     ap (λ f. help_command parent (join (helped name forest) f)) (help_child-disabled name (the_help parent) (helped name forest) refl) ∙
     ap (help_command parent) (join-none (helped name forest))
@@ -196,15 +196,16 @@ built_forest-help_command inherited parent forest =
 built_forest-help_child : (inherited : List Arg) (parent : List ℕ) (node : Node) (forest : Forest) →
     built_forest inherited parent (help_child parent node forest) ≡ help_child parent node forest
 built_forest-help_child inherited parent node forest =
-    let name : List ℕ = joined_name parent HELP.now in
+    let name : List ℕ = joined_name parent help_name in
     elim (needs_help_child node forest) as (λ b. built_forest inherited parent (cond b (help_command parent (helped name forest)) none) ≡ cond b (help_command parent (helped name forest)) none) [
       | true ↦ built_forest-help_command inherited parent forest
       | false ↦ refl
     ]
 
--- behind building no help child is missing
+-- after building no help child is missing
 missing_no_more : (d h : Bool) (parent : List ℕ) (children : Forest) →
-    (d && not (h || has_child (cond (d && not h) (help_command parent children) none) HELP.now)) ≡ false
+    (d && not (h || has_child (cond (d && not h) (help_command parent children) none) help_name)) ≡ false
+unfolding help_name
 missing_no_more true true parent children = refl
 missing_no_more true false parent children = refl
 missing_no_more false h parent children = refl
@@ -215,11 +216,11 @@ needs_help_child-built : (inherited : List Arg) (parent : List ℕ) (node again 
 needs_help_child-built inherited parent node again none same = refl
 needs_help_child-built inherited parent node again (more child below rest) same =
     let forest : Forest = more child below rest in
-    ap (λ b. not b && not (has_child (join (built_forest inherited parent forest) (help_child parent node forest)) HELP.now)) same ∙
+    ap (λ b. not b && not (has_child (join (built_forest inherited parent forest) (help_child parent node forest)) help_name)) same ∙
     ap (λ b. not node.disable_help_subcommand && not b)
-    (has_child-join (built_forest inherited parent forest) (help_child parent node forest) HELP.now ∙
-    ap (λ b. b || has_child (help_child parent node forest) HELP.now) (has_child-built inherited parent forest HELP.now)) ∙
-    missing_no_more (not node.disable_help_subcommand) (has_child forest HELP.now) parent (helped (joined_name parent HELP.now) forest)
+    (has_child-join (built_forest inherited parent forest) (help_child parent node forest) help_name ∙
+    ap (λ b. b || has_child (help_child parent node forest) help_name) (has_child-built inherited parent forest help_name)) ∙
+    missing_no_more (not node.disable_help_subcommand) (has_child forest help_name) parent (helped (joined_name parent help_name) forest)
 
 -- the children of a built node stay as they are
 children-again : (inherited : List Arg) (parent : List ℕ) (node again : Node) (forest : Forest) →
@@ -231,7 +232,7 @@ children-again inherited parent node again forest same hypothesis =
     let built : Forest = built_forest inherited parent forest in
     let help : Forest = help_child parent node forest in
     let children : Forest = join built help in
-    let name : List ℕ = joined_name parent HELP.now in
+    let name : List ℕ = joined_name parent help_name in
     ap (λ f. join f (help_child parent again children))
     (built_forest-join inherited parent built help ∙ ap (λ f. join f (built_forest inherited parent help)) hypothesis ∙
     ap (λ f. join built f) (built_forest-help_child inherited parent node forest)) ∙

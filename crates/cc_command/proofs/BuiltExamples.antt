@@ -1,19 +1,14 @@
--- Trees that are built as the definitions say, and the texts of what building adds.
-use Rattle.std.proofs.Common.{◌≡◌, ℕ, List, [], ◌∷◌, ◌++◌, Some, map, codes, refl}
-use Rattle.cc_command.specs.declared.node.TheConstants.{HELP, HELP_HELP, HELP_ABOUT, VERSION, VERSION_HELP}
+-- Trees that are built as the definitions say.
+use Rattle.std.proofs.Common.{◌≡◌, ℕ, List, [], ◌∷◌, ◌++◌, Some, map, codes, true, false, refl}
+use Rattle.cc_arg.specs.Arguments.{new_arg}
+use Rattle.cc_command.specs.Texts.{help_name, version_name}
 use Rattle.cc_command.specs.Tree.{Forest, none, more, Tree}
 use Rattle.cc_command.specs.Names.{full_name}
-use Rattle.cc_command.specs.Made.{new_tree, with_child}
+use Rattle.cc_command.specs.Made.{new_tree, with_argument, with_child}
+use Rattle.cc_command.specs.PlainName.{is_joined, is_plain_name, name_byte}
+use Rattle.cc_command.specs.Plain.{is_plain_tree, siblings_differ}
 use Rattle.cc_command.specs.Generated.{help_argument, version_argument}
 use Rattle.cc_command.specs.Built.{built_tree, built_under}
-
--- the texts of what building adds
-texts : (HELP.now ≡ codes "help")
-    × (HELP_HELP.now ≡ codes "Print help")
-    × (HELP_ABOUT.now ≡ codes "Print this message or the help of the given subcommand(s)")
-    × (VERSION.now ≡ codes "version")
-    × (VERSION_HELP.now ≡ codes "Print version")
-texts = (refl, refl, refl, refl, refl)
 
 -- `app` in version 1, with a child `run` that holds `job`
 abbrev app : Tree
@@ -28,19 +23,34 @@ full_names (more node below rest) = full_name node ∷ full_names below ++ full_
 
 -- the root has its two flags
 flags_added : map (λ argument. argument.id) (built_tree app).node.arguments ≡ codes "help" ∷ codes "version" ∷ []
-unfolding help_argument version_argument
+unfolding help_argument version_argument help_name version_name
 flags_added = refl
 
 -- every child is named after its parent, and each `help` holds copies of the children and a `help`
 children_named : full_names (built_tree app).children
     ≡ codes "app run" ∷ codes "app run job" ∷ codes "app run help" ∷ codes "app run help job" ∷ codes "app run help help"
     ∷ codes "app help" ∷ codes "app help run" ∷ codes "app help run job" ∷ codes "app help help" ∷ []
-unfolding full_names
+unfolding full_names help_name
 children_named = refl
 
 -- a new bin name renames them all
 children_renamed : full_names (built_under (Some (codes "z")) app).children
     ≡ codes "z run" ∷ codes "z run job" ∷ codes "z run help" ∷ codes "z run help job" ∷ codes "z run help help"
     ∷ codes "z help" ∷ codes "z help run" ∷ codes "z help run job" ∷ codes "z help help" ∷ []
-unfolding full_names
+unfolding full_names help_name
 children_renamed = refl
+
+-- with what building adds a plain tree is plain
+plain_when_built : is_plain_tree (built_under (Some (codes "app")) app) ≡ true
+unfolding help_argument version_argument help_name version_name siblings_differ is_plain_name is_joined name_byte
+plain_when_built = refl
+
+-- with a quote in an id it is not
+not_plain_with_quote : is_plain_tree (record app { node = with_argument app.node (new_arg (codes "it's")) }) ≡ false
+unfolding siblings_differ is_plain_name is_joined name_byte
+not_plain_with_quote = refl
+
+-- nor with two children of one name
+not_plain_with_twins : is_plain_tree (with_child app (new_tree (codes "run"))) ≡ false
+unfolding siblings_differ is_plain_name is_joined name_byte
+not_plain_with_twins = refl

@@ -6,7 +6,7 @@ use Rattle.std.proofs.Math.Bool.{and_assoc, or_assoc}
 use Rattle.std.proofs.lemmas.List.{at_drop_more, at_drop_all}
 use Rattle.std.proofs.lemmas.List.Folds.{list_any-append}
 use Rattle.cc_command.specs.declared.node.Node.{Node}
-use Rattle.cc_command.specs.Names.{answers_to, contains_name, has_child}
+use Rattle.cc_command.specs.Names.{has_name, contains_name, has_child}
 use Rattle.cc_command.specs.Plain.{all_differ, names_of, names_of_all, siblings_differ}
 use Rattle.cc_command.specs.Tree.{Forest, none, more, Tree, forest_of}
 
@@ -30,20 +30,20 @@ all_differ_append (name ∷ names) others =
     regroup (contains_name names name) (contains_name others name) (all_differ names)
     (list_all (λ name. not (contains_name others name)) names) (all_differ others)
 
--- a command answers to its names and to no other word
-contains_name-names_of : (node : Node) (word : List ℕ) → contains_name (names_of node) word ≡ answers_to node word
+-- a command has its names and no other
+contains_name-names_of : (node : Node) (word : List ℕ) → contains_name (names_of node) word ≡ has_name node word
 contains_name-names_of node word =
     ap (λ b. bytes_eq node.name word || b) (contains_name_append node.visible_aliases node.aliases word) ∙
     sym (or_assoc (bytes_eq node.name word) (contains_name node.visible_aliases word) (contains_name node.aliases word))
 
--- one of some siblings answers to their names and to no other word
-contains_name-names_of_all : (siblings : Forest) (word : List ℕ) → contains_name (names_of_all siblings) word ≡ has_child siblings word
+-- one of some siblings has each of their names, and none has another
+pub contains_name-names_of_all : (siblings : Forest) (word : List ℕ) → contains_name (names_of_all siblings) word ≡ has_child siblings word
 contains_name-names_of_all none word = refl
 contains_name-names_of_all (more node below rest) word =
     contains_name_append (names_of node) (names_of_all rest) word ∙
     ap₂ (λ a b. a || b) (contains_name-names_of node word) (contains_name-names_of_all rest word)
 
--- no sibling answers to one of the names
+-- no sibling has one of the names
 abbrev pub are_apart_from : Forest → List (List ℕ) → Bool
 are_apart_from siblings names = list_all (λ name. not (has_child siblings name)) names
 
@@ -58,8 +58,8 @@ siblings_differ-none : siblings_differ none ≡ true
 unfolding siblings_differ
 siblings_differ-none = refl
 
--- siblings differ where the names of the first one do, none behind it answers to one of them, and those
--- behind it differ
+-- siblings differ where the names of the first one do, none after it has one of them, and those
+-- after it differ
 pub siblings_differ-more : (node : Node) (below rest : Forest) →
     siblings_differ (more node below rest) ≡
     (all_differ (names_of node) && (are_apart_from rest (names_of node) && siblings_differ rest))
@@ -70,9 +70,9 @@ siblings_differ-more node below rest =
 
 -- ---- siblings, one place after another
 
--- the names of one sibling differ from each other and from all names behind it
+-- the names of one sibling differ from each other and from all names after it
 abbrev pub differs_from : Tree → List Tree → Bool
-differs_from sibling behind = all_differ (names_of sibling.node) && are_apart_from (forest_of behind) (names_of sibling.node)
+differs_from sibling later = all_differ (names_of sibling.node) && are_apart_from (forest_of later) (names_of sibling.node)
 
 siblings_differ-at : (siblings : List Tree) (place : ℕ) (sibling : Tree) → place < length siblings → get_or siblings place sibling ≡ sibling →
     siblings_differ (forest_of (drop place siblings)) ≡ (differs_from sibling (drop (place + 1) siblings) && siblings_differ (forest_of (drop (place + 1) siblings)))
@@ -85,10 +85,10 @@ siblings_differ-at siblings place sibling below is =
     (siblings_differ (forest_of (drop (place + 1) siblings))))
 
 -- a sibling whose names do not differ
-pub siblings_differ-refused : (siblings : List Tree) (place : ℕ) (sibling : Tree) (whole : Bool) → place < length siblings → get_or siblings place sibling ≡ sibling →
+pub siblings_differ-failed : (siblings : List Tree) (place : ℕ) (sibling : Tree) (whole : Bool) → place < length siblings → get_or siblings place sibling ≡ sibling →
     siblings_differ (forest_of (drop place siblings)) ≡ whole → differs_from sibling (drop (place + 1) siblings) ≡ false → false ≡ whole
-siblings_differ-refused siblings place sibling whole below at is refused =
-    sym (ap (λ b. b && siblings_differ (forest_of (drop (place + 1) siblings))) refused) ∙ sym (siblings_differ-at siblings place sibling below at) ∙ is
+siblings_differ-failed siblings place sibling whole below at is failed =
+    sym (ap (λ b. b && siblings_differ (forest_of (drop (place + 1) siblings))) failed) ∙ sym (siblings_differ-at siblings place sibling below at) ∙ is
 
 -- a sibling whose names do
 pub siblings_differ-passed : (siblings : List Tree) (place : ℕ) (sibling : Tree) (whole : Bool) → place < length siblings → get_or siblings place sibling ≡ sibling →
@@ -97,7 +97,7 @@ pub siblings_differ-passed : (siblings : List Tree) (place : ℕ) (sibling : Tre
 siblings_differ-passed siblings place sibling whole below at is passed =
     sym (ap (λ b. b && siblings_differ (forest_of (drop (place + 1) siblings))) passed) ∙ sym (siblings_differ-at siblings place sibling below at) ∙ is
 
--- behind the last sibling
+-- after the last sibling
 pub siblings_differ-done : (siblings : List Tree) (place : ℕ) (whole : Bool) → length siblings ≤ place →
     siblings_differ (forest_of (drop place siblings)) ≡ whole → true ≡ whole
 siblings_differ-done siblings place whole past is =

@@ -1,12 +1,12 @@
 -- Definitions over forests, at the forest of a list of trees.
-use Rattle.std.proofs.Common.{◌≡◌, ℕ, suc, ◌+◌, List, [], ◌∷◌, ◌++◌, length, cond, not, ◌&&◌, ◌||◌, ◌==◌, Some, refl, ap, ◌∙◌, sym, arith, add-zero, zero-add, true, false}
+use Rattle.std.proofs.Common.{◌≡◌, ℕ, zero, suc, ◌+◌, ◌<◌, List, [], ◌∷◌, ◌++◌, length, get_or, cond, not, ◌&&◌, ◌||◌, ◌==◌, Some, refl, ap, ◌∙◌, sym, arith, add-zero, zero-add, true, false}
 use Rattle.std.specs.List.{list_any}
 use Rattle.std.proofs.lemmas.Bool.Decides.{nat_tests}
 use Rattle.cc_arg.specs.declared.arg.Arg.{Arg}
 use Rattle.cc_command.specs.declared.node.Node.{Node}
-use Rattle.cc_command.specs.declared.node.TheConstants.{HELP}
-use Rattle.cc_command.specs.Tree.{Forest, none, more, join, has_nodes, Tree, forest_of}
-use Rattle.cc_command.specs.Names.{has_child, has_id, answers_to, joined_name}
+use Rattle.cc_command.specs.Texts.{help_name}
+use Rattle.cc_command.specs.Tree.{Forest, none, more, join, has_nodes, Tree, forest_of, forest_size}
+use Rattle.cc_command.specs.Names.{has_child, has_id, has_name, joined_name}
 use Rattle.cc_command.specs.Generated.{copies, generated_node, help_command, needs_help_child, help_child}
 use Rattle.cc_command.specs.Built.{built_forest, built_under, with_missing}
 use Rattle.cc_command.proofs.BuiltAgain.{built_forest-join, join-none, helped}
@@ -15,9 +15,9 @@ pub forest_of-append : (xs ys : List Tree) → forest_of (xs ++ ys) ≡ join (fo
 forest_of-append [] ys = refl
 forest_of-append (x ∷ xs) ys = ap (more x.node x.children) (forest_of-append xs ys)
 
-pub has_child-forest_of : (trees : List Tree) (word : List ℕ) → has_child (forest_of trees) word ≡ list_any (λ tree. answers_to tree.node word) trees
+pub has_child-forest_of : (trees : List Tree) (word : List ℕ) → has_child (forest_of trees) word ≡ list_any (λ tree. has_name tree.node word) trees
 has_child-forest_of [] word = refl
-has_child-forest_of (tree ∷ trees) word = ap (λ b. answers_to tree.node word || b) (has_child-forest_of trees word)
+has_child-forest_of (tree ∷ trees) word = ap (λ b. has_name tree.node word || b) (has_child-forest_of trees word)
 
 pub has_nodes_forest_of : (trees : List Tree) → has_nodes (forest_of trees) ≡ not (length trees == 0)
 has_nodes_forest_of [] = refl
@@ -25,7 +25,14 @@ has_nodes_forest_of (tree ∷ trees) =
     let inhabited : (length (tree ∷ trees) == 0) ≡ false = grind (arith, nat_tests) in
     ap not (sym inhabited)
 
--- one more sibling is built behind the others
+-- a node of a forest has fewer nodes below it than the forest has
+pub below_is_smaller : (trees : List Tree) (i : ℕ) (d : Tree) → i < length trees →
+    forest_size (get_or trees i d).children < forest_size (forest_of trees)
+below_is_smaller [] i d lt = omega (arith, lt)
+below_is_smaller (tree ∷ trees) zero d lt = omega arith
+below_is_smaller (tree ∷ trees) (suc i) d lt = omega (arith, below_is_smaller trees i d (omega (arith, lt)))
+
+-- one more sibling is built after the others
 pub built_forest-push : (inherited : List Arg) (parent : List ℕ) (made trees : List Tree) (tree : Tree) →
     forest_of made ≡ built_forest [] parent (forest_of trees) →
     forest_of (made ++ built_under (Some (joined_name parent tree.node.name)) tree ∷ []) ≡ built_forest [] parent (forest_of (trees ++ tree ∷ []))
@@ -35,11 +42,11 @@ built_forest-push inherited parent made trees tree so_far =
     sym (built_forest-join [] parent (forest_of trees) (forest_of (tree ∷ []))) ∙
     ap (built_forest [] parent) (sym (forest_of-append trees (tree ∷ [])))
 
--- one more sibling is copied at the place behind the others
+-- one more sibling is copied at the place after the others
 abbrev copy_of : List ℕ → ℕ → Tree → Forest → Forest
-copy_of parent place tree behind =
+copy_of parent place tree later =
     more (generated_node tree.node.name (joined_name parent tree.node.name) tree.node.about place tree.node.hide)
-    (copies (joined_name parent tree.node.name) 0 tree.children) behind
+    (copies (joined_name parent tree.node.name) 0 tree.children) later
 
 copies-append : (parent : List ℕ) (place : ℕ) (trees : List Tree) (tree : Tree) →
     copies parent place (forest_of (trees ++ tree ∷ [])) ≡ join (copies parent place (forest_of trees)) (copies parent (place + length trees) (forest_of (tree ∷ [])))
@@ -58,7 +65,7 @@ copies-push parent made trees tree copy so_far is =
     ap (join (copies parent 0 (forest_of trees))) is ∙
     sym (copies-append parent 0 trees tree ∙ ap (λ p. join (copies parent 0 (forest_of trees)) (copies parent p (forest_of (tree ∷ [])))) (zero-add (length trees)))
 
--- copies with a `help` behind them are what a generated `help` holds
+-- copies with a `help` after them are what a generated `help` holds
 pub helped-push : (name : List ℕ) (made : List Tree) (forest : Forest) (last : Tree) →
     forest_of made ≡ copies name 0 forest → forest_of (last ∷ []) ≡ help_command name none → forest_of (made ++ last ∷ []) ≡ helped name forest
 helped-push name made forest last so_far is =
@@ -69,23 +76,23 @@ pub children-whole : (name : List ℕ) (node : Node) (forest built : Forest) →
     built ≡ join (built_forest [] name forest) (help_child name node forest)
 children-whole name node forest built is not_missing =
     is ∙ sym (join-none (built_forest [] name forest)) ∙
-    ap (λ b. join (built_forest [] name forest) (cond b (help_command name (helped (joined_name name HELP.now) forest)) none)) (sym not_missing)
+    ap (λ b. join (built_forest [] name forest) (cond b (help_command name (helped (joined_name name help_name) forest)) none)) (sym not_missing)
 
 -- the children as building leaves them, where the child `help` was missing
 pub children-helped : (name : List ℕ) (node : Node) (forest : Forest) (built : List Tree) (help : Tree) → forest_of built ≡ built_forest [] name forest →
-    needs_help_child node forest ≡ true → forest_of (help ∷ []) ≡ help_command name (helped (joined_name name HELP.now) forest) →
+    needs_help_child node forest ≡ true → forest_of (help ∷ []) ≡ help_command name (helped (joined_name name help_name) forest) →
     forest_of (built ++ help ∷ []) ≡ join (built_forest [] name forest) (help_child name node forest)
 children-helped name node forest built help is missing made =
     forest_of-append built (help ∷ []) ∙ ap (λ f. join f (forest_of (help ∷ []))) is ∙ ap (join (built_forest [] name forest)) made ∙
-    ap (λ b. join (built_forest [] name forest) (cond b (help_command name (helped (joined_name name HELP.now) forest)) none)) (sym missing)
+    ap (λ b. join (built_forest [] name forest) (cond b (help_command name (helped (joined_name name help_name) forest)) none)) (sym missing)
 
 -- the help child is missing from a list of children
 pub needs_help_child-forest_of : (node : Node) (trees : List Tree) →
-    needs_help_child node (forest_of trees) ≡ (not (length trees == 0) && (not node.disable_help_subcommand && not (has_child (forest_of trees) HELP.now)))
+    needs_help_child node (forest_of trees) ≡ (not (length trees == 0) && (not node.disable_help_subcommand && not (has_child (forest_of trees) help_name)))
 needs_help_child-forest_of node [] = refl
 needs_help_child-forest_of node (tree ∷ trees) =
     let inhabited : (length (tree ∷ trees) == 0) ≡ false = grind (arith, nat_tests) in
-    ap (λ b. not b && (not node.disable_help_subcommand && not (has_child (forest_of (tree ∷ trees)) HELP.now))) (sym inhabited)
+    ap (λ b. not b && (not node.disable_help_subcommand && not (has_child (forest_of (tree ∷ trees)) help_name))) (sym inhabited)
 
 -- adding what is missing goes one list after another
 pub with_missing-append : (xs ys zs : List Arg) → with_missing xs (ys ++ zs) ≡ with_missing (with_missing xs ys) zs

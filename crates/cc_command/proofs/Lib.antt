@@ -2,4 +2,8 @@ pub mod BuiltAgain
 pub mod BuiltExamples
 pub mod DifferentNames
 pub mod Forests
+pub mod NameBytes
+pub mod PlainBuilt
 pub mod PlainNames
+pub mod PlainParts
+pub mod SiblingNames

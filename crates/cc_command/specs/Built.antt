@@ -7,7 +7,7 @@ use Rattle.cc_command.specs.Tree.{Forest, none, more, join, Tree}
 use Rattle.cc_command.specs.Names.{has_id, full_name, joined_name}
 use Rattle.cc_command.specs.Generated.{generated_arguments, help_child}
 
--- the arguments, and behind them each of the others whose id is missing by then
+-- the arguments, and after them each of the others whose id is missing by then
 abbrev pub with_missing : List Arg → List Arg → List Arg
 with_missing arguments [] = arguments
 with_missing arguments (other ∷ others) =
@@ -21,16 +21,17 @@ lacks_index argument = is_positional argument && not (is_some argument.index)
 abbrev pub with_index : ℕ → Arg → Arg
 with_index number argument = if lacks_index argument then record argument { index = Some number } else argument
 
--- the index that is free behind an argument
-abbrev pub index_behind : ℕ → Arg → ℕ
-index_behind number argument = if lacks_index argument then suc number else number
+-- the index that is free after an argument
+abbrev pub next_index : ℕ → Arg → ℕ
+next_index number argument = if lacks_index argument then suc number else number
 
 -- the positionals that lack an index get those from this one on, in order
 abbrev pub indexed : ℕ → List Arg → List Arg
 indexed number [] = []
-indexed number (argument ∷ arguments) = with_index number argument ∷ indexed (index_behind number argument) arguments
+indexed number (argument ∷ arguments) = with_index number argument ∷ indexed (next_index number argument) arguments
 
--- what a node inherits: nothing, where building made it
+-- what a node inherits: nothing, where building made it. Every list that is passed on is empty so far,
+-- since there are no global arguments.
 abbrev pub inherited_by : Node → List Arg → List Arg
 inherited_by node inherited = if node.generated then [] else inherited
 

@@ -1,31 +1,32 @@
 -- What building adds to a tree: the arguments `help` and `version`, and the child `help`.
-use Rattle.std.specs.Prelude.{ℕ, suc, List, [], ◌∷◌, ◌++◌, Bool, true, false, not, if◌then◌else◌, ◌&&◌, Option, Some, None, is_some}
+use Rattle.std.specs.Prelude.{ℕ, suc, List, [], ◌∷◌, ◌++◌, Bool, true, false, not, if◌then◌else◌, ◌&&◌, Option, Some, is_some}
 use Rattle.cc_arg.specs.declared.arg.Arg.{Arg}
 use Rattle.cc_arg.specs.declared.action.ArgAction.TheVariants.{Help, Version}
 use Rattle.cc_arg.specs.Arguments.{new_arg}
-use Rattle.cc_command.specs.declared.node.TheConstants.{HELP, HELP_HELP, HELP_ABOUT, VERSION, VERSION_HELP}
 use Rattle.cc_command.specs.declared.node.Node.{Node}
 use Rattle.cc_command.specs.Tree.{Forest, none, more, join}
 use Rattle.cc_command.specs.Names.{has_child, joined_name}
+use Rattle.cc_command.specs.Made.{new_node}
+use Rattle.cc_command.specs.Texts.{help_name, help_short, help_help, help_about, version_name, version_short, version_help, last_order}
 
 -- the flag that shows the help
 unfoldable pub help_argument : Arg
-help_argument = record (new_arg HELP.now) {
-  short = Some 104;
-  long = Some HELP.now;
-  help = Some HELP_HELP.now;
+help_argument = record (new_arg help_name) {
+  short = Some help_short;
+  long = Some help_name;
+  help = Some help_help;
   action = Some Help;
-  display_order = Some 999;
+  display_order = Some last_order;
 }
 
 -- the flag that shows the version
 unfoldable pub version_argument : Arg
-version_argument = record (new_arg VERSION.now) {
-  short = Some 86;
-  long = Some VERSION.now;
-  help = Some VERSION_HELP.now;
+version_argument = record (new_arg version_name) {
+  short = Some version_short;
+  long = Some version_name;
+  help = Some version_help;
   action = Some Version;
-  display_order = Some 999;
+  display_order = Some last_order;
 }
 
 -- the flag `help`, unless it is disabled
@@ -42,17 +43,10 @@ generated_arguments node = generated_help node ++ generated_version node
 
 -- a node that building makes: a name, a text about it and a display order, and nothing else
 abbrev pub generated_node : List ℕ → List ℕ → Option (List ℕ) → ℕ → Bool → Node
-generated_node name bin_name about order hide = record {
-  name = name;
+generated_node name bin_name about order hide = record (new_node name) {
   bin_name = Some bin_name;
   about = about;
-  version = None;
-  aliases = [];
-  visible_aliases = [];
-  subcommand_help_heading = None;
   display_order = Some order;
-  next_order = 0;
-  arguments = [];
   hide = hide;
   disable_help_flag = true;
   disable_version_flag = true;
@@ -72,18 +66,19 @@ copies parent order (more node below rest) =
 -- a generated `help` under a parent of this full name, with these children
 abbrev pub help_command : List ℕ → Forest → Forest
 help_command parent children =
-    more (generated_node HELP.now (joined_name parent HELP.now) (Some HELP_ABOUT.now) 999 false) children none
+    more (generated_node help_name (joined_name parent help_name) (Some help_about) last_order false) children none
 
--- the child `help` is missing: there are children, none of them answers to `help`, and it is not
--- disabled
+-- the child `help` is missing: there are children, none of them has the name or an alias `help`, and it is
+-- not disabled
 abbrev pub needs_help_child : Node → Forest → Bool
 needs_help_child node none = false
 needs_help_child node (more child below rest) =
-    not node.disable_help_subcommand && not (has_child (more child below rest) HELP.now)
+    not node.disable_help_subcommand && not (has_child (more child below rest) help_name)
 
 -- the generated child `help`, where it is missing: copies of the children, and last a `help`
 abbrev pub help_child : List ℕ → Node → Forest → Forest
 help_child parent node children =
     if needs_help_child node children
-    then help_command parent (join (copies (joined_name parent HELP.now) 0 children) (help_command (joined_name parent HELP.now) none))
+    then help_command parent (join (copies (joined_name parent help_name) 0 children)
+    (help_command (joined_name parent help_name) none))
     else none

@@ -7,5 +7,6 @@ pub mod Marked
 pub mod Names
 pub mod Plain
 pub mod PlainName
+pub mod Texts
 pub mod Tree
 pub mod TreeCode

@@ -1,5 +1,5 @@
 -- A command as it is made, and the trees that its builders make of others.
-use Rattle.std.specs.Prelude.{ℕ, List, [], ◌∷◌, ◌++◌, false, if◌then◌else◌, Some, None, unwrap_or, min, ◌+◌}
+use Rattle.std.specs.Prelude.{ℕ, List, [], ◌∷◌, ◌++◌, false, if◌then◌else◌, Some, None, unwrap_or, min, ◌+◌, ◌-◌, ◌^◌}
 use Rattle.cc_arg.specs.declared.arg.Arg.{Arg}
 use Rattle.cc_arg.specs.Arguments.{is_positional}
 use Rattle.cc_command.specs.declared.node.Node.{Node}
@@ -30,9 +30,13 @@ new_node name = record {
 abbrev pub new_tree : List ℕ → Tree
 new_tree name = record { node = new_node name; children = none }
 
--- the display order behind another; none is behind the greatest
-abbrev pub order_behind : ℕ → ℕ
-order_behind order = min (order + 1) 18446744073709551615
+-- the tree with its root changed so, which is then no longer built
+abbrev pub with_root : (Node → Node) → Tree → Tree
+with_root change tree = record tree { node = record (change tree.node) { built = false } }
+
+-- the display order after another; the greatest is followed by itself
+abbrev pub next_order : ℕ → ℕ
+next_order order = min (order + 1) (2 ^ 64 - 1)
 
 -- the argument with this display order, if it has none of its own
 abbrev pub ordered_argument : ℕ → Arg → Arg
@@ -46,7 +50,7 @@ with_argument node argument =
     then record node { arguments = node.arguments ++ argument ∷ []; built = false }
     else record node {
       arguments = node.arguments ++ ordered_argument node.next_order argument ∷ [];
-      next_order = order_behind node.next_order;
+      next_order = next_order node.next_order;
       built = false;
     }
 
@@ -54,10 +58,10 @@ with_argument node argument =
 abbrev pub ordered_node : ℕ → Node → Node
 ordered_node order node = record node { display_order = Some (unwrap_or node.display_order order) }
 
--- the tree with one more child, behind the others. It takes the next display order, unless it
+-- the tree with one more child, after the others. It takes the next display order, unless it
 -- has its own; the order is used up all the same.
 abbrev pub with_child : Tree → Tree → Tree
 with_child tree child = record {
-  node = record tree.node { next_order = order_behind tree.node.next_order; built = false };
+  node = record tree.node { next_order = next_order tree.node.next_order; built = false };
   children = join tree.children (more (ordered_node tree.node.next_order child.node) child.children none);
 }

@@ -1,4 +1,4 @@
--- The names of commands and arguments: who answers to a word, and what a name in full is.
+-- The names of commands and arguments: which names a command has, and what its name in full is.
 use Rattle.std.specs.Prelude.{ℕ, List, ◌∷◌, ◌++◌, Bool, false, ◌||◌, if◌then◌else◌, Option, Some, None, unwrap_or, codes}
 use Rattle.std.specs.List.{list_any}
 use Rattle.std.specs.Str.{bytes_eq}
@@ -10,24 +10,24 @@ use Rattle.cc_command.specs.Tree.{Forest, none, more, Tree}
 abbrev pub contains_name : List (List ℕ) → List ℕ → Bool
 contains_name names word = list_any (λ name. bytes_eq name word) names
 
--- the node's name, a visible alias or a hidden alias of it is the word
-abbrev pub answers_to : Node → List ℕ → Bool
-answers_to node word = bytes_eq node.name word || contains_name node.visible_aliases word || contains_name node.aliases word
+-- the node's name or an alias of it, visible or hidden, is the word
+abbrev pub has_name : Node → List ℕ → Bool
+has_name node word = bytes_eq node.name word || contains_name node.visible_aliases word || contains_name node.aliases word
 
 -- the names of a node that are shown: its name, then its visible aliases
 abbrev pub visible_names : Node → List (List ℕ)
 visible_names node = node.name ∷ node.visible_aliases
 
--- the first of the siblings that answers to the word, with what is below it
+-- the first of the siblings with the name or alias, with what is below it
 abbrev pub find_child : Forest → List ℕ → Option Tree
 find_child none word = None
 find_child (more node below rest) word =
-    if answers_to node word then Some (record { node = node; children = below }) else find_child rest word
+    if has_name node word then Some (record { node = node; children = below }) else find_child rest word
 
--- one of the siblings answers to the word
+-- one of the siblings has the name or alias
 abbrev pub has_child : Forest → List ℕ → Bool
 has_child none word = false
-has_child (more node below rest) word = answers_to node word || has_child rest word
+has_child (more node below rest) word = has_name node word || has_child rest word
 
 -- one of the arguments has the id
 abbrev pub has_id : List Arg → List ℕ → Bool

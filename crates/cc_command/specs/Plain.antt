@@ -13,9 +13,13 @@ abbrev pub passes_if_some : {A : Type 0} → (A → Bool) → Option A → Bool
 passes_if_some passes None = true
 passes_if_some passes (Some value) = passes value
 
--- no byte is a quote
+-- the byte of `'`
+abbrev pub single_quote : ℕ
+single_quote = 39
+
+-- no byte is a single quote
 abbrev pub has_no_quote : List ℕ → Bool
-has_no_quote text = list_all (λ byte. not (byte == 39)) text
+has_no_quote text = list_all (λ byte. not (byte == single_quote)) text
 
 -- shorts are letters or digits, longs are plain names, and the id and the value names hold no quote
 abbrev pub is_plain_argument : Arg → Bool
@@ -41,12 +45,12 @@ is_plain_node node =
 abbrev pub names_of : Node → List (List ℕ)
 names_of node = node.name ∷ (node.visible_aliases ++ node.aliases)
 
--- no text stands twice
+-- no text is there twice
 abbrev pub all_differ : List (List ℕ) → Bool
 all_differ [] = true
 all_differ (name ∷ names) = not (contains_name names name) && all_differ names
 
--- every name by which some siblings are called, one sibling behind another
+-- every name by which some siblings are called, one sibling after another
 abbrev pub names_of_all : Forest → List (List ℕ)
 names_of_all none = []
 names_of_all (more node below rest) = names_of node ++ names_of_all rest

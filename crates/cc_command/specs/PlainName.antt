@@ -8,10 +8,17 @@ pub data NameByte : Type 0 where
   joiner : NameByte
   foreign : NameByte
 
+-- the bytes of `-` and `_`
+abbrev pub dash : ℕ
+dash = 45
+
+abbrev pub underscore : ℕ
+underscore = 95
+
 -- the kind of a byte
 unfoldable pub name_byte : ℕ → NameByte
 name_byte byte =
-    if is_ascii_alphanumeric byte then letter else (if byte == 45 || byte == 95 then joiner else foreign)
+    if is_ascii_alphanumeric byte then letter else (if byte == dash || byte == underscore then joiner else foreign)
 
 -- letters, with one joiner at most between two of them
 unfoldable pub is_joined : List NameByte → Bool

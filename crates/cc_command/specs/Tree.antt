@@ -1,10 +1,10 @@
 -- What a command means: a tree of nodes, each with its children in order.
-use Rattle.std.specs.Prelude.{ℕ, ◌+◌, ◌≤◌, List, [], ◌∷◌, Bool, true, false}
+use Rattle.std.specs.Prelude.{◌≡◌, ◌⊎◌, ℕ, ◌+◌, ◌≤◌, List, [], ◌∷◌, Bool, true, false}
 use Rattle.std.proofs.Common.{arith}
 use denote.Param.Weighed.{most}
 use Rattle.cc_command.specs.declared.node.Node.{Node}
 
--- some nodes side by side: a node, what is below it, and those behind it
+-- some nodes side by side: a node, what is below it, and those after it
 pub data Forest : Type 0 where
   none : Forest
   more : Node → Forest → Forest → Forest
@@ -21,8 +21,14 @@ forest_of (tree ∷ trees) = more tree.node tree.children (forest_of trees)
 
 -- two forests side by side
 abbrev pub join : Forest → Forest → Forest
-join none behind = behind
-join (more node below rest) behind = more node below (join rest behind)
+join none later = later
+join (more node below rest) later = more node below (join rest later)
+
+-- one of the siblings, with all below it
+abbrev pub IsSibling : Forest → Tree → Type 0
+IsSibling none tree = ⊥
+IsSibling (more node below rest) tree =
+    (record { node = node; children = below } ≡ tree) ⊎ IsSibling rest tree
 
 -- whether a forest has a node
 abbrev pub has_nodes : Forest → Bool
@@ -34,7 +40,7 @@ abbrev pub forest_size : Forest → ℕ
 forest_size none = 0
 forest_size (more node below rest) = 1 + forest_size below + forest_size rest
 
--- how many nodes stand below the root
+-- how many nodes are below the root
 abbrev pub tree_size : Tree → ℕ
 tree_size tree = forest_size tree.children
 

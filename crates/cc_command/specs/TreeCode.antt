@@ -6,13 +6,13 @@ use Rattle.cc_command.specs.contracts.node.Node as contracts_of_node
 use Rattle.cc_command.specs.declared.node.Node.{Node}
 use Rattle.cc_command.specs.Tree.{Forest, none, more, Tree}
 
--- A forest is stored as the list of its nodes, each before what is below it and behind it, with a
+-- A forest is stored as the list of its nodes, each before what is below it and after it, with a
 -- mark where a row of siblings ends.
 abbrev marks_of : Forest → List (Option Node)
 marks_of none = None ∷ []
 marks_of (more node below rest) = Some node ∷ (marks_of below ++ marks_of rest)
 
--- one mark read behind the forests that the later marks make
+-- one mark read before the forests that the later marks make
 abbrev stacked : Option Node → List Forest → List Forest
 stacked None later = none ∷ later
 stacked (Some node) [] = []

@@ -12,16 +12,17 @@ mod iterators;
 mod plain;
 
 pub use crate::command::build::build_as;
-pub use crate::command::iterators::{NameAndVisibleAliases, Options, Positionals};
+pub use crate::command::iterators::{Flags, NameAndVisibleAliases, Options, Positionals};
+pub use crate::command::plain::is_plain_name;
 use crate::node::Node;
-use cc_base::{Items, Text};
+use cc_base::Text;
 use std::alloc::Global;
 use std::marker::Model;
 
 /// A command with its arguments and its children.
 ///
-/// Builders take the command and answer the changed one; those that grow a list may be refused
-/// memory, and then drop it. Every one of them marks the command as not built.
+/// Builders take the command and return the changed one; those that grow a list fail with `Memory`
+/// where an allocation fails, and then drop it. Each of them marks the command as not built.
 #[derive(Drop)]
 pub struct Command {
     node: Node,
@@ -54,24 +55,7 @@ impl Command {
         ensures { result ≡ new_tree (string_bytes name) }
     {
         Command {
-            node: Node {
-                name: Text::from(name),
-                bin_name: None,
-                about: None,
-                version: None,
-                aliases: Items::new(alloc),
-                visible_aliases: Items::new(alloc),
-                subcommand_help_heading: None,
-                display_order: None,
-                next_order: 0,
-                arguments: Items::new(alloc),
-                hide: false,
-                disable_help_flag: false,
-                disable_version_flag: false,
-                disable_help_subcommand: false,
-                generated: false,
-                built: false,
-            },
+            node: Node::new(alloc, Text::from(name)),
             children: Vec::new(alloc),
         }
     }

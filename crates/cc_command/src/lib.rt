@@ -4,4 +4,6 @@
 mod command;
 mod node;
 
-pub use crate::command::{Command, NameAndVisibleAliases, Options, Positionals, build_as};
+pub use crate::command::{
+    Command, Flags, NameAndVisibleAliases, Options, Positionals, build_as, is_plain_name,
+};

@@ -1,7 +1,10 @@
 //! What one command of a tree holds besides its children.
 
+ghost use Rattle.std.specs.Prelude.{◌≡◌};
+
 use cc_arg::Arg;
 use cc_base::{Items, Text};
+use std::alloc::Global;
 
 /// What one command of a tree holds besides its children.
 #[derive(Drop)]
@@ -20,7 +23,7 @@ pub struct Node {
     pub visible_aliases: Items<Text>,
     /// The heading over its children in help texts.
     pub subcommand_help_heading: Option<Text>,
-    /// Its display order among its siblings, given or handed out.
+    /// Its display order among its siblings, given or taken when it was added.
     pub display_order: Option<usize>,
     /// The display order of the next argument or child that is added without one.
     pub next_order: usize,
@@ -40,13 +43,30 @@ pub struct Node {
     pub built: bool,
 }
 
-/// The name, the id and the long of what building adds to show the help.
-pub const HELP: &str = "help";
-/// The help of the flag `help`.
-pub const HELP_HELP: &str = "Print help";
-/// What the child `help` says of itself.
-pub const HELP_ABOUT: &str = "Print this message or the help of the given subcommand(s)";
-/// The id and the long of the flag that shows the version.
-pub const VERSION: &str = "version";
-/// The help of the flag `version`.
-pub const VERSION_HELP: &str = "Print version";
+impl Node {
+    ghost use Rattle.cc_command.specs.Made.{new_node};
+
+    /// A node with this name and nothing else; its lists take memory from `alloc`.
+    pub fn new(alloc: Global, name: Text) -> Node
+        ensures { result ≡ new_node name }
+    {
+        Node {
+            name,
+            bin_name: None,
+            about: None,
+            version: None,
+            aliases: Items::new(alloc),
+            visible_aliases: Items::new(alloc),
+            subcommand_help_heading: None,
+            display_order: None,
+            next_order: 0,
+            arguments: Items::new(alloc),
+            hide: false,
+            disable_help_flag: false,
+            disable_version_flag: false,
+            disable_help_subcommand: false,
+            generated: false,
+            built: false,
+        }
+    }
+}

@@ -17,9 +17,9 @@ pub with_count-stored : (nodes : List FlatNode) (number : ℕ) (node : FlatNode)
     entries_of (set nodes number (record node { first_child = first; child_count = count })) ≡ with_count (entries_of nodes) number count
 with_count-stored nodes number node first count inside is end =
     let here : entry_at (entries_of nodes) number ≡ entry_of node = entry_at-stored nodes number node inside is in
-    let behind : first ≡ length (entries_of nodes) = end ∙ sym (length-map nodes entry_of) in
+    let later : first ≡ length (entries_of nodes) = end ∙ sym (length-map nodes entry_of) in
     map-set entry_of nodes number (record node { first_child = first; child_count = count }) ∙
-    ap (λ f. set (entries_of nodes) number (record (entry_of node) { first_child = f; child_count = count })) behind ∙
+    ap (λ f. set (entries_of nodes) number (record (entry_of node) { first_child = f; child_count = count })) later ∙
     ap (λ e. set (entries_of nodes) number (record e { first_child = length (entries_of nodes); child_count = count })) (sym here)
 
 -- the tree of a stored node
@@ -76,7 +76,7 @@ HasItsChildren-kept xs ys number extends inside same its =
     (λ child low high. extends.tree child (omega (arith, its.within))) in
     record {
       forest = ap (λ ns. forest_of (trees_at ys ns)) numbers ∙ ap forest_of trees ∙ its.forest ∙ ap (λ e. e.tree.children) (sym same);
-      behind = omega (arith, first, its.behind);
+      after = omega (arith, first, its.after);
       within = omega (arith, first, count, its.within, extends.longer);
       parent = λ child is.
           let low : (entry_at xs number).first_child ≤ child = omega (arith, first, is.low) in
@@ -143,7 +143,7 @@ module _ (flat : List Entry) (number : ℕ) (trees : List Tree) (inside : number
             ap forest_of (trees_at-appended (with_count flat number (length trees)) (Some number) trees) ∙
             ap forest_of theirs ∙ forest_of-trees_of (tree_at flat number).children ∙
             ap (λ e. e.tree.children) (sym with_children-here);
-        behind = omega (arith, first);
+        after = omega (arith, first);
         within = omega (arith, first, count, with_children-length);
         parent = λ child is. with_children-child child (omega (arith, first, is.low)) (omega (arith, first, count, is.high));
       }
@@ -154,12 +154,12 @@ module _ (flat : List Entry) (number : ℕ) (trees : List Tree) (inside : number
   with_children-size theirs =
       let counted : List Entry = with_count flat number (length trees) in
       let listed : List Entry = map (unnumbered (Some number)) trees in
-      let behind : drop (number + 1) (with_children flat number trees) ≡ drop (number + 1) counted ++ listed =
+      let later : drop (number + 1) (with_children flat number trees) ≡ drop (number + 1) counted ++ listed =
       drop-append-le (number + 1) counted listed (omega (arith, with_count-length)) in
       let same : drop (number + 1) counted ≡ drop (number + 1) flat =
       drop-set-lt (number + 1) flat number (record (entry_at flat number) { first_child = length flat; child_count = length trees }) (omega arith) in
       let later : trees_from (number + 1) (with_children flat number trees) ≡ trees_from (number + 1) flat ++ trees =
-      ap (map (λ entry. entry.tree)) (behind ∙ ap (λ entries. entries ++ listed) same) ∙
+      ap (map (λ entry. entry.tree)) (later ∙ ap (λ entries. entries ++ listed) same) ∙
       map-append (λ entry. entry.tree) (drop (number + 1) flat) listed ∙
       ap (λ ts. trees_from (number + 1) flat ++ ts) (trees-unnumbered (Some number) trees) in
       let now : trees_from number flat ≡ tree_at flat number ∷ trees_from (number + 1) flat =

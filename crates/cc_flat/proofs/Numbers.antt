@@ -16,7 +16,7 @@ trees_at-agree xs ys first (suc count) agree =
     ap (λ tree. tree ∷ trees_at xs (range_with_len (first + 1) count)) (agree first (omega arith) (omega arith)) ∙
     ap (λ trees. tree_at ys first ∷ trees) (trees_at-agree xs ys (first + 1) count (λ number low high. agree number (omega arith) (omega arith)))
 
--- the trees of nodes that are listed behind all others
+-- the trees of nodes that are listed after all others
 pub trees_at-appended : (flat : List Entry) (parent : Option ℕ) (trees : List Tree) →
     trees_at (flat ++ map (unnumbered parent) trees) (range_with_len (length flat) (length trees)) ≡ trees
 trees_at-appended flat parent [] = refl
@@ -50,8 +50,8 @@ pub HasParentOrNone-at : (flat : List Entry) (number : ℕ) → IsFlat flat → 
 HasParentOrNone-at flat number is_flat inside =
     let P : Option ℕ → Type 0 = HasParentOrNone flat number in
     ⊎_elim
-    (λ behind. let its : HasItsParent flat number = is_flat.parents number behind inside in
-    subst P (sym its.is) (behind, (its.before, its.child)))
+    (λ later. let its : HasItsParent flat number = is_flat.parents number later inside in
+    subst P (sym its.is) (later, (its.before, its.child)))
     (λ first. let zero_is : number ≡ 0 = omega arith in
     let none_is : (entry_at flat number).parent ≡ None = ap (λ n. (entry_at flat n).parent) zero_is ∙ is_flat.root in subst P (sym none_is) zero_is)
     (cases_lt 0 number)

@@ -16,7 +16,7 @@ pub record Entry : Type 0 where
   pub tree : Tree
   -- the number of the node whose child it is; the root has none
   pub parent : Option ℕ
-  -- the number of its first child; the others have the numbers behind it
+  -- the number of its first child; the others have the numbers after it
   pub first_child : ℕ
   -- how many children it has
   pub child_count : ℕ
@@ -34,7 +34,7 @@ entry_of node = record {
 abbrev pub entries_of : List FlatNode → List Entry
 entries_of nodes = map entry_of nodes
 
--- what stands where a number has no node: an empty tree
+-- the entry of a number that no node has: an empty tree
 unfoldable pub no_entry : Entry
 no_entry = record { tree = new_tree []; parent = None; first_child = 0; child_count = 0 }
 
@@ -64,10 +64,10 @@ pub record IsChildAt (flat : List Entry) (number child : ℕ) : Type 0 where
   pub high : child < (entry_at flat number).first_child + (entry_at flat number).child_count
 
 -- the children of the node with a number are those of its tree, in order; their numbers are in the
--- list and behind it, and it is their parent
+-- list and after its own, and it is their parent
 pub record HasItsChildren (flat : List Entry) (number : ℕ) : Type 0 where
   pub forest : forest_of (trees_at flat (children_at flat number)) ≡ (tree_at flat number).children
-  pub behind : number < (entry_at flat number).first_child
+  pub after : number < (entry_at flat number).first_child
   pub within : (entry_at flat number).first_child + (entry_at flat number).child_count ≤ length flat
   pub parent : (child : ℕ) → IsChildAt flat number child → (entry_at flat child).parent ≡ Some number
 
@@ -78,7 +78,7 @@ pub record HasItsParent (flat : List Entry) (number : ℕ) : Type 0 where
   pub before : parent < number
   pub child : IsChildAt flat parent number
 
--- the list is that of the tree at number 0: each of its nodes stands there once
+-- the list has each node of the tree at number 0 once
 pub record IsFlat (flat : List Entry) : Type 0 where
   pub root : (entry_at flat 0).parent ≡ None
   pub size : length flat ≡ 1 + forest_size (tree_at flat 0).children

@@ -1,4 +1,4 @@
--- One step of the numbering: a node's children get the numbers behind all that are taken.
+-- One step of the numbering: a node's children get the numbers after all that are taken.
 use Rattle.std.specs.Prelude.{ℕ, List, ◌++◌, length, map, Option, Some, slice_set}
 use Rattle.cc_command.specs.Tree.{Tree}
 use Rattle.cc_flat.specs.Flat.{Entry, entry_at}
@@ -7,12 +7,12 @@ use Rattle.cc_flat.specs.Flat.{Entry, entry_at}
 abbrev pub unnumbered : Option ℕ → Tree → Entry
 unnumbered parent tree = record { tree = tree; parent = parent; first_child = 0; child_count = 0 }
 
--- the node with this number is said to have so many children, behind all nodes that are listed
+-- the node with this number has so many children, listed after all other nodes
 abbrev pub with_count : List Entry → ℕ → ℕ → List Entry
 with_count flat number count =
     slice_set flat number (record (entry_at flat number) { first_child = length flat; child_count = count })
 
--- the children of the node with this number are listed behind all others
+-- the children of the node with this number are listed after all others
 abbrev pub with_children : List Entry → ℕ → List Tree → List Entry
 with_children flat number children =
     with_count flat number (length children) ++ map (unnumbered (Some number)) children

@@ -1,12 +1,11 @@
 //! The nodes of a command tree in one numbered list.
 
-ghost use Rattle.std.specs.Prelude.{◌≡◌, ◌<◌, ◌+◌, ◌↔◌, length, IfOk, IfErr, IfSome, IsNone, OnOk, vec_len};
+ghost use Rattle.std.specs.Prelude.{◌≡◌, ◌<◌, ◌+◌, ◌↔◌, length, IfOk, IfSome, IsNone, OnOk, vec_len};
 ghost use Rattle.cc_flat.specs.Flat.{IsFlat, IsChildAt, HasItsChildren, entry_of, entries_of, entry_at, tree_at, trees_of, numbers_between, children_at};
 ghost use Rattle.cc_flat.specs.Numbered.{unnumbered, with_children};
 
-use cc_base::Error;
 use cc_command::Command;
-use std::alloc::Global;
+use std::alloc::{AllocError, Global};
 use std::marker::Model;
 use std::ops::Range;
 
@@ -43,12 +42,11 @@ impl<'a> Model for Flat<'a> {
 }
 
 impl<'a> Flat<'a> {
-    /// Numbers the nodes of a tree, in time and memory that grow with their count. Fails with
-    /// `Memory` alone.
-    pub fn new(alloc: Global, root: &'a Command) -> Result<Flat<'a>, Error>
+    /// Numbers the nodes of a tree, in time and memory that grow with their count. Fails where it
+    /// is out of memory.
+    pub fn new(alloc: Global, root: &'a Command) -> Result<Flat<'a>, AllocError>
         ensures root { IfOk result (λ flat. tree_at flat 0 ≡ root.now) }
         ensures flat { IfOk result IsFlat }
-        ensures memory { IfErr result (λ error. error ≡ Error.Memory) }
     {
         let mut nodes = Vec::new(alloc);
         nodes.push(FlatNode::unnumbered(None, root))?;
@@ -114,13 +112,12 @@ impl<'a> FlatNode<'a> {
     }
 }
 
-// Lists the children of the node with this number behind all others.
-fn number_children(nodes: &mut Vec<FlatNode<'_>>, number: usize) -> Result<(), Error>
+// Lists the children of the node with this number after all others.
+fn number_children(nodes: &mut Vec<FlatNode<'_>>, number: usize) -> Result<(), AllocError>
     requires { number < vec_len nodes.old }
-    ensures ok { OnOk result (entries_of nodes.new.items
+    ensures { OnOk result (entries_of nodes.new.items
         ≡ with_children (entries_of nodes.old.items) number
         (trees_of (tree_at (entries_of nodes.old.items) number).children)) }
-    ensures memory { IfErr result (λ error. error ≡ Error.Memory) }
 {
     let children = nodes[number].command.get_subcommands();
     let first_child = nodes.len();

@@ -1,16 +1,16 @@
 //! The children's names by node, so that a word finds the child it leads to.
 
-ghost use Rattle.std.specs.Prelude.{◌≡◌, ℕ, ◌<◌, List, length, IfOk, IfErr, IfSome, OnOk, Some, None, if◌then◌else◌, is_some};
+ghost use Rattle.std.specs.Prelude.{◌≡◌, ℕ, ◌<◌, List, length, IfOk, IfSome, OnOk, Some, None, if◌then◌else◌, is_some};
 ghost use Rattle.std.specs.Option.{option_or, option_map};
 ghost use Rattle.std.specs.Str.{bytes_eq};
 ghost use Rattle.cc_command.specs.Names.{contains_name, has_child, find_child};
 ghost use Rattle.cc_flat.specs.Flat.{IsChildAt, tree_at};
-ghost use Rattle.cc_flat.specs.Index.{answer_of, find_at, name_at};
+ghost use Rattle.cc_flat.specs.Index.{found_in, find_at, name_at};
 
 use crate::flat::Flat;
-use cc_base::{Error, Text};
+use cc_base::Text;
 use cc_command::Command;
-use std::alloc::Global;
+use std::alloc::{AllocError, Global};
 use std::collections::BTreeMap;
 use std::marker::Model;
 
@@ -48,10 +48,10 @@ impl<'a> Model for Index<'a> {
 }
 
 impl<'a> Index<'a> {
-    /// Gathers the names of all nodes' children. Fails with `Memory` alone.
-    pub fn new(alloc: Global, flat: Flat<'a>) -> Result<Index<'a>, Error>
-        ensures same { IfOk result (λ index. index ≡ flat.entry) }
-        ensures memory { IfErr result (λ error. error ≡ Error.Memory) }
+    #[tactic(auto, using(crate::proofs::Names::names_more))]
+    /// Gathers the names of all nodes' children. Fails where it is out of memory.
+    pub fn new(alloc: Global, flat: Flat<'a>) -> Result<Index<'a>, AllocError>
+        ensures { IfOk result (λ index. index ≡ flat.entry) }
     {
         let mut names = Vec::new(alloc);
         for number in 0..flat.len() {
@@ -81,15 +81,15 @@ impl<'a> Index<'a> {
     }
 }
 
-// The names of the node's children, each with the first child that has it.
+// Of two children with one name the first has it in the map.
 fn child_names<'a>(
     alloc: Global,
     flat: &Flat<'a>,
     number: usize,
-) -> Result<BTreeMap<&'a str, Found>, Error>
+) -> Result<BTreeMap<&'a str, Found>, AllocError>
     requires { number < length flat.now }
-    ensures ok { IfOk result (λ names. (word : List ℕ) → name_at names word ≡ find_at flat.now number word) }
-    ensures memory { IfErr result (λ error. error ≡ Error.Memory) }
+    ensures { IfOk result
+        (λ names. (word : List ℕ) → name_at names word ≡ find_at flat.now number word) }
 {
     let mut names = BTreeMap::new(alloc);
     for child in flat.children(number) {
@@ -98,15 +98,14 @@ fn child_names<'a>(
     Ok(names)
 }
 
-// Adds the names of a child, save those that lead to one already.
+// A name that leads to an earlier child stays as it is.
 fn add_child<'a>(
     names: &mut BTreeMap<&'a str, Found>,
     command: &'a Command,
     child: usize,
-) -> Result<(), Error>
-    ensures ok { OnOk result ((word : List ℕ) →
-        name_at names.new word ≡ option_or (name_at names.old word) (answer_of child command.now.node word)) }
-    ensures memory { IfErr result (λ error. error ≡ Error.Memory) }
+) -> Result<(), AllocError>
+    ensures { OnOk result ((word : List ℕ) → name_at names.new word
+        ≡ option_or (name_at names.old word) (found_in child command.now.node word)) }
 {
     let visible = Found {
         child,
@@ -116,20 +115,20 @@ fn add_child<'a>(
         child,
         visible: false,
     };
-    add_name(names, command.get_name(), visible)?;
-    add_names(names, command.get_visible_aliases(), visible)?;
-    add_names(names, command.get_aliases(), hidden)
+    for name in command.get_name_and_visible_aliases() {
+        add_name(names, name, visible)?;
+    }
+    add_hidden(names, command.get_aliases(), hidden)
 }
 
-// Adds names that lead to a child, save those that lead to one already.
-fn add_names<'a>(
+fn add_hidden<'a>(
     names: &mut BTreeMap<&'a str, Found>,
     added: &'a [Text],
     found: Found,
-) -> Result<(), Error>
-    ensures ok { OnOk result ((word : List ℕ) → name_at names.new word
-        ≡ option_or (name_at names.old word) (if contains_name added.now word then Some found else None)) }
-    ensures memory { IfErr result (λ error. error ≡ Error.Memory) }
+) -> Result<(), AllocError>
+    ensures { OnOk result ((word : List ℕ) → name_at names.new word
+        ≡ option_or (name_at names.old word)
+        (if contains_name added.now word then Some found else None)) }
 {
     for name in added {
         add_name(names, name.as_str(), found)?;
@@ -137,15 +136,14 @@ fn add_names<'a>(
     Ok(())
 }
 
-// Adds a name that leads to a child, unless it leads to one already.
 fn add_name<'a>(
     names: &mut BTreeMap<&'a str, Found>,
     name: &'a str,
     found: Found,
-) -> Result<(), Error>
-    ensures ok { OnOk result ((word : List ℕ) → name_at names.new word
-        ≡ option_or (name_at names.old word) (if bytes_eq name.now word then Some found else None)) }
-    ensures memory { IfErr result (λ error. error ≡ Error.Memory) }
+) -> Result<(), AllocError>
+    ensures { OnOk result ((word : List ℕ) → name_at names.new word
+        ≡ option_or (name_at names.old word)
+        (if bytes_eq name.now word then Some found else None)) }
 {
     if names.contains_key(name) {
         return Ok(());

@@ -3,7 +3,7 @@ use Rattle.std.specs.Prelude.{ℕ, List, [], ◌∷◌, ◌++◌, Option, Some, 
 use Rattle.std.specs.List.{flat_map}
 use Rattle.cc_arg.specs.declared.arg.Arg.{Arg}
 
--- names behind which stands the first of them; none without a first
+-- the aliases, then the name that was given first; nothing where there is no such name
 abbrev pub aliases_then : {A : Type 0} → List A → Option A → List A
 aliases_then aliases None = []
 aliases_then aliases (Some first) = aliases ++ first ∷ []

@@ -1,38 +1,34 @@
--- What every generator keeps.
-use Rattle.std.specs.Prelude.{◌≡◌, ◌⊎◌, ℕ, List, ◌&&◌, Option, Some, None, is_some, IsTrue, Result, Ok, Err, ⊤, IfErr}
+-- What a call that writes the script of a command tree does.
+use Rattle.std.specs.Prelude.{◌≡◌, ◌⊎◌, ℕ, List, ◌++◌, ◌&&◌, Option, Some, None, is_some, IsTrue, Result, Err, OnOk, IfErr}
 use Rattle.cc_base.specs.declared.error.Error.{Error}
-use Rattle.cc_base.specs.declared.error.Error.TheVariants.{Memory, Write, LabelClash, NoCompletion, NoArguments, UnknownShell, InvalidVariant}
+use Rattle.cc_base.specs.declared.error.Error.TheVariants.{Memory, LabelClash}
+use Rattle.cc_base.specs.declared.failures.Failures.{Failures}
+use Rattle.cc_base.specs.Writes.{CountsWrite, IsMemoryOrWrite}
 use Rattle.cc_command.specs.Tree.{Tree}
+use Rattle.cc_command.specs.Plain.{is_plain_tree}
 
 -- the tree is built and has a bin name
 abbrev pub IsReady : Tree → Type 0
 IsReady tree = IsTrue (tree.node.built && is_some tree.node.bin_name)
 
--- the refusal is no clash of labels
-abbrev pub IsNoClash : Error → Type 0
-IsNoClash Memory = ⊤
-IsNoClash (Write _) = ⊤
-IsNoClash (LabelClash _) = ⊥
-IsNoClash NoCompletion = ⊤
-IsNoClash NoArguments = ⊤
-IsNoClash (UnknownShell _) = ⊤
-IsNoClash (InvalidVariant _) = ⊤
+-- where two nodes share a label, the call fails with that label or out of memory, and nothing is
+-- taken; where none do, its only errors are out of memory and a failed put
+abbrev pub ReportsClash : Option (List ℕ) → Result (Unit {0}) Error → List ℕ → List ℕ → Type 0
+ReportsClash None result old new = IfErr result IsMemoryOrWrite
+ReportsClash (Some label) result old new =
+    ((result ≡ Err (LabelClash label)) ⊎ (result ≡ Err Memory)) × (new ≡ old)
 
--- Where two nodes share a label the call answers that label or want of memory, and nothing is
--- taken; else it answers no clash.
-abbrev pub AnswersClash : {A : Type 0} → Option (List ℕ) → Result A Error → List ℕ → List ℕ → Type 0
-AnswersClash None result before after = IfErr result IsNoClash
-AnswersClash (Some label) result before after =
-    ((result ≡ Err (LabelClash label)) ⊎ (result ≡ Err Memory)) × (after ≡ before)
+-- What a generator's call does to its sink. On `Ok` the script of the tree is taken, and it reads
+-- back where the tree is plain; a clash of labels is reported; a failed put is counted exactly where
+-- the call returns `Write`.
+pub record Generates {S : Type 0} (taken : S → List ℕ) (failed : S → Failures) (script : Tree → List ℕ) (clash : Tree → Option (List ℕ)) (Reads : Tree → Type 0) (tree : Tree) (result : Result (Unit {0}) Error) (old new : S) : Type 0 where
+  pub ok : OnOk result (taken new ≡ taken old ++ script tree)
+  pub reads : OnOk result (IsTrue (is_plain_tree tree) → Reads tree)
+  pub clashes : ReportsClash (clash tree) result (taken old) (taken new)
+  pub failures : CountsWrite result (failed old) (failed new)
 
--- What a call that builds and then writes leaves: the built tree. Only where it is refused memory it
--- may leave the tree as it was, and then nothing is taken.
-abbrev pub LeavesBuilt : {A : Type 0} → Result A Error → Tree → Tree → Tree → List ℕ → List ℕ → Type 0
-LeavesBuilt (Ok _) old new built before after = new ≡ built
-LeavesBuilt (Err Memory) old new built before after = ((new ≡ old) × (after ≡ before)) ⊎ (new ≡ built)
-LeavesBuilt (Err (Write _)) old new built before after = new ≡ built
-LeavesBuilt (Err (LabelClash _)) old new built before after = new ≡ built
-LeavesBuilt (Err NoCompletion) old new built before after = new ≡ built
-LeavesBuilt (Err NoArguments) old new built before after = new ≡ built
-LeavesBuilt (Err (UnknownShell _)) old new built before after = new ≡ built
-LeavesBuilt (Err (InvalidVariant _)) old new built before after = new ≡ built
+-- What a call that builds and then writes leaves: the built tree. Only where it is out of memory may
+-- it leave the tree as it was, and then nothing is taken.
+abbrev pub LeavesBuilt : Result (Unit {0}) Error → Tree → Tree → Tree → List ℕ → List ℕ → Type 0
+LeavesBuilt (Err Memory) old new built taken_old taken_new = ((new ≡ old) × (taken_new ≡ taken_old)) ⊎ (new ≡ built)
+LeavesBuilt _ old new built taken_old taken_new = new ≡ built

@@ -1,17 +1,3 @@
 pub mod ArgumentNames
-pub mod ElvishReader
-pub mod ElvishReads
-pub mod ElvishScript
-pub mod ElvishTable
 pub mod Generators
-pub mod KeyedVisits
-pub mod OfferRows
-pub mod Offers
-pub mod Paths
-pub mod Pending
-pub mod PowershellReader
-pub mod PowershellReads
-pub mod PowershellScript
-pub mod PowershellTable
 pub mod Subcommands
-pub mod Visits

@@ -20,17 +20,17 @@ abbrev pub named_siblings : Forest → List (List ℕ × List ℕ)
 named_siblings none = []
 named_siblings (more node below rest) = named node ++ named_siblings rest
 
--- the same of all that stand below some siblings: of the children of a sibling, then of all that
--- stand below these, before those of the next sibling
+-- the same of all that are below some siblings: of the children of a sibling, then of all that
+-- are below these, before those of the next sibling
 abbrev pub named_below : Forest → List (List ℕ × List ℕ)
 named_below none = []
 named_below (more node below rest) = (named_siblings below ++ named_below below) ++ named_below rest
 
--- the same of some siblings, then of all that stand below them
+-- the same of some siblings, then of all that are below them
 abbrev pub all_named : Forest → List (List ℕ × List ℕ)
 all_named forest = named_siblings forest ++ named_below forest
 
--- where a path of words leads: each word to the first child that answers to it
+-- where a path of words leads: each word to the first child with that name or alias
 abbrev pub find_path : Tree → List (List ℕ) → Option Tree
 find_path tree [] = Some tree
 find_path tree (word ∷ path) = option_and_then (λ child. find_path child path) (find_child tree.children word)

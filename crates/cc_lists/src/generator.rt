@@ -1,24 +1,24 @@
 //! What every generator does.
 
-ghost use Rattle.std.specs.Prelude.{◌≡◌, ◌++◌, ℕ, List, Option, Some, IsTrue, IfOk, IfErr, OnOk};
+ghost use Rattle.std.specs.Prelude.{◌≡◌, ℕ, List, Option, Some, IsTrue, IfOk, IfErr, OnOk};
 ghost use Rattle.std.specs.String.{string_bytes};
-ghost use Rattle.cc_base.specs.Sink.{Counts};
-ghost use Rattle.cc_command.specs.Tree.{Tree};
 ghost use Rattle.cc_command.specs.Plain.{is_plain_tree};
+ghost use Rattle.cc_command.specs.PlainName.{is_plain_name};
+ghost use Rattle.cc_command.specs.Tree.{Tree};
 ghost use Rattle.cc_command.specs.Built.{built_under};
-ghost use Rattle.cc_lists.specs.Generators.{AnswersClash, IsReady, LeavesBuilt};
+ghost use Rattle.cc_lists.specs.Generators.{Generates, IsReady, LeavesBuilt};
 
 use cc_base::{Error, Sink};
 use cc_command::{Command, build_as};
 use std::alloc::Global;
 
-/// A writer of completion scripts for one shell.
+/// A generator of completion scripts for one shell.
 pub trait Generator {
     // the text of the script of a tree
     ghost script: { Self → Tree → List ℕ };
 
-    // what reading the script of a tree gives
-    ghost Reads: { Self → Tree → List ℕ → Type 0 };
+    // what reading that script gives
+    ghost Reads: { Self → Tree → Type 0 };
 
     // the label that two nodes of a tree share, where the script needs labels of its own
     ghost clash: { Self → Tree → Option (List ℕ) };
@@ -34,17 +34,13 @@ pub trait Generator {
 
     /// Writes the script of a command that is built and has a bin name, piece by piece.
     ///
-    /// Fails with `Write` where the sink failed, with `LabelClash` where the script needs labels and
-    /// two nodes share one, before anything is written, and with `Memory`. How much a sink took
-    /// before `Write` or `Memory` is left open.
+    /// Fails with `Write` where the sink failed; with `LabelClash`, before anything is written,
+    /// where the script needs labels and two nodes share one; and with `Memory`. How much the sink
+    /// took before it fails with `Write` or `Memory` is left open.
     fn generate<W: Sink>(&self, alloc: Global, command: &Command, sink: &mut W) -> Result<(), Error>
         requires ready { IsReady command.now }
-        ensures ok { OnOk result (W.taken sink.new ≡ W.taken sink.old ++ script self.now command.now) }
-        ensures reads { OnOk result (IsTrue (is_plain_tree command.now) →
-            Reads self.now command.now (script self.now command.now)) }
-        ensures clashes { AnswersClash (clash self.now command.now) result
-            (W.taken sink.old) (W.taken sink.new) }
-        ensures failures { Counts result (W.failed sink.old) (W.failed sink.new) };
+        ensures { Generates W.taken W.failed (script self.now) (clash self.now) (Reads self.now)
+            command.now result sink.old sink.new };
 
     /// The same as `generate`.
     fn try_generate<W: Sink>(
@@ -54,21 +50,18 @@ pub trait Generator {
         sink: &mut W,
     ) -> Result<(), Error>
         requires ready { IsReady command.now }
-        ensures ok { OnOk result (W.taken sink.new ≡ W.taken sink.old ++ script self.now command.now) }
-        ensures reads { OnOk result (IsTrue (is_plain_tree command.now) →
-            Reads self.now command.now (script self.now command.now)) }
-        ensures clashes { AnswersClash (clash self.now command.now) result
-            (W.taken sink.old) (W.taken sink.new) }
-        ensures failures { Counts result (W.failed sink.old) (W.failed sink.new) }
+        ensures { Generates W.taken W.failed (script self.now) (clash self.now) (Reads self.now)
+            command.now result sink.old sink.new }
     {
         self.generate(alloc, command, sink)
     }
 }
 
-/// Sets the bin name, builds the command and writes the generator's script.
+/// Sets the bin name, builds the command and writes the generator's script, which reads back where
+/// the command and the bin name are plain.
 ///
-/// Fails as `build_as` and `Generator::generate` do. A build that failed leaves the command as it was,
-/// and nothing is written; one that was finished stays.
+/// Fails as `build_as` and `Generator::generate` do. Where the build fails, the command stays as it
+/// was and nothing is written; where a later step fails, the command stays built.
 pub fn generate<G: Generator + Drop, W: Sink>(
     alloc: Global,
     generator: G,
@@ -77,16 +70,14 @@ pub fn generate<G: Generator + Drop, W: Sink>(
     sink: &mut W,
 ) -> Result<(), Error>
     ensures built { LeavesBuilt result command.old command.new
-        (built_under (Some (string_bytes bin_name)) command.old) (W.taken sink.old) (W.taken sink.new) }
-    ensures ok { OnOk result (W.taken sink.new ≡ W.taken sink.old
-        ++ G.script generator (built_under (Some (string_bytes bin_name)) command.old)) }
-    ensures reads { OnOk result (IsTrue (is_plain_tree (built_under (Some (string_bytes bin_name)) command.old)) →
-        G.Reads generator (built_under (Some (string_bytes bin_name)) command.old)
-        (G.script generator (built_under (Some (string_bytes bin_name)) command.old))) }
-    ensures clashes { AnswersClash
-        (G.clash generator (built_under (Some (string_bytes bin_name)) command.old)) result
+        (built_under (Some (string_bytes bin_name)) command.old)
         (W.taken sink.old) (W.taken sink.new) }
-    ensures failures { Counts result (W.failed sink.old) (W.failed sink.new) }
+    ensures written { Generates W.taken W.failed
+        (G.script generator) (G.clash generator) (G.Reads generator)
+        (built_under (Some (string_bytes bin_name)) command.old) result sink.old sink.new }
+    ensures plain { OnOk result (IsTrue (is_plain_tree command.old) →
+        IsTrue (is_plain_name (string_bytes bin_name)) →
+        G.Reads generator (built_under (Some (string_bytes bin_name)) command.old)) }
 {
     build_as(command, alloc, bin_name)?;
     generator.generate(alloc, command, sink)

@@ -1,4 +1,4 @@
-//! The lists that generators share.
+//! Lists of names, in the forms in which `clap_complete` offers them.
 
 ghost use Rattle.std.specs.Prelude.{◌≡◌, ◌++◌, ◌∷◌, [], map, true, IfOk, IfErr, OnOk};
 ghost use Rattle.std.specs.Option.{option_copied};
@@ -10,9 +10,10 @@ ghost use Rattle.cc_lists.specs.ArgumentNames.{all_longs, all_shorts, aliases_th
 ghost use Rattle.cc_lists.specs.Subcommands.{all_named, find_path, named, named_siblings, texts_of};
 
 use cc_arg::Arg;
+pub use cc_arg::possible_values;
 use cc_base::{Error, Text};
 use cc_command::Command;
-use std::alloc::Global;
+use std::alloc::{AllocError, Global};
 
 /// The names of the children: of each its name, then each visible alias, with the child's full
 /// name. Fails with `Memory` alone.
@@ -57,11 +58,10 @@ fn push_all(
     found: &mut Vec<(String, String)>,
     alloc: Global,
     siblings: &[Command],
-) -> Result<(), Error>
-    ensures ok { OnOk result (texts_of found.new.items
+) -> Result<(), AllocError>
+    ensures { OnOk result (texts_of found.new.items
         ≡ texts_of found.old.items
         ++ all_named (forest_of siblings.now)) }
-    ensures memory { IfErr result (λ error. error ≡ Error.Memory) }
 {
     push_siblings(found, alloc, siblings)?;
     for sibling in siblings {
@@ -70,16 +70,14 @@ fn push_all(
     Ok(())
 }
 
-// Adds the names of siblings.
 fn push_siblings(
     found: &mut Vec<(String, String)>,
     alloc: Global,
     siblings: &[Command],
-) -> Result<(), Error>
-    ensures ok { OnOk result (texts_of found.new.items
+) -> Result<(), AllocError>
+    ensures { OnOk result (texts_of found.new.items
         ≡ texts_of found.old.items
         ++ named_siblings (forest_of siblings.now)) }
-    ensures memory { IfErr result (λ error. error ≡ Error.Memory) }
 {
     for sibling in siblings {
         push_named(found, alloc, sibling)?;
@@ -93,21 +91,18 @@ fn push_named(
     found: &mut Vec<(String, String)>,
     alloc: Global,
     command: &Command,
-) -> Result<(), Error>
-    ensures ok { OnOk result (texts_of found.new.items
+) -> Result<(), AllocError>
+    ensures { OnOk result (texts_of found.new.items
         ≡ texts_of found.old.items ++ named command.now.node) }
-    ensures memory { IfErr result (λ error. error ≡ Error.Memory) }
 {
     let full_name = full_name(command);
-    push_pair(found, alloc, command.get_name(), full_name)?;
-    for alias in command.get_visible_aliases() {
-        push_pair(found, alloc, alias.as_str(), full_name)?;
+    for name in command.get_name_and_visible_aliases() {
+        push_pair(found, alloc, name, full_name)?;
     }
     Ok(())
 }
 
-// The bin name where there is one, else the name.
-pub(crate) fn full_name(command: &Command) -> &str
+fn full_name(command: &Command) -> &str
     ensures { result.now ≡ full_name command.now.node }
 {
     command.get_bin_name().unwrap_or(command.get_name())
@@ -119,11 +114,10 @@ fn push_pair(
     alloc: Global,
     name: &str,
     full_name: &str,
-) -> Result<(), Error>
-    ensures ok { OnOk result (texts_of found.new.items
+) -> Result<(), AllocError>
+    ensures { OnOk result (texts_of found.new.items
         ≡ texts_of found.old.items
         ++ (name.now, full_name.now) ∷ []) }
-    ensures memory { IfErr result (λ error. error ≡ Error.Memory) }
 {
     let name = String::from_str(alloc, name)?;
     let full_name = String::from_str(alloc, full_name)?;
@@ -133,15 +127,13 @@ fn push_pair(
 
 /// The arguments that are no positionals and take no values, in order. Fails with `Memory` alone.
 pub fn flags<'a>(alloc: Global, command: &'a Command) -> Result<Vec<&'a Arg>, Error>
-    ensures ok { IfOk result (λ found. map (λ argument. argument.now) found.items ≡ flags command.now.node) }
+    ensures ok { IfOk result
+        (λ found. map (λ argument. argument.now) found.items ≡ flags command.now.node) }
     ensures memory { IfErr result (λ error. error ≡ Error.Memory) }
 {
     let mut found = Vec::new(alloc);
-    for argument in command.get_arguments() {
-        if argument.is_positional() || argument.takes_values() {
-            continue;
-        }
-        found.push(argument)?;
+    for flag in command.get_flags() {
+        found.push(flag)?;
     }
     Ok(found)
 }
@@ -161,10 +153,9 @@ pub fn shorts_and_visible_aliases(alloc: Global, command: &Command) -> Result<Ve
 }
 
 // Adds the visible aliases of a short, then the short.
-fn push_shorts(shorts: &mut Vec<char>, argument: &Arg) -> Result<(), Error>
-    ensures ok { OnOk result (shorts.new.items
+fn push_shorts(shorts: &mut Vec<char>, argument: &Arg) -> Result<(), AllocError>
+    ensures { OnOk result (shorts.new.items
         ≡ shorts.old.items ++ aliases_then argument.now.visible_short_aliases argument.now.short) }
-    ensures memory { IfErr result (λ error. error ≡ Error.Memory) }
 {
     let Some(short) = argument.get_short() else {
         return Ok(());
@@ -178,7 +169,8 @@ fn push_shorts(shorts: &mut Vec<char>, argument: &Arg) -> Result<(), Error>
 /// `Memory` alone.
 #[tactic(auto, unfolding(crate::specs::ArgumentNames::all_longs))]
 pub fn longs_and_visible_aliases(alloc: Global, command: &Command) -> Result<Vec<String>, Error>
-    ensures ok { IfOk result (λ longs. map string_bytes longs.items ≡ all_longs command.now.node.arguments) }
+    ensures ok { IfOk result
+        (λ longs. map string_bytes longs.items ≡ all_longs command.now.node.arguments) }
     ensures memory { IfErr result (λ error. error ≡ Error.Memory) }
 {
     let mut longs = Vec::new(alloc);
@@ -189,10 +181,10 @@ pub fn longs_and_visible_aliases(alloc: Global, command: &Command) -> Result<Vec
 }
 
 // Adds the visible aliases of a long, then the long.
-fn push_longs(longs: &mut Vec<String>, alloc: Global, argument: &Arg) -> Result<(), Error>
-    ensures ok { OnOk result (map string_bytes longs.new.items
-        ≡ map string_bytes longs.old.items ++ aliases_then argument.now.visible_aliases argument.now.long) }
-    ensures memory { IfErr result (λ error. error ≡ Error.Memory) }
+fn push_longs(longs: &mut Vec<String>, alloc: Global, argument: &Arg) -> Result<(), AllocError>
+    ensures { OnOk result (map string_bytes longs.new.items
+        ≡ map string_bytes longs.old.items
+        ++ aliases_then argument.now.visible_aliases argument.now.long) }
 {
     let Some(long) = argument.get_long() else {
         return Ok(());
@@ -202,11 +194,9 @@ fn push_longs(longs: &mut Vec<String>, alloc: Global, argument: &Arg) -> Result<
     Ok(())
 }
 
-// Adds copies of the texts.
-fn push_texts(longs: &mut Vec<String>, alloc: Global, texts: &[Text]) -> Result<(), Error>
-    ensures ok { OnOk result
+fn push_texts(longs: &mut Vec<String>, alloc: Global, texts: &[Text]) -> Result<(), AllocError>
+    ensures { OnOk result
         (map string_bytes longs.new.items ≡ map string_bytes longs.old.items ++ texts.now) }
-    ensures memory { IfErr result (λ error. error ≡ Error.Memory) }
 {
     for text in texts {
         longs.push(String::from_str(alloc, text.as_str())?)?;

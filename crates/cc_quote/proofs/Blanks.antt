@@ -1,12 +1,14 @@
--- Where a search finds the first blank of a text.
-use Rattle.std.proofs.Common.{◌≡◌, ℕ, ◌<◌, true, List, [], ◌∷◌, ◌++◌, length, take, drop, Option, Some, None, MatchOption, unwrap_or, sym, ◌∙◌, ap, subst, inl, inr, arith}
+-- Where the first blank of a text is.
+use Rattle.std.proofs.Common.{◌≡◌, ℕ, suc, ◌<◌, ◌≤◌, Bool, true, false, List, [], ◌∷◌, ◌++◌, length, get_or, take, drop, Option, Some, None, MatchOption, unwrap_or, sym, ◌∙◌, ap, subst, inl, inr, ⊎_elim, arith}
 use Rattle.std.specs.Char.{char_set_contains}
-use Rattle.std.specs.Str.{NoCharPasses}
+use Rattle.std.specs.Str.{NoCharPasses, NonePass}
 use Rattle.std.specs.Str.Pattern.{FindsBy, MatchBeginsAt}
 use Rattle.std.proofs.lemmas.List.{take_all, drop_all, take-append-drop}
-use Rattle.std.proofs.lemmas.Str.{encode_ascii}
+use Rattle.std.proofs.lemmas.Bool.{cases_lt}
+use Rattle.std.proofs.lemmas.Str.{encode_ascii, NoCharPasses-byte}
 use Rattle.std.proofs.lemmas.Bool.Decides.{nat_tests}
-use Rattle.cc_quote.specs.QuotedWord.{is_blank, IsCutAtBlank}
+use Rattle.cc_quote.specs.QuotedWord.{IsCutAtBlank}
+use Rattle.cc_quote.specs.Signs.{is_blank}
 
 pub blanks_are : (x : ℕ) → char_set_contains (32 ∷ 9 ∷ 10 ∷ []) x ≡ is_blank x
 blanks_are x = grind (arith, nat_tests)
@@ -33,3 +35,20 @@ module _ (F : List ℕ → Option (ℕ × ℕ) → Type 0) (text : List ℕ) (te
             inr
             (b, drop j text, told.1.1, told.1.2.split ∙ ap (λ (bs : List ℕ). bs ++ drop j text) (encode_ascii b (is_blank-low b told.1.1)));
       }
+
+-- no item of a list passes a test that none passes where it is read
+NonePass-from_reads : (p : ℕ → Bool) (xs : List ℕ) → ((k : ℕ) → k < length xs → p (get_or xs k 0) ≡ false) → NonePass p xs
+NonePass-from_reads p [] h = tt
+NonePass-from_reads p (x ∷ xs) h = (h 0 (omega arith), NonePass-from_reads p xs (λ k l. h (suc k) (omega arith)))
+
+-- no byte of a text of which no character is a blank is a blank
+pub bytes_no_blank : (front : List ℕ) → NoCharPasses is_blank front → NonePass is_blank front
+bytes_no_blank front h =
+    NonePass-from_reads is_blank front
+    (λ k l.
+    ⊎_elim {C = is_blank (get_or front k 0) ≡ false} (λ low. NoCharPasses-byte is_blank front k h l low)
+    (λ high. is_blank-high (get_or front k 0) high)
+    (cases_lt (get_or front k 0) 128))
+  where
+    is_blank-high : (byte : ℕ) → 128 ≤ byte → is_blank byte ≡ false
+    is_blank-high byte high = grind (arith, nat_tests)

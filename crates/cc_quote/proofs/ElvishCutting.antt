@@ -1,55 +1,27 @@
--- How an Elvish script is cut, for any text behind the part that each lemma speaks of.
+-- How an Elvish script is cut, whatever follows the part that each lemma speaks of.
 use Rattle.std.proofs.Common.{◌≡◌, ℕ, Bool, true, false, not, ◌||◌, cond, List, [], ◌∷◌, ◌++◌, map, ◌==◌, IsTrue, refl, sym, ap, ◌∙◌, append_assoc, append-nil, arith}
 use Rattle.std.proofs.lemmas.Bool.Decides.{Decides-eqb}
-use Rattle.cc_quote.specs.Tokens.{Piece, Sign, cut}
-use Rattle.cc_quote.specs.Tokens.Sign.{blank, quote, other}
-use Rattle.cc_quote.specs.Tokens.Place.{between, in_bare, in_quotes}
-use Rattle.cc_quote.specs.ElvishTokens.{sign, is_bare, IsBare, IsBareWord, HasNoQuote}
+use Rattle.std.proofs.lemmas.List.{map-append}
+use Rattle.cc_quote.specs.Bytes.{line_feed, space, single_quote}
 use Rattle.cc_quote.specs.ElvishQuote.{elvish_escaped_byte, elvish_escaped}
-use Rattle.cc_quote.specs.QuotedWord.{is_blank, space_for_line_feed, line_feeds_as_spaces}
+use Rattle.cc_quote.specs.ElvishTokens.{is_bare, IsBare, IsBareWord}
+use Rattle.cc_quote.specs.QuotedWord.{space_for_line_feed, line_feeds_as_spaces}
+use Rattle.cc_quote.specs.Signs.{Sign, blank, quote, other, is_blank, sign, HasNoQuote}
+use Rattle.cc_quote.specs.Tokens.{Piece, cut}
+use Rattle.cc_quote.specs.Tokens.Place.{between, in_bare, in_quotes}
+use Rattle.cc_quote.proofs.WithinQuotes.{ReadsQuoted, kept_byte, kept_text, cutting_reads}
 
--- ---- one byte
+-- ---- outside quotes
 
 -- a bare byte is neither a quote nor a blank
 sign-is_bare : (byte : ℕ) → IsTrue (is_bare byte) → sign byte ≡ other (byte ∷ [])
 unfolding sign is_bare
-sign-is_bare byte h = by_tests (byte == 39) (is_blank byte) h
+sign-is_bare byte h = by_tests (byte == single_quote) (is_blank byte) h
   where
     by_tests : (q b : Bool) → IsTrue (not (q || b)) → cond q (quote (byte ∷ [])) (cond b (blank (byte ∷ [])) (other (byte ∷ []))) ≡ other (byte ∷ [])
     by_tests true b p = cc
     by_tests false true p = cc
     by_tests false false p = refl
-
--- within quotes a byte that is no quote is kept
-kept_byte : (byte : ℕ) (signs : List Sign) (pieces : List Piece) (text : List ℕ) → IsTrue (not (byte == 39))
-    → cut (in_quotes pieces text) (sign byte ∷ signs) ≡ cut (in_quotes pieces (text ++ byte ∷ [])) signs
-unfolding sign cut
-kept_byte byte signs pieces text h = by_tests (byte == 39) (is_blank byte) h
-  where
-    by_tests : (q b : Bool) → IsTrue (not q)
-        → cut (in_quotes pieces text) (cond q (quote (byte ∷ [])) (cond b (blank (byte ∷ [])) (other (byte ∷ []))) ∷ signs) ≡ cut (in_quotes pieces (text ++ byte ∷ [])) signs
-    by_tests true b p = cc
-    by_tests false true p = refl
-    by_tests false false p = refl
-
--- within quotes the escape of a byte is read as that byte, a line feed as a space
-escaped_byte : (byte : ℕ) (rest : List ℕ) (pieces : List Piece) (text : List ℕ)
-    → cut (in_quotes pieces text) (map sign (elvish_escaped_byte byte ++ rest)) ≡ cut (in_quotes pieces (text ++ space_for_line_feed byte ∷ [])) (map sign rest)
-unfolding sign cut
-escaped_byte byte rest pieces text = by_tests (byte == 39) (byte == 10) refl refl
-  where
-    by_tests : (q l : Bool) → byte == 39 ≡ q → byte == 10 ≡ l
-        → cut (in_quotes pieces text) (map sign (cond q (39 ∷ 39 ∷ []) (cond l (32 ∷ []) (byte ∷ [])) ++ rest)) ≡ cut (in_quotes pieces (text ++ cond l 32 byte ∷ [])) (map sign rest)
-    by_tests true true e f =
-        let as_quote : byte ≡ 39 = (Decides-eqb byte 39).0 e in
-        let as_line_feed : byte ≡ 10 = (Decides-eqb byte 10).0 f in
-        absurd (omega arith)
-    by_tests true false e f =
-        ap (λ b. cut (in_quotes pieces (text ++ b ∷ [])) (map sign rest)) (sym ((Decides-eqb byte 39).0 e))
-    by_tests false true e f = refl
-    by_tests false false e f = kept_byte byte (map sign rest) pieces text (ap not e)
-
--- ---- a text
 
 -- a run of bare bytes, in a token that has begun
 pub bare_run : (run rest : List ℕ) (pieces : List Piece) (begun : List ℕ) → IsBare run
@@ -68,31 +40,56 @@ bare_word [] rest h = absurd (h.0 refl)
 bare_word (byte ∷ run) rest h =
     ap (λ s. cut between (s ∷ map sign (run ++ rest))) (sign-is_bare byte h.1.0) ∙ bare_run run rest [] (byte ∷ []) h.1.1
 
--- a text without a quote, within quotes
-pub quoted_text : (kept rest : List ℕ) (pieces : List Piece) (text : List ℕ) → HasNoQuote kept
-    → cut (in_quotes pieces text) (map sign (kept ++ rest)) ≡ cut (in_quotes pieces (text ++ kept)) (map sign rest)
-quoted_text [] rest pieces text h = ap (λ t. cut (in_quotes pieces t) (map sign rest)) (sym (append-nil text))
-quoted_text (byte ∷ kept) rest pieces text h =
-    kept_byte byte (map sign (kept ++ rest)) pieces text h.0
-    ∙ quoted_text kept rest pieces (text ++ byte ∷ []) h.1
-    ∙ ap (λ t. cut (in_quotes pieces t) (map sign rest)) (append_assoc text (byte ∷ []) kept)
+-- ---- within quotes
 
--- an escaped text, within quotes
-pub escaped_text : (help rest : List ℕ) (pieces : List Piece) (text : List ℕ)
-    → cut (in_quotes pieces text) (map sign (elvish_escaped help ++ rest)) ≡ cut (in_quotes pieces (text ++ line_feeds_as_spaces help)) (map sign rest)
-escaped_text [] rest pieces text = ap (λ t. cut (in_quotes pieces t) (map sign rest)) (sym (append-nil text))
-escaped_text (byte ∷ help) rest pieces text =
-    ap (λ t. cut (in_quotes pieces text) (map sign t)) (append_assoc (elvish_escaped_byte byte) (elvish_escaped help) rest)
-    ∙ escaped_byte byte (elvish_escaped help ++ rest) pieces text
-    ∙ escaped_text help rest pieces (text ++ space_for_line_feed byte ∷ [])
-    ∙ ap (λ t. cut (in_quotes pieces t) (map sign rest)) (append_assoc text (space_for_line_feed byte ∷ []) (line_feeds_as_spaces help))
+module _ {A : Type 0} (reading : List ℕ → List Sign → A) (reads : ReadsQuoted reading) where
+  -- the escape of a byte is read as that byte, a line feed as a space
+  escaped_byte : (byte : ℕ) (rest text : List ℕ)
+      → reading text (map sign (elvish_escaped_byte byte ++ rest)) ≡ reading (text ++ space_for_line_feed byte ∷ []) (map sign rest)
+  unfolding sign
+  escaped_byte byte rest text = by_tests (byte == single_quote) (byte == line_feed) refl refl
+    where
+      by_tests : (q l : Bool) → byte == single_quote ≡ q → byte == line_feed ≡ l
+          → reading text (map sign (cond q (single_quote ∷ single_quote ∷ []) (cond l (space ∷ []) (byte ∷ [])) ++ rest)) ≡ reading (text ++ cond l space byte ∷ []) (map sign rest)
+      by_tests true true e f =
+          let as_quote : byte ≡ 39 = (Decides-eqb byte 39).0 e in
+          let as_line_feed : byte ≡ 10 = (Decides-eqb byte 10).0 f in
+          absurd (omega arith)
+      by_tests true false e f =
+          reads.of_quotes text (39 ∷ []) (39 ∷ []) (map sign rest)
+          ∙ ap (λ b. reading (text ++ b ∷ []) (map sign rest)) (sym ((Decides-eqb byte 39).0 e))
+      by_tests false true e f = reads.of_blank text (32 ∷ []) (map sign rest)
+      by_tests false false e f = kept_byte reading reads byte (map sign rest) text (ap not e)
+
+  -- so is the escape of a text
+  pub escaped_reads : (help rest text : List ℕ)
+      → reading text (map sign (elvish_escaped help ++ rest)) ≡ reading (text ++ line_feeds_as_spaces help) (map sign rest)
+  escaped_reads [] rest text = ap (λ t. reading t (map sign rest)) (sym (append-nil text))
+  escaped_reads (byte ∷ help) rest text =
+      ap (λ t. reading text (map sign t)) (append_assoc (elvish_escaped_byte byte) (elvish_escaped help) rest)
+      ∙ escaped_byte byte (elvish_escaped help ++ rest) text
+      ∙ escaped_reads help rest (text ++ space_for_line_feed byte ∷ [])
+      ∙ ap (λ t. reading t (map sign rest)) (append_assoc text (space_for_line_feed byte ∷ []) (line_feeds_as_spaces help))
+
+-- a text without a quote
+pub quoted_text : (kept rest : List ℕ) (pieces : List Piece) (opening text : List ℕ) → HasNoQuote kept
+    → cut (in_quotes pieces opening text) (map sign (kept ++ rest)) ≡ cut (in_quotes pieces opening (text ++ kept)) (map sign rest)
+quoted_text kept rest pieces opening text h =
+    ap (cut (in_quotes pieces opening text)) (map-append sign kept rest)
+    ∙ kept_text (λ t s. cut (in_quotes pieces opening t) s) (cutting_reads pieces opening) kept (map sign rest) text h
+
+-- an escaped text
+pub escaped_text : (help rest : List ℕ) (pieces : List Piece) (opening text : List ℕ)
+    → cut (in_quotes pieces opening text) (map sign (elvish_escaped help ++ rest)) ≡ cut (in_quotes pieces opening (text ++ line_feeds_as_spaces help)) (map sign rest)
+escaped_text help rest pieces opening text =
+    escaped_reads (λ t s. cut (in_quotes pieces opening t) s) (cutting_reads pieces opening) help rest text
 
 -- ---- what meets the premises
 
 -- a bare byte is no quote
-HasNoQuote-is_bare : (byte : ℕ) → IsTrue (is_bare byte) → IsTrue (not (byte == 39))
+HasNoQuote-is_bare : (byte : ℕ) → IsTrue (is_bare byte) → IsTrue (not (byte == single_quote))
 unfolding is_bare
-HasNoQuote-is_bare byte h = by_tests (byte == 39) (is_blank byte) h
+HasNoQuote-is_bare byte h = by_tests (byte == single_quote) (is_blank byte) h
   where
     by_tests : (q b : Bool) → IsTrue (not (q || b)) → IsTrue (not q)
     by_tests true b p = p

@@ -1,92 +1,114 @@
 -- Escaped texts and words, in Elvish.
-use Rattle.std.proofs.Common.{◌≡◌, ◌≢◌, ◌==◌, ℕ, ◌<◌, ◌≤◌, true, false, List, [], ◌∷◌, ◌++◌, length, get_or, encode_utf8, encode_utf8_all, codes, Some, refl, sym, ◌∙◌, ap, subst, ⊎_elim, arith}
-use Rattle.std.specs.Str.{NoCharPasses, NonePass}
-use Rattle.std.proofs.lemmas.List.{append-nil}
-use Rattle.std.proofs.lemmas.List.Concat.{flat_map-append}
-use Rattle.std.proofs.lemmas.Str.{encodes-append, NoCharPasses-byte}
-use Rattle.std.proofs.lemmas.Bool.{cases_eq, cases_lt, cond-false, ne_eqb}
-use Rattle.std.proofs.lemmas.Bool.Decides.{nat_tests}
-use Rattle.cc_quote.specs.QuotedWord.{is_blank, IsCutAtBlank, quoted, behind_mark, word_from, space_for_line_feed, line_feeds_as_spaces}
-use Rattle.cc_quote.specs.ElvishQuote.{elvish_escaped, elvish_escaped_byte, is_elvish_mark, elvish_word_of}
-use Rattle.cc_quote.proofs.Escapes.{kept_character}
-use Rattle.cc_quote.proofs.Words.{NonePass-from_reads, signs, quoted_item, run_and_mark, closes, bare_word, escaped_run}
-
-escaped_byte_kept : (b : ℕ) → b ≢ 39 → b ≢ 10 → elvish_escaped_byte b ≡ b ∷ []
-escaped_byte_kept b no_quote no_line_feed = grind (arith, nat_tests)
-
--- a character that is no quote and no line feed is kept
-pub elvish_escaped_kept : (c : ℕ) → c ≢ 39 → c ≢ 10 → elvish_escaped (encode_utf8 c) ≡ encode_utf8 c
-elvish_escaped_kept c no_quote no_line_feed =
-    kept_character elvish_escaped_byte c (λ b h. escaped_byte_kept b (omega arith) (omega arith)) (escaped_byte_kept c no_quote no_line_feed)
-
--- the escape of one character more
-pub elvish_escaped_push : (cs : List ℕ) (c : ℕ) → elvish_escaped (encode_utf8_all (cs ++ c ∷ [])) ≡ elvish_escaped (encode_utf8_all cs) ++ elvish_escaped (encode_utf8 c)
-elvish_escaped_push cs c =
-    ap elvish_escaped (encodes-append cs (c ∷ []) ∙ ap (λ (bs : List ℕ). encode_utf8_all cs ++ bs) (append-nil (encode_utf8 c)))
-    ∙ flat_map-append elvish_escaped_byte (encode_utf8_all cs) (encode_utf8 c)
-
-no_mark : (b : ℕ) → b ≢ 39 → is_elvish_mark b ≡ false
-no_mark b h = ne_eqb b 39 h
-
--- an escaped byte in a quoted word
-escaped_byte_read : (b : ℕ) (word rest : List ℕ) → word_from (quoted word) (signs is_elvish_mark (elvish_escaped_byte b ++ rest)) ≡ word_from (quoted (word ++ space_for_line_feed b ∷ [])) (signs is_elvish_mark rest)
-escaped_byte_read b word rest =
-    ⊎_elim {C = Read b} (λ e. subst Read (sym e) refl)
-    (λ no_quote.
-    ⊎_elim {C = Read b} (λ e. subst Read (sym e) refl)
-    (λ no_line_feed.
-    ap (λ (bs : List ℕ). word_from (quoted word) (signs is_elvish_mark (bs ++ rest))) (escaped_byte_kept b no_quote no_line_feed)
-    ∙ quoted_item is_elvish_mark b word rest (no_mark b no_quote)
-    ∙ ap (λ (x : ℕ). word_from (quoted (word ++ x ∷ [])) (signs is_elvish_mark rest)) (sym (cond-false (b == 10) 32 b (ne_eqb b 10 no_line_feed))))
-    (cases_eq b 10))
-    (cases_eq b 39)
-  where
-    Read : ℕ → Type 0
-    Read x = word_from (quoted word) (signs is_elvish_mark (elvish_escaped_byte x ++ rest)) ≡ word_from (quoted (word ++ space_for_line_feed x ∷ [])) (signs is_elvish_mark rest)
+use Rattle.std.proofs.Common.{◌≡◌, ◌≢◌, ◌==◌, ℕ, suc, ◌<◌, Bool, true, false, cond, List, [], ◌∷◌, ◌++◌, map, flat_map, length, length-append, get_or, codes, Some, refl, ◌∙◌, ap, arith}
+use Rattle.std.proofs.lemmas.Bool.Decides.{Decides-eqb, nat_tests}
+use Rattle.std.proofs.lemmas.List.{map-append}
+use Rattle.cc_quote.specs.Bytes.{single_quote}
+use Rattle.cc_quote.specs.ElvishQuote.{elvish_escaped, elvish_word_of}
+use Rattle.cc_quote.specs.QuotedWord.{bare, quoted, word_from, line_feeds_as_spaces, IsWithoutQuotes, IsCutAtQuote, BeginsWithQuote, BeginsWithNoQuote}
+use Rattle.cc_quote.specs.Signs.{Sign, blank, quote, other, bytes, is_blank, sign, HasNoQuote}
+use Rattle.cc_quote.proofs.ElvishCutting.{escaped_reads}
+use Rattle.cc_quote.proofs.WithinQuotes.{word_reads}
+use Rattle.cc_quote.proofs.WordReading.{AreSigns}
 
 -- what was escaped is read as the text, between two quotes
 pub elvish_reads_back : (text escaped : List ℕ) → escaped ≡ elvish_escaped text → elvish_word_of (codes "'" ++ escaped ++ codes "'") ≡ Some (line_feeds_as_spaces text, [])
-elvish_reads_back text escaped e = rw e (escaped_run is_elvish_mark elvish_escaped_byte escaped_byte_read text [] (39 ∷ []))
+unfolding sign
+elvish_reads_back text escaped e = rw e (escaped_reads (λ w s. word_from (quoted w) s) word_reads text (39 ∷ []) [])
 
--- a piece with no quote
-pub no_quote_in : (piece : List ℕ) → ((k : ℕ) → k < length piece → get_or piece k 0 ≢ 39) → NonePass is_elvish_mark piece
-no_quote_in piece h = NonePass-from_reads is_elvish_mark piece (λ k l. no_mark (get_or piece k 0) (h k l))
+-- ---- signs
 
--- In a quoted word: a piece with no quote, a quote and what is behind it. If that begins with no
--- quote, the word is read; if it does, the word goes on.
-pub elvish_closes : (word rest piece behind : List ℕ) → (rest ≡ piece ++ 39 ∷ behind) × ((k : ℕ) → k < length piece → get_or piece k 0 ≢ 39) → ((after : List ℕ) → behind ≢ 39 ∷ after) → word_from (quoted word) (signs is_elvish_mark rest) ≡ Some (word ++ piece, behind)
-elvish_closes word rest piece behind parts single =
-    ap (λ (bs : List ℕ). word_from (quoted word) (signs is_elvish_mark bs)) parts.0
-    ∙ run_and_mark is_elvish_mark piece word behind 39 (no_quote_in piece parts.1) refl
-    ∙ closes is_elvish_mark behind (word ++ piece) (λ x xs e. no_mark x (λ is. single xs (e ∙ ap (λ (y : ℕ). y ∷ xs) is)))
-
-pub elvish_goes_on : (word rest piece behind next : List ℕ) → (rest ≡ piece ++ 39 ∷ behind) × ((k : ℕ) → k < length piece → get_or piece k 0 ≢ 39) → behind ≡ 39 ∷ next → word_from (quoted word) (signs is_elvish_mark rest) ≡ word_from (quoted (word ++ piece ++ 39 ∷ [])) (signs is_elvish_mark next)
-elvish_goes_on word rest piece behind next parts doubled =
-    ap (λ (bs : List ℕ). word_from (quoted word) (signs is_elvish_mark bs)) parts.0
-    ∙ run_and_mark is_elvish_mark piece word behind 39 (no_quote_in piece parts.1) refl
-    ∙ ap (λ (bs : List ℕ). word_from (behind_mark (word ++ piece)) (signs is_elvish_mark bs)) doubled
-
--- no byte of a text with no blank is a blank
-bytes_no_blank : (front : List ℕ) → NoCharPasses is_blank front → NonePass is_blank front
-bytes_no_blank front h =
-    NonePass-from_reads is_blank front
-    (λ k l.
-    ⊎_elim {C = is_blank (get_or front k 0) ≡ false} (λ low. NoCharPasses-byte is_blank front k h l low)
-    (λ high. is_blank-high (get_or front k 0) high)
-    (cases_lt (get_or front k 0) 128))
+-- the sign of a byte has that byte
+pub bytes-sign : (byte : ℕ) → bytes (sign byte) ≡ byte ∷ []
+unfolding sign
+bytes-sign byte = by_tests (byte == single_quote) (is_blank byte)
   where
-    is_blank-high : (b : ℕ) → 128 ≤ b → is_blank b ≡ false
-    is_blank-high b high = grind (arith, nat_tests)
+    by_tests : (q b : Bool) → bytes (cond q (quote (byte ∷ [])) (cond b (blank (byte ∷ [])) (other (byte ∷ [])))) ≡ byte ∷ []
+    by_tests true b = refl
+    by_tests false true = refl
+    by_tests false false = refl
 
-blank_is_no_mark : (b : ℕ) → is_blank b ≡ true → is_elvish_mark b ≡ false
-blank_is_no_mark b is = grind (arith, nat_tests)
+-- so no byte is lost
+bytes-signs : (text : List ℕ) → flat_map bytes (map sign text) ≡ text
+bytes-signs [] = refl
+bytes-signs (byte ∷ text) = ap (λ bs. bs ++ flat_map bytes (map sign text)) (bytes-sign byte) ∙ ap (λ bs. byte ∷ bs) (bytes-signs text)
 
--- a text that is not quoted, cut at its first blank
-pub elvish_bare_word : (text front back : List ℕ) → IsCutAtBlank text front back → ((rest : List ℕ) → text ≢ 39 ∷ rest) → 0 < length front → elvish_word_of text ≡ Some (front, back)
-elvish_bare_word text [] back cut unquoted some = absurd (omega arith)
-elvish_bare_word text (b ∷ front) back cut unquoted some =
-    ap elvish_word_of cut.whole
-    ∙ bare_word is_elvish_mark blank_is_no_mark b front back
-    (no_mark b (λ e. unquoted (front ++ back) (cut.whole ∙ ap (λ (x : ℕ). x ∷ front ++ back) e)))
-    (bytes_no_blank (b ∷ front) cut.no_blank)
-    cut.ends
+-- a blank is no quote
+pub sign-blank : (byte : ℕ) → is_blank byte ≡ true → sign byte ≡ blank (byte ∷ [])
+unfolding sign
+sign-blank byte is = by_test (byte == single_quote) (grind (arith, nat_tests))
+  where
+    by_test : (q : Bool) → q ≡ false → cond q (quote (byte ∷ [])) (cond (is_blank byte) (blank (byte ∷ [])) (other (byte ∷ []))) ≡ blank (byte ∷ [])
+    by_test true e = cc
+    by_test false e = ap (λ b. cond b (blank (byte ∷ [])) (other (byte ∷ []))) is
+
+-- a byte that is neither a blank nor a quote
+pub sign-other : (byte : ℕ) → is_blank byte ≡ false → ((opening : List ℕ) → sign byte ≢ quote opening) → sign byte ≡ other (byte ∷ [])
+unfolding sign
+sign-other byte no_blank no_quote = by_test (byte == single_quote) no_quote
+  where
+    by_test : (q : Bool) → ((opening : List ℕ) → cond q (quote (byte ∷ [])) (cond (is_blank byte) (blank (byte ∷ [])) (other (byte ∷ []))) ≢ quote opening)
+        → cond q (quote (byte ∷ [])) (cond (is_blank byte) (blank (byte ∷ [])) (other (byte ∷ []))) ≡ other (byte ∷ [])
+    by_test true h = absurd (h (byte ∷ []) refl)
+    by_test false h = ap (λ b. cond b (blank (byte ∷ [])) (other (byte ∷ []))) no_blank
+
+-- in a bare word a byte that is no blank is kept, a quote too
+pub bare_sign : (byte : ℕ) (rest : List Sign) (word : List ℕ) → is_blank byte ≡ false → word_from (bare word) (sign byte ∷ rest) ≡ word_from (bare (word ++ byte ∷ [])) rest
+unfolding sign
+bare_sign byte rest word no_blank = by_tests (byte == single_quote) (is_blank byte) no_blank
+  where
+    by_tests : (q b : Bool) → b ≡ false
+        → word_from (bare word) (cond q (quote (byte ∷ [])) (cond b (blank (byte ∷ [])) (other (byte ∷ []))) ∷ rest) ≡ word_from (bare (word ++ byte ∷ [])) rest
+    by_tests true b e = refl
+    by_tests false true e = cc
+    by_tests false false e = refl
+
+-- the laws of the signs of an Elvish text
+pub elvish_signs : AreSigns (map sign)
+elvish_signs = record {
+  of_none = refl;
+  bytes_are = bytes-signs;
+  of_blank = λ byte rest is. ap (λ s. s ∷ map sign rest) (sign-blank byte is);
+  of_other = λ byte rest no_blank none. ap (λ s. s ∷ map sign rest) (sign-other byte no_blank (λ opening e. none opening (map sign rest) (ap (λ s. s ∷ map sign rest) e)));
+  of_bare = λ byte rest word no_blank. bare_sign byte (map sign rest) word no_blank;
+}
+
+-- ---- where the quotes of a text are
+
+-- no byte of a text is a quote, if none is where it is read
+pub none_quoted : (text : List ℕ) → ((k : ℕ) → k < length text → get_or text k 0 ≢ 39) → HasNoQuote text
+none_quoted [] h = tt
+none_quoted (byte ∷ text) h =
+    let here : byte ≢ 39 = h 0 (omega arith) in (grind (arith, nat_tests), none_quoted text (λ k l. h (suc k) (omega arith)))
+
+-- such a text has no quote
+pub elvish_unquoted : (text : List ℕ) → ((k : ℕ) → k < length text → get_or text k 0 ≢ 39) → IsWithoutQuotes (map sign) text
+elvish_unquoted text h = record { signs_are = refl; no_quote = none_quoted text h }
+
+-- a text that begins with such a run and then has a quote
+pub elvish_cut : (text run rest : List ℕ) → (text ≡ run ++ 39 ∷ rest) × ((k : ℕ) → k < length run → get_or run k 0 ≢ 39) → IsCutAtQuote (map sign) text run (39 ∷ []) rest
+unfolding sign
+elvish_cut text run rest parts = record {
+  signs_are = ap (map sign) parts.0 ∙ map-append sign run (39 ∷ rest);
+  no_quote = none_quoted run parts.1;
+  shorter = let len = ap length parts.0 ∙ length-append run (39 ∷ rest) in omega (arith, len);
+}
+
+-- a text that begins with a quote
+pub elvish_begins : (text rest : List ℕ) → text ≡ 39 ∷ rest → BeginsWithQuote (map sign) text (39 ∷ []) rest
+unfolding sign
+elvish_begins text rest e = record { whole = e; signs_are = ap (map sign) e }
+
+-- a byte that is no `'` is no quote
+pub no_quote_sign : (byte : ℕ) → byte ≢ 39 → (opening : List ℕ) (rest signs : List Sign) → sign byte ∷ signs ≢ quote opening ∷ rest
+unfolding sign
+no_quote_sign byte h opening rest signs = by_tests (byte == single_quote) (is_blank byte) refl
+  where
+    by_tests : (q b : Bool) → byte == single_quote ≡ q → cond q (quote (byte ∷ [])) (cond b (blank (byte ∷ [])) (other (byte ∷ []))) ∷ signs ≢ quote opening ∷ rest
+    by_tests true b is = λ e. h ((Decides-eqb byte 39).0 is)
+    by_tests false true is = λ e. cc
+    by_tests false false is = λ e. cc
+
+-- a text that begins with none
+pub elvish_begins_none : (text : List ℕ) → ((rest : List ℕ) → text ≢ 39 ∷ rest) → BeginsWithNoQuote (map sign) text
+elvish_begins_none [] h = λ opening rest e. cc
+elvish_begins_none (byte ∷ text) h = λ opening rest e. no_quote_sign byte (λ is. h text (ap (λ b. b ∷ text) is)) opening rest (map sign text) e

@@ -1,9 +1,20 @@
 pub mod Blanks
+pub mod ByteEscapes
 pub mod Characters
 pub mod ElvishCutting
 pub mod ElvishWords
-pub mod Escapes
 mod Examples
+pub mod FishCutting
+pub mod FishEscaped
+mod FishExamples
+pub mod FishReaders
+pub mod FishWords
+pub mod PosixCutting
+mod PosixExamples
+pub mod PosixWords
 pub mod PowershellCutting
+pub mod PowershellSigns
 pub mod PowershellWords
-pub mod Words
+pub mod Runs
+pub mod WithinQuotes
+pub mod WordReading

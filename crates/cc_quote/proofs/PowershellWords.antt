@@ -1,159 +1,148 @@
 -- Escaped texts and words, in PowerShell.
-use Rattle.std.proofs.Common.{◌≡◌, ◌≢◌, ◌==◌, ◌⊎◌, ℕ, ◌<◌, true, false, List, [], ◌∷◌, ◌++◌, flat_map, length, Some, None, encode_utf8_all, codes, IsUtf8, chars, refl, sym, ◌∙◌, ap, subst, inl, inr, ⊎_elim, arith}
-use Rattle.std.specs.Char.{encode_utf8, char_set_contains}
-use Rattle.std.specs.Str.{NonePass, all_scalars, NoCharPasses}
-use Rattle.std.proofs.lemmas.List.{append-nil, nil_from_length}
-use Rattle.std.proofs.lemmas.List.Concat.{flat_map-append}
-use Rattle.std.proofs.lemmas.Bool.{cases_eq, cond-false, ne_eqb, and_from, and_parts, or_from}
-use Rattle.std.proofs.lemmas.Bool.Decides.{nat_tests}
-use Rattle.std.proofs.lemmas.Str.{encodes-append, cons_from_encodes, encodes-chars, chars-encodes, scalars-chars, chars_from_encodes, chars-nil, chars_past_char, IsUtf8-nil, encode_ascii}
-use Rattle.cc_quote.specs.QuotedWord.{is_blank, IsCutAtBlank, BeginsWithMark, BeginsWithNoMark, before, quoted, behind_mark, word_from, space_for_line_feed, line_feeds_as_spaces}
-use Rattle.cc_quote.specs.PowershellQuote.{powershell_escaped, powershell_escaped_character, is_powershell_mark, powershell_word_of, in_utf8}
-use Rattle.cc_quote.proofs.Blanks.{is_blank-low}
-use Rattle.cc_quote.proofs.Characters.{run_and_rest, IsCutAtMark, scalars-append, spaces_in_characters}
-use Rattle.cc_quote.proofs.Words.{signs, quoted_item, run_and_mark, stays_open, second_mark, closes, blank_first, bare_word, escaped_run}
-
--- the escape of one character more
-pub powershell_escaped_push : (cs : List ℕ) (c : ℕ) → encode_utf8_all (flat_map powershell_escaped_character (cs ++ c ∷ [])) ≡ encode_utf8_all (flat_map powershell_escaped_character cs) ++ encode_utf8_all (powershell_escaped_character c)
-powershell_escaped_push cs c =
-    ap encode_utf8_all
-    (flat_map-append powershell_escaped_character cs (c ∷ [])
-    ∙ ap (λ (xs : List ℕ). flat_map powershell_escaped_character cs ++ xs) (append-nil (powershell_escaped_character c)))
-    ∙ encodes-append (flat_map powershell_escaped_character cs) (powershell_escaped_character c)
-
--- the marks that the code looks for
-pub marks_are : (x : ℕ) → char_set_contains (39 ∷ 8217 ∷ []) x ≡ is_powershell_mark x
-marks_are x = grind (arith, nat_tests)
-
-no_mark : (c : ℕ) → c ≢ 39 → c ≢ 8217 → is_powershell_mark c ≡ false
-no_mark c h k = or_from _ _ (ne_eqb c 39 h) (ne_eqb c 8217 k)
-
-escaped_character_kept : (c : ℕ) → c ≢ 39 → c ≢ 8217 → c ≢ 10 → powershell_escaped_character c ≡ c ∷ []
-escaped_character_kept c no_quote no_mark no_line_feed = grind (arith, nat_tests)
-
--- an escaped character in a quoted word
-escaped_character_read : (c : ℕ) (word rest : List ℕ) → word_from (quoted word) (signs is_powershell_mark (powershell_escaped_character c ++ rest)) ≡ word_from (quoted (word ++ space_for_line_feed c ∷ [])) (signs is_powershell_mark rest)
-escaped_character_read c word rest =
-    ⊎_elim {C = Read c} (λ e. subst Read (sym e) refl)
-    (λ no_quote.
-    ⊎_elim {C = Read c} (λ e. subst Read (sym e) refl)
-    (λ no_curly.
-    ⊎_elim {C = Read c} (λ e. subst Read (sym e) refl)
-    (λ no_line_feed.
-    ap (λ (xs : List ℕ). word_from (quoted word) (signs is_powershell_mark (xs ++ rest))) (escaped_character_kept c no_quote no_curly no_line_feed)
-    ∙ quoted_item is_powershell_mark c word rest (no_mark c no_quote no_curly)
-    ∙ ap (λ (x : ℕ). word_from (quoted (word ++ x ∷ [])) (signs is_powershell_mark rest)) (sym (cond-false (c == 10) 32 c (ne_eqb c 10 no_line_feed))))
-    (cases_eq c 10))
-    (cases_eq c 8217))
-    (cases_eq c 39)
-  where
-    Read : ℕ → Type 0
-    Read x = word_from (quoted word) (signs is_powershell_mark (powershell_escaped_character x ++ rest)) ≡ word_from (quoted (word ++ space_for_line_feed x ∷ [])) (signs is_powershell_mark rest)
-
--- the escape is made of characters
-pub escaped_scalars : (cs : List ℕ) → all_scalars cs ≡ true → all_scalars (flat_map powershell_escaped_character cs) ≡ true
-escaped_scalars [] h = refl
-escaped_scalars (c ∷ cs) h =
-    let parts = and_parts _ _ h in
-    scalars-append (powershell_escaped_character c) (flat_map powershell_escaped_character cs) (one c (and_from _ _ parts.0 refl)) (escaped_scalars cs parts.1)
-  where
-    Scalars : ℕ → Type 0
-    Scalars x = all_scalars (powershell_escaped_character x) ≡ true
-
-    one : (x : ℕ) → all_scalars (x ∷ []) ≡ true → Scalars x
-    one x is =
-        ⊎_elim {C = Scalars x} (λ e. subst Scalars (sym e) refl)
-        (λ no_quote.
-        ⊎_elim {C = Scalars x} (λ e. subst Scalars (sym e) refl)
-        (λ no_curly.
-        ⊎_elim {C = Scalars x} (λ e. subst Scalars (sym e) refl)
-        (λ no_line_feed. ap all_scalars (escaped_character_kept x no_quote no_curly no_line_feed) ∙ is)
-        (cases_eq x 10))
-        (cases_eq x 8217))
-        (cases_eq x 39)
-
--- the characters of an escaped text between two quotes
-quoted_characters : (xs : List ℕ) → all_scalars xs ≡ true → chars (codes "'" ++ encode_utf8_all xs ++ codes "'") ≡ 39 ∷ xs ++ 39 ∷ []
-unfolding encode_utf8
-quoted_characters xs h =
-    ap (λ (bs : List ℕ). chars (39 ∷ bs)) (sym (encodes-append xs (39 ∷ []))) ∙ chars-encodes (39 ∷ xs ++ 39 ∷ []) (scalars-append (39 ∷ xs) (39 ∷ []) h refl)
+use Rattle.std.proofs.Common.{◌≡◌, ◌≢◌, ◌==◌, ◌||◌, ℕ, ◌+◌, ◌<◌, ◌≤◌, Bool, true, false, not, List, [], ◌∷◌, ◌++◌, map, length, get_or, take, drop, codes, Some, IsUtf8, refl, sym, ◌∙◌, ap, subst, arith, add-one, add-zero, append_assoc, drop-cons}
+use Rattle.std.specs.Char.{encode_utf8}
+use Rattle.std.specs.Str.{IsCharBoundary}
+use Rattle.std.proofs.Math.Seq.{take-suc}
+use Rattle.std.proofs.lemmas.Bool.{or_parts}
+use Rattle.std.proofs.lemmas.Bool.Decides.{Decides-eqb}
+use Rattle.std.proofs.lemmas.List.{append-nil, drop_all, get_or-drop, length-drop, map-append, take_all}
+use Rattle.std.proofs.lemmas.Str.{IsUtf8-drop, IsCharBoundary-past_char, drop_past_char}
+use Rattle.cc_quote.specs.Bytes.{line_feed, single_quote, right_quote}
+use Rattle.cc_quote.specs.PowershellQuote.{begins_right_quote, begins_quote, powershell_escaped, powershell_word_of, sign_before, powershell_signs, is_escaped, IsFirstEscaped, HasNoQuoteBefore, IsFirstQuote}
+use Rattle.cc_quote.specs.QuotedWord.{quoted, word_from, line_feeds_as_spaces, IsWithoutQuotes, IsCutAtQuote}
+use Rattle.cc_quote.specs.Signs.{sign, HasNoQuote}
+use Rattle.cc_quote.proofs.ElvishCutting.{HasNoQuote-append}
+use Rattle.cc_quote.proofs.PowershellCutting.{escaped_reads}
+use Rattle.cc_quote.proofs.PowershellSigns.{Beginning, beginning, signs-plain, powershell_begins, powershell_begins_right}
+use Rattle.cc_quote.proofs.PowershellSigns.Beginning.{right, plain}
+use Rattle.cc_quote.proofs.WithinQuotes.{word_reads}
 
 -- what was escaped is read as the text, between two quotes
-pub powershell_reads_back : (text escaped : List ℕ) → IsUtf8 text → escaped ≡ powershell_escaped text → powershell_word_of (codes "'" ++ escaped ++ codes "'") ≡ Some (line_feeds_as_spaces text, [])
-powershell_reads_back text escaped utf8 e =
-    let cs = chars text in
-    let xs = flat_map powershell_escaped_character cs in
-    ap (λ (bs : List ℕ). powershell_word_of (codes "'" ++ bs ++ codes "'")) e
-    ∙ ap (λ (ys : List ℕ). in_utf8 (word_from before (signs is_powershell_mark ys)))
-    (quoted_characters xs (escaped_scalars cs (scalars-chars text utf8)))
-    ∙ ap in_utf8 (escaped_run is_powershell_mark powershell_escaped_character escaped_character_read cs [] (39 ∷ []))
-    ∙ ap (λ (bs : List ℕ). Some (bs, [])) (spaces_in_characters cs ∙ ap line_feeds_as_spaces (encodes-chars text utf8))
+pub powershell_reads_back : (text escaped : List ℕ) → escaped ≡ powershell_escaped text → powershell_word_of (codes "'" ++ escaped ++ codes "'") ≡ Some (line_feeds_as_spaces text, [])
+unfolding powershell_signs sign_before sign
+powershell_reads_back text escaped e = rw e (escaped_reads (λ w s. word_from (quoted w) s) word_reads text [] [])
 
-module _ (word : List ℕ) (gathered : List ℕ) (spelled : encode_utf8_all gathered ≡ word) (rest : List ℕ) where
-  -- In a quoted word: a piece with no mark, a mark and what is behind it. If that begins with no
-  -- mark, the word is read; if it does, the word goes on.
-  pub powershell_closes : (piece behind : List ℕ) → IsCutAtMark is_powershell_mark rest piece behind → BeginsWithNoMark is_powershell_mark (chars behind) → in_utf8 (word_from (quoted gathered) (signs is_powershell_mark (chars rest))) ≡ Some (word ++ piece, behind)
-  powershell_closes piece behind cut single =
-      ap (λ (xs : List ℕ). in_utf8 (word_from (quoted gathered) (signs is_powershell_mark xs))) cut.characters
-      ∙ ap in_utf8 (run_and_mark is_powershell_mark cut.run gathered (chars behind) cut.mark cut.no_mark cut.is)
-      ∙ ap in_utf8 (closes is_powershell_mark (chars behind) (gathered ++ cut.run) single)
-      ∙ ap (λ (bs : List ℕ). Some (bs, encode_utf8_all (chars behind)))
-      (encodes-append gathered cut.run ∙ ap (λ (bs : List ℕ). bs ++ encode_utf8_all cut.run) spelled ∙ ap (λ (bs : List ℕ). word ++ bs) cut.bytes)
-      ∙ ap (λ (bs : List ℕ). Some (word ++ piece, bs)) (encodes-chars behind cut.utf8)
+-- ---- U+2019 at a place of a text
 
-  pub powershell_goes_on : (piece behind next : List ℕ) (second : ℕ) → (cut : IsCutAtMark is_powershell_mark rest piece behind) → BeginsWithMark is_powershell_mark second behind next → (word_from (quoted gathered) (signs is_powershell_mark (chars rest)) ≡ word_from (quoted (gathered ++ cut.run ++ second ∷ [])) (signs is_powershell_mark (chars next))) × (encode_utf8_all (gathered ++ cut.run ++ second ∷ []) ≡ word ++ piece ++ encode_utf8 second)
-  powershell_goes_on piece behind next second cut doubled = (
-    ap (λ (xs : List ℕ). word_from (quoted gathered) (signs is_powershell_mark xs)) cut.characters
-        ∙ run_and_mark is_powershell_mark cut.run gathered (chars behind) cut.mark cut.no_mark cut.is
-        ∙ ap (λ (xs : List ℕ). word_from (behind_mark (gathered ++ cut.run)) (signs is_powershell_mark xs)) doubled.characters
-        ∙ second_mark is_powershell_mark second (gathered ++ cut.run) (chars next) doubled.is,
-    encodes-append (gathered ++ cut.run) (second ∷ [])
-        ∙ ap (λ (bs : List ℕ). bs ++ encode_utf8_all (second ∷ []))
-        (encodes-append gathered cut.run ∙ ap (λ (bs : List ℕ). bs ++ encode_utf8_all cut.run) spelled ∙ ap (λ (bs : List ℕ). word ++ bs) cut.bytes)
-        ∙ ap (λ (bs : List ℕ). word ++ piece ++ bs) (append-nil (encode_utf8 second)),
-  )
+-- its bytes
+pub encoded : encode_utf8 8217 ≡ right_quote
+unfolding encode_utf8
+encoded = refl
 
-  -- a quote that no mark closes
-  pub powershell_stays_open : IsUtf8 rest → NoCharPasses is_powershell_mark rest → word_from (quoted gathered) (signs is_powershell_mark (chars rest)) ≡ None
-  powershell_stays_open utf8 h =
-      ap (λ (xs : List ℕ). word_from (quoted gathered) (signs is_powershell_mark xs)) (sym (chars_from_encodes h.0 rest utf8 h.1))
-      ∙ stays_open is_powershell_mark h.0 gathered h.2
+module _ (text : List ℕ) (at : ℕ) (within : at < length text) (begins : begins_right_quote (get_or text at 0) (drop (at + 1) text) ≡ true) where
+  -- what follows it
+  stands : (rest : List ℕ) × (drop at text ≡ right_quote ++ rest)
+  stands =
+      by_beginning (get_or text at 0) (drop (at + 1) text) (beginning (get_or text at 0) (drop (at + 1) text)) (rw add-one (drop-cons text at 0 within)) begins
+    where
+      by_beginning : (byte : ℕ) (rest : List ℕ) → Beginning byte rest → drop at text ≡ byte ∷ rest → begins_right_quote byte rest ≡ true → (more : List ℕ) × (drop at text ≡ right_quote ++ more)
+      by_beginning byte rest (right more) e b = (more, e)
+      by_beginning byte rest (plain p) e b = cc
 
-blank_is_no_mark : (c : ℕ) → is_blank c ≡ true → is_powershell_mark c ≡ false
-blank_is_no_mark c is = grind (arith, nat_tests)
+  spelled : drop at text ≡ encode_utf8 8217 ++ stands.0
+  spelled = stands.1 ∙ ap (λ bs. bs ++ stands.0) (sym encoded)
 
--- what is behind the first blank, by its characters
-characters_end : (es back : List ℕ) → encode_utf8_all es ≡ back → (back ≡ []) ⊎ ((b : ℕ) × (after : List ℕ) × (is_blank b ≡ true) × (back ≡ b ∷ after)) → (es ≡ []) ⊎ ((b : ℕ) × (after : List ℕ) × (is_blank b ≡ true) × (es ≡ b ∷ after))
-characters_end es back spelled (inl e) = inl (chars_from_encodes es [] IsUtf8-nil (spelled ∙ e) ∙ chars-nil)
-characters_end es back spelled (inr (b, after, is, e)) =
-    let one = cons_from_encodes es after b (spelled ∙ e ∙ ap (λ (bs : List ℕ). bs ++ after) (sym (encode_ascii b (is_blank-low b is)))) in
-    inr (b, one.0, is, one.1)
+  follows : drop (at + 3) text ≡ stands.0
+  follows = drop_past_char text stands.0 at 8217 spelled
 
--- a text that is not quoted, cut at its first blank
-pub powershell_bare_word : (text front back : List ℕ) → IsUtf8 text → IsCutAtBlank text front back → BeginsWithNoMark is_powershell_mark (chars text) → 0 < length front → powershell_word_of text ≡ Some (front, back)
-powershell_bare_word text front back utf8 cut unquoted some =
-    let parts = run_and_rest cut.no_blank.0 (chars text) back (encodes-chars text utf8 ∙ cut.whole ∙ ap (λ (bs : List ℕ). bs ++ back) (sym cut.no_blank.1)) in
-    ap (λ (xs : List ℕ). in_utf8 (word_from before (signs is_powershell_mark xs))) parts.1
-    ∙ by_run cut.no_blank.0 parts.0 cut.no_blank.1 cut.no_blank.2 parts.1 parts.2
+  -- the text with it and what follows it
+  pub right_at : drop at text ≡ right_quote ++ drop (at + 3) text
+  right_at = stands.1 ∙ ap (λ bs. right_quote ++ bs) (sym follows)
+
+  -- the text may be cut after it
+  pub cut_after : IsUtf8 text → IsCharBoundary text (at + 3)
+  cut_after utf8 =
+      let byte : get_or text at 0 ≡ 226 = byte_at (128 ∷ 153 ∷ stands.0) stands.1 in
+      let here : IsCharBoundary text at = (omega arith, λ _ _. omega arith) in
+      IsCharBoundary-past_char text stands.0 at 8217 (omega arith) (IsUtf8-drop text at utf8 here) spelled
+    where
+      byte_at : (rest : List ℕ) → drop at text ≡ 226 ∷ rest → get_or text at 0 ≡ 226
+      byte_at rest e = sym (rw add-zero at (get_or-drop at text 0 0)) ∙ ap (λ bs. get_or bs 0 0) e
+
+-- a quote that is no `'` is U+2019
+pub begins_right : (byte : ℕ) (rest : List ℕ) → byte ≢ 39 → begins_quote byte rest ≡ true → begins_right_quote byte rest ≡ true
+begins_right byte rest no_quote h = by_test (byte == single_quote) refl h
   where
-    by_run : (run es : List ℕ) → encode_utf8_all run ≡ front → NonePass is_blank run → chars text ≡ run ++ es → encode_utf8_all es ≡ back → in_utf8 (word_from before (signs is_powershell_mark (run ++ es))) ≡ Some (front, back)
-    by_run [] es spelled none characters ends = let none_left : length front ≡ 0 = ap length (sym spelled) in absurd (omega arith)
-    by_run (x ∷ run) es spelled none characters ends =
-        ap in_utf8
-        (bare_word is_powershell_mark blank_is_no_mark x run es (unquoted x (run ++ es) characters) none (characters_end es back ends cut.ends))
-        ∙ ap (λ (bs : List ℕ). Some (bs, encode_utf8_all es)) spelled
-        ∙ ap (λ (bs : List ℕ). Some (front, bs)) ends
+    by_test : (q : Bool) → byte == single_quote ≡ q → q || begins_right_quote byte rest ≡ true → begins_right_quote byte rest ≡ true
+    by_test true e h = absurd (no_quote ((Decides-eqb byte 39).0 e))
+    by_test false e h = h
 
--- a text that is empty or begins with a blank
-pub powershell_no_word : (text front back : List ℕ) → IsUtf8 text → IsCutAtBlank text front back → length front ≡ 0 → powershell_word_of text ≡ None
-powershell_no_word text front back utf8 cut none = by_end cut.ends
+-- so is what is escaped and is neither a `'` nor a line feed
+pub escaped_right : (byte : ℕ) (rest : List ℕ) → byte ≢ 39 → byte ≢ 10 → is_escaped byte rest ≡ true → begins_right_quote byte rest ≡ true
+escaped_right byte rest no_quote no_line_feed h = by_test (byte == line_feed) refl h
   where
-    whole : text ≡ back
-    whole = cut.whole ∙ ap (λ (bs : List ℕ). bs ++ back) (nil_from_length front none)
+    by_test : (l : Bool) → byte == line_feed ≡ l → l || begins_quote byte rest ≡ true → begins_right_quote byte rest ≡ true
+    by_test true e h = absurd (no_line_feed ((Decides-eqb byte 10).0 e))
+    by_test false e h = begins_right byte rest no_quote h
 
-    by_end : (back ≡ []) ⊎ ((b : ℕ) × (after : List ℕ) × (is_blank b ≡ true) × (back ≡ b ∷ after)) → powershell_word_of text ≡ None
-    by_end (inl e) = ap powershell_word_of (whole ∙ e) ∙ ap (λ (xs : List ℕ). in_utf8 (word_from before (signs is_powershell_mark xs))) chars-nil
-    by_end (inr (b, after, is, e)) =
-        ap (λ (xs : List ℕ). in_utf8 (word_from before (signs is_powershell_mark xs)))
-        (chars_past_char text after b utf8 (whole ∙ e ∙ ap (λ (bs : List ℕ). bs ++ after) (sym (encode_ascii b (is_blank-low b is)))))
-        ∙ ap in_utf8 (blank_first is_powershell_mark b (chars after) (blank_is_no_mark b is) is)
+-- the escape of a text whose first escaped character is U+2019
+pub escaped_at_right : (text : List ℕ) (at : ℕ) → IsFirstEscaped text at → begins_right_quote (get_or text at 0) (drop (at + 1) text) ≡ true
+    → powershell_escaped text ≡ take at text ++ (39 ∷ right_quote) ++ powershell_escaped (drop (at + 3) text)
+escaped_at_right text at first begins =
+    first.before
+    ∙ ap (λ bs. take at text ++ powershell_escaped bs) (right_at text at first.within begins)
+    ∙ sym (append_assoc (take at text) (39 ∷ right_quote) (powershell_escaped (drop (at + 3) text)))
+
+-- ---- where the first quote of a text is
+
+-- a place further, past a byte that begins no quote
+pub no_quote_before : (text : List ℕ) (at : ℕ) → at < length text → HasNoQuoteBefore text at → begins_quote (get_or text at 0) (drop (at + 1) text) ≡ false → HasNoQuoteBefore text (at + 1)
+no_quote_before text at within h none = record {
+  signs_are =
+      h.signs_are
+      ∙ ap (λ bs. map sign (take at text) ++ powershell_signs bs) cut
+      ∙ ap (λ s. map sign (take at text) ++ s) (signs-plain byte rest parts.1)
+      ∙ sym (append_assoc (map sign (take at text)) (sign byte ∷ []) (powershell_signs rest))
+      ∙ ap (λ s. s ++ powershell_signs rest) (sym (map-append sign (take at text) (byte ∷ [])))
+      ∙ ap (λ run. map sign run ++ powershell_signs rest) (sym longer);
+  no_quote = subst (λ run. HasNoQuote run) (sym longer) (HasNoQuote-append (take at text) (byte ∷ []) h.no_quote (ap not parts.0, tt));
+}
+  where
+    byte : ℕ
+    byte = get_or text at 0
+
+    rest : List ℕ
+    rest = drop (at + 1) text
+
+    parts : (byte == single_quote ≡ false) × (begins_right_quote byte rest ≡ false)
+    parts = or_parts (byte == single_quote) (begins_right_quote byte rest) none
+
+    cut : drop at text ≡ byte ∷ rest
+    cut = rw add-one (drop-cons text at 0 within)
+
+    longer : take (at + 1) text ≡ take at text ++ byte ∷ []
+    longer = rw add-one (take-suc text at 0 within)
+
+-- a text that has no quote before its end
+pub without_quotes : (text : List ℕ) (at : ℕ) → length text ≤ at → HasNoQuoteBefore text at → IsWithoutQuotes powershell_signs text
+unfolding powershell_signs
+without_quotes text at past h = record {
+  signs_are =
+      h.signs_are
+      ∙ ap (λ bs. map sign (take at text) ++ powershell_signs bs) (drop_all at text past)
+      ∙ append-nil (map sign (take at text))
+      ∙ ap (map sign) (take_all at text past);
+  no_quote = subst (λ bs. HasNoQuote bs) (take_all at text past) h.no_quote;
+}
+
+module _ (text : List ℕ) (at : ℕ) (first : IsFirstQuote text at) where
+  -- the first quote is a `'`
+  pub cut_at_single : get_or text at 0 ≡ 39 → IsCutAtQuote powershell_signs text (take at text) (39 ∷ []) (drop (at + 1) text)
+  cut_at_single e =
+      let within : at < length text = first.within in
+      let here : drop at text ≡ 39 ∷ drop (at + 1) text = rw add-one (drop-cons text at 0 within) ∙ ap (λ b. b ∷ drop (at + 1) text) e in
+      record {
+        signs_are = first.before.signs_are ∙ ap (λ s. map sign (take at text) ++ s) (powershell_begins (drop at text) (drop (at + 1) text) here).signs_are;
+        no_quote = first.before.no_quote;
+        shorter = omega (arith, length-drop (at + 1) text, within);
+      }
+
+  -- it is U+2019
+  pub cut_at_right : begins_right_quote (get_or text at 0) (drop (at + 1) text) ≡ true → IsCutAtQuote powershell_signs text (take at text) right_quote (drop (at + 3) text)
+  cut_at_right begins =
+      let within : at < length text = first.within in
+      record {
+        signs_are = first.before.signs_are ∙ ap (λ s. map sign (take at text) ++ s) (powershell_begins_right (drop at text) (drop (at + 3) text) (right_at text at within begins)).signs_are;
+        no_quote = first.before.no_quote;
+        shorter = omega (arith, length-drop (at + 3) text, within);
+      }

@@ -1,6 +1,14 @@
+pub mod Bytes
 pub mod ElvishQuote
 pub mod ElvishTokens
+pub mod Escapes
+pub mod FishEscapes
+pub mod FishQuote
+pub mod FishTokens
+pub mod PosixQuote
+pub mod PosixTokens
 pub mod PowershellQuote
 pub mod PowershellTokens
 pub mod QuotedWord
+pub mod Signs
 pub mod Tokens

@@ -1,31 +1,76 @@
--- Words as PowerShell quotes them, by the characters of a text.
-use Rattle.std.specs.Prelude.{ℕ, Bool, List, [], ◌∷◌, Option, option_map, map, ◌==◌, ◌||◌, if◌then◌else◌}
-use Rattle.std.specs.List.{flat_map}
-use Rattle.std.specs.Str.{chars, encode_utf8_all}
-use Rattle.cc_quote.specs.QuotedWord.{Sign, before, sign_by, word_from}
+-- Words as PowerShell quotes them. Quotes are `'` and U+2019, each of which closes what the other
+-- opened.
+use Rattle.std.specs.Prelude.{◌≡◌, ℕ, ◌<◌, ◌+◌, Bool, true, false, ◌==◌, ◌&&◌, ◌||◌, if◌then◌else◌, List, [], ◌∷◌, ◌++◌, length, take, drop, slice_index, map, Option}
+use Rattle.cc_quote.specs.Bytes.{line_feed, space, single_quote, right_quote_first, right_quote_second, right_quote_third, right_quote}
+use Rattle.cc_quote.specs.QuotedWord.{before, word_from}
+use Rattle.cc_quote.specs.Signs.{Sign, quote, sign, HasNoQuote}
 
--- a character between two quotes: ' (39) is doubled, U+2019 (8217) stands behind a ', and a line
--- feed (10) is a space (32)
-abbrev pub powershell_escaped_character : ℕ → List ℕ
-powershell_escaped_character c =
-    if c == 39 then 39 ∷ 39 ∷ [] else (if c == 8217 then 39 ∷ 8217 ∷ [] else (if c == 10 then 32 ∷ [] else c ∷ []))
+-- whether a text begins with the third byte of U+2019
+abbrev pub begins_third : List ℕ → Bool
+begins_third [] = false
+begins_third (byte ∷ _) = byte == right_quote_third
+
+-- whether a text begins with the second byte of U+2019 and the third
+abbrev pub begins_second : List ℕ → Bool
+begins_second [] = false
+begins_second (byte ∷ rest) = byte == right_quote_second && begins_third rest
+
+-- whether a byte begins U+2019, where the rest follows it
+abbrev pub begins_right_quote : ℕ → List ℕ → Bool
+begins_right_quote byte rest = byte == right_quote_first && begins_second rest
+
+-- whether a byte begins a quote
+abbrev pub begins_quote : ℕ → List ℕ → Bool
+begins_quote byte rest = byte == single_quote || begins_right_quote byte rest
+
+-- what stands for a byte between two quotes: `'` is doubled, a line feed is a space, and before
+-- U+2019 stands a `'`
+abbrev pub powershell_escaped_byte : ℕ → List ℕ → List ℕ
+powershell_escaped_byte byte rest =
+    if byte == single_quote then single_quote ∷ single_quote ∷ []
+    else (if byte == line_feed then space ∷ []
+    else (if begins_right_quote byte rest then single_quote ∷ byte ∷ [] else byte ∷ []))
 
 -- a text between two quotes
 abbrev pub powershell_escaped : List ℕ → List ℕ
-powershell_escaped text = encode_utf8_all (flat_map powershell_escaped_character (chars text))
+powershell_escaped [] = []
+powershell_escaped (byte ∷ rest) = powershell_escaped_byte byte rest ++ powershell_escaped rest
 
--- the two quote marks, ' and U+2019
-abbrev pub is_powershell_mark : ℕ → Bool
-is_powershell_mark c = c == 39 || c == 8217
+-- the signs of a byte and of what follows it; where the byte begins U+2019, the next two bytes
+-- belong to it
+unfoldable pub sign_before : Bool → ℕ → List Sign → List Sign
+sign_before false byte signs = sign byte ∷ signs
+sign_before true byte signs = quote right_quote ∷ drop 2 signs
 
--- a character to the reader
-abbrev pub powershell_sign : ℕ → Sign
-powershell_sign c = sign_by is_powershell_mark c
-
--- a word and the rest, from characters to bytes
-abbrev pub in_utf8 : Option (List ℕ × List ℕ) → Option (List ℕ × List ℕ)
-in_utf8 read = option_map (λ (word, rest). (encode_utf8_all word, encode_utf8_all rest)) read
+-- the signs of a text: those of its bytes, and U+2019 as one quote
+unfoldable pub powershell_signs : List ℕ → List Sign
+powershell_signs [] = []
+powershell_signs (byte ∷ rest) =
+    sign_before (begins_right_quote byte rest) byte (powershell_signs rest)
 
 -- the word that a text begins with, and the rest
 abbrev pub powershell_word_of : List ℕ → Option (List ℕ × List ℕ)
-powershell_word_of text = in_utf8 (word_from before (map powershell_sign (chars text)))
+powershell_word_of text = word_from before (powershell_signs text)
+
+-- ---- searches
+
+-- whether something else stands for a byte between two quotes
+abbrev pub is_escaped : ℕ → List ℕ → Bool
+is_escaped byte rest = byte == line_feed || begins_quote byte rest
+
+-- `at` is the place of the first byte of a text for which something else stands
+pub record IsFirstEscaped (text : List ℕ) (at : ℕ) : Type 0 where
+  pub within : at < length text
+  pub before : powershell_escaped text ≡ take at text ++ powershell_escaped (drop at text)
+  pub here : is_escaped (slice_index text at) (drop (at + 1) text) ≡ true
+
+-- no quote is in a text before a place
+pub record HasNoQuoteBefore (text : List ℕ) (at : ℕ) : Type 0 where
+  pub signs_are : powershell_signs text ≡ map sign (take at text) ++ powershell_signs (drop at text)
+  pub no_quote : HasNoQuote (take at text)
+
+-- `at` is the place of the first quote of a text
+pub record IsFirstQuote (text : List ℕ) (at : ℕ) : Type 0 where
+  pub within : at < length text
+  pub before : HasNoQuoteBefore text at
+  pub here : begins_quote (slice_index text at) (drop (at + 1) text) ≡ true

@@ -1,64 +1,46 @@
--- A word that may be quoted, read off the start of a text.
-use Rattle.std.specs.Prelude.{◌≡◌, ◌⊎◌, ℕ, List, [], ◌∷◌, ◌++◌, map, Option, Some, None, ◌==◌, ◌||◌, Bool, true, false, if◌then◌else◌}
-use Rattle.std.specs.Str.{chars, NoCharPasses}
-use Rattle.std.specs.Char.{encode_utf8}
-use denote.Ref.{Bor}
-use Rattle.std.specs.declared.string.String.{String}
+-- A word that may be quoted, read off the start of a text, where two quotes in a row within quotes
+-- stand for the second.
+use Rattle.std.specs.Prelude.{◌≡◌, ◌≢◌, ◌⊎◌, ℕ, ◌<◌, ◌==◌, if◌then◌else◌, true, List, [], ◌∷◌, ◌++◌, map, flat_map, length, Option, Some, None}
+use Rattle.std.specs.Borrow.{Bor}
+use Rattle.std.specs.Str.{NoCharPasses}
 use Rattle.std.specs.String.{string_bytes}
-
--- what an item of a text, which is a byte or a character, is to the reader of a word
-pub data Sign : Type 0 where
-  mark : ℕ → Sign
-  blank : ℕ → Sign
-  other : ℕ → Sign
-
--- the item
-abbrev pub item : Sign → ℕ
-item (mark x) = x
-item (blank x) = x
-item (other x) = x
-
--- a space, a tab or a line feed
-abbrev pub is_blank : ℕ → Bool
-is_blank x = x == 32 || x == 9 || x == 10
-
--- the sign of an item, where a test tells the quote marks
-abbrev pub sign_by : (ℕ → Bool) → ℕ → Sign
-sign_by is_mark x = if is_mark x then mark x else (if is_blank x then blank x else other x)
+use Rattle.std.specs.declared.string.String.{String}
+use Rattle.cc_quote.specs.Bytes.{line_feed, space}
+use Rattle.cc_quote.specs.Signs.{Sign, blank, quote, other, bytes, is_blank, sign, HasNoQuote}
 
 -- where a reader is, with the word so far: before the word, in a bare one, in a quoted one, or
--- behind a quote mark that closes it unless another follows
+-- after a quote that closes it unless another follows
 pub data Place : Type 0 where
   before : Place
   bare : List ℕ → Place
   quoted : List ℕ → Place
-  behind_mark : List ℕ → Place
+  after_quote : List ℕ → Place
 
--- The word and what follows it. A word that begins with a quote mark goes to the mark that closes
--- it, and two marks in a row inside it stand for the second. Any other ends before the first blank,
--- and a mark in it is an item like any other. There is none before a blank or the end, and none
--- where a quote is open at the end.
+-- The word and what follows it. A word that begins with a quote goes to the quote that closes it,
+-- and two quotes in a row inside it stand for the second. Any other ends before the first blank,
+-- and a quote in it is a character like any other. There is none before a blank or the end, and
+-- none where a quote is open at the end.
 abbrev pub word_from : Place → List Sign → Option (List ℕ × List ℕ)
 word_from before [] = None
-word_from before (mark _ ∷ rest) = word_from (quoted []) rest
+word_from before (quote _ ∷ rest) = word_from (quoted []) rest
 word_from before (blank _ ∷ _) = None
-word_from before (other x ∷ rest) = word_from (bare (x ∷ [])) rest
+word_from before (other run ∷ rest) = word_from (bare run) rest
 word_from (bare word) [] = Some (word, [])
-word_from (bare word) (mark x ∷ rest) = word_from (bare (word ++ x ∷ [])) rest
-word_from (bare word) (blank x ∷ rest) = Some (word, x ∷ map item rest)
-word_from (bare word) (other x ∷ rest) = word_from (bare (word ++ x ∷ [])) rest
+word_from (bare word) (quote run ∷ rest) = word_from (bare (word ++ run)) rest
+word_from (bare word) (blank run ∷ rest) = Some (word, run ++ flat_map bytes rest)
+word_from (bare word) (other run ∷ rest) = word_from (bare (word ++ run)) rest
 word_from (quoted _) [] = None
-word_from (quoted word) (mark _ ∷ rest) = word_from (behind_mark word) rest
-word_from (quoted word) (blank x ∷ rest) = word_from (quoted (word ++ x ∷ [])) rest
-word_from (quoted word) (other x ∷ rest) = word_from (quoted (word ++ x ∷ [])) rest
-word_from (behind_mark word) [] = Some (word, [])
-word_from (behind_mark word) (mark x ∷ rest) = word_from (quoted (word ++ x ∷ [])) rest
-word_from (behind_mark word) (blank x ∷ rest) = Some (word, x ∷ map item rest)
-word_from (behind_mark word) (other x ∷ rest) = Some (word, x ∷ map item rest)
+word_from (quoted word) (quote _ ∷ rest) = word_from (after_quote word) rest
+word_from (quoted word) (blank run ∷ rest) = word_from (quoted (word ++ run)) rest
+word_from (quoted word) (other run ∷ rest) = word_from (quoted (word ++ run)) rest
+word_from (after_quote word) [] = Some (word, [])
+word_from (after_quote word) (quote run ∷ rest) = word_from (quoted (word ++ run)) rest
+word_from (after_quote word) (blank run ∷ rest) = Some (word, run ++ flat_map bytes rest)
+word_from (after_quote word) (other run ∷ rest) = Some (word, run ++ flat_map bytes rest)
 
--- a line feed (10) as a space (32)
+-- a line feed as a space
 abbrev pub space_for_line_feed : ℕ → ℕ
-space_for_line_feed x = if x == 10 then 32 else x
+space_for_line_feed byte = if byte == line_feed then space else byte
 
 -- the text with each line feed as a space
 abbrev pub line_feeds_as_spaces : List ℕ → List ℕ
@@ -68,19 +50,39 @@ line_feeds_as_spaces text = map space_for_line_feed text
 pub record IsCutAtBlank (text front back : List ℕ) : Type 0 where
   pub whole : text ≡ front ++ back
   pub no_blank : NoCharPasses is_blank front
-  pub ends : (back ≡ []) ⊎ ((b : ℕ) × (after : List ℕ) × (is_blank b ≡ true) × (back ≡ b ∷ after))
+  pub ends :
+      (back ≡ []) ⊎ ((byte : ℕ) × (after : List ℕ) × (is_blank byte ≡ true) × (back ≡ byte ∷ after))
 
--- what a reader answers, by its contents
+-- a word that is not quoted, and what follows it; none where the text is empty or begins with a
+-- blank
+abbrev pub IsBareRead : List ℕ → Option (List ℕ × List ℕ) → Type 0
+IsBareRead text None = IsCutAtBlank text [] text
+IsBareRead text (Some (word, rest)) = IsCutAtBlank text word rest × (word ≢ [])
+
+-- what a reader returns, by its contents
 abbrev pub contents : {A : Type 0} → Option (String A × Bor (List ℕ)) → Option (List ℕ × List ℕ)
 contents None = None
 contents (Some (word, rest)) = Some (string_bytes word, rest.now)
 
--- where a test tells the quote marks: no item of the list, if it has one, begins it as a mark
-abbrev pub BeginsWithNoMark : (ℕ → Bool) → List ℕ → Type 0
-BeginsWithNoMark is_mark xs = (x : ℕ) (rest : List ℕ) → xs ≡ x ∷ rest → is_mark x ≡ false
+-- ---- a text by its signs, which `signs` tells
 
--- the text begins with the character c, which is a mark, and rest follows it
-pub record BeginsWithMark (is_mark : ℕ → Bool) (c : ℕ) (text rest : List ℕ) : Type 0 where
-  pub is : is_mark c ≡ true
-  pub bytes : text ≡ encode_utf8 c ++ rest
-  pub characters : chars text ≡ c ∷ chars rest
+-- no quote is in the text
+pub record IsWithoutQuotes (signs : List ℕ → List Sign) (text : List ℕ) : Type 0 where
+  pub signs_are : signs text ≡ map sign text
+  pub no_quote : HasNoQuote text
+
+-- the text begins with the run, in which no quote is, then has a quote, and the rest follows it
+pub record IsCutAtQuote (signs : List ℕ → List Sign) (text run opening rest : List ℕ) : Type 0 where
+  pub signs_are : signs text ≡ map sign run ++ quote opening ∷ signs rest
+  pub no_quote : HasNoQuote run
+  pub shorter : length rest < length text
+
+-- the text begins with a quote, and the rest follows it
+pub record BeginsWithQuote (signs : List ℕ → List Sign) (text opening rest : List ℕ) : Type 0 where
+  pub whole : text ≡ opening ++ rest
+  pub signs_are : signs text ≡ quote opening ∷ signs rest
+
+-- the text begins with no quote
+abbrev pub BeginsWithNoQuote : (List ℕ → List Sign) → List ℕ → Type 0
+BeginsWithNoQuote signs text =
+    (opening : List ℕ) (rest : List Sign) → signs text ≢ quote opening ∷ rest

@@ -1,71 +1,68 @@
--- The tokens of a script. It is cut at blanks and line feeds outside quotes, and two quotes in a row within
--- quotes stand for the second.
+-- The tokens of a script. It is cut at blanks and line feeds outside quotes, and two quotes in a
+-- row within quotes stand for the second.
 use Rattle.std.specs.Prelude.{ℕ, Bool, false, List, [], ◌∷◌, ◌++◌, if◌then◌else◌, Option, Some, None, unwrap_or, bytes_eq}
-use Rattle.cc_quote.specs.QuotedWord.{is_blank}
+use Rattle.cc_quote.specs.Signs.{Sign, blank, quote, other}
 
--- a piece of a token: a run outside quotes, or what quotes hold; `unclosed`: the text ends within them
+-- a piece of a token: a run outside quotes; or the opening quote and what the quotes hold;
+-- `unclosed`: the text ends within them
 pub data Piece : Type 0 where
   bare : List ℕ → Piece
-  quoted : List ℕ → Piece
-  unclosed : List ℕ → Piece
+  quoted : List ℕ → List ℕ → Piece
+  unclosed : List ℕ → List ℕ → Piece
 
 -- what stands between two blanks: its pieces, in order
 abbrev pub Token : Type 0
 Token = List Piece
 
--- what an item of a script, which is a byte or a character, is to the cutting, with its bytes: a space, a
--- tab or a line feed; a quote; any other item
-pub data Sign : Type 0 where
-  blank : List ℕ → Sign
-  quote : List ℕ → Sign
-  other : List ℕ → Sign
-
--- the sign of an item that has these bytes, where a test tells the quotes
-abbrev pub sign_of : (ℕ → Bool) → ℕ → List ℕ → Sign
-sign_of is_mark item bytes =
-    if is_mark item then quote bytes else (if is_blank item then blank bytes else other bytes)
-
--- where the cutting stands: between two tokens, or in one, with the pieces that it has so far and the text
--- of the piece that is open. Behind a quote that may close the text, or be the first of two, is a place of
--- its own.
+-- where the cutting stands: between two tokens, or in one, with the pieces that it has so far, the
+-- opening quote if it is within quotes, and the text of the piece that is open. After a quote that
+-- may close the text, or be the first of two, is a place of its own.
 pub data Place : Type 0 where
   between : Place
   in_bare : List Piece → List ℕ → Place
-  in_quotes : List Piece → List ℕ → Place
-  after_quotes : List Piece → List ℕ → Place
+  in_quotes : List Piece → List ℕ → List ℕ → Place
+  after_quotes : List Piece → List ℕ → List ℕ → Place
 
 -- the tokens that the signs give from a place on
 unfoldable pub cut : Place → List Sign → List Token
 cut between [] = []
 cut between (blank bytes ∷ signs) = cut between signs
-cut between (quote bytes ∷ signs) = cut (in_quotes [] []) signs
+cut between (quote bytes ∷ signs) = cut (in_quotes [] bytes []) signs
 cut between (other bytes ∷ signs) = cut (in_bare [] bytes) signs
 cut (in_bare pieces run) [] = (pieces ++ bare run ∷ []) ∷ []
 cut (in_bare pieces run) (blank bytes ∷ signs) = (pieces ++ bare run ∷ []) ∷ cut between signs
-cut (in_bare pieces run) (quote bytes ∷ signs) = cut (in_quotes (pieces ++ bare run ∷ []) []) signs
+cut (in_bare pieces run) (quote bytes ∷ signs) =
+    cut (in_quotes (pieces ++ bare run ∷ []) bytes []) signs
 cut (in_bare pieces run) (other bytes ∷ signs) = cut (in_bare pieces (run ++ bytes)) signs
-cut (in_quotes pieces text) [] = (pieces ++ unclosed text ∷ []) ∷ []
-cut (in_quotes pieces text) (blank bytes ∷ signs) = cut (in_quotes pieces (text ++ bytes)) signs
-cut (in_quotes pieces text) (quote bytes ∷ signs) = cut (after_quotes pieces text) signs
-cut (in_quotes pieces text) (other bytes ∷ signs) = cut (in_quotes pieces (text ++ bytes)) signs
-cut (after_quotes pieces text) [] = (pieces ++ quoted text ∷ []) ∷ []
-cut (after_quotes pieces text) (blank bytes ∷ signs) = (pieces ++ quoted text ∷ []) ∷ cut between signs
-cut (after_quotes pieces text) (quote bytes ∷ signs) = cut (in_quotes pieces (text ++ bytes)) signs
-cut (after_quotes pieces text) (other bytes ∷ signs) = cut (in_bare (pieces ++ quoted text ∷ []) bytes) signs
+cut (in_quotes pieces opening text) [] = (pieces ++ unclosed opening text ∷ []) ∷ []
+cut (in_quotes pieces opening text) (blank bytes ∷ signs) =
+    cut (in_quotes pieces opening (text ++ bytes)) signs
+cut (in_quotes pieces opening text) (quote bytes ∷ signs) =
+    cut (after_quotes pieces opening text) signs
+cut (in_quotes pieces opening text) (other bytes ∷ signs) =
+    cut (in_quotes pieces opening (text ++ bytes)) signs
+cut (after_quotes pieces opening text) [] = (pieces ++ quoted opening text ∷ []) ∷ []
+cut (after_quotes pieces opening text) (blank bytes ∷ signs) =
+    (pieces ++ quoted opening text ∷ []) ∷ cut between signs
+cut (after_quotes pieces opening text) (quote bytes ∷ signs) =
+    cut (in_quotes pieces opening (text ++ bytes)) signs
+cut (after_quotes pieces opening text) (other bytes ∷ signs) =
+    cut (in_bare (pieces ++ quoted opening text ∷ []) bytes) signs
 
 -- whether a token is this bare word and nothing else
 unfoldable pub is_word : List ℕ → Token → Bool
 is_word word (bare run ∷ []) = bytes_eq run word
 is_word word _ = false
 
--- the tokens behind these bare words, where the tokens begin with them
+-- the tokens after these bare words, where the tokens begin with them
 unfoldable pub strip_words : List (List ℕ) → List Token → Option (List Token)
 strip_words [] tokens = Some tokens
 strip_words (word ∷ words) [] = None
 strip_words (word ∷ words) (token ∷ tokens) =
     if is_word word token then strip_words words tokens else None
 
--- the tokens behind the first place where these bare words stand in a row; none, if there is no such place
+-- the tokens after the first place where these bare words stand in a row; none, if there is no such
+-- place
 unfoldable pub after_words : List (List ℕ) → List Token → List Token
 after_words words [] = []
 after_words words (token ∷ tokens) =

@@ -1,17 +1,46 @@
 //! Words as Elvish quotes them: between `'`, where `''` stands for one `'`.
 
-ghost use Rattle.std.specs.Prelude.{◌≡◌, ◌≢◌, ℕ, List, [], ◌∷◌, ◌++◌, map, codes, encode_utf8, IfOk, IfErr, OnOk, Some};
+ghost use Rattle.std.specs.Prelude.{◌≡◌, [], ◌++◌, map, codes, true, IfOk, IfErr, Some};
 ghost use Rattle.std.specs.String.{string_bytes};
-ghost use Rattle.cc_quote.specs.ElvishQuote.{elvish_escaped, elvish_word_of, elvish_sign};
+ghost use Rattle.cc_quote.specs.Bytes.{line_feed, single_quote};
+ghost use Rattle.cc_quote.specs.ElvishQuote.{elvish_escaped, elvish_escaped_byte, elvish_word_of};
 ghost use Rattle.cc_quote.specs.QuotedWord.{contents, line_feeds_as_spaces, quoted, word_from};
+ghost use Rattle.cc_quote.specs.Signs.{sign};
+ghost use Rattle.memchr.specs.Find.{is_byte2};
 
-use crate::word::split_at_blank;
+use crate::escape::{Escape, push_escaped};
+use crate::word::bare_word;
 use cc_base::Error;
+use memchr::memchr2;
 use std::alloc::{AllocError, Global};
+
+/// Elvish's escape of a text between two `'`: each `'` as `''`, and each line feed as a space.
+pub struct ElvishEscape;
+
+impl Escape for ElvishEscape {
+    ghost escaped = { λ _ text. elvish_escaped text };
+
+    fn split<'a>(&self, text: &'a str) -> Option<(&'a str, &'static str, &'a str)> {
+        let bytes = text.as_bytes();
+        let Some(at) = memchr2(b'\'', b'\n', bytes) else {
+            return None;
+        };
+        let replacement = replacement(bytes[at]);
+        Some((&text[..at], replacement, &text[at + 1..]))
+    }
+}
+
+// What stands for a byte that is escaped.
+fn replacement(escaped: u8) -> &'static str
+    requires { is_byte2 single_quote line_feed escaped ≡ true }
+    ensures { result.now ≡ elvish_escaped_byte escaped }
+{
+    if escaped == b'\'' { "''" } else { " " }
+}
 
 /// The text as it stands between two `'` in Elvish: each `'` as `''`, and each line feed as a
 /// space. Fails with `Memory` alone.
-#[tactic(auto, using(crate::proofs::ElvishWords::elvish_escaped_push))]
+#[tactic(auto, using(crate::proofs::ElvishWords::elvish_reads_back))]
 pub fn elvish_escape(alloc: Global, text: &str) -> Result<String, Error>
     ensures escaped { IfOk result (λ escaped. string_bytes escaped ≡ elvish_escaped text.now) }
 
@@ -22,24 +51,8 @@ pub fn elvish_escape(alloc: Global, text: &str) -> Result<String, Error>
     ensures memory { IfErr result (λ error. error ≡ Error.Memory) }
 {
     let mut escaped = String::new(alloc);
-    for character in text.chars() {
-        push_escaped(&mut escaped, character)?;
-    }
+    push_escaped(&ElvishEscape, text, &mut escaped)?;
     Ok(escaped)
-}
-
-// Adds one character of a text that is to stand between two `'`.
-#[tactic(auto, using(crate::proofs::ElvishWords::elvish_escaped_kept))]
-fn push_escaped(escaped: &mut String, character: char) -> Result<(), AllocError>
-    ensures { OnOk result
-        (string_bytes escaped.new
-        ≡ string_bytes escaped.old ++ elvish_escaped (encode_utf8 character)) }
-{
-    match character {
-        '\'' => escaped.push_str("''"),
-        '\n' => escaped.push(' '),
-        _ => escaped.push(character),
-    }
 }
 
 /// The word that a text begins with, and what follows it. A word that begins with `'` goes to its
@@ -51,43 +64,29 @@ pub fn elvish_word(alloc: Global, text: &str) -> Result<Option<(String, &str)>, 
     ensures memory { IfErr result (λ error. error ≡ Error.Memory) }
 {
     match text.strip_prefix('\'') {
-        Some(quoted) => quoted_word(alloc, quoted),
-        None => bare_word(alloc, text),
+        Some(quoted) => Ok(quoted_word(alloc, quoted)?),
+        None => Ok(bare_word(alloc, text)?),
     }
 }
 
-// Reads a word behind its opening quote.
-fn quoted_word(alloc: Global, text: &str) -> Result<Option<(String, &str)>, Error>
-    ensures word { IfOk result
-        (λ read. contents read ≡ word_from (quoted []) (map elvish_sign text.now)) }
-    ensures memory { IfErr result (λ error. error ≡ Error.Memory) }
+// The word after its opening quote, and what follows it.
+fn quoted_word(alloc: Global, text: &str) -> Result<Option<(String, &str)>, AllocError>
+    ensures { IfOk result
+        (λ read. contents read ≡ word_from (quoted []) (map sign text.now)) }
 {
     let mut word = String::new(alloc);
     let mut rest = text;
-    while let Some((piece, behind)) = rest.split_once('\'') {
+    while let Some((piece, next)) = rest.split_once('\'') {
         word.push_str(piece)?;
-        match behind.strip_prefix('\'') {
-            None => return Ok(Some((word, behind))),
-            Some(next) => {
+        match next.strip_prefix('\'') {
+            None => return Ok(Some((word, next))),
+            Some(second) => {
                 word.push('\'')?;
-                rest = next;
+                rest = second;
             }
         }
     }
     Ok(None)
-}
-
-// Reads a word that is not quoted.
-fn bare_word(alloc: Global, text: &str) -> Result<Option<(String, &str)>, Error>
-    requires unquoted { (rest : List ℕ) → text.now ≢ 39 ∷ rest }
-    ensures word { IfOk result (λ read. contents read ≡ elvish_word_of text.now) }
-    ensures memory { IfErr result (λ error. error ≡ Error.Memory) }
-{
-    let (word, rest) = split_at_blank(text);
-    if word.is_empty() {
-        return Ok(None);
-    }
-    Ok(Some((String::from_str(alloc, word)?, rest)))
 }
 
 #[cfg(test)]
@@ -105,6 +104,7 @@ mod tests {
         let (word, rest) = elvish_word(rt.alloc(), "it's more")?.ok_or("no word")?;
         assert_eq!(rt; word.as_str(), "it's");
         assert_eq!(rt; rest, " more");
+        assert!(rt; elvish_word(rt.alloc(), "'it''s")?.is_none());
         Ok(())
     }
 }

@@ -1,11 +1,20 @@
-//! Writers and readers of quoted words: a writer escapes a text so that the shell's own quoting
-//! keeps it, and the reader of the same shell gives the text back, with a space for each line feed.
-//! No reader expands anything.
+//! Writers and readers of quoted words: a writer quotes or escapes a text so that the shell keeps
+//! it, and the reader of the same shell gives the text back; an escape of a description makes a
+//! space of each line feed. No reader expands anything.
 #![tactic(auto)]
 
 mod elvish;
+mod escape;
+mod fish;
+mod posix;
 mod powershell;
 mod word;
 
-pub use crate::elvish::{elvish_escape, elvish_word};
-pub use crate::powershell::{powershell_escape, powershell_word};
+pub use crate::elvish::{ElvishEscape, elvish_escape, elvish_word};
+pub use crate::escape::{Escape, push_escaped, put_escaped};
+pub use crate::fish::{
+    FishEscape, fish_escape, fish_help_for_eval, fish_quote, fish_quote_for_eval,
+    put_fish_help_for_eval, put_fish_quoted_for_eval,
+};
+pub use crate::posix::{posix_quote, posix_word};
+pub use crate::powershell::{PowershellEscape, powershell_escape, powershell_word};

@@ -1,23 +1,92 @@
-//! Words as PowerShell quotes them: between two quote marks, which are `'` and `’` (U+2019), and of
-//! two marks in a row inside the second is kept.
+//! Words as PowerShell quotes them: between two quotes, which are `'` and `’` (U+2019), and of two
+//! quotes in a row inside, the second is kept.
 
-ghost use Rattle.std.specs.Prelude.{◌≡◌, [], ◌++◌, map, codes, IfOk, IfErr, OnOk, MatchOption, Some};
-ghost use Rattle.std.specs.Str.{chars, encode_utf8_all};
+ghost use Rattle.std.specs.Prelude.{◌≡◌, ◌<◌, ◌+◌, ◌++◌, [], List, ℕ, codes, true, IfOk, IfErr, MatchOption, Some, drop, length, slice_index};
 ghost use Rattle.std.specs.String.{string_bytes};
-ghost use Rattle.cc_quote.specs.PowershellQuote.{powershell_escaped, powershell_escaped_character, powershell_word_of, powershell_sign, is_powershell_mark, in_utf8};
-ghost use Rattle.cc_quote.specs.QuotedWord.{contents, line_feeds_as_spaces, quoted, word_from, BeginsWithMark, BeginsWithNoMark};
+ghost use Rattle.cc_quote.specs.PowershellQuote.{begins_quote, begins_second, is_escaped, powershell_escaped, powershell_signs, powershell_word_of, IsFirstEscaped, IsFirstQuote};
+ghost use Rattle.cc_quote.specs.QuotedWord.{contents, line_feeds_as_spaces, quoted, word_from, BeginsWithNoQuote, BeginsWithQuote, IsCutAtQuote, IsWithoutQuotes};
 
-use crate::word::split_at_blank;
+use crate::escape::{Escape, push_escaped};
+use crate::word::bare_word;
 use cc_base::Error;
 use std::alloc::{AllocError, Global};
 
-const QUOTE_MARKS: [char; 2] = ['\'', '\u{2019}'];
+// The bytes of U+2019.
+const RIGHT_QUOTE: [u8; 3] = [RIGHT_QUOTE_FIRST, RIGHT_QUOTE_SECOND, RIGHT_QUOTE_THIRD];
+
+const RIGHT_QUOTE_FIRST: u8 = 226;
+
+const RIGHT_QUOTE_SECOND: u8 = 128;
+
+const RIGHT_QUOTE_THIRD: u8 = 153;
+
+/// PowerShell's escape of a text between two `'`: each `'` as `''`, each `’` (U+2019) as `'’`, and
+/// each line feed as a space.
+pub struct PowershellEscape;
+
+impl Escape for PowershellEscape {
+    ghost escaped = { λ _ text. powershell_escaped text };
+
+    fn split<'a>(&self, text: &'a str) -> Option<(&'a str, &'static str, &'a str)> {
+        let bytes = text.as_bytes();
+        let Some(at) = find_escaped(bytes) else {
+            return None;
+        };
+        let run = &text[..at];
+        if bytes[at] == b'\'' {
+            return Some((run, "''", &text[at + 1..]));
+        }
+        if bytes[at] == b'\n' {
+            return Some((run, " ", &text[at + 1..]));
+        }
+        Some((run, "'\u{2019}", &text[at + RIGHT_QUOTE.len()..]))
+    }
+}
+
+// The place of the first byte for which something else stands.
+fn find_escaped(text: &[u8]) -> Option<usize>
+    ensures { MatchOption result (powershell_escaped text.now ≡ text.now)
+        (λ at. IsFirstEscaped text.now at) }
+{
+    for at in 0..text.len() {
+        if is_escaped_at(text, at) {
+            return Some(at);
+        }
+    }
+    None
+}
+
+fn is_escaped_at(text: &[u8], at: usize) -> bool
+    requires { at < length text.now }
+    ensures { result ≡ is_escaped (slice_index text.now at) (drop (at + 1) text.now) }
+{
+    text[at] == b'\n' || begins_quote_at(text, at)
+}
+
+fn begins_quote_at(text: &[u8], at: usize) -> bool
+    requires { at < length text.now }
+    ensures { result ≡ begins_quote (slice_index text.now at) (drop (at + 1) text.now) }
+{
+    match text[at] {
+        b'\'' => true,
+        RIGHT_QUOTE_FIRST => begins_second(&text[at + 1..]),
+        _ => false,
+    }
+}
+
+// Whether a text begins with the last two bytes of U+2019.
+fn begins_second(text: &[u8]) -> bool
+    ensures { result ≡ begins_second text.now }
+{
+    matches!(text, [RIGHT_QUOTE_SECOND, RIGHT_QUOTE_THIRD, ..])
+}
 
 /// The text as it stands between two `'` in PowerShell: each `'` as `''`, each `’` (U+2019) as
 /// `'’`, and each line feed as a space. Fails with `Memory` alone.
-#[tactic(auto, using(crate::proofs::PowershellWords::powershell_escaped_push))]
+#[tactic(auto, using(crate::proofs::PowershellWords::powershell_reads_back))]
 pub fn powershell_escape(alloc: Global, text: &str) -> Result<String, Error>
-    ensures escaped { IfOk result (λ escaped. string_bytes escaped ≡ powershell_escaped text.now) }
+    ensures escaped { IfOk result
+        (λ escaped. string_bytes escaped ≡ powershell_escaped text.now) }
 
     // Between two quotes, what was written is read as the text, and nothing is left.
     ensures read_back { IfOk result
@@ -26,88 +95,86 @@ pub fn powershell_escape(alloc: Global, text: &str) -> Result<String, Error>
     ensures memory { IfErr result (λ error. error ≡ Error.Memory) }
 {
     let mut escaped = String::new(alloc);
-    for character in text.chars() {
-        push_escaped(&mut escaped, character)?;
-    }
+    push_escaped(&PowershellEscape, text, &mut escaped)?;
     Ok(escaped)
 }
 
-// Adds one character of a text that is to stand between two `'`.
-fn push_escaped(escaped: &mut String, character: char) -> Result<(), AllocError>
-    ensures { OnOk result
-        (string_bytes escaped.new
-        ≡ string_bytes escaped.old ++ encode_utf8_all (powershell_escaped_character character)) }
-{
-    match character {
-        '\'' => escaped.push_str("''"),
-        '\u{2019}' => escaped.push_str("'\u{2019}"),
-        '\n' => escaped.push(' '),
-        _ => escaped.push(character),
-    }
-}
-
-/// The word that a text begins with, and what follows it. A word that begins with a quote mark,
-/// which is `'` or `’` (U+2019), goes to the mark that closes it, and two marks in a row in it are
-/// the second; any other ends before the first space, tab or line feed, and in it a mark is a
-/// character like any other. `None` where the text is empty or begins with a blank, or where a quote
-/// is open at its end. Fails with `Memory` alone.
+/// The word that a text begins with, and what follows it. A word that begins with a quote, which is
+/// `'` or `’` (U+2019), goes to the quote that closes it, and two quotes in a row in it are the
+/// second; any other ends before the first space, tab or line feed, and in it a quote is a
+/// character like any other. `None` where the text is empty or begins with a blank, or where a
+/// quote is open at its end. Fails with `Memory` alone.
 pub fn powershell_word(alloc: Global, text: &str) -> Result<Option<(String, &str)>, Error>
     ensures word { IfOk result (λ read. contents read ≡ powershell_word_of text.now) }
     ensures memory { IfErr result (λ error. error ≡ Error.Memory) }
 {
-    match split_quote_mark(text) {
-        Some((_, quoted)) => quoted_word(alloc, quoted),
-        None => bare_word(alloc, text),
+    match strip_quote(text) {
+        Some((_, quoted)) => Ok(quoted_word(alloc, quoted)?),
+        None => Ok(bare_word(alloc, text)?),
     }
 }
 
-// The quote mark that a text begins with, and what follows it.
-fn split_quote_mark(text: &str) -> Option<(char, &str)>
-    ensures { MatchOption result (BeginsWithNoMark is_powershell_mark (chars text.now))
-        (λ found. BeginsWithMark is_powershell_mark found.0 text.now found.1.now) }
+// The quote that a text begins with, and what follows it.
+fn strip_quote(text: &str) -> Option<(&'static str, &str)>
+    ensures { MatchOption result (BeginsWithNoQuote powershell_signs text.now)
+        (λ found. BeginsWithQuote powershell_signs text.now found.0.now found.1.now) }
 {
-    let mut characters = text.chars();
-    let first = characters.next()?;
-    if QUOTE_MARKS.contains(&first) {
-        Some((first, characters.as_str()))
-    } else {
-        None
+    if let Some(rest) = text.strip_prefix('\'') {
+        return Some(("'", rest));
     }
+    let Some(rest) = text.strip_prefix('\u{2019}') else {
+        return None;
+    };
+    Some(("\u{2019}", rest))
 }
 
-// Reads a word behind its opening quote mark.
-fn quoted_word(alloc: Global, text: &str) -> Result<Option<(String, &str)>, Error>
-    ensures word { IfOk result
-        (λ read. contents read
-        ≡ in_utf8 (word_from (quoted []) (map powershell_sign (chars text.now)))) }
-    ensures memory { IfErr result (λ error. error ≡ Error.Memory) }
+// The text up to its first quote, and what follows the quote.
+fn split_at_quote(text: &str) -> Option<(&str, &str)>
+    ensures { MatchOption result (IsWithoutQuotes powershell_signs text.now)
+        (λ cut. (opening : List ℕ)
+        × IsCutAtQuote powershell_signs text.now cut.0.now opening cut.1.now) }
+{
+    let bytes = text.as_bytes();
+    let Some(at) = find_quote(bytes) else {
+        return None;
+    };
+    let run = &text[..at];
+    if bytes[at] == b'\'' {
+        return Some((run, &text[at + 1..]));
+    }
+    Some((run, &text[at + RIGHT_QUOTE.len()..]))
+}
+
+fn find_quote(text: &[u8]) -> Option<usize>
+    ensures { MatchOption result (IsWithoutQuotes powershell_signs text.now)
+        (λ at. IsFirstQuote text.now at) }
+{
+    for at in 0..text.len() {
+        if begins_quote_at(text, at) {
+            return Some(at);
+        }
+    }
+    None
+}
+
+// The word after its opening quote, and what follows it.
+fn quoted_word(alloc: Global, text: &str) -> Result<Option<(String, &str)>, AllocError>
+    ensures { IfOk result
+        (λ read. contents read ≡ word_from (quoted []) (powershell_signs text.now)) }
 {
     let mut word = String::new(alloc);
     let mut rest = text;
-    while let Some((piece, behind)) = rest.split_once(QUOTE_MARKS) {
+    while let Some((piece, next)) = split_at_quote(rest) {
         word.push_str(piece)?;
-        match split_quote_mark(behind) {
-            None => return Ok(Some((word, behind))),
-            Some((second, next)) => {
-                word.push(second)?;
-                rest = next;
+        match strip_quote(next) {
+            None => return Ok(Some((word, next))),
+            Some((second, more)) => {
+                word.push_str(second)?;
+                rest = more;
             }
         }
     }
     Ok(None)
-}
-
-// Reads a word that is not quoted.
-fn bare_word(alloc: Global, text: &str) -> Result<Option<(String, &str)>, Error>
-    requires unquoted { BeginsWithNoMark is_powershell_mark (chars text.now) }
-    ensures word { IfOk result (λ read. contents read ≡ powershell_word_of text.now) }
-    ensures memory { IfErr result (λ error. error ≡ Error.Memory) }
-{
-    let (word, rest) = split_at_blank(text);
-    if word.is_empty() {
-        return Ok(None);
-    }
-    Ok(Some((String::from_str(alloc, word)?, rest)))
 }
 
 #[cfg(test)]
@@ -122,6 +189,10 @@ mod tests {
         let (word, rest) = powershell_word(rt.alloc(), "'it'’s' more")?.ok_or("no word")?;
         assert_eq!(rt; word.as_str(), "it’s");
         assert_eq!(rt; rest, " more");
+        let (word, rest) = powershell_word(rt.alloc(), "it’s more")?.ok_or("no word")?;
+        assert_eq!(rt; word.as_str(), "it’s");
+        assert_eq!(rt; rest, " more");
+        assert!(rt; powershell_word(rt.alloc(), "’it''s")?.is_none());
         Ok(())
     }
 }

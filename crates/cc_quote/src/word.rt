@@ -1,9 +1,24 @@
 //! What the readers of words share.
 
-ghost use Rattle.cc_quote.specs.QuotedWord.{IsCutAtBlank};
+ghost use Rattle.std.specs.Prelude.{OnOk, IfOk};
+ghost use Rattle.cc_quote.specs.QuotedWord.{contents, IsBareRead, IsCutAtBlank};
 
-/// The text up to its first space, tab or line feed, and the text from there on.
-pub(crate) fn split_at_blank(text: &str) -> (&str, &str)
+use std::alloc::{AllocError, Global};
+
+/// The word that a text begins with, up to the first blank, and what follows it. `None` where the
+/// text is empty or begins with a blank.
+pub(crate) fn bare_word(alloc: Global, text: &str) -> Result<Option<(String, &str)>, AllocError>
+    ensures { IfOk result (λ read. IsBareRead text.now (contents read)) }
+{
+    let (word, rest) = split_at_blank(text);
+    if word.is_empty() {
+        return Ok(None);
+    }
+    Ok(Some((String::from_str(alloc, word)?, rest)))
+}
+
+// The text up to its first space, tab or line feed, and the text from there on.
+fn split_at_blank(text: &str) -> (&str, &str)
     ensures { IsCutAtBlank text.now result.0.now result.1.now }
 {
     let end = text.find([' ', '\t', '\n']).unwrap_or(text.len());

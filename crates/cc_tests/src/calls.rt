@@ -1,5 +1,5 @@
-//! Calls that may be refused memory, with memory enough: they are not refused, and answer what they
-//! are to answer. The other modules here and the tests of the crates below run the rest of them.
+//! Calls that allocate, with memory enough: they do not fail, and return what they
+//! are to return. The other modules here and the tests of the crates below run the rest of them.
 
 use crate::fixtures::{file, nested, test};
 use crate::written::script;
@@ -9,7 +9,7 @@ use clap_complete::{Error, Generator};
 use std::alloc::Global;
 use std::test::Fail;
 
-// Adds the texts, with a space behind each.
+// Adds the texts, with a space after each.
 fn push_all(line: &mut String, texts: &[Text]) -> Result<(), Error> {
     for text in texts {
         line.push_str(text.as_str())?;
@@ -95,7 +95,7 @@ fn ready(alloc: Global) -> Result<Command, Error> {
     Ok(command)
 }
 
-// What the methods of a generator write, one behind the other.
+// What the methods of a generator write, one after another.
 fn twice<G: Generator>(alloc: Global, generator: &G, command: &Command) -> Result<String, Error> {
     let mut sink = Collected::new(alloc);
     if command.is_ready() {

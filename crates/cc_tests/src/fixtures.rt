@@ -2,7 +2,7 @@
 //! such steps in one function takes long.
 
 use clap_complete::Error;
-use clap_complete::command::{Arg, ArgAction, Command};
+use clap_complete::command::{Arg, ArgAction, Command, PossibleValue, ValueHint};
 use std::alloc::Global;
 
 fn named(alloc: Global, name: &str) -> Result<Command, Error> {
@@ -47,6 +47,18 @@ pub(crate) fn bare(alloc: Global) -> Result<Command, Error> {
 /// `app` with a flag `-v`, `--verbose` and an option `--out`.
 pub(crate) fn app(alloc: Global) -> Result<Command, Error> {
     with(with(named(alloc, "app"), verbose(alloc)), out(alloc))
+}
+
+/// `app` with a positional `input` too.
+pub(crate) fn app_with_input(alloc: Global) -> Result<Command, Error> {
+    let id = String::from_str(alloc, "input")?;
+    with(app(alloc), Ok(Arg::new(alloc, id)))
+}
+
+/// `app` with a positional whose id holds a quote.
+pub(crate) fn quoted(alloc: Global) -> Result<Command, Error> {
+    let id = String::from_str(alloc, "it's")?;
+    with(bare(alloc), Ok(Arg::new(alloc, id)))
 }
 
 fn verbose(alloc: Global) -> Result<Arg, Error> {
@@ -154,6 +166,41 @@ fn versioned(alloc: Global) -> Result<Command, Error> {
     let version = String::from_str(alloc, "3.0")?;
     let command = named(alloc, "myapp")?;
     Ok(command.bin_name(bin_name).version(version))
+}
+
+/// `p` with the children `a-b` and `a`, which holds `b`.
+pub(crate) fn clashing(alloc: Global) -> Result<Command, Error> {
+    let a = holding(named(alloc, "a"), named(alloc, "b"));
+    holding(holding(named(alloc, "p"), named(alloc, "a-b")), a)
+}
+
+/// `app` with an option `-c`, `--color`, which may be `auto` or, hidden, `never`, and a child `run`.
+pub(crate) fn colored(alloc: Global) -> Result<Command, Error> {
+    let command = with(named(alloc, "app"), color(alloc));
+    holding(command, named(alloc, "run"))
+}
+
+fn color(alloc: Global) -> Result<Arg, Error> {
+    let help = String::from_str(alloc, "Colour")?;
+    let when = String::from_str(alloc, "WHEN")?;
+    let color = long(alloc, "color")?.short('c').help(help);
+    Ok(color.value_parser(colors(alloc)?).value_name(when)?)
+}
+
+fn colors(alloc: Global) -> Result<Vec<PossibleValue>, Error> {
+    let mut values = Vec::new(alloc);
+    values.push(value(alloc, "auto")?)?;
+    values.push(value(alloc, "never")?.hide(true))?;
+    Ok(values)
+}
+
+fn value(alloc: Global, name: &str) -> Result<PossibleValue, Error> {
+    Ok(PossibleValue::new(String::from_str(alloc, name)?))
+}
+
+/// `app` with an option `--path` whose values are what this hint says.
+pub(crate) fn hinted(alloc: Global, hint: ValueHint) -> Result<Command, Error> {
+    with(bare(alloc), Ok(long(alloc, "path")?.value_hint(hint)))
 }
 
 /// A command that was built.

@@ -37,3 +37,13 @@ fn a_word_leads_to_the_child_of_that_name_or_alias(rt: HostRuntime) -> Result<()
     assert_eq!(rt; found(rt.alloc(), "config")?, None);
     Ok(())
 }
+
+#[test]
+fn a_node_has_its_parent_and_the_root_has_none(rt: HostRuntime) -> Result<(), Fail> {
+    let root = my_app(rt.alloc())?;
+    let flat = Flat::new(rt.alloc(), &root)?;
+    assert!(rt; flat.len() > 1);
+    assert_eq!(rt; flat.parent(0), None);
+    assert_eq!(rt; flat.parent(1), Some(0));
+    Ok(())
+}

@@ -1,7 +1,11 @@
 //! Tests that cross crates: whole scripts against their known text, sinks that take little or
-//! fail, and every call that may be refused memory with memory enough.
+//! fail, and every call that allocates with memory enough. Beside them stands a caller
+//! whose contract says what its script reads to.
 #![tactic(auto)]
 
+#[cfg(test)]
+mod bash;
+mod caller;
 #[cfg(test)]
 mod calls;
 #[cfg(test)]
@@ -15,12 +19,18 @@ mod fixtures;
 #[cfg(test)]
 mod index;
 #[cfg(test)]
+mod kinds;
+#[cfg(test)]
 mod lists;
 #[cfg(test)]
 mod powershell;
 #[cfg(test)]
 mod sinks;
 #[cfg(test)]
+mod tree_file;
+#[cfg(test)]
 mod trees;
 #[cfg(test)]
 mod written;
+
+pub use crate::caller::write_if_plain;

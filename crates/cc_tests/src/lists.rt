@@ -21,7 +21,7 @@ help: my-cmd help help
 config: my-cmd help test config
 ";
 
-// Adds the shorts and their visible aliases, with a space behind each.
+// Adds the shorts and their visible aliases, with a space after each.
 fn push_shorts(line: &mut String, alloc: Global, command: &Command) -> Result<(), Error> {
     for short in utils::shorts_and_visible_aliases(alloc, command)? {
         line.push(short)?;
@@ -30,7 +30,7 @@ fn push_shorts(line: &mut String, alloc: Global, command: &Command) -> Result<()
     Ok(())
 }
 
-// Adds the longs and their visible aliases, with a space behind each.
+// Adds the longs and their visible aliases, with a space after each.
 fn push_longs(line: &mut String, alloc: Global, command: &Command) -> Result<(), Error> {
     for long in utils::longs_and_visible_aliases(alloc, command)? {
         line.push_str(long.as_str())?;
@@ -55,7 +55,7 @@ fn shorts_and_longs_of(alloc: Global, command: &Command, word: &str) -> Result<S
     }
 }
 
-// The longs of the flags, with a space behind each.
+// The longs of the flags, with a space after each.
 fn longs_of_flags(alloc: Global, command: &Command) -> Result<String, Error> {
     let mut longs = String::new(alloc);
     for flag in utils::flags(alloc, command)? {

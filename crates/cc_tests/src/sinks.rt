@@ -2,7 +2,7 @@
 
 use crate::fixtures::{app, helped, many, nested};
 use crate::written::{script, write_script};
-use clap_complete::aot::{Counted, Elvish, PowerShell, Sink};
+use clap_complete::aot::{Bash, Counted, Elvish, PowerShell, Sink};
 use clap_complete::command::Command;
 use clap_complete::{Error, Generator, generate};
 use std::alloc::Global;
@@ -87,6 +87,14 @@ fn one_byte_a_call_is_the_same_elvish_script(rt: HostRuntime) -> Result<(), Fail
 fn one_byte_a_call_is_the_same_powershell_script(rt: HostRuntime) -> Result<(), Fail> {
     let whole = script(rt.alloc(), PowerShell, nested(rt.alloc()))?;
     let by_bytes = by_bytes(rt.alloc(), PowerShell, nested(rt.alloc()))?;
+    assert_eq!(rt; by_bytes.as_str(), whole.as_str());
+    Ok(())
+}
+
+#[test]
+fn one_byte_a_call_is_the_same_bash_script(rt: HostRuntime) -> Result<(), Fail> {
+    let whole = script(rt.alloc(), Bash, helped(rt.alloc()))?;
+    let by_bytes = by_bytes(rt.alloc(), Bash, helped(rt.alloc()))?;
     assert_eq!(rt; by_bytes.as_str(), whole.as_str());
     Ok(())
 }
@@ -192,6 +200,18 @@ fn powershell_reports_a_writer_that_takes_nothing_more(rt: HostRuntime) -> Resul
     Ok(())
 }
 
+#[test]
+fn bash_reports_a_writer_that_fails_and_is_whole_afterwards(rt: HostRuntime) -> Result<(), Fail> {
+    assert!(rt; reports(rt.alloc(), Bash, (BROKEN, BROKEN))?);
+    Ok(())
+}
+
+#[test]
+fn bash_reports_a_writer_that_takes_nothing_more(rt: HostRuntime) -> Result<(), Fail> {
+    assert!(rt; reports(rt.alloc(), Bash, (None, ZERO))?);
+    Ok(())
+}
+
 // What a measuring writer counts of the script of many options.
 fn handed_on<G: Generator + Drop>(alloc: Global, generator: G) -> Result<Measured, Error> {
     let mut sink = Counted::new(Measured { most: 0, all: 0 });
@@ -210,6 +230,14 @@ fn no_slice_of_a_long_elvish_script_is_long(rt: HostRuntime) -> Result<(), Fail>
 #[test]
 fn no_slice_of_a_long_powershell_script_is_long(rt: HostRuntime) -> Result<(), Fail> {
     let measured = handed_on(rt.alloc(), PowerShell)?;
+    assert!(rt; measured.all > 10_000);
+    assert!(rt; measured.most <= 1_024);
+    Ok(())
+}
+
+#[test]
+fn no_slice_of_a_long_bash_script_is_long(rt: HostRuntime) -> Result<(), Fail> {
+    let measured = handed_on(rt.alloc(), Bash)?;
     assert!(rt; measured.all > 10_000);
     assert!(rt; measured.most <= 1_024);
     Ok(())

@@ -7,7 +7,7 @@ use clap_complete::command::Command;
 use std::alloc::Global;
 use std::test::Fail;
 
-// The ids of the arguments, with a space behind each.
+// The ids of the arguments, with a space after each.
 fn ids(alloc: Global, command: &Command) -> Result<String, Error> {
     let mut ids = String::new(alloc);
     for argument in command.get_arguments() {

@@ -27,3 +27,17 @@ pub(crate) fn script<G: Generator + Drop>(
     write_script(alloc, generator, command, &mut sink)?;
     Ok(String::from_utf8_lossy(alloc, sink.as_slice())?)
 }
+
+/// The script of a command for a program of this name.
+pub(crate) fn script_for<G: Generator + Drop>(
+    alloc: Global,
+    generator: G,
+    command: Result<Command, Error>,
+    name: &str,
+) -> Result<String, Error> {
+    let mut sink = Collected::new(alloc);
+    let mut command = command?;
+    let bin_name = String::from_str(alloc, name)?;
+    generate(alloc, generator, &mut command, bin_name, &mut sink)?;
+    Ok(String::from_utf8_lossy(alloc, sink.as_slice())?)
+}

@@ -1,0 +1,74 @@
+-- The definitions that the contracts of this crate's calls cite: a proof about them names this crate
+-- alone.
+
+-- sinks and errors
+pub use Rattle.cc_base.specs.Collected
+pub use Rattle.cc_base.specs.Counted
+pub use Rattle.cc_base.specs.Differ
+pub use Rattle.cc_base.specs.ErrorText
+pub use Rattle.cc_base.specs.Sink
+pub use Rattle.cc_base.specs.Writes
+pub use Rattle.cc_base.specs.declared.error.Error
+pub use Rattle.cc_base.specs.declared.failures.Failures
+-- quoted words
+pub use Rattle.cc_quote.specs.ElvishQuote
+pub use Rattle.cc_quote.specs.ElvishTokens
+pub use Rattle.cc_quote.specs.FishEscapes
+pub use Rattle.cc_quote.specs.FishQuote
+pub use Rattle.cc_quote.specs.FishTokens
+pub use Rattle.cc_quote.specs.PosixQuote
+pub use Rattle.cc_quote.specs.PosixTokens
+pub use Rattle.cc_quote.specs.PowershellQuote
+pub use Rattle.cc_quote.specs.PowershellTokens
+pub use Rattle.cc_quote.specs.QuotedWord
+pub use Rattle.cc_quote.specs.Tokens
+-- the command tree
+pub use Rattle.cc_arg.specs.Action
+pub use Rattle.cc_arg.specs.Aliases
+pub use Rattle.cc_arg.specs.Arguments
+pub use Rattle.cc_arg.specs.PossibleValues
+pub use Rattle.cc_arg.specs.ShownNames
+pub use Rattle.cc_arg.specs.declared.action.ArgAction
+pub use Rattle.cc_arg.specs.declared.arg.Arg
+pub use Rattle.cc_arg.specs.declared.possible_value.PossibleValue
+pub use Rattle.cc_arg.specs.declared.range.ValueRange
+pub use Rattle.cc_arg.specs.declared.value_hint.ValueHint
+pub use Rattle.cc_command.specs.ArgumentLists
+pub use Rattle.cc_command.specs.Built
+pub use Rattle.cc_command.specs.Generated
+pub use Rattle.cc_command.specs.Iterators
+pub use Rattle.cc_command.specs.Made
+pub use Rattle.cc_command.specs.Names
+pub use Rattle.cc_command.specs.Plain
+pub use Rattle.cc_command.specs.PlainName
+pub use Rattle.cc_command.specs.Tree
+pub use Rattle.cc_command.specs.declared.node.Node
+-- generators
+pub use Rattle.cc_lists.specs.ArgumentNames
+pub use Rattle.cc_lists.specs.Generators
+pub use Rattle.cc_lists.specs.Subcommands
+pub use Rattle.cc_visits.specs.Paths
+pub use Rattle.cc_visits.specs.Visits
+-- Elvish and PowerShell
+pub use Rattle.cc_tables.specs.ElvishReader
+pub use Rattle.cc_tables.specs.ElvishScript
+pub use Rattle.cc_tables.specs.Offers
+pub use Rattle.cc_tables.specs.PowershellReader
+pub use Rattle.cc_tables.specs.PowershellScript
+pub use Rattle.cc_tables.specs.TableReader
+pub use Rattle.cc_tables.specs.Tables
+-- bash
+pub use Rattle.cc_bash.specs.Arms as BashArms
+pub use Rattle.cc_bash.specs.CaseTable as BashCaseTable
+pub use Rattle.cc_bash.specs.Labels as BashLabels
+pub use Rattle.cc_bash.specs.Quiet as BashQuiet
+pub use Rattle.cc_bash.specs.Reader as BashReader
+pub use Rattle.cc_bash.specs.Reads as BashReads
+pub use Rattle.cc_bash.specs.Script as BashScript
+pub use Rattle.cc_bash.specs.Walk as BashWalk
+-- fish
+pub use Rattle.cc_fish.specs.FishReads
+pub use Rattle.cc_fish.specs.FishScript
+pub use Rattle.cc_fish.specs.FishTable
+pub use Rattle.cc_fish.specs.RecordReader as FishReader
+pub use Rattle.cc_fish.specs.Records as FishRecords

@@ -1,4 +1,8 @@
 //! Completion scripts written ahead of time.
 
+pub use cc_arg::ValueHint;
 pub use cc_base::{Collected, Counted, Sink, put_all};
-pub use cc_lists::{Elvish, Generator, PowerShell, generate, utils};
+pub use cc_bash::Bash;
+pub use cc_fish::Fish;
+pub use cc_lists::{Generator, generate, utils};
+pub use cc_tables::{Elvish, PowerShell};

@@ -1,5 +1,8 @@
 //! The described command: a tree of commands with their arguments.
 
-pub use cc_arg::{Arg, ArgAction, LongAndVisibleAliases, ShortAndVisibleAliases, ValueRange};
+pub use cc_arg::{
+    Arg, ArgAction, LongAndVisibleAliases, PossibleValue, ShortAndVisibleAliases, ValueHint,
+    ValueRange,
+};
 pub use cc_base::Text;
-pub use cc_command::{Command, NameAndVisibleAliases, Options, Positionals};
+pub use cc_command::{Command, Flags, NameAndVisibleAliases, Options, Positionals};

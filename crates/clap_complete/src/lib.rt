@@ -25,5 +25,6 @@ pub mod aot;
 pub mod command;
 pub mod quote;
 
+pub use cc_arg::ValueHint;
 pub use cc_base::Error;
 pub use cc_lists::{Generator, generate};

@@ -1,3 +1,6 @@
 //! Writers and readers of words as shells quote them.
 
-pub use cc_quote::{elvish_escape, elvish_word, powershell_escape, powershell_word};
+pub use cc_quote::{
+    elvish_escape, elvish_word, fish_escape, fish_help_for_eval, fish_quote, fish_quote_for_eval,
+    posix_quote, posix_word, powershell_escape, powershell_word,
+};

@@ -1,4 +1,4 @@
--- The command line that the program takes, and what a parse of it gives and refuses.
+-- The command line that the program takes, what a parse of it gives, and how it fails.
 use Rattle.std.proofs.Common.{◌≡◌, ◌||◌, inl, inr, refl, subst, sym, true, false, not, Bool, List, [], ◌∷◌, Option, Some, None, is_some, option_map}
 use Rattle.std.specs.Borrow.{Bor}
 use Rattle.std.specs.Prelude.{IsSome, codes, if◌then◌else◌}
@@ -15,8 +15,8 @@ use Rattle.clap.specs.declared.error.Error.{Error}
 use Rattle.clap.specs.declared.error.kind.ErrorKind.{ErrorKind}
 use Rattle.clap.specs.declared.error.kind.ErrorKind.TheVariants as kind
 use Rattle.clap.proofs.OnLiterals.{clap_on_literals}
-use Rattle.complgen.specs.CommandLine.{EntersSomeScript, RefusesKind, RefusesWords, program_line}
-use Rattle.complgen.specs.Refusals.{IsWantOfMemory}
+use Rattle.complgen.specs.CommandLine.{EntersSomeScript, ReportsKind, ReportsWords, program_line}
+use Rattle.complgen.specs.Refusals.{IsOutOfMemory}
 use Rattle.complgen.specs.declared.types.Refusal.{Refusal}
 use Rattle.complgen.proofs.GivenValues.{first_none, given_value, leaves_value, rows_kept, second_none}
 
@@ -30,11 +30,11 @@ pub program_line_is_free : is_simple_and_free program_line ≡ true
 unfolding clap_on_literals
 program_line_is_free = refl
 
-pub refuses_words : (kinds : Kinds) (error : Error) (refusal : Refusal) → HasKind kinds error
-    → RefusesKind (kind_of error) refusal → RefusesWords kinds refusal
-refuses_words kinds error refusal (inl out) refuses =
-    inl (subst (λ (kind : ErrorKind). RefusesKind kind refusal) out refuses)
-refuses_words kinds error refusal (inr among) refuses = inr (kind_of error, among, refuses)
+pub reports_words : (kinds : Kinds) (error : Error) (refusal : Refusal) → HasKind kinds error
+    → ReportsKind (kind_of error) refusal → ReportsWords kinds refusal
+reports_words kinds error refusal (inl out) refuses =
+    inl (subst (λ (kind : ErrorKind). ReportsKind kind refusal) out refuses)
+reports_words kinds error refusal (inr among) refuses = inr (kind_of error, among, refuses)
 
 -- ---- words of which no step fails
 
@@ -146,12 +146,12 @@ enters_script words e =
       },
     )
 
-pub refuses_memory : (k : ErrorKind) (refusal : Refusal) → k ≡ kind.OutOfMemory
-    → RefusesKind k refusal → IsWantOfMemory refusal
-refuses_memory k refusal out refuses = subst (λ (k : ErrorKind). RefusesKind k refusal) out refuses
+pub reports_memory : (k : ErrorKind) (refusal : Refusal) → k ≡ kind.OutOfMemory
+    → ReportsKind k refusal → IsOutOfMemory refusal
+reports_memory k refusal out refuses = subst (λ (k : ErrorKind). ReportsKind k refusal) out refuses
 
 -- a text that was found by reference
-pub some_behind : (o : Option (Bor Text)) (p : Option Text) → option_map (λ s. s.now) o ≡ p
+pub some_found : (o : Option (Bor Text)) (p : Option Text) → option_map (λ s. s.now) o ≡ p
     → IsSome p → IsSome o
-some_behind None p e h = subst IsSome (sym e) h
-some_behind (Some s) p e h = refl
+some_found None p e h = subst IsSome (sym e) h
+some_found (Some s) p e h = refl

@@ -150,7 +150,7 @@ used_as_kept act.Version id at how values rows given h = h
 
 -- ---- one use of an argument
 
--- a use with no value is refused
+-- a use with no value fails
 abbrev pub wants_value : ArgAction → ℕ → Bool
 wants_value act.Set least = nat_lt 0 least
 wants_value act.Append least = nat_lt 0 least
@@ -404,7 +404,7 @@ module _ (s : Shape) (id : Text) (leaves : list_all (leaves_value id) s.rules �
   defaults_kept [] rows k = k
   defaults_kept (a ∷ rules) rows k = defaults_kept rules (with_default rows a) (default_kept a rows k)
 
-  -- the rows of words that no step refuses
+  -- the rows of words at which no step fails
   pub rows_kept : (names : Names) (words : List Text)
       → walk_fault s names (walk_from nothing_held) words ≡ []
       → settle_fault s.rules s.args_override_self (walk s.rules names nothing_held words).held ≡ []

@@ -1,7 +1,3 @@
-pub mod ChildrenLemmas
 pub mod CommandLineLemmas
+pub mod EndsLemmas
 pub mod GivenValues
-pub mod NestingLemmas
-pub mod RefusalLemmas
-pub mod TreeFormExamples
-pub mod TreeFormLemmas

@@ -1,4 +1,4 @@
--- The command lines that the program takes, and the plan that each stands for.
+-- The command lines that the program takes, and the plan that each describes.
 use Rattle.std.specs.Prelude.{◌≡◌, ◌⊎◌, ℕ, List, Option, Some, true, codes, string_bytes}
 use Rattle.clap.specs.Words.{App, Row, Rule, Text, first_of, new_app, new_rule}
 use Rattle.clap.specs.Words.{with_rule, with_subcommand}
@@ -7,7 +7,7 @@ use Rattle.clap.specs.Simple.{on_top}
 use Rattle.clap.specs.declared.error.kind.ErrorKind.{ErrorKind}
 use Rattle.clap.specs.declared.error.kind.ErrorKind.TheVariants.{DisplayHelp, DisplayVersion}
 use Rattle.clap.specs.declared.error.kind.ErrorKind.TheVariants.{OutOfMemory}
-use Rattle.complgen.specs.Refusals.{IsWantOfMemory}
+use Rattle.complgen.specs.Refusals.{IsOutOfMemory}
 use Rattle.complgen.specs.declared.types.Plan.{Plan}
 use Rattle.complgen.specs.declared.types.Plan.TheVariants.{Script}
 use Rattle.complgen.specs.declared.types.Refusal.{Refusal}
@@ -64,12 +64,12 @@ status_of DisplayVersion = 0
 status_of OutOfMemory = 1
 status_of _ = 2
 
--- an error of this kind is refused so; its text may want memory
-abbrev pub RefusesKind : ErrorKind → Refusal → Type 0
-RefusesKind OutOfMemory refusal = IsWantOfMemory refusal
-RefusesKind kind refusal = IsWantOfMemory refusal ⊎ (refusal.status ≡ status_of kind)
+-- an error of this kind ends the program so; making its text may run out of memory
+abbrev pub ReportsKind : ErrorKind → Refusal → Type 0
+ReportsKind OutOfMemory refusal = IsOutOfMemory refusal
+ReportsKind kind refusal = IsOutOfMemory refusal ⊎ (refusal.status ≡ status_of kind)
 
--- words of which a parse fails by one of these kinds are refused so
-abbrev pub RefusesWords : Kinds → Refusal → Type 0
-RefusesWords kinds refusal = IsWantOfMemory refusal
-    ⊎ ((kind : ErrorKind) × IsAmong kind kinds × RefusesKind kind refusal)
+-- words of which a parse fails by one of these kinds end the program so
+abbrev pub ReportsWords : Kinds → Refusal → Type 0
+ReportsWords kinds refusal = IsOutOfMemory refusal
+    ⊎ ((kind : ErrorKind) × IsAmong kind kinds × ReportsKind kind refusal)

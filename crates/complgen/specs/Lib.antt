@@ -1,8 +1,4 @@
-pub mod ArgumentForm
-pub mod CommandForm
 pub mod CommandLine
+pub mod Ends
 pub mod Plans
 pub mod Refusals
-pub mod Scripts
-pub mod TreeFile
-pub mod TreeForm

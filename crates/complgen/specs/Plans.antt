@@ -1,6 +1,5 @@
 -- What a plan says.
-use Rattle.std.specs.Prelude.{◌||◌, ℕ, List, Bool, codes, string_bytes}
-use Rattle.std.specs.Str.{bytes_eq}
+use Rattle.std.specs.Prelude.{ℕ, List, string_bytes}
 use Rattle.complgen.specs.declared.types.Plan.{Plan}
 use Rattle.complgen.specs.declared.types.Plan.TheVariants.{Script}
 
@@ -15,7 +14,3 @@ shell_of (Script shell bin tree) = string_bytes shell
 -- the bin name of the command
 abbrev pub bin_of : Plan → List ℕ
 bin_of (Script shell bin tree) = string_bytes bin
-
--- the program writes scripts for a shell of this name
-abbrev pub is_known_shell : List ℕ → Bool
-is_known_shell name = bytes_eq name (codes "elvish") || bytes_eq name (codes "powershell")

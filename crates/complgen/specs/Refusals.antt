@@ -1,73 +1,71 @@
--- Why the program ends without an answer.
-use Rattle.std.specs.Prelude.{◌≡◌, ◌⊎◌, ◌++◌, ℕ, List, Option, None, Some, Result, Ok, Err}
+-- What the program prints where it writes no script.
+use Rattle.std.specs.Prelude.{◌≡◌, ◌⊎◌, ◌++◌, ℕ, List, Result, Ok, Err}
 use Rattle.std.specs.Prelude.{String, codes, string_bytes}
 use Rattle.std.specs.Cow.{cow_str_bytes}
 use Rattle.std.specs.declared.alloc.AllocError.{AllocError}
 use Rattle.std.specs.declared.alloc.Global.{Global}
-use Rattle.cc_base.specs.ErrorText.{error_text}
-use Rattle.cc_base.specs.Sink.{raised}
-use Rattle.cc_base.specs.declared.error.Error.{Error}
-use Rattle.cc_base.specs.declared.error.Error.TheVariants.{InvalidVariant, LabelClash, NoArguments, NoCompletion, UnknownShell, Write, Memory as NoMemory}
-use Rattle.complgen.specs.TreeFile.{ReadsTree}
-use Rattle.complgen.specs.declared.tree_file.TreeError.{TreeError}
-use Rattle.complgen.specs.declared.tree_file.TreeError.TheVariants.{BadForm, Memory, NotJson}
+use Rattle.clap_complete.specs.Error.{Error}
+use Rattle.clap_complete.specs.Error.TheVariants as error
+use Rattle.clap_complete.specs.ErrorText.{error_text}
+use Rattle.cc_tree_file.specs.declared.error.TreeError.{TreeError}
+use Rattle.cc_tree_file.specs.declared.error.TreeError.TheVariants.{BadForm, Memory, NotJson}
 use Rattle.complgen.specs.declared.types.Refusal.{Refusal}
 
 -- what is printed
 abbrev pub text_of : Refusal → List ℕ
 text_of refusal = cow_str_bytes refusal.text
 
--- the program refuses, with this text
+-- the program ends with status 1 and this text
 pub record IsRefusal (text : List ℕ) (refusal : Refusal) : Type 0 where
   pub status : refusal.status ≡ 1
   pub text_is : text_of refusal ≡ text
 
--- memory ran out
-abbrev pub IsWantOfMemory : Refusal → Type 0
-IsWantOfMemory = IsRefusal (codes "out of memory\n")
+-- ---- the texts
 
--- no shell is written so
-abbrev pub invalid_variant_text : List ℕ → List ℕ
-invalid_variant_text shell = codes "invalid variant: " ++ shell ++ codes "\n"
+-- the text of an error of the library, as a line
+abbrev pub error_line : Error → List ℕ
+error_line error = error_text error ++ codes "\n"
 
--- how the error of a tree file is refused
-abbrev pub RefusesTree : TreeError → Refusal → Type 0
-RefusesTree NotJson refusal = IsRefusal (codes "tree: not JSON\n") refusal
-RefusesTree BadForm refusal = IsRefusal (codes "tree: bad form\n") refusal
-RefusesTree Memory refusal = IsWantOfMemory refusal
+-- no shell has this name
+abbrev pub invalid_variant_line : List ℕ → List ℕ
+invalid_variant_line shell = codes "invalid variant: " ++ shell ++ codes "\n"
 
--- how an error of the library is refused; a text that is made for it may be refused memory
-abbrev pub RefusesError : Error → Refusal → Type 0
-RefusesError (LabelClash label) refusal =
-    IsWantOfMemory refusal ⊎ IsRefusal (error_text (LabelClash label) ++ codes "\n") refusal
-RefusesError (UnknownShell text) refusal =
-    IsWantOfMemory refusal ⊎ IsRefusal (error_text (UnknownShell text) ++ codes "\n") refusal
-RefusesError (InvalidVariant text) refusal =
-    IsWantOfMemory refusal ⊎ IsRefusal (error_text (InvalidVariant text) ++ codes "\n") refusal
-RefusesError NoMemory refusal = IsWantOfMemory refusal
-RefusesError (Write kind) refusal = IsRefusal (codes "write failed\n") refusal
-RefusesError NoCompletion refusal = IsRefusal (codes "no completion generated\n") refusal
-RefusesError NoArguments refusal = IsRefusal (codes "no arguments\n") refusal
+-- the tree file can't be read
+abbrev pub unreadable_line : List ℕ
+unreadable_line = codes "tree: unreadable\n"
 
--- a refusal with a text that took memory
-abbrev pub RefusesWithText : Result (String Global) AllocError → Refusal → Type 0
-RefusesWithText (Ok text) refusal = IsRefusal (string_bytes text) refusal
-RefusesWithText (Err refused) refusal = IsWantOfMemory refusal
+-- the tree file is no JSON
+abbrev pub not_json_line : List ℕ
+not_json_line = codes "tree: not JSON\n"
 
--- how a tree file is refused: one that can't be read, and one that holds these bytes
-abbrev pub RefusesFile : Option (List ℕ) → Refusal → Type 0
-RefusesFile None refusal = IsRefusal (codes "tree: unreadable\n") refusal
-RefusesFile (Some bytes) refusal =
-    (error : TreeError) × RefusesTree error refusal × ReadsTree bytes (Err error)
+-- the JSON describes no command
+abbrev pub bad_form_line : List ℕ
+bad_form_line = codes "tree: bad form\n"
 
--- how a script is refused, once the shell is known, where no write failed: for want of memory, or for
--- its tree file
-abbrev pub RefusesScript : Option (List ℕ) → Refusal → Type 0
-RefusesScript file refusal = IsWantOfMemory refusal ⊎ RefusesFile file refusal
+-- ---- which refusal it is
 
--- A failed write is refused as such, and the sink's count of failures rises exactly then.
-abbrev pub CountsRefusal : {A : Type 0} → Option (List ℕ) → Result A Refusal → ℕ → ℕ → Type 0
-CountsRefusal file (Ok _) before after = after ≡ before
-CountsRefusal file (Err refusal) before after =
-    (IsRefusal (codes "write failed\n") refusal × (after ≡ raised before))
-    ⊎ (RefusesScript file refusal × (after ≡ before))
+-- out of memory
+abbrev pub IsOutOfMemory : Refusal → Type 0
+IsOutOfMemory = IsRefusal (error_line error.Memory)
+
+-- this text, which is made; so it may be out of memory
+abbrev pub IsMade : List ℕ → Refusal → Type 0
+IsMade text refusal = IsOutOfMemory refusal ⊎ IsRefusal text refusal
+
+-- what an error of the library prints
+abbrev pub Reports : Error → Refusal → Type 0
+Reports (error.LabelClash label) refusal = IsMade (error_line (error.LabelClash label)) refusal
+Reports (error.UnknownShell text) refusal = IsMade (error_line (error.UnknownShell text)) refusal
+Reports (error.InvalidVariant text) refusal = IsMade (error_line (error.InvalidVariant text)) refusal
+Reports error refusal = IsRefusal (error_line error) refusal
+
+-- what the error of a tree file prints
+abbrev pub ReportsTree : TreeError → Refusal → Type 0
+ReportsTree NotJson refusal = IsRefusal not_json_line refusal
+ReportsTree BadForm refusal = IsRefusal bad_form_line refusal
+ReportsTree Memory refusal = IsOutOfMemory refusal
+
+-- a text that was made, if there was memory for it
+abbrev pub HasText : Result (String Global) AllocError → Refusal → Type 0
+HasText (Ok text) refusal = IsRefusal (string_bytes text) refusal
+HasText (Err failed) refusal = IsOutOfMemory refusal

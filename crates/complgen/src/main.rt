@@ -4,10 +4,9 @@
 mod command_line;
 mod plan;
 mod run;
-mod tree_file;
 mod types;
 
-use crate::types::Refusal;
+use crate::types::{Refusal, WRITE_FAILED};
 use clap_complete::aot::Counted;
 use std::alloc::AllocError;
 use std::convert::AsStr;
@@ -19,17 +18,15 @@ use std::{fs, io};
 
 const NOT_UTF8: &str = "words: not UTF-8\n";
 
-const WRITE_FAILED: &str = "write failed\n";
-
 fn main(rt: HostRuntime) -> ExitCode {
-    match answer(&rt) {
+    match carry_out(&rt) {
         Ok(()) => ExitCode::SUCCESS,
         Err(refusal) => ExitCode::from(report(&rt, &refusal)),
     }
 }
 
 // Does what the command line asks for.
-fn answer<R: Env + Files + Print + AllocGlobal>(rt: &R) -> Result<(), Refusal> {
+fn carry_out<R: Env + Files + Print + AllocGlobal>(rt: &R) -> Result<(), Refusal> {
     let words = words(rt)?;
     let plan = plan::plan(rt.alloc(), words.as_slice())?;
     let file = contents(rt, plan.tree())?;
@@ -40,7 +37,7 @@ fn answer<R: Env + Files + Print + AllocGlobal>(rt: &R) -> Result<(), Refusal> {
     out.flush().map_err(|_| Refusal::fixed(1, WRITE_FAILED))
 }
 
-// The words of the command line, of which the first is the program's name.
+// The words of the command line; the first is the program's name.
 fn words<R: Env + AllocGlobal>(rt: &R) -> Result<Vec<String>, Refusal> {
     match env::args(rt) {
         Ok(words) => Ok(words.collect(rt.alloc())?),
@@ -58,7 +55,7 @@ fn contents<R: Files + AllocGlobal>(rt: &R, path: &str) -> Result<Option<Vec<u8>
     }
 }
 
-// Prints why there is no answer, and gives the status to end with.
+// Prints the text of a refusal, and returns the exit status.
 fn report<R: Print + Eprint>(rt: &R, refusal: &Refusal) -> u8 {
     let text = refusal.text.as_str();
     if refusal.status == 0 {

@@ -4,8 +4,8 @@ ghost use Rattle.std.specs.Prelude.{◌≡◌, [], IfOk, IfErr, IsSome, Some, co
 ghost use Rattle.clap.specs.Words.{fault_of, first_of, found_of, kind_of, rows_of, subcommand_of};
 ghost use Rattle.clap.specs.Words.{subcommand_rows_of, takes};
 ghost use Rattle.complgen.specs.CommandLine.{AsksFor, EntersSomeScript, HasScriptValues};
-ghost use Rattle.complgen.specs.CommandLine.{RefusesKind, RefusesWords, program_line};
-ghost use Rattle.complgen.specs.Refusals.{IsWantOfMemory};
+ghost use Rattle.complgen.specs.CommandLine.{ReportsKind, ReportsWords, program_line};
+ghost use Rattle.complgen.specs.Refusals.{IsOutOfMemory};
 
 use crate::command_line::command_line;
 use crate::types::{Plan, Refusal};
@@ -14,14 +14,15 @@ use clap::error::{Error, ErrorKind};
 use std::alloc::{AllocError, Global};
 use std::borrow::CowStr;
 
-/// What the words ask for, of which the first is the program's name. Words that the command line
-/// doesn't take are refused with status 2, and words that ask for help with status 0 and that help.
+/// Returns what the words ask for; the first is the program's name. Fails with status 2 where the
+/// command line doesn't take the words, with status 0 and the help text where they ask for help, and
+/// with status 1 where it is out of memory.
 pub fn plan(alloc: Global, words: &[String]) -> Result<Plan, Refusal>
     ensures ok { IfOk result (AsksFor (subcommand_of program_line (map string_bytes words.now))) }
     ensures fits { IfOk result (λ _. fault_of program_line (map string_bytes words.now) ≡ []) }
     ensures taken { IfErr result (λ refusal.
-        takes program_line (map string_bytes words.now) ≡ true → IsWantOfMemory refusal) }
-    ensures err { IfErr result (RefusesWords (fault_of program_line (map string_bytes words.now))) }
+        takes program_line (map string_bytes words.now) ≡ true → IsOutOfMemory refusal) }
+    ensures err { IfErr result (ReportsWords (fault_of program_line (map string_bytes words.now))) }
 {
     let command = command_line(alloc)?;
     match command.try_get_matches_from(words) {
@@ -30,7 +31,7 @@ pub fn plan(alloc: Global, words: &[String]) -> Result<Plan, Refusal>
     }
 }
 
-// The plan that a parse of the words gives.
+// The plan of a parse.
 fn planned(alloc: Global, matches: &ArgMatches<'_>) -> Result<Plan, AllocError>
     requires { EntersSomeScript (subcommand_rows_of matches.now) }
     ensures { IfOk result (AsksFor (subcommand_rows_of matches.now)) }
@@ -63,9 +64,9 @@ fn value(alloc: Global, values: &ArgMatches<'_>, id: &str) -> Result<String, All
     String::from_str(alloc, text)
 }
 
-// What a parse that failed has the program print.
+// What a failed parse prints.
 fn refusal_of(alloc: Global, error: &Error) -> Refusal
-    ensures { RefusesKind (kind_of error.now) result }
+    ensures { ReportsKind (kind_of error.now) result }
 {
     if matches!(error.kind(), ErrorKind::OutOfMemory) {
         return Refusal::from(AllocError);
@@ -76,7 +77,7 @@ fn refusal_of(alloc: Global, error: &Error) -> Refusal
             status,
             text: CowStr::Owned(text),
         },
-        Err(refused) => Refusal::from(refused),
+        Err(failed) => Refusal::from(failed),
     }
 }
 
@@ -96,7 +97,7 @@ mod tests {
         Ok(plan(alloc, all.as_slice()))
     }
 
-    fn refused(alloc: Global, words: &[&str]) -> Result<Refusal, Fail> {
+    fn failed(alloc: Global, words: &[&str]) -> Result<Refusal, Fail> {
         match planned(alloc, words)? {
             Ok(_) => Err(Fail::from("a plan")),
             Err(refusal) => Ok(refusal),
@@ -114,7 +115,7 @@ mod tests {
             "tree.json",
         ];
         let Ok(Plan::Script(shell, bin, tree)) = planned(rt.alloc(), words.as_slice())? else {
-            return Err(Fail::from("a refusal"));
+            return Err(Fail::from("no plan"));
         };
         assert!(rt; shell.as_str() == "elvish" && bin.as_str() == "app");
         assert!(rt; tree.as_str() == "tree.json");
@@ -122,15 +123,15 @@ mod tests {
     }
 
     #[test]
-    fn refuses_bad_words(rt: HostRuntime) -> Result<(), Fail> {
-        let refusal = refused(rt.alloc(), &["complgen", "script"])?;
+    fn fails_on_bad_words(rt: HostRuntime) -> Result<(), Fail> {
+        let refusal = failed(rt.alloc(), &["complgen", "script"])?;
         let text = "error: the following required arguments were not provided:\n  \
             --shell <SHELL>\n  --bin <NAME>\n  <TREE>\n\n\
             Usage: complgen script --shell <SHELL> --bin <NAME> <TREE>\n\n\
             For more information, try '--help'.\n";
         assert_eq!(rt; refusal.status, 2);
         assert_eq!(rt; refusal.text.as_str(), text);
-        let unknown = refused(
+        let unknown = failed(
             rt.alloc(),
             &["complgen", "register", "--bin", "app", "tree.json"],
         )?;
@@ -140,7 +141,7 @@ mod tests {
 
     #[test]
     fn shows_help(rt: HostRuntime) -> Result<(), Fail> {
-        let refusal = refused(rt.alloc(), &["complgen", "--help"])?;
+        let refusal = failed(rt.alloc(), &["complgen", "--help"])?;
         assert_eq!(rt; refusal.status, 0);
         assert!(rt; refusal.text.as_str().contains("Usage: complgen <COMMAND>"));
         Ok(())

@@ -1,18 +1,12 @@
-//! Does what a plan asks for.
+//! Carries out a plan.
 
-ghost use Rattle.std.specs.Prelude.{◌≡◌, ◌⊎◌, IfErr, IfOk, IsErrAnd, OnOk, false, option_copied};
-ghost use Rattle.std.specs.Prelude.{true};
-ghost use Rattle.cc_command.specs.Tree.{Tree};
-ghost use Rattle.complgen.specs.Plans.{bin_of, is_known_shell, shell_of};
-ghost use Rattle.complgen.specs.Refusals.{IsRefusal, IsWantOfMemory, RefusesError, RefusesTree};
-ghost use Rattle.complgen.specs.Refusals.{CountsRefusal, RefusesFile, RefusesWithText};
-ghost use Rattle.complgen.specs.Refusals.{invalid_variant_text};
-ghost use Rattle.complgen.specs.Scripts.{TakesScript, script_for};
-ghost use Rattle.complgen.specs.TreeFile.{HoldsNoTree, HoldsTree};
+ghost use Rattle.std.specs.Prelude.{◌≡◌, Some, option_copied};
+ghost use Rattle.complgen.specs.Ends.{Ends, EndsScript, Finishes, ReadsFile};
+ghost use Rattle.complgen.specs.Refusals.{HasText, IsMade, Reports, ReportsTree, invalid_variant_line};
 
-use crate::tree_file::{TreeError, read_tree};
-use crate::types::{Plan, Refusal};
-use clap_complete::aot::{Elvish, Generator, PowerShell, Sink};
+use crate::types::{Plan, Refusal, WRITE_FAILED};
+use cc_tree_file::{TreeError, read_tree};
+use clap_complete::aot::{Bash, Elvish, Fish, Generator, PowerShell, Sink};
 use clap_complete::command::Command;
 use clap_complete::{Error, generate};
 use std::alloc::{AllocError, Global};
@@ -24,57 +18,56 @@ const NOT_JSON: &str = "tree: not JSON\n";
 
 const BAD_FORM: &str = "tree: bad form\n";
 
-const WRITE_FAILED: &str = "write failed\n";
-
 const NO_COMPLETION: &str = "no completion generated\n";
 
 const NO_ARGUMENTS: &str = "no arguments\n";
 
-/// Does what the plan asks for, over the bytes of its tree file, or `None` where that file can't be
-/// read. The script goes to `out`. The shell is read before the tree.
+/// Carries out the plan, over the bytes of its tree file, or `None` where that file can't be read.
+/// The script goes to `out`. The shell is looked up before the tree is read.
 pub fn run<W: Sink>(
     alloc: Global,
     plan: &Plan,
     file: Option<&[u8]>,
     out: &mut W,
 ) -> Result<(), Refusal>
-    ensures shell { is_known_shell (shell_of plan.now) ≡ false → IsErrAnd result
-        (λ r. IsWantOfMemory r ⊎ IsRefusal (invalid_variant_text (shell_of plan.now)) r) }
-    ensures nothing_written { is_known_shell (shell_of plan.now) ≡ false → W.taken out.new ≡ W.taken out.old }
-    ensures nothing_failed { is_known_shell (shell_of plan.now) ≡ false →
-        W.failed out.new ≡ W.failed out.old }
-    ensures unreadable { is_known_shell (shell_of plan.now) ≡ true → file.entry ≡ None
-        → IsErrAnd result (IsRefusal UNREADABLE.now) }
-    ensures no_tree_written { HoldsNoTree (option_copied file.entry) → W.taken out.new ≡ W.taken out.old }
-    ensures no_tree_failed { HoldsNoTree (option_copied file.entry) → W.failed out.new ≡ W.failed out.old }
-    ensures failures { is_known_shell (shell_of plan.now) ≡ true
-        → CountsRefusal (option_copied file.entry) result (W.failed out.old) (W.failed out.new) }
-    ensures ok { OnOk result (TakesScript (script_for (shell_of plan.now)) (bin_of plan.now)
-        (option_copied file.entry) (W.taken out.old) (W.taken out.new)) }
+    ensures { Ends W.taken W.failed plan.now (option_copied file.entry) out.old out.new result }
 {
-    let Plan::Script(shell, bin, _) = plan;
-    match shell.as_str() {
-        "elvish" => script(alloc, Elvish, bin.as_str(), file, out),
-        "powershell" => script(alloc, PowerShell, bin.as_str(), file, out),
+    match plan {
+        Plan::Script(shell, bin, _) => script(alloc, shell.as_str(), bin.as_str(), file, out),
+    }
+}
+
+// Writes the script for the shell of this name.
+fn script<W: Sink>(
+    alloc: Global,
+    shell: &str,
+    bin: &str,
+    file: Option<&[u8]>,
+    out: &mut W,
+) -> Result<(), Refusal>
+    ensures { EndsScript W.taken W.failed shell.now bin.now (option_copied file.entry)
+        out.old out.new result }
+{
+    match shell {
+        "bash" => script_by(alloc, Bash, bin, file, out),
+        "elvish" => script_by(alloc, Elvish, bin, file, out),
+        "fish" => script_by(alloc, Fish, bin, file, out),
+        "powershell" => script_by(alloc, PowerShell, bin, file, out),
         unknown => Err(invalid_variant(alloc, unknown)),
     }
 }
 
 // Writes the generator's script for a tree file.
-fn script<G: Generator + Drop, W: Sink>(
+fn script_by<G: Generator + Drop, W: Sink>(
     alloc: Global,
     generator: G,
     bin: &str,
     file: Option<&[u8]>,
     out: &mut W,
 ) -> Result<(), Refusal>
-    ensures unreadable { file.entry ≡ None → IsErrAnd result (IsRefusal UNREADABLE.now) }
-    ensures no_tree_written { HoldsNoTree (option_copied file.entry) → W.taken out.new ≡ W.taken out.old }
-    ensures no_tree_failed { HoldsNoTree (option_copied file.entry) → W.failed out.new ≡ W.failed out.old }
-    ensures failures { ((tree : Tree) → G.clash generator tree ≡ None)
-        → CountsRefusal (option_copied file.entry) result (W.failed out.old) (W.failed out.new) }
-    ensures ok { OnOk result (TakesScript (λ tree. G.script generator tree) bin.now
-        (option_copied file.entry) (W.taken out.old) (W.taken out.new)) }
+    ensures { Finishes W.taken W.failed
+        (record { script = G.script generator; clash = G.clash generator }) bin.now
+        out.old out.new (option_copied file.entry) result }
 {
     let mut command = tree(alloc, file)?;
     let bin = String::from_str(alloc, bin)?;
@@ -84,11 +77,9 @@ fn script<G: Generator + Drop, W: Sink>(
     }
 }
 
-// The tree that a file holds.
+// The command that a file describes.
 fn tree(alloc: Global, file: Option<&[u8]>) -> Result<Command, Refusal>
-    ensures ok { IfOk result (λ command. HoldsTree (option_copied file.entry) command) }
-    ensures unreadable { file.entry ≡ None → IsErrAnd result (IsRefusal UNREADABLE.now) }
-    ensures err { IfErr result (RefusesFile (option_copied file.entry)) }
+    ensures { ReadsFile (option_copied file.entry) result }
 {
     let Some(bytes) = file else {
         return Err(Refusal::fixed(1, UNREADABLE));
@@ -96,16 +87,15 @@ fn tree(alloc: Global, file: Option<&[u8]>) -> Result<Command, Refusal>
     read_tree(alloc, bytes).map_err(tree_refusal)
 }
 
-// Says that no shell is written as this text.
+// No shell has this name.
 fn invalid_variant(alloc: Global, shell: &str) -> Refusal
-    ensures { IsWantOfMemory result ⊎ IsRefusal (invalid_variant_text shell.now) result }
+    ensures { IsMade (invalid_variant_line shell.now) result }
 {
     with_text(format!(in alloc; "invalid variant: {shell}\n"))
 }
 
-// What the refusal of a tree has the program print.
 fn tree_refusal(error: TreeError) -> Refusal
-    ensures { RefusesTree error result }
+    ensures { ReportsTree error result }
 {
     match error {
         TreeError::NotJson => Refusal::fixed(1, NOT_JSON),
@@ -114,9 +104,8 @@ fn tree_refusal(error: TreeError) -> Refusal
     }
 }
 
-// What an error of the library has the program print.
 fn error_refusal(alloc: Global, error: &Error) -> Refusal
-    ensures { RefusesError error.now result }
+    ensures { Reports error.now result }
 {
     match error {
         Error::Memory => Refusal::from(AllocError),
@@ -136,14 +125,14 @@ fn error_refusal(alloc: Global, error: &Error) -> Refusal
 
 // A refusal with this text, if there was memory for it.
 fn with_text(text: Result<String, AllocError>) -> Refusal
-    ensures { RefusesWithText text result }
+    ensures { HasText text result }
 {
     match text {
         Ok(text) => Refusal {
             status: 1,
             text: CowStr::Owned(text),
         },
-        Err(refused) => Refusal::from(refused),
+        Err(failed) => Refusal::from(failed),
     }
 }
 
@@ -156,8 +145,8 @@ mod tests {
     use std::convert::AsStr;
     use std::test::Fail;
 
-    // How a script for this shell, over this file, is refused.
-    fn refused(alloc: Global, shell: &str, file: Option<&[u8]>) -> Result<Refusal, Fail> {
+    // How a script for this shell, over this file, fails.
+    fn failed(alloc: Global, shell: &str, file: Option<&[u8]>) -> Result<Refusal, Fail> {
         let bin = String::from_str(alloc, "app")?;
         let tree = String::from_str(alloc, "tree.json")?;
         let plan = Plan::Script(String::from_str(alloc, shell)?, bin, tree);
@@ -170,8 +159,8 @@ mod tests {
     }
 
     #[test]
-    fn refuses_a_shell_before_the_tree(rt: HostRuntime) -> Result<(), Fail> {
-        let refusal = refused(rt.alloc(), "tcsh", None)?;
+    fn reports_a_shell_before_the_tree(rt: HostRuntime) -> Result<(), Fail> {
+        let refusal = failed(rt.alloc(), "tcsh", None)?;
         assert_eq!(rt; refusal.status, 1);
         assert_eq!(rt; refusal.text.as_str(), "invalid variant: tcsh\n");
         Ok(())
@@ -189,7 +178,7 @@ mod tests {
         let mut out = Collected::new(alloc);
         match run(alloc, &plan, Some(file), &mut out) {
             Ok(()) => Ok(out.into_vec()),
-            Err(_) => Err(Fail::from("a refusal")),
+            Err(_) => Err(Fail::from("no script")),
         }
     }
 
@@ -218,8 +207,8 @@ mod tests {
     }
 
     #[test]
-    fn refuses_a_file_that_is_not_there(rt: HostRuntime) -> Result<(), Fail> {
-        let refusal = refused(rt.alloc(), "elvish", None)?;
+    fn reports_a_file_that_is_not_there(rt: HostRuntime) -> Result<(), Fail> {
+        let refusal = failed(rt.alloc(), "elvish", None)?;
         assert_eq!(rt; refusal.status, 1);
         assert_eq!(rt; refusal.text.as_str(), "tree: unreadable\n");
         Ok(())
@@ -229,9 +218,9 @@ mod tests {
     const NOT_JSON: [&[u8]; 4] = [b"{", b"", b"{\"name\":\"\xff\"}", b"{\"name\":1e999}"];
 
     #[test]
-    fn refuses_a_file_that_is_not_json(rt: HostRuntime) -> Result<(), Fail> {
+    fn reports_a_file_that_is_not_json(rt: HostRuntime) -> Result<(), Fail> {
         for bytes in NOT_JSON {
-            let refusal = refused(rt.alloc(), "elvish", Some(bytes))?;
+            let refusal = failed(rt.alloc(), "elvish", Some(bytes))?;
             assert_eq!(rt; refusal.status, 1);
             assert_eq!(rt; refusal.text.as_str(), "tree: not JSON\n");
         }
@@ -247,10 +236,10 @@ mod tests {
     }
 
     #[test]
-    fn refuses_a_million_open_brackets(rt: HostRuntime) -> Result<(), Fail> {
+    fn reports_a_million_open_brackets(rt: HostRuntime) -> Result<(), Fail> {
         let mut text = String::new(rt.alloc());
         push_times(&mut text, "[", 1_000_000)?;
-        let refusal = refused(rt.alloc(), "elvish", Some(text.as_bytes()))?;
+        let refusal = failed(rt.alloc(), "elvish", Some(text.as_bytes()))?;
         assert_eq!(rt; refusal.status, 1);
         assert_eq!(rt; refusal.text.as_str(), "tree: not JSON\n");
         Ok(())
@@ -270,8 +259,8 @@ mod tests {
     }
 
     #[test]
-    fn refuses_a_file_of_another_form(rt: HostRuntime) -> Result<(), Fail> {
-        let refusal = refused(rt.alloc(), "elvish", Some(b"{\"name\":1.5}"))?;
+    fn reports_a_file_of_another_form(rt: HostRuntime) -> Result<(), Fail> {
+        let refusal = failed(rt.alloc(), "elvish", Some(b"{\"name\":1.5}"))?;
         assert_eq!(rt; refusal.status, 1);
         assert_eq!(rt; refusal.text.as_str(), "tree: bad form\n");
         Ok(())

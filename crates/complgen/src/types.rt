@@ -1,4 +1,4 @@
-//! What the command line asks for, and why the program ends without it.
+//! What the command line asks for, and what is printed in its place.
 
 use std::alloc::{AllocError, Global};
 use std::borrow::CowStr;
@@ -25,15 +25,18 @@ impl Plan {
     }
 }
 
-/// Why the program ends without an answer, or with a help text in its place.
+/// What the program prints in place of a script: why it fails, or a help text.
 #[derive(Debug, Drop)]
 pub struct Refusal {
-    /// The exit status: 0 for a help text that was asked for, 1 for a refusal and 2 for words that
+    /// The exit status: 0 for a help text that was asked for, 1 for a failure and 2 for words that
     /// the command line doesn't take.
     pub status: u8,
     /// Exactly what is printed: on the standard output at status 0, and else on the standard error.
     pub text: CowStr<'static, Global>,
 }
+
+/// What is printed where the output can't be written.
+pub const WRITE_FAILED: &str = "write failed\n";
 
 const OUT_OF_MEMORY: &str = "out of memory\n";
 
@@ -41,7 +44,7 @@ impl Refusal {
     ghost use Rattle.std.specs.Prelude.{◌≡◌};
     ghost use Rattle.complgen.specs.Refusals.{text_of};
 
-    /// A refusal with a text that is known beforehand, which takes no memory.
+    /// A refusal with a fixed text. Allocates nothing.
     pub fn fixed(status: u8, text: &'static str) -> Refusal
         ensures status { result.status ≡ status }
         ensures text { text_of result ≡ text.entry.now }
@@ -54,11 +57,35 @@ impl Refusal {
 }
 
 impl From<AllocError> for Refusal {
-    ghost use Rattle.complgen.specs.Refusals.{IsWantOfMemory};
+    ghost use Rattle.complgen.specs.Refusals.{IsOutOfMemory};
 
-    ghost from_gives = { λ _ refusal. IsWantOfMemory refusal };
+    ghost from_gives = { λ _ refusal. IsOutOfMemory refusal };
 
-    fn from(_refused: AllocError) -> Refusal {
+    fn from(_failed: AllocError) -> Refusal {
         Refusal::fixed(1, OUT_OF_MEMORY)
+    }
+}
+
+#[cfg(test)]
+mod tests {
+    use super::*;
+    use std::test::Fail;
+
+    #[test]
+    fn debug_shows_each_field(rt: HostRuntime) -> Result<(), Fail> {
+        let alloc = rt.alloc();
+        let shell = String::from_str(alloc, "elvish")?;
+        let bin = String::from_str(alloc, "app")?;
+        let plan = Plan::Script(shell, bin, String::from_str(alloc, "tree.json")?);
+        let shown = format!(in alloc; "{plan:?}")?;
+        assert_eq!(rt;
+            shown.as_str(),
+            "Script(\"elvish\", \"app\", \"tree.json\")"
+        );
+        let refusal = Refusal::from(AllocError);
+        let shown = format!(in alloc; "{refusal:?}")?;
+        let wanted = "Refusal { status: 1, text: \"out of memory\\n\" }";
+        assert_eq!(rt; shown.as_str(), wanted);
+        Ok(())
     }
 }

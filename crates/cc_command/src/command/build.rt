@@ -1,31 +1,38 @@
 //! Building a command: what is missing is added and filled in, all the way down.
 
-ghost use Rattle.std.specs.Prelude.{◌≡◌, [], Some, IfOk, IfErr, OnOk, OnErr};
+ghost use Rattle.std.specs.Prelude.{◌≡◌, [], Some, IfOk, IfErr, IsTrue, OnOk, OnErr};
+ghost use Rattle.std.specs.Result.{IsOk};
 ghost use Rattle.std.specs.String.{string_bytes};
 ghost use Rattle.cc_command.specs.Tree.{forest_of, join};
 ghost use Rattle.cc_command.specs.Generated.{help_child};
 ghost use Rattle.cc_command.specs.Names.{joined_name};
 ghost use Rattle.cc_command.specs.Built.{built_forest, built_tree, built_under};
+ghost use Rattle.cc_command.specs.PlainName.{is_plain_name};
+ghost use Rattle.cc_command.specs.Plain.{is_plain_tree};
 
 mod arguments;
 mod help;
+mod texts;
 
 use crate::command::Command;
 use crate::command::build::arguments::built_node;
 use crate::command::build::help::{help_command, needs_help_child};
 use cc_base::{Error, Text};
-use std::alloc::Global;
+use std::alloc::{AllocError, Global};
 
 impl Command {
     /// Builds the command and all below it: adds the flag `help`, the flag `version` where there
     /// is a version, and the child `help` where there are children, each unless it is disabled or
-    /// there already; fills in ranges, actions and indexes; and names every child in full. Building
-    /// a built command changes nothing.
+    /// there already; fills in ranges, actions and indexes; and names every child in full. A plain
+    /// command stays plain. Building a built command changes nothing and never fails.
     ///
     /// Fails with `Memory` alone; the command is then unchanged.
     pub fn build(&mut self, alloc: Global) -> Result<(), Error>
         ensures ok { OnOk result (self.new ≡ built_tree self.old) }
         ensures whole { OnOk result (built_tree self.new ≡ self.new) }
+        ensures plain { OnOk result
+            (IsTrue (is_plain_tree self.old) → IsTrue (is_plain_tree self.new)) }
+        ensures built { IsTrue self.old.node.built → IsOk result }
         ensures err { OnErr result (self.new ≡ self.old) }
         ensures memory { IfErr result (λ error. error ≡ Error.Memory) }
     {
@@ -37,11 +44,9 @@ impl Command {
         Ok(())
     }
 
-    // The command as building leaves it, under this bin name.
     #[cycle(build)]
-    fn built_under(&self, alloc: Global, bin_name: Option<Text>) -> Result<Command, Error>
+    fn built_under(&self, alloc: Global, bin_name: Option<Text>) -> Result<Command, AllocError>
         ensures ok { IfOk result (λ command. command ≡ built_under bin_name self.now) }
-        ensures memory { IfErr result (λ error. error ≡ Error.Memory) }
     {
         let name = match &bin_name {
             Some(name) => name.as_str(),
@@ -52,16 +57,16 @@ impl Command {
         Ok(Command { node, children })
     }
 
-    // The children as building leaves them, where this is the command's full name.
+    // `name` is the command's full name.
     #[cycle(build)]
-    fn built_children(&self, alloc: Global, name: &str) -> Result<Vec<Command>, Error>
+    fn built_children(&self, alloc: Global, name: &str) -> Result<Vec<Command>, AllocError>
         ensures ok { IfOk result (λ built. forest_of built.items
             ≡ join (built_forest [] name.now self.now.children)
             (help_child name.now self.now.node self.now.children)) }
-        ensures memory { IfErr result (λ error. error ≡ Error.Memory) }
     {
         let mut children = built_siblings(&self.children, alloc, name)?;
-        if !needs_help_child(&self.node, &self.children) {
+        let lacks_help = needs_help_child(&self.node, &self.children);
+        if !lacks_help {
             return Ok(children);
         }
         children.reserve_exact(1)?;
@@ -70,13 +75,16 @@ impl Command {
     }
 }
 
-/// Sets the bin name of a command and builds it, both or neither. A free function, so that
-/// `clap_complete` can leave it out of what it gives out.
+/// Sets the bin name of a command and builds it, both or neither. A plain command stays plain under
+/// a plain bin name. A free function, so that `clap_complete` need not re-export it.
 ///
 /// Fails with `Memory` alone; the command is then unchanged.
 pub fn build_as(command: &mut Command, alloc: Global, bin_name: String) -> Result<(), Error>
-    ensures ok { OnOk result (command.new ≡ built_under (Some (string_bytes bin_name)) command.old) }
+    ensures ok { OnOk result
+        (command.new ≡ built_under (Some (string_bytes bin_name)) command.old) }
     ensures whole { OnOk result (built_tree command.new ≡ command.new) }
+    ensures plain { OnOk result (IsTrue (is_plain_tree command.old)
+        → IsTrue (is_plain_name (string_bytes bin_name)) → IsTrue (is_plain_tree command.new)) }
     ensures err { OnErr result (command.new ≡ command.old) }
     ensures memory { IfErr result (λ error. error ≡ Error.Memory) }
 {
@@ -84,12 +92,14 @@ pub fn build_as(command: &mut Command, alloc: Global, bin_name: String) -> Resul
     Ok(())
 }
 
-// Siblings as building leaves them, under a parent of this full name.
 #[cycle(build)]
-fn built_siblings(siblings: &[Command], alloc: Global, parent: &str) -> Result<Vec<Command>, Error>
+fn built_siblings(
+    siblings: &[Command],
+    alloc: Global,
+    parent: &str,
+) -> Result<Vec<Command>, AllocError>
     ensures ok { IfOk result (λ built.
         forest_of built.items ≡ built_forest [] parent.now (forest_of siblings.now)) }
-    ensures memory { IfErr result (λ error. error ≡ Error.Memory) }
 {
     let mut built = Vec::with_capacity(alloc, siblings.len())?;
     for sibling in siblings {
@@ -99,10 +109,8 @@ fn built_siblings(siblings: &[Command], alloc: Global, parent: &str) -> Result<V
     Ok(built)
 }
 
-// The name of a child in full.
-fn joined_name(alloc: Global, parent: &str, name: &str) -> Result<Text, Error>
+fn joined_name(alloc: Global, parent: &str, name: &str) -> Result<Text, AllocError>
     ensures ok { IfOk result (λ text. text ≡ joined_name parent.now name.now) }
-    ensures memory { IfErr result (λ error. error ≡ Error.Memory) }
 {
     let length = parent.len().saturating_add(name.len()).saturating_add(1);
     let mut text = String::with_capacity(alloc, length)?;

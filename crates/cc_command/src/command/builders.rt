@@ -2,19 +2,18 @@
 
 ghost use Rattle.std.specs.Prelude.{◌≡◌, ◌++◌, ◌∷◌, [], Some, IfOk, IfErr, OnOk, false};
 ghost use Rattle.std.specs.String.{string_bytes};
-ghost use Rattle.cc_command.specs.Made.{ordered_node, with_argument, with_child};
+ghost use Rattle.cc_command.specs.Made.{ordered_node, with_argument, with_child, with_root};
 
 use crate::command::Command;
 use cc_arg::{Arg, fill_display_order};
 use cc_base::{Error, Text};
+use std::alloc::AllocError;
 
 impl Command {
     /// Sets the name by which the program is called.
     pub fn bin_name(mut self, name: String) -> Command
-        ensures { result ≡ record self {
-          node =
-              record self.node { bin_name = Some (string_bytes name); built = false };
-        } }
+        ensures { result
+            ≡ with_root (λ node. record node { bin_name = Some (string_bytes name) }) self }
     {
         self.set_bin_name(name);
         self
@@ -22,10 +21,8 @@ impl Command {
 
     /// Sets the name by which the program is called, in place.
     pub fn set_bin_name(&mut self, name: String)
-        ensures { self.new ≡ record self.old {
-          node =
-              record self.old.node { bin_name = Some (string_bytes name); built = false };
-        } }
+        ensures { self.new
+            ≡ with_root (λ node. record node { bin_name = Some (string_bytes name) }) self.old }
     {
         self.node.built = false;
         self.node.bin_name = Some(Text::from(name));
@@ -33,10 +30,8 @@ impl Command {
 
     /// Sets what the command says of itself.
     pub fn about(mut self, about: String) -> Command
-        ensures { result ≡ record self {
-          node =
-              record self.node { about = Some (string_bytes about); built = false };
-        } }
+        ensures { result
+            ≡ with_root (λ node. record node { about = Some (string_bytes about) }) self }
     {
         self.node.built = false;
         self.node.about = Some(Text::from(about));
@@ -45,10 +40,8 @@ impl Command {
 
     /// Sets the version, which a flag shows.
     pub fn version(mut self, version: String) -> Command
-        ensures { result ≡ record self {
-          node =
-              record self.node { version = Some (string_bytes version); built = false };
-        } }
+        ensures { result
+            ≡ with_root (λ node. record node { version = Some (string_bytes version) }) self }
     {
         self.node.built = false;
         self.node.version = Some(Text::from(version));
@@ -57,10 +50,8 @@ impl Command {
 
     /// Adds a name that works and is not shown.
     pub fn alias(mut self, alias: String) -> Result<Command, Error>
-        ensures ok { IfOk result (λ command. command ≡ record self {
-          node =
-              record self.node { aliases = self.node.aliases ++ string_bytes alias ∷ []; built = false };
-        }) }
+        ensures ok { IfOk result (λ command. command ≡ with_root
+            (λ node. record node { aliases = node.aliases ++ string_bytes alias ∷ [] }) self) }
         ensures memory { IfErr result (λ error. error ≡ Error.Memory) }
     {
         self.node.built = false;
@@ -70,13 +61,9 @@ impl Command {
 
     /// Adds a name that is shown.
     pub fn visible_alias(mut self, alias: String) -> Result<Command, Error>
-        ensures ok { IfOk result (λ command. command ≡ record self {
-          node =
-              record self.node {
-                visible_aliases = self.node.visible_aliases ++ string_bytes alias ∷ [];
-                built = false;
-              };
-        }) }
+        ensures ok { IfOk result (λ command. command ≡ with_root (λ node. record node {
+          visible_aliases = node.visible_aliases ++ string_bytes alias ∷ [];
+        }) self) }
         ensures memory { IfErr result (λ error. error ≡ Error.Memory) }
     {
         self.node.built = false;
@@ -86,10 +73,7 @@ impl Command {
 
     /// Says whether the command is left out of help texts.
     pub fn hide(mut self, hide: bool) -> Command
-        ensures { result ≡ record self {
-          node =
-              record self.node { hide = hide; built = false };
-        } }
+        ensures { result ≡ with_root (λ node. record node { hide = hide }) self }
     {
         self.node.built = false;
         self.node.hide = hide;
@@ -98,10 +82,7 @@ impl Command {
 
     /// Sets the display order among the children of a parent.
     pub fn display_order(mut self, order: usize) -> Command
-        ensures { result ≡ record self {
-          node =
-              record self.node { display_order = Some order; built = false };
-        } }
+        ensures { result ≡ with_root (λ node. record node { display_order = Some order }) self }
     {
         self.node.built = false;
         self.node.display_order = Some(order);
@@ -110,10 +91,8 @@ impl Command {
 
     /// Sets the heading above the children in help texts.
     pub fn subcommand_help_heading(mut self, heading: String) -> Command
-        ensures { result ≡ record self {
-          node =
-              record self.node { subcommand_help_heading = Some (string_bytes heading); built = false };
-        } }
+        ensures { result ≡ with_root
+            (λ node. record node { subcommand_help_heading = Some (string_bytes heading) }) self }
     {
         self.node.built = false;
         self.node.subcommand_help_heading = Some(Text::from(heading));
@@ -151,10 +130,7 @@ impl Command {
 
     /// Says whether the flag `help` is left out.
     pub fn disable_help_flag(mut self, disable: bool) -> Command
-        ensures { result ≡ record self {
-          node =
-              record self.node { disable_help_flag = disable; built = false };
-        } }
+        ensures { result ≡ with_root (λ node. record node { disable_help_flag = disable }) self }
     {
         self.node.built = false;
         self.node.disable_help_flag = disable;
@@ -163,10 +139,8 @@ impl Command {
 
     /// Says whether the flag `version` is left out.
     pub fn disable_version_flag(mut self, disable: bool) -> Command
-        ensures { result ≡ record self {
-          node =
-              record self.node { disable_version_flag = disable; built = false };
-        } }
+        ensures { result
+            ≡ with_root (λ node. record node { disable_version_flag = disable }) self }
     {
         self.node.built = false;
         self.node.disable_version_flag = disable;
@@ -175,17 +149,15 @@ impl Command {
 
     /// Says whether the child `help` is left out.
     pub fn disable_help_subcommand(mut self, disable: bool) -> Command
-        ensures { result ≡ record self {
-          node =
-              record self.node { disable_help_subcommand = disable; built = false };
-        } }
+        ensures { result
+            ≡ with_root (λ node. record node { disable_help_subcommand = disable }) self }
     {
         self.node.built = false;
         self.node.disable_help_subcommand = disable;
         self
     }
 
-    // Sets the display order where the command has none. This keeps a built command built.
+    // This keeps a built command built.
     fn fill_display_order(&mut self, order: usize)
         ensures { self.new ≡ record self.old { node = ordered_node order self.old.node } }
     {
@@ -193,11 +165,10 @@ impl Command {
     }
 }
 
-// Adds a child. The first one gets room for itself alone, since a `Vec` would begin with room for
-// four, and in a deep tree most commands have one child.
-fn push_child(children: &mut Vec<Command>, child: Command) -> Result<(), Error>
+// The first child gets room for itself alone, since a `Vec` would begin with room for four, and in
+// a deep tree most commands have one child.
+fn push_child(children: &mut Vec<Command>, child: Command) -> Result<(), AllocError>
     ensures ok { OnOk result (children.new.items ≡ children.old.items ++ child ∷ []) }
-    ensures memory { IfErr result (λ error. error ≡ Error.Memory) }
 {
     if children.is_empty() {
         children.reserve_exact(1)?;

@@ -28,7 +28,7 @@ impl Command {
         ensures { option_copied result ≡ find_child self.now.children word.now }
     {
         for child in &self.children {
-            if child.answers_to(word) {
+            if child.has_name(word) {
                 return Some(child);
             }
         }
@@ -36,12 +36,11 @@ impl Command {
     }
 }
 
-// Whether one of the siblings answers to the word.
 pub(super) fn has_child(siblings: &[Command], word: &str) -> bool
     ensures { result ≡ has_child (forest_of siblings.now) word.now }
 {
     for sibling in siblings {
-        if sibling.answers_to(word) {
+        if sibling.has_name(word) {
             return true;
         }
     }

@@ -1,13 +1,13 @@
-//! What a command answers about itself.
+//! The getters of a command.
 
 ghost use Rattle.std.specs.Prelude.{◌≡◌, ◌&&◌, is_some, unwrap_or};
 ghost use Rattle.std.specs.Option.{option_copied};
-ghost use Rattle.cc_command.specs.Names.{answers_to, contains_name, visible_names};
-ghost use Rattle.cc_command.specs.ArgumentLists.{options, positionals};
+ghost use Rattle.cc_command.specs.Names.{has_name, contains_name, visible_names};
+ghost use Rattle.cc_command.specs.ArgumentLists.{flags, options, positionals};
 ghost use Rattle.cc_command.specs.Marked.{StaysIfMarked};
-ghost use Rattle.cc_command.specs.Iterators.{names_left, options_left, positionals_left};
+ghost use Rattle.cc_command.specs.Iterators.{flags_left, names_left, options_left, positionals_left};
 
-use crate::command::{Command, NameAndVisibleAliases, Options, Positionals};
+use crate::command::{Command, Flags, NameAndVisibleAliases, Options, Positionals};
 use cc_arg::Arg;
 use cc_base::Text;
 
@@ -100,6 +100,14 @@ impl Command {
         Options::new(self.node.arguments.as_slice())
     }
 
+    /// The flags: the arguments that are no positionals and take no values, in the order in which
+    /// they were added. `clap` has no such iterator.
+    pub fn get_flags(&self) -> Flags<'_>
+        ensures { flags_left result ≡ flags self.now.node }
+    {
+        Flags::new(self.node.arguments.as_slice())
+    }
+
     /// The positionals, in the order in which they were added.
     pub fn get_positionals(&self) -> Positionals<'_>
         ensures { positionals_left result ≡ positionals self.now.node }
@@ -125,8 +133,8 @@ impl Command {
     }
 
     /// Whether the word is the name or an alias, visible or hidden.
-    pub(crate) fn answers_to(&self, word: &str) -> bool
-        ensures { result ≡ answers_to self.now.node word.now }
+    pub(crate) fn has_name(&self, word: &str) -> bool
+        ensures { result ≡ has_name self.now.node word.now }
     {
         self.get_name() == word
             || contains_name(self.node.visible_aliases.as_slice(), word)
@@ -134,7 +142,6 @@ impl Command {
     }
 }
 
-// Whether one of the names is the word.
 pub(super) fn contains_name(names: &[Text], word: &str) -> bool
     ensures { result ≡ contains_name names.now word.now }
 {

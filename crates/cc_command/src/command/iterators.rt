@@ -1,7 +1,7 @@
 //! The iterators over a command's arguments of one kind, and over its visible names.
 
 ghost use Rattle.std.specs.Prelude.{◌≡◌};
-ghost use Rattle.cc_command.specs.ArgumentLists.{is_option};
+ghost use Rattle.cc_command.specs.ArgumentLists.{is_flag, is_option};
 
 use cc_arg::Arg;
 use cc_base::Text;
@@ -38,6 +38,45 @@ impl<'a> Iterator for Options<'a> {
         while let Some((first, others)) = self.arguments.split_first() {
             self.arguments = others;
             if is_option(first) {
+                return Some(first);
+            }
+        }
+        None
+    }
+}
+
+/// The flags of a command, in the order in which they were added.
+#[derive(Drop)]
+pub struct Flags<'a> {
+    arguments: &'a [Arg],
+}
+
+impl<'a> Flags<'a> {
+    ghost use Rattle.std.specs.Prelude.{◌≡◌, filter};
+    ghost use Rattle.cc_command.specs.ArgumentLists.{is_flag};
+    ghost use Rattle.cc_command.specs.Iterators.{flags_left};
+
+    pub(super) fn new(arguments: &'a [Arg]) -> Flags<'a>
+        ensures { flags_left result ≡ filter is_flag arguments.now }
+    {
+        Flags { arguments }
+    }
+}
+
+impl<'a> Iterator for Flags<'a> {
+    ghost use Rattle.std.specs.Iterator.{YieldsFirstRef, item_count};
+    ghost use Rattle.cc_command.specs.Iterators.{flags_left};
+
+    type Item = &'a Arg;
+
+    ghost next_gives = { YieldsFirstRef flags_left };
+
+    ghost remaining = { item_count flags_left };
+
+    fn next(&mut self) -> Option<&'a Arg> {
+        while let Some((first, others)) = self.arguments.split_first() {
+            self.arguments = others;
+            if is_flag(first) {
                 return Some(first);
             }
         }
@@ -125,9 +164,14 @@ impl<'a> Iterator for NameAndVisibleAliases<'a> {
     }
 }
 
-// Whether the argument is no positional and takes values.
 fn is_option(argument: &Arg) -> bool
     ensures { result ≡ is_option argument.now }
 {
     !argument.is_positional() && argument.takes_values()
+}
+
+fn is_flag(argument: &Arg) -> bool
+    ensures { result ≡ is_flag argument.now }
+{
+    !argument.is_positional() && !argument.takes_values()
 }

@@ -6,7 +6,7 @@ ghost use Rattle.std.specs.Option.{option_copied};
 ghost use Rattle.std.specs.Char.{is_ascii_alphanumeric};
 ghost use Rattle.cc_command.specs.Tree.{forest_of};
 ghost use Rattle.cc_command.specs.Names.{contains_name, has_child};
-ghost use Rattle.cc_command.specs.PlainName.{is_plain_name};
+ghost use Rattle.cc_command.specs.PlainName.{dash, is_plain_name, underscore};
 ghost use Rattle.cc_command.specs.Plain.{all_differ, has_no_quote, is_plain_argument, is_plain_forest, is_plain_node, is_plain_tree, names_of, passes_if_some, siblings_differ};
 
 use crate::command::Command;
@@ -24,7 +24,7 @@ impl Command {
     /// ASCII letters or digits, ids and value names hold no `'`, and no two names or aliases of
     /// sibling commands are the same.
     ///
-    /// Takes no memory, so that the names of siblings are compared each with each: the time grows
+    /// Allocates nothing, so that the names of siblings are compared each with each: the time grows
     /// with the square of their number.
     pub fn is_plain(&self) -> bool
         ensures { result ≡ is_plain_tree self.now }
@@ -34,15 +34,14 @@ impl Command {
             && self.has_plain_children()
     }
 
-    // Whether the names of the children differ, and all below is plain.
     #[cycle(plain)]
     fn has_plain_children(&self) -> bool
-        ensures { result ≡ (siblings_differ self.now.children && is_plain_forest self.now.children) }
+        ensures { result
+            ≡ (siblings_differ self.now.children && is_plain_forest self.now.children) }
     {
         siblings_differ(&self.children) && is_plain_forest(&self.children)
     }
 
-    // Whether the names of the command differ from one another.
     #[tactic(auto, using(crate::proofs::DifferentNames::contains_name_append))]
     fn names_differ(&self) -> bool
         ensures { result ≡ all_differ (names_of self.now.node) }
@@ -54,18 +53,16 @@ impl Command {
             && all_differ_together(visible, hidden)
     }
 
-    // Whether no sibling answers to a name of the command.
     fn is_apart_from(&self, siblings: &[Command]) -> bool
         ensures { result ≡ list_all (λ name. not (has_child (forest_of siblings.now) name))
             (names_of self.now.node) }
     {
         !has_child(siblings, self.get_name())
-            && none_answers(siblings, self.node.visible_aliases.as_slice())
-            && none_answers(siblings, self.node.aliases.as_slice())
+            && none_has_name(siblings, self.node.visible_aliases.as_slice())
+            && none_has_name(siblings, self.node.aliases.as_slice())
     }
 }
 
-// Whether every one of the siblings and all below them are plain.
 #[cycle(plain)]
 fn is_plain_forest(siblings: &[Command]) -> bool
     ensures { result ≡ is_plain_forest (forest_of siblings.now) }
@@ -78,7 +75,7 @@ fn is_plain_forest(siblings: &[Command]) -> bool
     true
 }
 
-// Whether all names of the siblings differ, those of one command among themselves too.
+// The names of one command differ among themselves too.
 fn siblings_differ(siblings: &[Command]) -> bool
     ensures { result ≡ siblings_differ (forest_of siblings.now) }
 {
@@ -90,14 +87,12 @@ fn siblings_differ(siblings: &[Command]) -> bool
     true
 }
 
-// Whether no sibling answers to one of the names.
-fn none_answers(siblings: &[Command], names: &[Text]) -> bool
+fn none_has_name(siblings: &[Command], names: &[Text]) -> bool
     ensures { result ≡ list_all (λ name. not (has_child (forest_of siblings.now) name)) names.now }
 {
     names.iter().all(|name| !has_child(siblings, name.as_str()))
 }
 
-// Whether no text stands twice.
 fn all_differ(names: &[Text]) -> bool
     ensures { result ≡ all_differ names.now }
 {
@@ -109,7 +104,6 @@ fn all_differ(names: &[Text]) -> bool
     true
 }
 
-// Whether no text stands twice in the two lists together.
 #[tactic(auto, using(crate::proofs::DifferentNames::all_differ_append))]
 fn all_differ_together(names: &[Text], others: &[Text]) -> bool
     ensures { result ≡ all_differ (names.now ++ others.now) }
@@ -117,7 +111,6 @@ fn all_differ_together(names: &[Text], others: &[Text]) -> bool
     all_differ(names) && is_apart(names, others) && all_differ(others)
 }
 
-// Whether none of the names is among the others.
 fn is_apart(names: &[Text], others: &[Text]) -> bool
     ensures { result ≡ list_all (λ name. not (contains_name others.now name)) names.now }
 {
@@ -126,7 +119,6 @@ fn is_apart(names: &[Text], others: &[Text]) -> bool
         .all(|name| !contains_name(others, name.as_str()))
 }
 
-// Whether the names of a node and its arguments are plain.
 fn is_plain_node(node: &Node) -> bool
     ensures { result ≡ is_plain_node node.now }
 {
@@ -136,15 +128,12 @@ fn is_plain_node(node: &Node) -> bool
         && are_plain_arguments(node.arguments.as_slice())
 }
 
-// Whether the arguments are all plain.
 fn are_plain_arguments(arguments: &[Arg]) -> bool
     ensures { result ≡ list_all is_plain_argument arguments.now }
 {
     arguments.iter().all(is_plain_argument)
 }
 
-// Whether shorts are letters or digits, longs are plain, and the id and the value names hold no
-// quote.
 fn is_plain_argument(argument: &Arg) -> bool
     ensures { result ≡ is_plain_argument argument.now }
 {
@@ -156,7 +145,6 @@ fn is_plain_argument(argument: &Arg) -> bool
         && are_plain_names(argument.get_aliases())
 }
 
-// Whether the short of an argument and its aliases are letters or digits.
 fn has_plain_shorts(argument: &Arg) -> bool
     ensures { result ≡ (passes_if_some is_ascii_alphanumeric argument.now.short
         && (list_all is_ascii_alphanumeric argument.now.visible_short_aliases
@@ -168,35 +156,30 @@ fn has_plain_shorts(argument: &Arg) -> bool
         && are_alphanumeric(argument.get_short_aliases())
 }
 
-// Whether all are ASCII letters or digits.
 fn are_alphanumeric(shorts: &[char]) -> bool
     ensures { result ≡ list_all is_ascii_alphanumeric shorts.now }
 {
     shorts.iter().all(|short| short.is_ascii_alphanumeric())
 }
 
-// Whether no byte is a quote.
 fn has_no_quote(text: &str) -> bool
     ensures { result ≡ has_no_quote text.now }
 {
     text.as_bytes().iter().all(|byte| *byte != b'\'')
 }
 
-// Whether no byte of the texts is a quote.
 fn have_no_quote(texts: &[Text]) -> bool
     ensures { result ≡ list_all has_no_quote texts.now }
 {
     texts.iter().all(|text| has_no_quote(text.as_str()))
 }
 
-// Whether the names are all plain.
 fn are_plain_names(names: &[Text]) -> bool
     ensures { result ≡ list_all is_plain_name names.now }
 {
     names.iter().all(|name| is_plain_name(name.as_str()))
 }
 
-// Whether the name, where there is one, is plain.
 fn is_plain_if_some(name: Option<&str>) -> bool
     ensures { result ≡ passes_if_some is_plain_name (option_copied name.entry) }
 {
@@ -206,24 +189,25 @@ fn is_plain_if_some(name: Option<&str>) -> bool
     }
 }
 
-// Whether the name is made of ASCII letters and digits with single `-` or `_` between them.
-#[tactic(auto, using(crate::proofs::PlainNames::plain_behind_start))]
-fn is_plain_name(name: &str) -> bool
+/// Whether the name is plain: made of ASCII letters and digits with single `-` or `_` between them.
+#[tactic(auto, using(crate::proofs::PlainNames::plain_after_start))]
+pub fn is_plain_name(name: &str) -> bool
     ensures { result ≡ is_plain_name name.now }
 {
-    let mut behind_letter = false;
+    let mut after_letter = false;
     for byte in name.as_bytes() {
-        if !may_stand(*byte, behind_letter) {
+        if !may_stand(*byte, after_letter) {
             return false;
         }
-        behind_letter = byte.is_ascii_alphanumeric();
+        after_letter = byte.is_ascii_alphanumeric();
     }
-    behind_letter
+    after_letter
 }
 
-// Whether the byte may stand in a name: a letter or digit always, a `-` or a `_` behind one.
-fn may_stand(byte: u8, behind_letter: bool) -> bool
-    ensures { result ≡ (is_ascii_alphanumeric byte || (behind_letter && (byte == 45 || byte == 95))) }
+// A letter or digit may always be in a name, a `-` or a `_` after one of those.
+fn may_stand(byte: u8, after_letter: bool) -> bool
+    ensures { result ≡ (is_ascii_alphanumeric byte
+        || (after_letter && (byte == dash || byte == underscore))) }
 {
-    byte.is_ascii_alphanumeric() || (behind_letter && matches!(byte, b'-' | b'_'))
+    byte.is_ascii_alphanumeric() || (after_letter && matches!(byte, b'-' | b'_'))
 }

@@ -3,30 +3,30 @@ use Rattle.std.proofs.lemmas.List.{take_more}
 use Rattle.cc_command.specs.Tree.{Tree, forest_of}
 use Rattle.cc_command.specs.Names.{joined_name}
 use Rattle.cc_command.specs.Generated.{needs_help_child, help_command}
-use Rattle.cc_command.specs.declared.node.TheConstants.{HELP}
+use Rattle.cc_command.specs.Texts.{help_name}
 use Rattle.cc_command.specs.Built.{built_forest, built_tree, built_under}
 use Rattle.cc_command.proofs.BuiltAgain.{built_tree-again, helped}
 use Rattle.cc_command.proofs.Forests.{children-whole, children-helped, built_forest-push}
 use Rattle.cc_command.proofs.command.+build.Goals as goal
 
-pub Command::built_children-returns-then-not-needs_help_child-clause-ok : goal.Command::built_children-returns-then-not-needs_help_child-clause-ok
-Command::built_children-returns-then-not-needs_help_child-clause-ok t c =
+pub Command::built_children-returns-then-not-lacks_help : goal.Command::built_children-returns-then-not-lacks_help
+Command::built_children-returns-then-not-lacks_help t c =
     let tree : Tree = c.args.self.now in
     let name : List ℕ = c.args.name.now in
     let built : forest_of c.in_ok-children.children.items ≡ built_forest [] name tree.children = search rules in
     let not_missing : needs_help_child tree.node tree.children ≡ false = search rules in
-    children-whole name tree.node tree.children (forest_of c.in_ok-children.children.items) built not_missing
+    record { ok = children-whole name tree.node tree.children (forest_of c.in_ok-children.children.items) built not_missing }
 
-pub Command::built_children-returns-clause-ok : goal.Command::built_children-returns-clause-ok
-Command::built_children-returns-clause-ok t c =
+pub Command::built_children-returns : goal.Command::built_children-returns
+Command::built_children-returns t c =
     let tree : Tree = c.args.self.now in
     let name : List ℕ = c.args.name.now in
     let help : Tree = c.in_ok-help_command.field-0 in
     let built : forest_of c.in_ok-children.children.items ≡ built_forest [] name tree.children = search rules in
     let missing : needs_help_child tree.node tree.children ≡ true = search rules in
-    let helps : forest_of (help ∷ []) ≡ help_command name (helped (joined_name name HELP.now) tree.children) = search rules in
+    let helps : forest_of (help ∷ []) ≡ help_command name (helped (joined_name name help_name) tree.children) = search rules in
     let pushed : c.push.new.self.items ≡ c.in_ok-children.children.items ++ help ∷ [] = search rules in
-    ap forest_of pushed ∙ children-helped name tree.node tree.children c.in_ok-children.children.items help built missing helps
+    record { ok = ap forest_of pushed ∙ children-helped name tree.node tree.children c.in_ok-children.children.items help built missing helps }
 
 pub Command::built_under-invariant_of-result : goal.Command::built_under-invariant_of-result
 Command::built_under-invariant_of-result t c =

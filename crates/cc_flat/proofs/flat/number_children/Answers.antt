@@ -13,8 +13,8 @@ loop-command-init c =
     (search rules) (search rules) (search rules) ∙
     sym (append-nil (with_count (entries_of c.args.nodes.now.items) c.args.number (length c.get_subcommands-children.result.now)))
 
-pub returns-clause-ok : goal.returns-clause-ok
-returns-clause-ok c =
+pub returns : goal.returns
+returns c =
     let entries : List Entry = entries_of c.args.nodes.now.items in
     let children : List Tree = c.get_subcommands-children.result.now in
     let here : tree_at entries c.args.number ≡ c.index.result.now.command.now = tree_at-stored c.args.nodes.now.items c.args.number c.index.result.now (search rules) (search rules) in

@@ -4,8 +4,8 @@ use Rattle.cc_flat.specs.Index.{name_at}
 use Rattle.cc_flat.proofs.Names.{name-added}
 use Rattle.cc_flat.proofs.index.add_name.Goals as goal
 
-pub returns-clause-ok : goal.returns-clause-ok
-returns-clause-ok c =
+pub returns : goal.returns
+returns c =
     name-added (name_at c.args.names.now) (name_at c.insert.new.self) c.args.name.now c.args.found
     (sym c.contains_key.ensures ∙ c.if-contains_key.false)
     (btree_map_updates_str c.args.name.now c.args.names.now c.insert.new.self (Some c.args.found) c.in_ok-insert.ensures.updates)

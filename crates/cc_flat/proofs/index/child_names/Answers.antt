@@ -12,6 +12,6 @@ loop-child-preserved c =
       finds = λ word.
           siblings-added c.args.flat.now c.loop-child.child-iterator.start c.loop-child.child-iterator.end c.next.new.self.start c.next.new.self.end word
           (name_at c.loop-child.names word) (name_at c.add_child.new.names word) c.in-Some.child c.command.result.now
-          low step.1.1 step.1.2 step.0 c.command.ensures (c.in_ok-add_child.ensures.ok word) ∙
+          low step.1.1 step.1.2 step.0 c.command.ensures (c.in_ok-add_child.ensures word) ∙
           c.loop-child.invariant.finds word;
     }

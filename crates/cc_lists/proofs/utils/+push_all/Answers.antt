@@ -1,6 +1,6 @@
 use Rattle.std.proofs.Common.{◌≡◌, ◌<◌, ◌∙◌, List, ap, sym, subst, rules}
 use Rattle.cc_command.specs.Tree.{Forest, Tree, forest_of, forest_size}
-use Rattle.cc_lists.proofs.Forests.{below_is_smaller}
+use Rattle.cc_command.proofs.Forests.{below_is_smaller}
 use Rattle.cc_lists.proofs.utils.+push_all.Goals as goal
 
 pub push_all-requires : goal.push_all-requires

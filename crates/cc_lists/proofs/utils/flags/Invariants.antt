@@ -1,7 +1,6 @@
-use Rattle.std.proofs.Common.{◌≡◌, ◌++◌, drop, filter, map}
-use Rattle.cc_command.specs.ArgumentLists.{is_flag}
+use Rattle.std.proofs.Common.{◌≡◌, map}
 use Rattle.cc_lists.proofs.utils.flags.Given as goal
 
--- the flags found and those that are left make the whole
-abbrev pub invariant-loop-argument : goal.invariant-loop-argument
-invariant-loop-argument l = map (λ argument. argument.now) l.found.items ++ filter is_flag (drop l.argument-index l.argument-items) ≡ filter is_flag l.argument-items
+-- the flags so far
+abbrev pub invariant-loop-flag : goal.invariant-loop-flag
+invariant-loop-flag l = map (λ flag. flag.now) l.found.items ≡ map (λ flag. flag.now) l.yielded

@@ -2,15 +2,14 @@ use Rattle.std.proofs.Common.{◌≡◌, [], length, map, string_bytes}
 use denote.Text.{Utf8}
 use denote.Shadow.{shadow}
 use Rattle.cc_quote.specs.QuotedWord.{quoted, word_from}
-use Rattle.cc_quote.specs.ElvishQuote.{elvish_sign}
+use Rattle.cc_quote.specs.Signs.{sign}
 use Rattle.cc_quote.proofs.elvish.quoted_word.Given as goal
 
 abbrev pub invariant-loop-piece : goal.invariant-loop-piece
-invariant-loop-piece l =
-    record {
-      is_text : shadow (Utf8 l.rest);
-      same : word_from (quoted (string_bytes l.word)) (map elvish_sign l.rest) ≡ word_from (quoted []) (map elvish_sign l.text);
-    }
+invariant-loop-piece l = record {
+  is_text : shadow (Utf8 l.rest);
+  same : word_from (quoted (string_bytes l.word)) (map sign l.rest) ≡ word_from (quoted []) (map sign l.text);
+}
 
 abbrev pub decreases-loop-piece : goal.decreases-loop-piece
 decreases-loop-piece l = length l.rest

@@ -1,7 +1,7 @@
 use Rattle.std.proofs.Common.{◌≡◌, ℕ, Bool, List, [], ◌∷◌, Option}
 use Rattle.std.specs.Char.{char_set_contains}
 use Rattle.std.specs.Str.Pattern.{FindsBy}
-use Rattle.cc_quote.specs.QuotedWord.{is_blank}
+use Rattle.cc_quote.specs.Signs.{is_blank}
 use Rattle.cc_quote.proofs.Blanks.{blanks_are, cut_at_found}
 use Rattle.cc_quote.proofs.word.split_at_blank.Goals as goal
 

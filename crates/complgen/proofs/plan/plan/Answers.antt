@@ -2,7 +2,7 @@ use Rattle.std.proofs.Common.{◌∙◌, ◌≡◌, [], ap, map, string_bytes, s
 use Rattle.clap.specs.Kinds.{HasKind}
 use Rattle.clap.specs.Words.{App, fault_of, is_simple, is_simple_and_free, subcommand_of, takes}
 use Rattle.complgen.specs.CommandLine.{EntersSomeScript, program_line}
-use Rattle.complgen.proofs.CommandLineLemmas.{enters_script, program_line_is_free, program_line_is_simple, refuses_memory, refuses_words}
+use Rattle.complgen.proofs.CommandLineLemmas.{enters_script, program_line_is_free, program_line_is_simple, reports_memory, reports_words}
 use Rattle.complgen.proofs.plan.plan.Goals as goal
 
 pub planned-requires : goal.planned-requires
@@ -18,7 +18,7 @@ planned-requires c =
 pub returns-in-Err-clause-taken : goal.returns-in-Err-clause-taken
 returns-in-Err-clause-taken c = λ taken.
     let words = map string_bytes c.args.words.now in
-    refuses_memory _ c.refusal_of.result
+    reports_memory _ c.refusal_of.result
     (c.in-Err.ensures.passes (ap (λ (a : App). takes a words) c.in_ok-command.ensures ∙ taken))
     c.refusal_of.ensures
 
@@ -27,7 +27,7 @@ returns-in-Err-clause-err c =
     let words = map string_bytes c.args.words.now in
     let line = c.in_ok-command.ensures in
     let fails = c.in-Err.ensures.kinds (ap is_simple_and_free line ∙ program_line_is_free) in
-    refuses_words (fault_of program_line words) c.in-Err.error _
+    reports_words (fault_of program_line words) c.in-Err.error _
     (subst (λ (a : App). HasKind (fault_of a words) c.in-Err.error) line fails)
     c.refusal_of.ensures
 

@@ -3,13 +3,13 @@ use Rattle.std.specs.Borrow.{Bor}
 use Rattle.std.proofs.lemmas.Result.{IfOk-weaker}
 use Rattle.clap.proofs.WalkLemmas.{first_value-rows}
 use Rattle.clap.specs.Words.{Text, first_of, found_of, rows_of}
-use Rattle.complgen.proofs.CommandLineLemmas.{some_behind}
+use Rattle.complgen.proofs.CommandLineLemmas.{some_found}
 use Rattle.complgen.proofs.plan.value.Goals as goal
 
 pub unwrap-text-requires : goal.unwrap-text-requires
 unwrap-text-requires c =
     let found = found_of c.args.values.now in
-    some_behind c.get_str.result (first_of c.args.id.now (rows_of found))
+    some_found c.get_str.result (first_of c.args.id.now (rows_of found))
     (c.get_str.ensures ∙ first_value-rows found c.args.id.now) c.requires
 
 pub returns : goal.returns

@@ -1,19 +1,23 @@
-use Rattle.std.proofs.Common.{Err, Result, subst}
-use Rattle.std.specs.Prelude.{IfErr, option_copied}
-use Rattle.cc_base.specs.Sink.{Counts}
-use Rattle.cc_base.specs.declared.error.Error.{Error}
-use Rattle.cc_lists.specs.Generators.{AnswersClash, IsNoClash}
-use Rattle.complgen.proofs.RefusalLemmas.{counts_refusal}
+use Rattle.std.proofs.Common.{ap}
+use Rattle.complgen.specs.Ends.{known_shell, unknown_shell, writer_for}
+use Rattle.complgen.proofs.EndsLemmas.{no_writer, same}
 use Rattle.complgen.proofs.run.script.Goals as goal
 
-pub returns-clause-failures : goal.returns-clause-failures
-returns-clause-failures g c = λ no_clash.
-    let before = g.W.Sink.failed c.args.out.now in
-    let after = g.W.Sink.failed c.generate.new.sink in
-    let counts : Counts {T = Unit {0}} (Err c.in-Err.error) before after =
-    subst (λ (result : Result (Unit {0}) Error). Counts result before after) c.in-Err.is c.generate.ensures.failures in
-    let clashes = subst (λ clash. AnswersClash clash c.generate.result (g.W.Sink.taken c.args.out.now) (g.W.Sink.taken c.generate.new.sink))
-    (no_clash _) c.generate.ensures.clashes in
-    let none : IsNoClash c.in-Err.error =
-    subst (λ (result : Result (Unit {0}) Error). IfErr result IsNoClash) c.in-Err.is clashes in
-    counts_refusal (Unit {0}) (option_copied c.args.file) c.in-Err.error c.error_refusal.result before after counts none c.error_refusal.ensures
+pub returns-in-bash : goal.returns-in-bash
+returns-in-bash g c = known_shell _ _ (ap writer_for c.in-bash.is) c.script_by.ensures
+
+pub returns-in-elvish : goal.returns-in-elvish
+returns-in-elvish g c = known_shell _ _ (ap writer_for c.in-elvish.is) c.script_by-in-elvish.ensures
+
+pub returns-in-fish : goal.returns-in-fish
+returns-in-fish g c = known_shell _ _ (ap writer_for c.in-fish.is) c.script_by-in-fish.ensures
+
+pub returns-in-powershell : goal.returns-in-powershell
+returns-in-powershell g c =
+    known_shell _ _ (ap writer_for c.in-powershell.is) c.script_by-in-powershell.ensures
+
+pub returns-in_default : goal.returns-in_default
+returns-in_default g c =
+    let n = c.in_default in
+    unknown_shell _ (no_writer _ n.not-bash n.not-elvish n.not-fish n.not-powershell)
+    c.invalid_variant.ensures (same _ _ _)

@@ -2,6 +2,6 @@ use Rattle.std.proofs.Common.{◌≡◌, drop}
 use Rattle.cc_command.specs.Plain.{all_differ}
 use Rattle.cc_command.proofs.command.plain.all_differ.Given as goal
 
--- none of the names that were passed over stands again
+-- none of the names that were passed over comes again
 abbrev pub invariant-loop-place : goal.invariant-loop-place
 invariant-loop-place l = all_differ (drop l.place l.names) ≡ all_differ l.names

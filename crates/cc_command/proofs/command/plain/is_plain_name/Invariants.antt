@@ -1,8 +1,8 @@
 use Rattle.std.proofs.Common.{◌≡◌, drop}
 use Rattle.cc_command.specs.PlainName.{is_plain_name}
-use Rattle.cc_command.proofs.PlainNames.{plain_behind}
+use Rattle.cc_command.proofs.PlainNames.{plain_after}
 use Rattle.cc_command.proofs.command.plain.is_plain_name.Given as goal
 
--- the bytes that were passed over may stand there
+-- the bytes that were passed over may be there
 abbrev pub invariant-loop-byte : goal.invariant-loop-byte
-invariant-loop-byte l = plain_behind l.behind_letter (drop l.byte-index l.byte-items) ≡ is_plain_name l.name
+invariant-loop-byte l = plain_after l.after_letter (drop l.byte-index l.byte-items) ≡ is_plain_name l.name

@@ -2,7 +2,7 @@ use Rattle.std.proofs.Common.{◌≡◌, ◌+◌, ◌&&◌, ◌∙◌, true, fal
 use Rattle.std.proofs.lemmas.List.{take_rest}
 use Rattle.cc_command.specs.Tree.{forest_of}
 use Rattle.cc_command.specs.Plain.{all_differ, names_of}
-use Rattle.cc_command.proofs.DifferentNames.{are_apart_from, siblings_differ-refused, siblings_differ-passed, siblings_differ-done}
+use Rattle.cc_command.proofs.DifferentNames.{are_apart_from, siblings_differ-failed, siblings_differ-passed, siblings_differ-done}
 use Rattle.cc_command.proofs.command.plain.siblings_differ.Goals.{then-not-names_differ-via-then-not-names_differ, then-not-names_differ-via-else-not-names_differ+then-not-is_apart_from}
 use Rattle.cc_command.proofs.command.plain.siblings_differ.Goals as goal
 
@@ -12,7 +12,7 @@ returns-then-not-names_differ c =
     let place = c.loop-place.place in
     let names = names_of c.index-siblings-place.result.node in
     let apart = are_apart_from (forest_of (drop (place + 1) siblings)) names in
-    siblings_differ-refused siblings place c.index-siblings-place.result _ c.loop-place-test.true (search rules) c.loop-place.invariant
+    siblings_differ-failed siblings place c.index-siblings-place.result _ c.loop-place-test.true (search rules) c.loop-place.invariant
     (elim c.then-not-names_differ.branch [
       | then-not-names_differ-via-then-not-names_differ w ↦
           let differ : all_differ names ≡ false = search rules in
@@ -21,7 +21,7 @@ returns-then-not-names_differ c =
           let differ : all_differ names ≡ true = search rules in
           let shared : w.is_apart_from.result ≡ false = search rules in
           ap₂ (λ a b. a && b) differ
-          (ap (λ behind. are_apart_from (forest_of behind) names) (sym (take_rest siblings (place + 1))) ∙ sym w.is_apart_from.ensures ∙ shared)
+          (ap (λ later. are_apart_from (forest_of later) names) (sym (take_rest siblings (place + 1))) ∙ sym w.is_apart_from.ensures ∙ shared)
     ])
 
 pub loop-place-preserved : goal.loop-place-preserved
@@ -33,7 +33,7 @@ loop-place-preserved c =
     let apart : c.is_apart_from.result ≡ true = search rules in
     siblings_differ-passed siblings place c.index-siblings-place.result _ c.loop-place-test.true (search rules) c.loop-place.invariant
     (ap₂ (λ a b. a && b) differ
-    (ap (λ behind. are_apart_from (forest_of behind) names) (sym (take_rest siblings (place + 1))) ∙ sym c.is_apart_from.ensures ∙ apart))
+    (ap (λ later. are_apart_from (forest_of later) names) (sym (take_rest siblings (place + 1))) ∙ sym c.is_apart_from.ensures ∙ apart))
 
 pub returns : goal.returns
 returns c =

@@ -10,7 +10,7 @@ loop-number-preserved c =
     let before : List Entry = entries_of c.loop-number.nodes.items in
     let inside : c.loop-number.number < length before = omega (arith, length-map c.loop-number.nodes.items entry_of, c.loop-number.nodes.ok.0) in
     let P : List Entry → Type 0 = λ flat. IsFlatUpTo c.args.root.now (c.loop-number.number + 1) flat in
-    subst P (sym c.in_ok-number_children.ensures.ok) (IsFlatUpTo-more c.args.root.now c.loop-number.number before c.loop-number.invariant inside)
+    subst P (sym c.in_ok-number_children.ensures) (IsFlatUpTo-more c.args.root.now c.loop-number.number before c.loop-number.invariant inside)
 
 whole : (c : After-loop-number) → IsFlat (entries_of c.loop-number.nodes.items)
 whole c =

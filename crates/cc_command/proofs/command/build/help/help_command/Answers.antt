@@ -11,8 +11,8 @@ generated-requires-2 c =
     ap forest_of pushed ∙ helped-push c.in_ok-name.name c.in_ok-children.children.items (forest_of c.args.siblings.now) c.in_ok-generated.field-0 (search rules) (search rules) in
     record { stays = rw whole (built_forest-helped [] c.in_ok-name.name (forest_of c.args.siblings.now)) }
 
-pub returns-clause-ok : goal.returns-clause-ok
-returns-clause-ok c =
+pub returns : goal.returns
+returns c =
     let pushed : c.push.new.self.items ≡ c.in_ok-children.children.items ++ c.in_ok-generated.field-0 ∷ [] = search rules in
     let whole : forest_of c.push.new.self.items ≡ helped c.in_ok-name.name (forest_of c.args.siblings.now) =
     ap forest_of pushed ∙ helped-push c.in_ok-name.name c.in_ok-children.children.items (forest_of c.args.siblings.now) c.in_ok-generated.field-0 (search rules) (search rules) in

@@ -1,0 +1,28 @@
+-- The names of an argument that are shown.
+use Rattle.std.specs.Prelude.{ℕ, List, [], ◌∷◌, ◌++◌, map, Option, Some, None}
+use Rattle.cc_arg.specs.declared.arg.Arg.{Arg}
+use Rattle.cc_arg.specs.declared.names.ShownName.{ShownName}
+use Rattle.cc_arg.specs.declared.names.ShownName.TheVariants.{Short, Long}
+use Rattle.cc_arg.specs.declared.names.ShownNames.{ShownNames}
+use Rattle.cc_arg.specs.Aliases.{shorts_left, longs_left}
+
+-- a name and its visible aliases; aliases alone are not shown
+abbrev pub with_aliases : {Name : Type 0} → Option Name → List Name → List Name
+with_aliases None aliases = []
+with_aliases (Some name) aliases = name ∷ aliases
+
+-- the short, then its visible aliases; none without a short
+abbrev pub shown_shorts : Arg → List ℕ
+shown_shorts argument = with_aliases argument.short argument.visible_short_aliases
+
+-- the long, then its visible aliases; none without a long
+abbrev pub shown_longs : Arg → List (List ℕ)
+shown_longs argument = with_aliases argument.long argument.visible_aliases
+
+-- the shorts that are shown, then the longs that are shown
+abbrev pub shown_names : Arg → List ShownName
+shown_names argument = map Short (shown_shorts argument) ++ map Long (shown_longs argument)
+
+-- what the iterator over an argument's shown names has left
+abbrev pub names_left : ShownNames → List ShownName
+names_left names = map Short (shorts_left names.shorts) ++ map Long (longs_left names.longs)

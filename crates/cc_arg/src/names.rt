@@ -1,0 +1,112 @@
+//! The names of an argument that are shown.
+
+ghost use Rattle.std.specs.Prelude.{◌≡◌};
+ghost use Rattle.cc_arg.specs.Aliases.{longs_left, shorts_left};
+ghost use Rattle.cc_arg.specs.ShownNames.{names_left, shown_longs, shown_names, shown_shorts};
+
+use crate::aliases::{LongAndVisibleAliases, ShortAndVisibleAliases};
+use crate::arg::Arg;
+use cc_base::TextRef;
+
+/// A name of an argument that is shown, without its dashes.
+#[derive(Drop)]
+pub enum ShownName<'a> {
+    /// The `c` of `-c`.
+    Short(char),
+    /// The `name` of `--name`.
+    Long(TextRef<'a>),
+}
+
+/// The shorts of an argument that are shown, then its longs that are shown.
+#[derive(Drop)]
+pub struct ShownNames<'a> {
+    shorts: ShortAndVisibleAliases<'a>,
+    longs: LongAndVisibleAliases<'a>,
+}
+
+impl<'a> Iterator for ShownNames<'a> {
+    ghost use Rattle.std.specs.Iterator.{YieldsFirst, item_count};
+
+    type Item = ShownName<'a>;
+
+    ghost next_gives = { YieldsFirst names_left };
+
+    ghost remaining = { item_count names_left };
+
+    fn next(&mut self) -> Option<ShownName<'a>> {
+        if let Some(short) = self.shorts.next() {
+            return Some(ShownName::Short(short));
+        }
+        let long = self.longs.next()?;
+        Some(ShownName::Long(TextRef::new(long)))
+    }
+}
+
+// Free functions, so that `clap_complete` need not re-export them.
+
+/// The short, then its visible aliases; none without a short.
+pub fn shown_shorts(argument: &Arg) -> ShortAndVisibleAliases<'_>
+    ensures { shorts_left result ≡ shown_shorts argument.now }
+{
+    let aliases = argument.get_visible_short_aliases();
+    match argument.get_short() {
+        Some(short) => ShortAndVisibleAliases::new(short, aliases),
+        None => ShortAndVisibleAliases::none(),
+    }
+}
+
+/// The long, then its visible aliases; none without a long.
+pub fn shown_longs(argument: &Arg) -> LongAndVisibleAliases<'_>
+    ensures { longs_left result ≡ shown_longs argument.now }
+{
+    let aliases = argument.get_visible_aliases();
+    match argument.get_long() {
+        Some(long) => LongAndVisibleAliases::new(long, aliases),
+        None => LongAndVisibleAliases::none(),
+    }
+}
+
+/// The shorts that are shown, then the longs that are shown.
+pub fn shown_names(argument: &Arg) -> ShownNames<'_>
+    ensures { names_left result ≡ shown_names argument.now }
+{
+    ShownNames {
+        shorts: shown_shorts(argument),
+        longs: shown_longs(argument),
+    }
+}
+
+#[cfg(test)]
+mod tests {
+    use super::*;
+    use std::test::Fail;
+
+    #[test]
+    fn shorts_come_before_longs(rt: HostRuntime) -> Result<(), Fail> {
+        let alloc = rt.alloc();
+        let argument = Arg::new(alloc, String::from_str(alloc, "file")?)
+            .short('f')
+            .visible_short_alias('p')?
+            .short_alias('q')?
+            .long(String::from_str(alloc, "file")?)
+            .visible_alias(String::from_str(alloc, "path")?)?
+            .alias(String::from_str(alloc, "source")?)?;
+        let mut names = shown_names(&argument);
+        assert!(rt; matches!(names.next(), Some(ShownName::Short('f'))));
+        assert!(rt; matches!(names.next(), Some(ShownName::Short('p'))));
+        assert!(rt; matches!(names.next(), Some(ShownName::Long(name)) if name.as_str() == "file"));
+        assert!(rt; matches!(names.next(), Some(ShownName::Long(name)) if name.as_str() == "path"));
+        assert!(rt; names.next().is_none());
+        Ok(())
+    }
+
+    #[test]
+    fn aliases_alone_are_not_shown(rt: HostRuntime) -> Result<(), Fail> {
+        let alloc = rt.alloc();
+        let argument = Arg::new(alloc, String::from_str(alloc, "file")?)
+            .visible_short_alias('p')?
+            .visible_alias(String::from_str(alloc, "path")?)?;
+        assert!(rt; shown_names(&argument).next().is_none());
+        Ok(())
+    }
+}

@@ -1,0 +1,131 @@
+//! The possible values of an argument.
+
+ghost use Rattle.std.specs.Prelude.{◌≡◌, Some, IfOk};
+ghost use Rattle.std.specs.Option.{option_copied};
+ghost use Rattle.std.specs.String.{string_bytes};
+ghost use Rattle.cc_arg.specs.PossibleValues.{new_possible_value};
+
+use cc_base::{Items, Text};
+use std::alloc::{AllocError, Global};
+
+/// A value that an argument may have.
+#[derive(Drop)]
+pub struct PossibleValue {
+    name: Text,
+    help: Option<Text>,
+    hide: bool,
+}
+
+impl PossibleValue {
+    /// The value of this name, without help, and shown.
+    pub fn new(name: String) -> PossibleValue
+        ensures { result ≡ new_possible_value (string_bytes name) }
+    {
+        PossibleValue {
+            name: Text::from(name),
+            help: None,
+            hide: false,
+        }
+    }
+
+    /// Sets the help.
+    pub fn help(mut self, help: String) -> PossibleValue
+        ensures { result ≡ record self { help = Some (string_bytes help) } }
+    {
+        self.help = Some(Text::from(help));
+        self
+    }
+
+    /// Says whether the value is left out where values are shown.
+    pub fn hide(mut self, hide: bool) -> PossibleValue
+        ensures { result ≡ record self { hide = hide } }
+    {
+        self.hide = hide;
+        self
+    }
+
+    /// The name.
+    pub fn get_name(&self) -> &str
+        ensures { result.now ≡ self.now.name }
+    {
+        self.name.as_str()
+    }
+
+    /// The help.
+    pub fn get_help(&self) -> Option<&str>
+        ensures { option_copied result ≡ self.now.help }
+    {
+        match &self.help {
+            Some(help) => Some(help.as_str()),
+            None => None,
+        }
+    }
+
+    /// Whether the value is left out where values are shown.
+    pub fn is_hide_set(&self) -> bool
+        ensures { result ≡ self.now.hide }
+    {
+        self.hide
+    }
+
+    // An equal value.
+    fn try_clone(&self, alloc: Global) -> Result<PossibleValue, AllocError>
+        ensures { IfOk result (λ copy. copy ≡ self.now) }
+    {
+        Ok(PossibleValue {
+            name: self.name.try_clone(alloc)?,
+            help: Text::copy_of_some(alloc, self.get_help())?,
+            hide: self.hide,
+        })
+    }
+}
+
+// A copy of these values.
+fn copy_of_values(
+    alloc: Global,
+    values: &[PossibleValue],
+) -> Result<Items<PossibleValue>, AllocError>
+    ensures { IfOk result (λ copy. copy ≡ values.now) }
+{
+    let mut copy = Items::new(alloc);
+    for value in values {
+        copy.push(value.try_clone(alloc)?)?;
+    }
+    Ok(copy)
+}
+
+// A copy of these values, where there are any.
+pub(crate) fn copy_of_given(
+    alloc: Global,
+    values: &Option<Items<PossibleValue>>,
+) -> Result<Option<Items<PossibleValue>>, AllocError>
+    ensures { IfOk result (λ copy. copy ≡ values.now) }
+{
+    match values {
+        Some(values) => Ok(Some(copy_of_values(alloc, values.as_slice())?)),
+        None => Ok(None),
+    }
+}
+
+#[cfg(test)]
+mod tests {
+    use super::*;
+    use std::test::Fail;
+
+    #[test]
+    fn holds_name_help_and_hide(rt: HostRuntime) -> Result<(), Fail> {
+        let alloc = rt.alloc();
+        let plain = PossibleValue::new(String::from_str(alloc, "auto")?);
+        assert_eq!(rt; plain.get_name(), "auto");
+        assert_eq!(rt; plain.get_help(), None);
+        assert!(rt; !plain.is_hide_set());
+        let hidden = plain
+            .help(String::from_str(alloc, "On a terminal")?)
+            .hide(true);
+        let copy = hidden.try_clone(alloc)?;
+        assert_eq!(rt; copy.get_name(), "auto");
+        assert_eq!(rt; copy.get_help(), Some("On a terminal"));
+        assert!(rt; copy.is_hide_set());
+        Ok(())
+    }
+}

@@ -1,0 +1,7 @@
+pub mod Booleans
+pub mod Differing
+pub mod Lines
+pub mod Members
+pub mod ReadInTurn
+pub mod Sorted
+pub mod WrittenTexts

@@ -1,0 +1,231 @@
+-- What a stable sort returns is the list in order, and what is in a list in order.
+use Rattle.std.proofs.Common.{◌≡◌, ℕ, suc, ◌<◌, ◌≤◌, Bool, true, false, cond, not, ◌&&◌, List, [], ◌∷◌, map, length, get_or, filter, inl, inr, refl, sym, ap, ◌∙◌, arith}
+use Rattle.std.specs.Cmp.{IsStrictWeakOrder}
+use Rattle.std.specs.List.{AllByRecursion}
+use Rattle.std.specs.List.Sorted.{IsSortedBy, IsStableBy, ties}
+use Rattle.std.proofs.lemmas.Bool.{cases_Bool}
+use Rattle.std.proofs.lemmas.List.Sorted.{sorted_far}
+use Rattle.cc_base.specs.Sorting.{placed, in_order}
+use Rattle.cc_base.proofs.Members.{IsIn, AllByRecursion-IsIn, AllByRecursion-from_IsIn}
+
+module _ {X : Type 0} (lt : X → X → Bool) (o : IsStrictWeakOrder lt) where
+  -- no element is below x
+  abbrev NoneBelow : X → List X → Type 0
+  NoneBelow x [] = Unit {0}
+  NoneBelow x (y ∷ ys) = (lt y x ≡ false) × NoneBelow x ys
+
+  -- no element is below one before it
+  abbrev Up : List X → Type 0
+  Up [] = Unit {0}
+  Up (x ∷ xs) = NoneBelow x xs × Up xs
+
+  none_below : (x : X) (xs : List X) → ((k : ℕ) → k < length xs → lt (get_or xs k x) x ≡ false) →
+      NoneBelow x xs
+  none_below x [] h = tt
+  none_below x (y ∷ ys) h = (h 0 (omega arith), none_below x ys (λ k p. h (suc k) (omega arith)))
+
+  up_from : (xs : List X) → ((i j : ℕ) (d : X) → i ≤ j → j < length xs →
+      lt (get_or xs j d) (get_or xs i d) ≡ false) → Up xs
+  up_from [] h = tt
+  up_from (x ∷ xs) h = (
+    none_below x xs (λ k p. h 0 (suc k) x (omega arith) (omega arith)),
+    up_from xs (λ i j d p q. h (suc i) (suc j) d (omega arith) (omega arith)),
+  )
+
+  none_below-trans : (x y : X) (ys : List X) → lt y x ≡ false → NoneBelow y ys → NoneBelow x ys
+  none_below-trans x y [] e h = tt
+  none_below-trans x y (z ∷ ys) e h = (o.chain z y x h.0 e, none_below-trans x y ys e h.1)
+
+  none_below-placed : (z x : X) (ys : List X) → lt x z ≡ false → NoneBelow z ys →
+      NoneBelow z (placed lt x ys)
+  unfolding placed
+  none_below-placed z x [] e h = (e, tt)
+  none_below-placed z x (y ∷ ys) e h = elim (cases_Bool (lt y x)) [
+    | inl t ↦ rw t (h.0, none_below-placed z x ys e h.1)
+    | inr f ↦ rw f (e, h)
+  ]
+
+  up-placed : (x : X) (ys : List X) → Up ys → Up (placed lt x ys)
+  unfolding placed
+  up-placed x [] h = (tt, tt)
+  up-placed x (y ∷ ys) h = elim (cases_Bool (lt y x)) [
+    | inl t ↦ rw t (none_below-placed y x ys (o.one_way y x t) h.0, up-placed x ys h.1)
+    | inr f ↦ rw f ((f, none_below-trans x y ys f h.0), h)
+  ]
+
+  up-in_order : (xs : List X) → Up (in_order lt xs)
+  unfolding in_order
+  up-in_order [] = tt
+  up-in_order (x ∷ xs) = up-placed x (in_order lt xs) (up-in_order xs)
+
+  -- where one of two elements is below the other, they do not both tie with z
+  apart : (z x y : X) → lt y x ≡ true → ties lt z x ≡ true → ties lt z y ≡ true → ⊥
+  apart z x y below one other =
+      let a = both (not (lt z x)) (not (lt x z)) one in
+      let b = both (not (lt z y)) (not (lt y z)) other in
+      let no : lt y x ≡ false = o.chain y z x (none (lt y z) b.1) (none (lt z x) a.0) in
+      cc
+    where
+      both : (p q : Bool) → (p && q) ≡ true → (p ≡ true) × (q ≡ true)
+      both true q e = (refl, e)
+      both false q e = cc
+
+      none : (p : Bool) → not p ≡ true → p ≡ false
+      none true e = cc
+      none false e = refl
+
+  stable-placed : (z x : X) (ys : List X) →
+      filter (ties lt z) (placed lt x ys) ≡ filter (ties lt z) (x ∷ ys)
+  unfolding placed
+  stable-placed z x [] = refl
+  stable-placed z x (y ∷ ys) = elim (cases_Bool (lt y x)) [
+    | inl t ↦ rw t (ap (λ rest. cond (ties lt z y) (y ∷ rest) rest) (stable-placed z x ys)
+        ∙ order (ties lt z x) (ties lt z y) refl refl t)
+    | inr f ↦ rw f
+  ]
+    where
+      order : (a b : Bool) → ties lt z x ≡ a → ties lt z y ≡ b → lt y x ≡ true
+          → cond b (y ∷ cond a (x ∷ filter (ties lt z) ys) (filter (ties lt z) ys))
+          (cond a (x ∷ filter (ties lt z) ys) (filter (ties lt z) ys))
+          ≡ cond a (x ∷ cond b (y ∷ filter (ties lt z) ys) (filter (ties lt z) ys))
+          (cond b (y ∷ filter (ties lt z) ys) (filter (ties lt z) ys))
+      order true true e f t = absurd (apart z x y t e f)
+      order true false e f t = refl
+      order false true e f t = refl
+      order false false e f t = refl
+
+  stable-in_order : (z : X) (xs : List X) →
+      filter (ties lt z) (in_order lt xs) ≡ filter (ties lt z) xs
+  unfolding in_order
+  stable-in_order z [] = refl
+  stable-in_order z (x ∷ xs) =
+      stable-placed z x (in_order lt xs)
+      ∙ ap (λ rest. cond (ties lt z x) (x ∷ rest) rest) (stable-in_order z xs)
+
+  not_below_itself : (x : X) → lt x x ≡ false
+  not_below_itself x = elim (cases_Bool (lt x x)) [ inl t ↦ o.one_way x x t | inr f ↦ f ]
+
+  tie_itself : (x : X) → ties lt x x ≡ true
+  tie_itself x = let e = not_below_itself x in rw e
+
+  below_all : (y z w : X) → lt y z ≡ true → lt w z ≡ false → lt y w ≡ true
+  below_all y z w below e = elim (cases_Bool (lt y w))
+      [ inl t ↦ t | inr f ↦ let no : lt y z ≡ false = o.chain y w z f e in cc ]
+
+  -- nothing that is above y ties with it
+  none_tied : (y z : X) (zs : List X) → lt y z ≡ true → NoneBelow z zs → filter (ties lt y) zs ≡ []
+  none_tied y z [] below h = refl
+  none_tied y z (w ∷ zs) below h =
+      let e = below_all y z w below h.0 in
+      rw e (none_tied y z zs below h.1)
+
+  first_tied : (y z : X) (zs : List X) → lt y z ≡ true → NoneBelow z zs →
+      filter (ties lt y) (z ∷ zs) ≡ []
+  first_tied y z zs below h = none_tied y z (z ∷ zs) below (not_below_itself z, h)
+
+  kept : (y : X) (ys : List X) → filter (ties lt y) (y ∷ ys) ≡ y ∷ filter (ties lt y) ys
+  kept y ys = let e = tie_itself y in rw e
+
+  tails : (x y z : X) (ys zs : List X) → y ≡ z →
+      filter (ties lt x) (y ∷ ys) ≡ filter (ties lt x) (z ∷ zs) →
+      filter (ties lt x) ys ≡ filter (ties lt x) zs
+  tails x y z ys zs is e = by (ties lt x y) (e ∙ ap (λ w. filter (ties lt x) (w ∷ zs)) (sym is))
+    where
+      by : (b : Bool) → cond b (y ∷ filter (ties lt x) ys) (filter (ties lt x) ys)
+          ≡ cond b (y ∷ filter (ties lt x) zs) (filter (ties lt x) zs) →
+          filter (ties lt x) ys ≡ filter (ties lt x) zs
+      by true e = cc
+      by false e = e
+
+  -- two lists in order whose ties stand alike are one
+  one_order : (ys zs : List X) → Up ys → Up zs →
+      ((x : X) → filter (ties lt x) ys ≡ filter (ties lt x) zs) → ys ≡ zs
+  one_order [] [] up down h = refl
+  one_order [] (z ∷ zs) up down h = let e = h z ∙ kept z zs in cc
+  one_order (y ∷ ys) [] up down h = let e = sym (kept y ys) ∙ h y in cc
+  one_order (y ∷ ys) (z ∷ zs) up down h = elim (cases_Bool (lt y z)) [
+    | inl t ↦ let e = sym (kept y ys) ∙ h y ∙ first_tied y z zs t down.0 in cc
+    | inr f ↦ elim (cases_Bool (lt z y)) [
+      | inl t ↦ let e = sym (kept z zs) ∙ sym (h z) ∙ first_tied z y ys t up.0 in cc
+      | inr g ↦
+          let tied : ties lt y z ≡ true = rw (f, g) in
+          let e : y ∷ filter (ties lt y) ys ≡ z ∷ filter (ties lt y) zs = sym (kept y ys) ∙ h y
+          ∙ rw tied in
+          let is : y ≡ z = cc in
+          ap (λ x. x ∷ ys) is ∙ ap (λ xs. z ∷ xs)
+          (one_order ys zs up.1 down.1 (λ x. tails x y z ys zs is (h x)))
+    ]
+  ]
+
+  -- a list that is sorted and stable is the other in order
+  pub sorted_is : (xs ys : List X) → IsSortedBy lt ys → IsStableBy lt xs ys → ys ≡ in_order lt xs
+  sorted_is xs ys sorted stable =
+      one_order ys (in_order lt xs) (up_from ys (sorted_far lt o ys sorted)) (up-in_order xs)
+      (λ x. stable x ∙ sym (stable-in_order x xs))
+
+-- order by what a function makes of the elements
+module _ {X Y : Type 0} (f : X → Y) (lt : Y → Y → Bool) where
+  map-placed : (x : X) (ys : List X) →
+      map f (placed (λ a b. lt (f a) (f b)) x ys) ≡ placed lt (f x) (map f ys)
+  unfolding placed
+  map-placed x [] = refl
+  map-placed x (y ∷ ys) = elim (cases_Bool (lt (f y) (f x))) [
+    | inl t ↦ rw t (ap (λ rest. f y ∷ rest) (map-placed x ys))
+    | inr n ↦ rw n
+  ]
+
+  pub map-in_order : (xs : List X) → map f (in_order (λ a b. lt (f a) (f b)) xs)
+      ≡ in_order lt (map f xs)
+  unfolding in_order
+  map-in_order [] = refl
+  map-in_order (x ∷ xs) = map-placed x (in_order (λ a b. lt (f a) (f b)) xs)
+      ∙ ap (placed lt (f x)) (map-in_order xs)
+
+-- the same elements in order
+module _ {X : Type 0} (below : X → X → Bool) where
+  IsIn-placed : (x y : X) (ys : List X) → IsIn (placed below x ys) y → IsIn (x ∷ ys) y
+  unfolding placed
+  IsIn-placed x y [] h = h
+  IsIn-placed x y (z ∷ ys) h = elim (cases_Bool (below z x)) [
+    | inl t ↦ swapped (IsIn-placed x y ys) (let k : IsIn (z ∷ placed below x ys) y = rw t at h in k)
+    | inr f ↦ rw f at h
+  ]
+    where
+      swapped : (IsIn (placed below x ys) y → IsIn (x ∷ ys) y) → IsIn (z ∷ placed below x ys) y →
+          IsIn (x ∷ z ∷ ys) y
+      swapped again (inl e) = inr (inl e)
+      swapped again (inr k) = elim (again k) [ inl e ↦ inl e | inr l ↦ inr (inr l) ]
+
+  placed-IsIn : (x y : X) (ys : List X) → IsIn (x ∷ ys) y → IsIn (placed below x ys) y
+  unfolding placed
+  placed-IsIn x y [] h = h
+  placed-IsIn x y (z ∷ ys) h = elim (cases_Bool (below z x)) [
+    | inl t ↦ rw t (swapped (placed-IsIn x y ys) h)
+    | inr f ↦ rw f h
+  ]
+    where
+      swapped : (IsIn (x ∷ ys) y → IsIn (placed below x ys) y) → IsIn (x ∷ z ∷ ys) y →
+          IsIn (z ∷ placed below x ys) y
+      swapped again (inl e) = inr (again (inl e))
+      swapped again (inr (inl e)) = inl e
+      swapped again (inr (inr k)) = inr (again (inr k))
+
+  pub IsIn-in_order : (xs : List X) (y : X) → IsIn (in_order below xs) y → IsIn xs y
+  unfolding in_order
+  IsIn-in_order [] y h = h
+  IsIn-in_order (x ∷ xs) y h = elim (IsIn-placed x y (in_order below xs) h)
+      [ inl e ↦ inl e | inr k ↦ inr (IsIn-in_order xs y k) ]
+
+  pub in_order-IsIn : (xs : List X) (y : X) → IsIn xs y → IsIn (in_order below xs) y
+  unfolding in_order
+  in_order-IsIn [] y h = h
+  in_order-IsIn (x ∷ xs) y (inl e) = placed-IsIn x y (in_order below xs) (inl e)
+  in_order-IsIn (x ∷ xs) y (inr k) = placed-IsIn x y (in_order below xs)
+      (inr (in_order-IsIn xs y k))
+
+  -- what is so of each is so of each in order
+  pub AllByRecursion-in_order : (P : X → Type 0) (xs : List X) → AllByRecursion P xs →
+      AllByRecursion P (in_order below xs)
+  AllByRecursion-in_order P xs h =
+      AllByRecursion-from_IsIn P (in_order below xs)
+      (λ x at. AllByRecursion-IsIn P xs x h (IsIn-in_order xs x at))

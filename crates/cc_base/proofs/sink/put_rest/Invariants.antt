@@ -1,0 +1,12 @@
+use Rattle.std.proofs.Common.{◌≡◌, ◌++◌, length}
+use Rattle.cc_base.proofs.sink.put_rest.Given as goal
+
+-- `all`: what is taken and what is still to be put are together what was taken before and the slice.
+abbrev pub invariant-loop-rest : goal.invariant-loop-rest
+invariant-loop-rest g l = record {
+  all : g.S.Sink.taken l.sink ++ l.rest ≡ g.S.Sink.taken l.fn.sink ++ l.bytes;
+  not_failed : g.S.Sink.failed l.sink ≡ g.S.Sink.failed l.fn.sink;
+}
+
+abbrev pub decreases-loop-rest : goal.decreases-loop-rest
+decreases-loop-rest g l = length l.rest

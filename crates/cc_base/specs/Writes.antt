@@ -1,0 +1,29 @@
+-- What a call that writes a text does to its sink.
+use Rattle.std.specs.Prelude.{◌≡◌, ℕ, List, ◌++◌, Result, Err, OnOk, IfErr, ⊤}
+use Rattle.cc_base.specs.declared.error.Error.{Error}
+use Rattle.cc_base.specs.declared.error.Error.TheVariants.{Memory, Write}
+use Rattle.cc_base.specs.Sink.{Failures, raised}
+
+-- a failure is counted exactly where the call returns `Write`, and of that kind
+abbrev pub CountsWrite : {T : Type 0} → Result T Error → Failures → Failures → Type 0
+CountsWrite (Err (Write kind)) old new = new ≡ raised kind old
+CountsWrite _ old new = new ≡ old
+
+-- the error is a failed put
+abbrev pub IsWrite : Error → Type 0
+IsWrite (Write _) = ⊤
+IsWrite _ = ⊥
+
+-- the error is out of memory or a failed put
+abbrev pub IsMemoryOrWrite : Error → Type 0
+IsMemoryOrWrite Memory = ⊤
+IsMemoryOrWrite (Write _) = ⊤
+IsMemoryOrWrite _ = ⊥
+
+-- the text is taken where the call returns `Ok`; a failure is counted exactly where it returns
+-- `Write`; and its only other error is out of memory
+pub record Writes {S : Type 0} (taken : S → List ℕ) (failed : S → Failures)
+    (result : Result (Unit {0}) Error) (old new : S) (text : List ℕ) : Type 0 where
+  pub ok : OnOk result (taken new ≡ taken old ++ text)
+  pub failures : CountsWrite result (failed old) (failed new)
+  pub kinds : IfErr result IsMemoryOrWrite

@@ -1,0 +1,89 @@
+//! The failures of a sink.
+
+ghost use Rattle.std.specs.Prelude.{◌≡◌};
+ghost use Rattle.cc_base.specs.Sink.{none_failed, raised};
+
+use std::io::ErrorKind;
+
+/// How many puts and flushes of a sink failed, and the kind of the last failure.
+#[derive(Clone, Copy, Debug)]
+pub struct Failures {
+    count: u64,
+    last: Option<ErrorKind>,
+}
+
+impl Failures {
+    /// No failure so far.
+    pub fn none() -> Failures
+        ensures { result ≡ none_failed }
+    {
+        Failures {
+            count: 0,
+            last: None,
+        }
+    }
+
+    /// Counts a failure of this kind. The count stays at `u64::MAX` once it is there.
+    #[cold]
+    #[inline(never)]
+    #[tactic(auto, unfolding(crate::specs::Sink::raised))]
+    pub fn raise(&mut self, kind: ErrorKind)
+        ensures { self.new ≡ raised kind self.old }
+    {
+        self.count = self.count.saturating_add(1);
+        self.last = Some(kind);
+    }
+
+    /// How many failed.
+    pub fn count(&self) -> u64
+        ensures { result ≡ self.now.count }
+    {
+        self.count
+    }
+
+    /// The kind of the last failure; `None` where nothing failed.
+    pub fn last(&self) -> Option<ErrorKind>
+        ensures { result ≡ self.now.last }
+    {
+        self.last
+    }
+}
+
+#[cfg(test)]
+mod tests {
+    use super::*;
+    use std::test::Fail;
+
+    #[test]
+    fn keeps_count_and_last_kind(rt: HostRuntime) {
+        let mut failures = Failures::none();
+        assert_eq!(rt; failures.count(), 0);
+        assert_eq!(rt; failures.last(), None);
+        failures.raise(ErrorKind::WriteZero);
+        failures.raise(ErrorKind::BrokenPipe);
+        assert_eq!(rt; failures.count(), 2);
+        assert_eq!(rt; failures.last(), Some(ErrorKind::BrokenPipe));
+    }
+
+    #[test]
+    fn count_stays_at_its_greatest(rt: HostRuntime) {
+        let mut failures = Failures {
+            count: u64::MAX,
+            last: None,
+        };
+        failures.raise(ErrorKind::BrokenPipe);
+        assert_eq!(rt; failures.count(), u64::MAX);
+    }
+
+    #[test]
+    fn shows_its_fields(rt: HostRuntime) -> Result<(), Fail> {
+        let mut failures = Failures::none();
+        failures.raise(ErrorKind::WriteZero);
+        let shown = format!(in rt.alloc(); "{failures:?}")?;
+        assert_eq!(rt;
+            shown.as_str(),
+            "Failures { count: 1, last: Some(WriteZero) }"
+        );
+        Ok(())
+    }
+}

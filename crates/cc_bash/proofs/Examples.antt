@@ -1,0 +1,178 @@
+-- Tables, walks and scripts of small trees, as the definitions have them.
+use Rattle.std.proofs.Common.{◌≡◌, Bool, true, List, [], ◌∷◌, Some, None, codes, refl}
+use Rattle.std.specs.Char.{encode_utf8}
+use Rattle.std.specs.Fmt.{digits}
+use Rattle.cc_arg.specs.Arguments.{new_arg}
+use Rattle.cc_arg.specs.PossibleValues.{new_possible_value}
+use Rattle.cc_arg.specs.declared.arg.Arg.{Arg}
+use Rattle.cc_base.specs.Sorting.{placed, in_order}
+use Rattle.cc_command.specs.Built.{built_under}
+use Rattle.cc_command.specs.Generated.{help_argument, version_argument}
+use Rattle.cc_command.specs.Made.{new_tree, with_argument, with_child}
+use Rattle.cc_command.specs.Texts.{help_name, version_name}
+use Rattle.cc_command.specs.Tree.{Tree, none, more}
+use Rattle.cc_command.specs.declared.node.Node.{Node}
+use Rattle.cc_quote.specs.PosixTokens.{sign, byte_of, cut, posix_tokens}
+use Rattle.cc_quote.specs.Tokens.{is_word}
+use Rattle.cc_bash.specs.Arms.{Arm, details_at, tree_arms, words_at, values, files, typed, nothing, filenames, plusdirs, nospace}
+use Rattle.cc_bash.specs.CaseTable.{Case, run, tree_cases}
+use Rattle.cc_bash.specs.Labels.{shared_label}
+use Rattle.cc_bash.specs.Quiet.{is_quiet_value}
+use Rattle.cc_bash.specs.Reader.{pattern_of, assigned, bare_text, double_text, is_root, is_empty_reply, is_typed_reply, is_compgen_reply, mode_named, case_by, next, closed_table, read, bash_table}
+use Rattle.cc_bash.specs.Script.{case_text, offered_text, reply_text, mode_word, mode_text, moded_text, pattern_text, detail_text, arm_words_text, arm_level_text, arm_text, head_text, unsorted_text, sorted_text, bash_script}
+use Rattle.cc_bash.specs.Texts.{function_begins, function_head, cases_begin, arms_begin, arms_end, unsorted, otherwise, sorted, script_ends, case_begins, case_comma, case_sets, case_ends, arm_begins, arm_words, arm_level, arm_details, arm_ends, detail_begins, detail_word_ends, separator_kept, separator_back, reply_begins, reply_ends, values_begin, values_end, files_offered, word_offered, mode_begins, mode_ends, filenames_word, plusdirs_word, nospace_word, detail_ends}
+
+-- `my-app` with the child `test`, and all that building adds
+abbrev my_app : Tree
+my_app = built_under (Some (codes "my-app"))
+    (with_child (new_tree (codes "my-app")) (new_tree (codes "test")))
+
+my_app_cases : tree_cases my_app
+    ≡ record { from = codes "my__app"; word = codes "help"; to = codes "my__app__subcmd__help" }
+    ∷ record { from = codes "my__app"; word = codes "test"; to = codes "my__app__subcmd__test" }
+    ∷ record {
+      from = codes "my__app__subcmd__help";
+      word = codes "help";
+      to =
+          codes "my__app__subcmd__help__subcmd__help";
+    }
+    ∷ record {
+      from = codes "my__app__subcmd__help";
+      word = codes "test";
+      to =
+          codes "my__app__subcmd__help__subcmd__test";
+    }
+    ∷ []
+unfolding placed in_order tree_cases help_argument version_argument help_name version_name
+my_app_cases = refl
+
+my_app_arms : tree_arms my_app
+    ≡ record {
+      label = codes "my__app";
+      level = codes "1";
+      words =
+          codes "-h" ∷ codes "--help" ∷ codes "test" ∷ codes "help" ∷ [];
+      details = [];
+    }
+    ∷ record {
+      label = codes "my__app__subcmd__help";
+      level = codes "2";
+      words =
+          codes "test" ∷ codes "help" ∷ [];
+      details = [];
+    }
+    ∷ record {
+      label = codes "my__app__subcmd__help__subcmd__help";
+      level = codes "3";
+      words =
+          [];
+      details = [];
+    }
+    ∷ record {
+      label = codes "my__app__subcmd__help__subcmd__test";
+      level = codes "3";
+      words =
+          [];
+      details = [];
+    }
+    ∷ record {
+      label = codes "my__app__subcmd__test";
+      level = codes "2";
+      words =
+          codes "-h" ∷ codes "--help" ∷ [];
+      details = [];
+    }
+    ∷ []
+unfolding placed in_order tree_arms words_at details_at digits encode_utf8 help_argument version_argument help_name version_name
+my_app_arms = refl
+
+-- words that are no names stay where they are
+my_app_run : run (tree_cases my_app) (codes "my__app")
+    (codes "--flag" ∷ codes "test" ∷ codes "--" ∷ [])
+    ≡ codes "my__app" ∷ codes "my__app" ∷ codes "my__app__subcmd__test"
+    ∷ codes "my__app__subcmd__test" ∷ []
+unfolding placed in_order tree_cases help_argument version_argument help_name version_name
+my_app_run = refl
+
+my_app_clear : shared_label my_app ≡ None
+unfolding help_argument version_argument help_name version_name
+my_app_clear = refl
+
+-- `p` with `a-b`, then `a` that holds `b`
+clashing_label : shared_label (built_under (Some (codes "p"))
+    (with_child (with_child (new_tree (codes "p")) (new_tree (codes "a-b")))
+    (with_child (new_tree (codes "a")) (new_tree (codes "b")))))
+    ≡ Some (codes "p__subcmd__a__subcmd__b")
+unfolding help_argument version_argument help_name version_name
+clashing_label = refl
+
+-- an option with a value that is shown and one that is hidden, and a positional with the same values
+abbrev color : Arg
+color = record (new_arg (codes "color")) {
+  short = Some 99;
+  long = Some (codes "color");
+  possible_values = Some (new_possible_value (codes "auto")
+      ∷ record (new_possible_value (codes "never")) { hide = true } ∷ []);
+}
+
+abbrev level : Arg
+level = record (new_arg (codes "level")) {
+  possible_values = Some (new_possible_value (codes "low")
+      ∷ record (new_possible_value (codes "high")) { hide = true } ∷ []);
+}
+
+abbrev offering : Tree
+offering =
+    let node : Node = with_argument (with_argument (new_tree (codes "app")).node color) level in
+    let tree : Tree = record { node = node; children = more (new_tree (codes "run")).node none none } in
+    built_under (Some (codes "app")) tree
+
+-- hidden values of positionals are offered, those of options are not
+offering_words : words_at offering
+    ≡ codes "-c" ∷ codes "-h" ∷ codes "--color" ∷ codes "--help" ∷ codes "low" ∷ codes "high"
+    ∷ codes "run" ∷ codes "help" ∷ []
+unfolding words_at encode_utf8 help_argument version_argument help_name version_name
+offering_words = refl
+
+offering_details : details_at offering.node
+    ≡ record { word = codes "--color"; offered = values (codes "auto" ∷ []); mode = None }
+    ∷ record { word = codes "-c"; offered = values (codes "auto" ∷ []); mode = None }
+    ∷ []
+unfolding details_at encode_utf8 help_argument version_argument help_name version_name
+offering_details = refl
+
+-- a value with a space is not quiet
+not_quiet : is_quiet_value (codes "a b") ≡ Bool.false
+not_quiet = refl
+
+-- a script with details of every kind is read back
+abbrev given_cases : List Case
+given_cases =
+    record { from = codes "app"; word = codes "run"; to = codes "app__subcmd__run" }
+    ∷ record { from = codes "app"; word = codes "r"; to = codes "app__subcmd__run" } ∷ []
+
+abbrev given_arms : List Arm
+given_arms =
+    record {
+      label = codes "app";
+      level = codes "1";
+      words =
+          codes "-c" ∷ codes "--color" ∷ codes "run" ∷ [];
+      details = record {
+        word = codes "--color";
+        offered =
+            values (codes "auto" ∷ codes "never" ∷ []);
+        mode = None;
+      }
+          ∷ record { word = codes "-c"; offered = values []; mode = Some nospace }
+          ∷ record { word = codes "--file"; offered = files; mode = Some filenames }
+          ∷ record { word = codes "--dir"; offered = nothing; mode = Some plusdirs }
+          ∷ record { word = codes "-o"; offered = typed; mode = Some nospace }
+          ∷ record { word = codes "-x"; offered = files; mode = None } ∷ [];
+    }
+    ∷ record { label = codes "app__subcmd__run"; level = codes "2"; words = []; details = [] } ∷ []
+
+script_reads : bash_table (bash_script (codes "app") (codes "app") given_cases given_arms)
+    ≡ Some (record { root = codes "app"; cases = given_cases; arms = given_arms })
+unfolding sign byte_of cut posix_tokens is_word pattern_of assigned bare_text double_text is_root is_empty_reply is_typed_reply is_compgen_reply mode_named case_by next closed_table read bash_table case_text offered_text reply_text mode_word mode_text moded_text pattern_text detail_text arm_words_text arm_level_text arm_text head_text unsorted_text sorted_text bash_script function_begins function_head cases_begin arms_begin arms_end unsorted otherwise sorted script_ends case_begins case_comma case_sets case_ends arm_begins arm_words arm_level arm_details arm_ends detail_begins detail_word_ends separator_kept separator_back reply_begins reply_ends values_begin values_end files_offered word_offered mode_begins mode_ends filenames_word plusdirs_word nospace_word detail_ends
+script_reads = refl

@@ -1,0 +1,21 @@
+pub mod ArmOrder
+pub mod CaseOrder
+pub mod CaseWalk
+pub mod Clashes
+pub mod DetailTexts
+mod Examples
+pub mod ListedNodes
+pub mod NextSteps
+pub mod PlainArms
+pub mod PlainBytes
+pub mod PlainTable
+pub mod ReadsArms
+pub mod ReadsBack
+pub mod ReadsCases
+pub mod ReadsDetails
+pub mod Replaced
+pub mod Seen
+pub mod Stack
+pub mod WholeScript
+pub mod WordTexts
+pub mod WordsRead

@@ -1,0 +1,153 @@
+-- The bash script of a plain tree reads to the tree's cases, and with quiet values to its arms.
+use Rattle.std.proofs.Common.{◌≡◌, ℕ, suc, ◌&&◌, IsTrue, List, [], flat_map, Some, None}
+use Rattle.std.specs.List.{AllByRecursion}
+use Rattle.cc_base.specs.Sorting.{in_order}
+use Rattle.cc_base.proofs.Booleans.{both_true}
+use Rattle.cc_base.proofs.Members.{AllByRecursion-both, AllByRecursion-weaker, AllByRecursion-append, AllByRecursion-map, AllByRecursion-flat_map}
+use Rattle.cc_base.proofs.Sorted.{AllByRecursion-in_order}
+use Rattle.cc_command.specs.Names.{full_name, visible_names}
+use Rattle.cc_command.specs.Plain.{is_plain_tree, is_plain_forest}
+use Rattle.cc_command.specs.Tree.{Forest, none, more, Tree}
+use Rattle.cc_command.proofs.PlainParts.{IsPlainName, IsPlainBelow, plain_node, plain_more, plain_tree}
+use Rattle.cc_quote.proofs.PosixCutting.{IsKept-IsOther}
+use Rattle.cc_bash.specs.Arms.{arm_below, node_arm, tree_arms}
+use Rattle.cc_bash.specs.CaseTable.{Case, node_cases, case_below, tree_cases}
+use Rattle.cc_bash.specs.Labels.{Labelled, child_label, labelled, labelled_under, labels, root_label, shared_label}
+use Rattle.cc_bash.specs.Quiet.{is_quiet_forest, is_quiet_node, is_quiet_tree}
+use Rattle.cc_bash.specs.Reader.{bash_cases, bash_table}
+use Rattle.cc_bash.specs.Reads.{BashReads}
+use Rattle.cc_bash.specs.Script.{tree_script}
+use Rattle.cc_bash.proofs.CaseWalk.{arm_stands, table_ends, table_walks}
+use Rattle.cc_bash.proofs.Clashes.{texts_differ}
+use Rattle.cc_bash.proofs.PlainArms.{IsQuietNode, arm_readable, quiet_node}
+use Rattle.cc_bash.proofs.PlainBytes.{IsPlainText, bytes_of, child_plain, no_comma_of, no_paren_of, other_of, plain_text, root_plain, word_of}
+use Rattle.cc_bash.proofs.ReadsArms.{IsReadableArm}
+use Rattle.cc_bash.proofs.ReadsBack.{bash_cases_back, bash_reads_back}
+use Rattle.cc_bash.proofs.ReadsCases.{IsReadableCase}
+
+-- a labelled node of a plain tree
+record IsPlainLabelled (node : Labelled) : Type 0 where
+  pub parent : IsPlainText node.parent
+  pub label : IsPlainText node.label
+  pub tree : IsPlainBelow node.tree
+
+plain_labelled : (label : List ℕ) (level : ℕ) (forest : Forest) → IsPlainText label →
+    IsTrue (is_plain_forest forest) → AllByRecursion IsPlainLabelled
+    (labelled_under label level forest)
+plain_labelled label level none h k = tt
+plain_labelled label level (more node below rest) h k =
+    let plain = plain_more node below rest k in
+    let name : IsPlainText node.name =
+    plain_text node.name (plain_node node plain.first.node).names.0 in
+    let own : IsPlainText (child_label label node.name) = child_plain label node.name h name in (
+      record { parent = h; label = own; tree = plain.first },
+      AllByRecursion-append IsPlainLabelled
+          (labelled_under (child_label label node.name) (suc level) below)
+          (labelled_under label level rest)
+          (plain_labelled (child_label label node.name) (suc level) below own plain.first.children)
+          (plain_labelled label level rest h plain.later),
+    )
+
+all_plain : (tree : Tree) → IsTrue (is_plain_tree tree) →
+    AllByRecursion IsPlainLabelled (labelled tree)
+all_plain tree h = plain_labelled (root_label tree) 2 tree.children (root_plain tree h)
+    (plain_tree tree h).below.children
+
+-- ---- cases
+
+case_readable : (node : Labelled) → IsPlainLabelled node → (name : List ℕ) → IsPlainName name →
+    IsReadableCase (record { from = node.parent; word = name; to = node.label })
+case_readable node h name k =
+    let word = bytes_of name (plain_text name k) in
+    record {
+      from = word_of node.parent h.parent;
+      from_no_paren = no_paren_of node.parent (bytes_of node.parent h.parent);
+      from_no_comma = no_comma_of node.parent (bytes_of node.parent h.parent);
+      word = other_of name word;
+      word_no_paren = no_paren_of name word;
+      to = IsKept-IsOther node.label (other_of node.label (bytes_of node.label h.label));
+    }
+
+node_cases_readable : (node : Labelled) → IsPlainLabelled node →
+    AllByRecursion IsReadableCase (node_cases node)
+node_cases_readable node h =
+    AllByRecursion-map IsReadableCase (λ name. let c : Case =
+    record { from = node.parent; word = name; to = node.label } in c)
+    (visible_names node.tree.node)
+    (AllByRecursion-weaker IsPlainName
+    (λ name. IsReadableCase (record { from = node.parent; word = name; to = node.label }))
+    (case_readable node h)
+    (visible_names node.tree.node) (plain_node node.tree.node h.tree.node).names)
+
+cases_readable : (tree : Tree) → IsTrue (is_plain_tree tree) →
+    AllByRecursion IsReadableCase (tree_cases tree)
+unfolding tree_cases
+cases_readable tree h =
+    AllByRecursion-in_order case_below IsReadableCase (flat_map node_cases (labelled tree))
+    (AllByRecursion-flat_map IsReadableCase node_cases (labelled tree)
+    (AllByRecursion-weaker IsPlainLabelled (λ node. AllByRecursion IsReadableCase (node_cases node))
+    node_cases_readable (labelled tree) (all_plain tree h)))
+
+-- ---- arms
+
+quiet_labelled : (label : List ℕ) (level : ℕ) (forest : Forest) → IsTrue (is_quiet_forest forest) →
+    AllByRecursion (λ node. IsQuietNode node.tree.node) (labelled_under label level forest)
+quiet_labelled label level none h = tt
+quiet_labelled label level (more node below rest) h =
+    let a = both_true (is_quiet_node node) (is_quiet_forest below && is_quiet_forest rest) h in
+    let b = both_true (is_quiet_forest below) (is_quiet_forest rest) a.1 in (
+      quiet_node node a.0,
+      AllByRecursion-append (λ n. IsQuietNode n.tree.node)
+          (labelled_under (child_label label node.name) (suc level) below)
+          (labelled_under label level rest)
+          (quiet_labelled (child_label label node.name) (suc level) below b.0)
+          (quiet_labelled label level rest b.1),
+    )
+
+arms_readable : (tree : Tree) → IsTrue (is_plain_tree tree) → IsTrue (is_quiet_tree tree) →
+    AllByRecursion IsReadableArm (tree_arms tree)
+unfolding tree_arms
+arms_readable tree h quiet =
+    let q = both_true (is_quiet_node tree.node) (is_quiet_forest tree.children) quiet in
+    let both = λ (node : Labelled). IsPlainLabelled node × IsQuietNode node.tree.node in (
+      arm_readable (root_label tree) 1 tree (root_plain tree h) (plain_tree tree h).below
+          (quiet_node tree.node q.0),
+      AllByRecursion-map IsReadableArm node_arm (in_order arm_below (labelled tree))
+          (AllByRecursion-weaker both (λ node. IsReadableArm (node_arm node))
+          (λ node k. arm_readable node.label node.level node.tree k.0.label k.0.tree k.1)
+          (in_order arm_below (labelled tree)) (AllByRecursion-in_order arm_below both (labelled tree)
+          (AllByRecursion-both IsPlainLabelled (λ node. IsQuietNode node.tree.node) (labelled tree)
+          (all_plain tree h) (quiet_labelled (root_label tree) 2 tree.children q.1)))),
+    )
+
+-- ---- the script
+
+table_back : (tree : Tree) → IsTrue (is_plain_tree tree) → IsTrue (is_quiet_tree tree) →
+    bash_table (tree_script tree) ≡ Some
+    (record { root = root_label tree; cases = tree_cases tree; arms = tree_arms tree })
+unfolding tree_script
+table_back tree h quiet =
+    bash_reads_back (root_label tree) (full_name tree.node) (tree_cases tree) (tree_arms tree)
+    (other_of (root_label tree) (bytes_of (root_label tree) (root_plain tree h)))
+    (cases_readable tree h) (arms_readable tree h quiet)
+
+cases_back : (tree : Tree) → IsTrue (is_plain_tree tree) →
+    bash_cases (tree_script tree) ≡ Some
+    (record { root = root_label tree; cases = tree_cases tree; arms = [] })
+unfolding tree_script
+cases_back tree h =
+    bash_cases_back (root_label tree) (full_name tree.node) (tree_cases tree) (tree_arms tree)
+    (other_of (root_label tree) (bytes_of (root_label tree) (root_plain tree h)))
+    (cases_readable tree h)
+
+-- the script of a plain tree without a clash reads back
+pub bash_plain_reads : (tree : Tree) → shared_label tree ≡ None → IsTrue (is_plain_tree tree) →
+    BashReads tree
+bash_plain_reads tree clear h = record {
+  cases = cases_back tree h;
+  table = table_back tree h;
+  walks = table_walks tree h clear;
+  ends = table_ends tree h clear;
+  arms = arm_stands tree clear;
+  one_label = texts_differ [] (labels tree) clear;
+}

@@ -1,0 +1,117 @@
+-- The case table of a bash script is read back.
+use Rattle.std.proofs.Common.{◌≡◌, ℕ, Bool, List, [], ◌∷◌, ◌++◌, flat_map, fold, Option, Some, codes, refl, sym, ap, ◌∙◌, append_assoc, append-nil}
+use Rattle.std.specs.List.{AllByRecursion}
+use Rattle.cc_base.proofs.Lines.{IsLine}
+use Rattle.cc_base.proofs.Lines.IsLine.{line}
+use Rattle.cc_base.proofs.ReadInTurn.{in_turn}
+use Rattle.cc_quote.specs.PosixTokens.{Place, sign, byte_of, cut, double}
+use Rattle.cc_quote.specs.Tokens.{Token, is_word}
+use Rattle.cc_quote.specs.Tokens.Piece.{bare}
+use Rattle.cc_quote.specs.PosixTokens.Place.{between, in_bare, in_double}
+use Rattle.cc_quote.proofs.PosixCutting.{IsOther, IsWord, IsKept, tokens_from, bare_run, bare_word, double_run}
+use Rattle.cc_bash.specs.CaseTable.{Case}
+use Rattle.cc_bash.specs.Reader.{Table, State, comma_byte, parenthesis_byte, pattern_of, assigned, case_by, with_case, next, read}
+use Rattle.cc_bash.specs.Reader.State.{between_cases, at_label, after_label}
+use Rattle.cc_bash.specs.Script.{case_text}
+use Rattle.cc_bash.specs.Texts.{case_begins, case_comma, case_sets, case_ends}
+use Rattle.cc_bash.proofs.WordsRead.{Lacks, Lacks-append, parted_at}
+
+-- what the reader gives from a state on, where the script is cut from a place on
+abbrev pub reading : Bool → State → Place → List ℕ → Option Table
+reading whole state place script = read whole state (tokens_from place script)
+
+-- the case can be read
+pub record IsReadableCase (c : Case) : Type 0 where
+  pub from : IsWord c.from
+  pub from_no_paren : Lacks parenthesis_byte c.from
+  pub from_no_comma : Lacks comma_byte c.from
+  pub word : IsOther c.word
+  pub word_no_paren : Lacks parenthesis_byte c.word
+  pub to : IsKept c.to
+
+-- a text before a `)` is a pattern
+pub pattern_found : (pattern : List ℕ) → Lacks parenthesis_byte pattern →
+    pattern_of (bare (pattern ++ parenthesis_byte ∷ []) ∷ []) ≡ Some pattern
+unfolding pattern_of
+pattern_found pattern h = let e = parted_at parenthesis_byte pattern [] h in rw (e, pattern_of)
+
+case_found : (c : Case) → Lacks comma_byte c.from →
+    case_by ((c.from ++ comma_byte ∷ []) ++ c.word) c.to ≡ Some c
+unfolding case_by
+case_found c h =
+    ap (λ p. case_by p c.to) (append_assoc c.from (comma_byte ∷ []) c.word)
+    ∙ (let e = parted_at comma_byte c.from c.word h in rw e)
+
+regroup_case : (a b c d e f g rest : List ℕ) →
+    ((((((a ++ b) ++ c) ++ d) ++ e) ++ f) ++ g) ++ rest
+    ≡ a ++ (b ++ (c ++ (d ++ (e ++ (f ++ (g ++ rest))))))
+regroup_case a b c d e f g rest = simp append_assoc
+
+-- a case begins a line
+pub case_line : (c : Case) (rest : List ℕ) → IsLine (case_text c ++ rest)
+unfolding case_text case_begins
+case_line c rest = line _
+
+fold_cases : (table : Table) (cases : List Case) →
+    fold with_case table cases ≡ record table { cases = table.cases ++ cases }
+fold_cases table [] = ap (λ cs. record table { cases = cs }) (sym (append-nil table.cases))
+fold_cases table (c ∷ cases) = fold_cases (with_case table c) cases
+    ∙ ap (λ cs. record table { cases = cs }) (append_assoc table.cases (c ∷ []) cases)
+
+module _ (whole : Bool) where
+  -- the state after a pattern, and after a label that is set
+  at_pattern : (table : Table) (token : Token) (pattern : List ℕ) →
+      pattern_of token ≡ Some pattern →
+      next whole (between_cases table) token ≡ at_label table pattern
+  unfolding next
+  at_pattern table token pattern e = rw (e, next)
+
+  at_set : (table : Table) (pattern label : List ℕ) (c : Case) → case_by pattern label ≡ Some c →
+      next whole (at_label table pattern) (bare (codes "cmd=") ∷ double label ∷ [])
+      ≡ after_label table c
+  unfolding next assigned
+  at_set table pattern label c e = rw (e, next)
+
+  -- a line feed ends a case
+  case_closes : (table : Table) (c : Case) (rest : List ℕ) → IsLine rest →
+      reading whole (after_label table c) (in_bare [] (codes ";;")) rest
+      ≡ reading whole (between_cases (with_case table c)) between rest
+  unfolding sign cut is_word next read
+  case_closes table c rest (line tail) = refl
+
+  -- a case is read
+  case_reads : (table : Table) (c : Case) (rest : List ℕ) → IsReadableCase c → IsLine rest →
+      reading whole (between_cases table) between (case_text c ++ rest)
+      ≡ reading whole (between_cases (with_case table c)) between rest
+  unfolding case_text case_begins case_comma case_sets case_ends sign byte_of cut read
+  case_reads table c rest h l =
+      let pattern : List ℕ = (c.from ++ comma_byte ∷ []) ++ c.word in
+      let lacks : Lacks parenthesis_byte pattern =
+      Lacks-append parenthesis_byte (c.from ++ comma_byte ∷ []) c.word
+      (Lacks-append parenthesis_byte c.from (comma_byte ∷ []) h.from_no_paren (refl, tt))
+      h.word_no_paren in
+      let set : List ℕ = case_sets ++ (c.to ++ (case_ends ++ rest)) in
+      ap (reading whole (between_cases table) between)
+      (regroup_case case_begins c.from case_comma c.word case_sets c.to case_ends rest)
+      ∙ ap (read whole (between_cases table))
+      (bare_word c.from (case_comma ++ (c.word ++ set)) h.from)
+      ∙ ap (read whole (between_cases table))
+      (bare_run c.word set [] (c.from ++ comma_byte ∷ []) h.word)
+      ∙ ap (λ s. read whole s (tokens_from (in_double (bare (codes "cmd=") ∷ []) [])
+      (c.to ++ (case_ends ++ rest)))) (at_pattern table
+      (bare (pattern ++ parenthesis_byte ∷ []) ∷ []) pattern (pattern_found pattern lacks))
+      ∙ ap (read whole (at_label table pattern))
+      (double_run c.to (case_ends ++ rest) (bare (codes "cmd=") ∷ []) [] h.to)
+      ∙ ap (λ s. read whole s (tokens_from (in_bare [] (codes ";;")) rest))
+      (at_set table pattern c.to c (case_found c h.from_no_comma))
+      ∙ case_closes table c rest l
+
+  -- cases are read one after another
+  pub cases_read : (table : Table) (cases : List Case) (rest : List ℕ) →
+      AllByRecursion IsReadableCase cases → IsLine rest →
+      reading whole (between_cases table) between (flat_map case_text cases ++ rest)
+      ≡ reading whole (between_cases (record table { cases = table.cases ++ cases })) between rest
+  cases_read table cases rest h l =
+      in_turn (λ t. reading whole (between_cases t) between)
+      case_text with_case IsReadableCase case_line case_reads table cases rest h l
+      ∙ ap (λ t. reading whole (between_cases t) between rest) (fold_cases table cases)

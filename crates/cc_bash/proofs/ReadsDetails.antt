@@ -1,0 +1,228 @@
+-- The details of a bash script are read back.
+use Rattle.std.proofs.Common.{◌≡◌, ℕ, Bool, false, List, [], ◌∷◌, ◌++◌, flat_map, fold, Option, Some, None, codes, refl, sym, ap, ◌∙◌, append_assoc, append-nil}
+use Rattle.std.specs.Prelude.{bytes_eq}
+use Rattle.std.specs.List.{AllByRecursion}
+use Rattle.cc_base.proofs.Lines.{IsLine}
+use Rattle.cc_base.proofs.Lines.IsLine.{line}
+use Rattle.cc_base.proofs.ReadInTurn.{in_turn}
+use Rattle.cc_quote.specs.PosixTokens.{sign, byte_of, cut, double}
+use Rattle.cc_quote.specs.Tokens.{Token, is_word}
+use Rattle.cc_quote.specs.Tokens.Piece.{bare}
+use Rattle.cc_quote.specs.PosixTokens.Place.{between, in_bare}
+use Rattle.cc_quote.proofs.PosixCutting.{IsWord, tokens_from, bare_word, double_run}
+use Rattle.cc_bash.specs.Arms.{Offered, values, files, typed, nothing, Mode, filenames, plusdirs, nospace, Detail, Arm}
+use Rattle.cc_bash.specs.Reader.{Table, parenthesis_byte, pattern_of, bare_text, double_text, is_empty_reply, is_typed_reply, is_compgen_reply, mode_named, with_detail, new_detail, next, read}
+use Rattle.cc_bash.specs.Reader.State.{between_details, at_reply, at_values, after_reply}
+use Rattle.cc_bash.specs.Script.{words_text, offered_text, reply_text, mode_word, mode_text, moded_text, pattern_text, detail_text}
+use Rattle.cc_bash.specs.Texts.{detail_begins, detail_word_ends, separator_kept, separator_back, reply_begins, reply_ends, values_begin, values_end, files_offered, word_offered, mode_begins, mode_ends, filenames_word, plusdirs_word, nospace_word, detail_ends}
+use Rattle.cc_bash.proofs.ReadsCases.{reading, pattern_found}
+use Rattle.cc_bash.proofs.WordsRead.{Lacks, words_read, IsKept-words}
+
+-- the values that are offered, where some are, are words
+abbrev pub IsReadableOffer : Offered → Type 0
+IsReadableOffer (values names) = AllByRecursion IsWord names
+IsReadableOffer _ = Unit {0}
+
+-- the detail can be read
+pub record IsReadableDetail (detail : Detail) : Type 0 where
+  pub word : IsWord detail.word
+  pub no_paren : Lacks parenthesis_byte detail.word
+  pub no_star : bytes_eq detail.word (codes "*") ≡ false
+  pub offered : IsReadableOffer detail.offered
+
+-- each of these texts begins a line
+mode_line : (mode : Mode) (rest : List ℕ) → IsLine (mode_text mode ++ rest)
+unfolding mode_text mode_begins
+mode_line mode rest = line _
+
+reply_line : (offered : Offered) (rest : List ℕ) → IsLine (reply_text offered ++ rest)
+unfolding reply_text reply_begins
+reply_line offered rest = line _
+
+moded_line : (mode : Option Mode) (offered : Offered) (rest : List ℕ) →
+    IsLine (moded_text mode offered ++ rest)
+unfolding moded_text reply_text reply_begins separator_kept
+moded_line None offered rest = line _
+moded_line (Some filenames) offered rest = line _
+moded_line (Some plusdirs) offered rest = line _
+moded_line (Some nospace) offered rest = line _
+
+back_line : (rest : List ℕ) → IsLine (separator_back ++ rest)
+unfolding separator_back
+back_line rest = line _
+
+end_line : (rest : List ℕ) → IsLine (detail_ends ++ rest)
+unfolding detail_ends
+end_line rest = line _
+
+-- a detail begins a line
+pub detail_line : (detail : Detail) (rest : List ℕ) → IsLine (detail_text detail ++ rest)
+unfolding detail_text pattern_text detail_begins
+detail_line detail rest = line _
+
+fold_details : (arm : Arm) (details : List Detail) →
+    fold with_detail arm details ≡ record arm { details = arm.details ++ details }
+fold_details arm [] = ap (λ ds. record arm { details = ds }) (sym (append-nil arm.details))
+fold_details arm (detail ∷ details) =
+    fold_details (with_detail arm detail) details
+    ∙ ap (λ ds. record arm { details = ds }) (append_assoc arm.details (detail ∷ []) details)
+
+module _ (whole : Bool) where
+  at_values_read : (table : Table) (arm : Arm) (detail : Detail) (names : List (List ℕ)) →
+      AllByRecursion IsWord names →
+      next whole (at_values table arm detail) (double (words_text names) ∷ [])
+      ≡ after_reply table arm (record detail { offered = values names })
+  unfolding next double_text
+  at_values_read table arm detail names h =
+      ap (λ ws. after_reply table arm (record detail { offered = values ws })) (words_read names h)
+
+  -- the reply of a detail
+  reply_reads : (table : Table) (arm : Arm) (word : List ℕ) (offered : Offered) (rest : List ℕ) →
+      IsReadableOffer offered → IsLine rest →
+      reading whole (at_reply table arm (new_detail word)) between (reply_text offered ++ rest)
+      ≡ reading whole (after_reply table arm
+      (record { word = word; offered = offered; mode = None })) between rest
+  unfolding reply_text offered_text reply_begins reply_ends values_begin values_end files_offered word_offered sign byte_of cut is_word is_empty_reply is_typed_reply is_compgen_reply next read
+  reply_reads table arm word files rest h (line tail) = refl
+  reply_reads table arm word typed rest h (line tail) = refl
+  reply_reads table arm word nothing rest h (line tail) = refl
+  reply_reads table arm word (values names) rest h (line tail) =
+      let after : List ℕ = values_end ++ (reply_ends ++ 10 ∷ tail) in
+      ap (reading whole (at_reply table arm (new_detail word)) between)
+      (let e : ((reply_begins ++ ((values_begin ++ words_text names) ++ values_end)) ++ reply_ends)
+      ++ 10 ∷ tail
+      ≡ reply_begins ++ (values_begin ++ (words_text names ++ after)) =
+      regroup_values reply_begins values_begin (words_text names) values_end reply_ends
+      (10 ∷ tail) in e)
+      ∙ ap (read whole (at_values table arm (new_detail word)))
+      (double_run (words_text names) after [] [] (IsKept-words names h))
+      ∙ ap (λ s. read whole s (tokens_from between (codes " -- \"${cur}\"))\n" ++ tail)))
+      (at_values_read table arm (new_detail word) names h)
+    where
+      regroup_values : (a b c d e f : List ℕ) →
+          ((a ++ ((b ++ c) ++ d)) ++ e) ++ f ≡ a ++ (b ++ (c ++ (d ++ (e ++ f))))
+      regroup_values a b c d e f = simp append_assoc
+
+  -- the mode of a detail
+  mode_reads : (table : Table) (arm : Arm) (detail : Detail) (mode : Mode) (rest : List ℕ) →
+      IsLine rest →
+      reading whole (after_reply table arm detail) between (mode_text mode ++ rest)
+      ≡ reading whole (after_reply table arm (record detail { mode = Some mode })) between rest
+  unfolding mode_text mode_word mode_begins mode_ends filenames_word plusdirs_word nospace_word sign byte_of cut is_word bare_text mode_named next read
+  mode_reads table arm detail filenames rest (line tail) = refl
+  mode_reads table arm detail plusdirs rest (line tail) = refl
+  mode_reads table arm detail nospace rest (line tail) = refl
+
+  separator_read : (table : Table) (arm : Arm) (detail : Detail) (rest : List ℕ) → IsLine rest →
+      reading whole (at_reply table arm detail) between (separator_kept ++ rest)
+      ≡ reading whole (at_reply table arm detail) between rest
+  unfolding separator_kept sign byte_of cut is_word is_empty_reply is_typed_reply is_compgen_reply next read
+  separator_read table arm detail rest (line tail) = refl
+
+  separator_back_read : (table : Table) (arm : Arm) (detail : Detail) (rest : List ℕ) →
+      IsLine rest →
+      reading whole (after_reply table arm detail) between (separator_back ++ rest)
+      ≡ reading whole (after_reply table arm detail) between rest
+  unfolding separator_back sign byte_of cut is_word next read
+  separator_back_read table arm detail rest (line tail) = refl
+
+  -- the reply with its mode
+  moded_reads : (table : Table) (arm : Arm) (word : List ℕ) (mode : Option Mode) (offered : Offered)
+      (rest : List ℕ) → IsReadableOffer offered → IsLine rest →
+      reading whole (at_reply table arm (new_detail word)) between (moded_text mode offered ++ rest)
+      ≡ reading whole (after_reply table arm
+      (record { word = word; offered = offered; mode = mode })) between rest
+  unfolding moded_text
+  moded_reads table arm word None offered rest h l = reply_reads table arm word offered rest h l
+  moded_reads table arm word (Some filenames) offered rest h l =
+      let after : List ℕ = mode_text filenames ++ rest in
+      ap (reading whole (at_reply table arm (new_detail word)) between)
+      (let e : (((separator_kept ++ reply_text offered) ++ separator_back) ++ mode_text filenames)
+      ++ rest
+      ≡ separator_kept ++ (reply_text offered ++ (separator_back ++ after)) =
+      regroup_moded separator_kept (reply_text offered) separator_back (mode_text filenames)
+      rest in e)
+      ∙ separator_read table arm (new_detail word) (reply_text offered ++ (separator_back ++ after))
+      (reply_line offered (separator_back ++ after))
+      ∙ reply_reads table arm word offered (separator_back ++ after) h (back_line after)
+      ∙ separator_back_read table arm (record { word = word; offered = offered; mode = None }) after
+      (mode_line filenames rest)
+      ∙ mode_reads table arm (record { word = word; offered = offered; mode = None })
+      filenames rest l
+    where
+      regroup_moded : (a b c d e : List ℕ) →
+          (((a ++ b) ++ c) ++ d) ++ e ≡ a ++ (b ++ (c ++ (d ++ e)))
+      regroup_moded a b c d e = simp append_assoc
+  moded_reads table arm word (Some plusdirs) offered rest h l =
+      ap (reading whole (at_reply table arm (new_detail word)) between)
+      (append_assoc (reply_text offered) (mode_text plusdirs) rest)
+      ∙ reply_reads table arm word offered (mode_text plusdirs ++ rest) h (mode_line plusdirs rest)
+      ∙ mode_reads table arm (record { word = word; offered = offered; mode = None })
+      plusdirs rest l
+  moded_reads table arm word (Some nospace) offered rest h l =
+      ap (reading whole (at_reply table arm (new_detail word)) between)
+      (append_assoc (reply_text offered) (mode_text nospace) rest)
+      ∙ reply_reads table arm word offered (mode_text nospace ++ rest) h (mode_line nospace rest)
+      ∙ mode_reads table arm (record { word = word; offered = offered; mode = None }) nospace rest l
+
+  -- a detail ends
+  detail_closes : (table : Table) (arm : Arm) (detail : Detail) (rest : List ℕ) → IsLine rest →
+      reading whole (after_reply table arm detail) between (detail_ends ++ rest)
+      ≡ reading whole (between_details table (with_detail arm detail)) between rest
+  unfolding detail_ends sign byte_of cut is_word next read
+  detail_closes table arm detail rest (line tail) = refl
+
+  detail_opens : (table : Table) (arm : Arm) (token : Token) (word : List ℕ) →
+      pattern_of token ≡ Some word → bytes_eq word (codes "*") ≡ false →
+      next whole (between_details table arm) token ≡ at_reply table arm (new_detail word)
+  unfolding next
+  detail_opens table arm token word e f = rw (e, next, f)
+
+  -- a line feed ends the pattern of a detail
+  pattern_reads : (table : Table) (arm : Arm) (word rest : List ℕ) → Lacks parenthesis_byte word →
+      bytes_eq word (codes "*") ≡ false → IsLine rest →
+      reading whole (between_details table arm) (in_bare [] word) (detail_word_ends ++ rest)
+      ≡ reading whole (at_reply table arm (new_detail word)) between rest
+  unfolding detail_word_ends sign byte_of cut read
+  pattern_reads table arm word rest lacks star (line tail) =
+      ap (λ s. read whole s (tokens_from between tail))
+      (detail_opens table arm (bare (word ++ parenthesis_byte ∷ []) ∷ []) word
+      (pattern_found word lacks) star)
+
+  -- a detail is read
+  detail_reads : (table : Table) (arm : Arm) (detail : Detail) (rest : List ℕ) →
+      IsReadableDetail detail → IsLine rest →
+      reading whole (between_details table arm) between (detail_text detail ++ rest)
+      ≡ reading whole (between_details table (with_detail arm detail)) between rest
+  unfolding detail_text pattern_text detail_begins sign byte_of cut
+  detail_reads table arm detail rest h l =
+      let after : List ℕ = detail_ends ++ rest in
+      let moded : List ℕ = moded_text detail.mode detail.offered ++ after in
+      ap (reading whole (between_details table arm) between)
+      (let e : ((((detail_begins ++ detail.word) ++ detail_word_ends)
+      ++ moded_text detail.mode detail.offered) ++ detail_ends) ++ rest
+      ≡ detail_begins ++ (detail.word ++ (detail_word_ends ++ moded)) =
+      regroup_detail detail_begins detail.word detail_word_ends
+      (moded_text detail.mode detail.offered) detail_ends rest in e)
+      ∙ ap (read whole (between_details table arm))
+      (bare_word detail.word (detail_word_ends ++ moded) h.word)
+      ∙ pattern_reads table arm detail.word moded h.no_paren h.no_star
+      (moded_line detail.mode detail.offered after)
+      ∙ moded_reads table arm detail.word detail.mode detail.offered after h.offered (end_line rest)
+      ∙ detail_closes table arm detail rest l
+    where
+      regroup_detail : (a b c d e f : List ℕ) →
+          ((((a ++ b) ++ c) ++ d) ++ e) ++ f ≡ a ++ (b ++ (c ++ (d ++ (e ++ f))))
+      regroup_detail a b c d e f = simp append_assoc
+
+  -- details are read one after another
+  pub details_read : (table : Table) (arm : Arm) (details : List Detail) (rest : List ℕ) →
+      AllByRecursion IsReadableDetail details → IsLine rest →
+      reading whole (between_details table arm) between (flat_map detail_text details ++ rest)
+      ≡ reading whole (between_details table (record arm { details = arm.details ++ details }))
+      between rest
+  details_read table arm details rest h l =
+      in_turn (λ a. reading whole (between_details table a) between)
+      detail_text with_detail IsReadableDetail detail_line (detail_reads table)
+      arm details rest h l
+      ∙ ap (λ a. reading whole (between_details table a) between rest) (fold_details arm details)

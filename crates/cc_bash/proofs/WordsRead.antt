@@ -1,0 +1,89 @@
+-- Texts that are cut at a byte, and words that are cut at spaces.
+use Rattle.std.proofs.Common.{◌≡◌, ℕ, true, false, ◌==◌, List, [], ◌∷◌, ◌++◌, flat_map, Some, refl, ap, ◌∙◌, sym, append_assoc, append-nil, inl, inr, arith}
+use Rattle.std.specs.List.{AllByRecursion}
+use Rattle.std.proofs.lemmas.Bool.{cases_Bool}
+use Rattle.std.proofs.lemmas.Bool.Decides.{nat_tests}
+use Rattle.cc_quote.specs.PosixTokens.{sign}
+use Rattle.cc_quote.specs.PosixTokens.Sign.{blank, other}
+use Rattle.cc_quote.proofs.PosixCutting.{IsOther, IsWord, IsKept, IsKept-append, IsKept-IsWord}
+use Rattle.cc_bash.specs.Reader.{space_byte, parted, words_from}
+use Rattle.cc_bash.specs.Script.{spaced_word, words_text}
+
+-- the byte does not stand in the text
+abbrev pub Lacks : ℕ → List ℕ → Type 0
+Lacks byte text = AllByRecursion (λ b. (b == byte) ≡ false) text
+
+pub Lacks-append : (byte : ℕ) (text rest : List ℕ) → Lacks byte text → Lacks byte rest →
+    Lacks byte (text ++ rest)
+Lacks-append byte [] rest h k = k
+Lacks-append byte (b ∷ text) rest h k = (h.0, Lacks-append byte text rest h.1 k)
+
+-- a text is cut at the first such byte
+pub parted_at : (byte : ℕ) (before after : List ℕ) → Lacks byte before →
+    parted byte (before ++ byte ∷ after) ≡ Some (before, after)
+parted_at byte [] after h = let e : (byte == byte) ≡ true = grind (arith, nat_tests) in rw e
+parted_at byte (b ∷ before) after h = let e =
+    h.0 in rw e (let again = parted_at byte before after h.1 in rw again)
+
+-- ---- words between spaces
+
+no_space : (byte : ℕ) → sign byte ≡ other byte → (byte == space_byte) ≡ false
+unfolding sign
+no_space byte h = elim (cases_Bool (byte == space_byte)) [
+  | inr f ↦ f
+  | inl t ↦ let e : blank byte ≡ other byte = rw t at h in cc
+]
+
+words_run : (word rest run : List ℕ) (r : ℕ) → IsOther word →
+    words_from (r ∷ run) (word ++ rest) ≡ words_from ((r ∷ run) ++ word) rest
+words_run [] rest run r h = ap (λ w. words_from (r ∷ w) rest) (sym (append-nil run))
+words_run (b ∷ word) rest run r h =
+    let e = no_space b h.0 in
+    rw (e, words_from) (words_run word rest (run ++ b ∷ []) r h.1
+    ∙ ap (λ w. words_from (r ∷ w) rest) (append_assoc run (b ∷ []) word))
+
+word_begins : (word rest : List ℕ) → IsWord word →
+    words_from [] (word ++ rest) ≡ words_from word rest
+word_begins [] rest h = absurd h
+word_begins (b ∷ word) rest h = let e =
+    no_space b h.0 in rw (e, words_from) (words_run word rest [] b h.1)
+
+word_ends : (word : List ℕ) → IsWord word → words_from word [] ≡ word ∷ []
+word_ends [] h = absurd h
+word_ends (b ∷ word) h = refl
+
+space_ends : (word rest : List ℕ) → IsWord word →
+    words_from word (space_byte ∷ rest) ≡ word ∷ words_from [] rest
+space_ends [] rest h = absurd h
+space_ends (b ∷ word) rest h = refl
+
+more_read : (word : List ℕ) (words : List (List ℕ)) → IsWord word → AllByRecursion IsWord words →
+    words_from word (flat_map spaced_word words) ≡ word ∷ words
+more_read word [] h k = word_ends word h
+more_read word (next ∷ words) h k =
+    space_ends word (next ++ flat_map spaced_word words) h
+    ∙ ap (λ ws. word ∷ ws) (word_begins next (flat_map spaced_word words) k.0
+    ∙ more_read next words k.0 k.1)
+
+-- words that are joined by spaces are cut again
+pub words_read : (words : List (List ℕ)) → AllByRecursion IsWord words →
+    words_from [] (words_text words) ≡ words
+words_read [] h = refl
+words_read (word ∷ words) h = word_begins word (flat_map spaced_word words) h.0
+    ∙ more_read word words h.0 h.1
+
+spaced_kept : (words : List (List ℕ)) → AllByRecursion IsWord words →
+    IsKept (flat_map spaced_word words)
+unfolding sign
+spaced_kept [] h = tt
+spaced_kept (word ∷ words) h = (
+  inr refl,
+  IsKept-append word (flat_map spaced_word words) (IsKept-IsWord word h.0)
+      (spaced_kept words h.1),
+)
+
+-- and double quotes keep them
+pub IsKept-words : (words : List (List ℕ)) → AllByRecursion IsWord words → IsKept (words_text words)
+IsKept-words [] h = tt
+IsKept-words (word ∷ words) h = IsKept-append word (flat_map spaced_word words)
+    (IsKept-IsWord word h.0) (spaced_kept words h.1)

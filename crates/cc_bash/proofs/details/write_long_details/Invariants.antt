@@ -1,0 +1,16 @@
+use Rattle.std.proofs.Common.{◌≡◌, ◌++◌, map, flat_map}
+use Rattle.cc_arg.specs.Aliases.{longs_left}
+use Rattle.cc_arg.specs.ShownNames.{shown_longs}
+use Rattle.cc_bash.specs.Arms.{detail_of, long_word}
+use Rattle.cc_bash.specs.Script.{detail_text}
+use Rattle.cc_bash.proofs.details.write_long_details.Given as goal
+
+-- what was taken and the details that are left make the whole; no put failed
+abbrev pub invariant-loop-long : goal.invariant-loop-long
+invariant-loop-long g l = record {
+  written : g.W.Sink.taken l.sink ++ flat_map detail_text
+      (map (detail_of l.argument) (map long_word (longs_left l.long-iterator)))
+      ≡ g.W.Sink.taken l.initial.sink ++ flat_map detail_text
+      (map (detail_of l.argument) (map long_word (shown_longs l.argument)));
+  failures : g.W.Sink.failed l.sink ≡ g.W.Sink.failed l.initial.sink;
+}

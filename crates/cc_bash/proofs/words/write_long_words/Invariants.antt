@@ -1,0 +1,16 @@
+use Rattle.std.proofs.Common.{◌≡◌, ◌++◌, ◌||◌, [], ◌∷◌, drop, map}
+use Rattle.cc_bash.specs.Arms.{long_word}
+use Rattle.cc_bash.specs.Words.{has_words, words_after}
+use Rattle.cc_bash.proofs.words.write_long_words.Given as goal
+
+-- what was taken, the aliases that are left and the long make the whole; no put failed
+abbrev pub invariant-loop-alias : goal.invariant-loop-alias
+invariant-loop-alias g l = record {
+  written : g.W.Sink.taken l.sink ++ words_after l.begun
+      (map long_word (drop l.alias-index l.alias-items ++ l.long ∷ []))
+      ≡ g.W.Sink.taken l.initial.sink ++ words_after l.initial.begun
+      (map long_word (l.alias-items ++ l.long ∷ []));
+  begun : (l.begun || has_words (map long_word (drop l.alias-index l.alias-items ++ l.long ∷ [])))
+      ≡ (l.initial.begun || has_words (map long_word (l.alias-items ++ l.long ∷ [])));
+  failures : g.W.Sink.failed l.sink ≡ g.W.Sink.failed l.initial.sink;
+}

@@ -1,0 +1,26 @@
+use Rattle.std.proofs.Common.{◌++◌, ◌||◌, ◌+◌, drop, ap, sym, ◌∙◌, rules, flat_map}
+use Rattle.cc_bash.specs.Arms.{long_words}
+use Rattle.cc_bash.specs.Words.{has_words, words_after}
+use Rattle.cc_bash.proofs.WordTexts.{begun_step, one_more, words_step}
+use Rattle.cc_bash.proofs.words.write_longs.Goals as goal
+
+pub loop-argument-preserved : goal.loop-argument-preserved
+loop-argument-preserved g c =
+    let items = c.args.arguments.now in
+    let i = c.loop-argument.argument-index in
+    let item = c.argument-item.result in
+    let left = drop (i + 1) items in
+    let opened = one_more items i item item c.loop-argument-test.true c.argument-item.is in
+    record {
+      written = words_step c.loop-argument.begun c.write_long_words.new.begun (long_words item)
+          (flat_map long_words left) (g.W.Sink.taken c.loop-argument.sink) _ _
+          c.in_ok-write_long_words.ensures.written.ok c.in_ok-write_long_words.ensures.begun
+          (ap (λ xs. g.W.Sink.taken c.loop-argument.sink
+          ++ words_after c.loop-argument.begun (flat_map long_words xs)) (sym opened)
+          ∙ c.loop-argument.invariant.written);
+      begun = begun_step c.loop-argument.begun c.write_long_words.new.begun _ (long_words item)
+          (flat_map long_words left) c.in_ok-write_long_words.ensures.begun
+          (ap (λ xs. c.loop-argument.begun || has_words (flat_map long_words xs)) (sym opened)
+          ∙ c.loop-argument.invariant.begun);
+      failures = search rules;
+    }

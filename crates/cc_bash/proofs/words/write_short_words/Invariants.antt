@@ -1,0 +1,16 @@
+use Rattle.std.proofs.Common.{◌≡◌, ◌++◌, ◌||◌, [], ◌∷◌, drop, map}
+use Rattle.cc_bash.specs.Arms.{short_word}
+use Rattle.cc_bash.specs.Words.{has_words, words_after}
+use Rattle.cc_bash.proofs.words.write_short_words.Given as goal
+
+-- what was taken, the aliases that are left and the short make the whole; no put failed
+abbrev pub invariant-loop-alias : goal.invariant-loop-alias
+invariant-loop-alias g l = record {
+  written : g.W.Sink.taken l.sink ++ words_after l.begun
+      (map short_word (drop l.alias-index l.alias-items ++ l.short ∷ []))
+      ≡ g.W.Sink.taken l.initial.sink ++ words_after l.initial.begun
+      (map short_word (l.alias-items ++ l.short ∷ []));
+  begun : (l.begun || has_words (map short_word (drop l.alias-index l.alias-items ++ l.short ∷ [])))
+      ≡ (l.initial.begun || has_words (map short_word (l.alias-items ++ l.short ∷ [])));
+  failures : g.W.Sink.failed l.sink ≡ g.W.Sink.failed l.initial.sink;
+}

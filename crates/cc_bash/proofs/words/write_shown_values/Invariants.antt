@@ -1,0 +1,14 @@
+use Rattle.std.proofs.Common.{◌≡◌, ◌++◌, drop}
+use Rattle.cc_bash.specs.Arms.{names_of_shown}
+use Rattle.cc_bash.specs.Script.{words_text}
+use Rattle.cc_bash.specs.Words.{words_after}
+use Rattle.cc_bash.proofs.words.write_shown_values.Given as goal
+
+-- what was taken and the values that are left make the whole; no put failed
+abbrev pub invariant-loop-value : goal.invariant-loop-value
+invariant-loop-value g l = record {
+  written : g.W.Sink.taken l.sink ++ words_after l.begun
+      (names_of_shown (drop l.value-index l.possible))
+      ≡ g.W.Sink.taken l.initial.sink ++ words_text (names_of_shown l.possible);
+  failures : g.W.Sink.failed l.sink ≡ g.W.Sink.failed l.initial.sink;
+}

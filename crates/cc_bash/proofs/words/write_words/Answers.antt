@@ -1,0 +1,19 @@
+use Rattle.std.proofs.Common.{◌≡◌, List, rules}
+use Rattle.cc_arg.specs.declared.arg.Arg.{Arg}
+use Rattle.cc_base.proofs.WrittenTexts.{writes_same, writes_then}
+use Rattle.cc_command.specs.Tree.{Forest, forest_of}
+use Rattle.cc_bash.proofs.WordTexts.{words_written}
+use Rattle.cc_bash.proofs.words.write_words.Goals as goal
+
+pub returns : goal.returns
+returns g c =
+    let arguments : List Arg = c.get_arguments-arguments.result.now in
+    let children : Forest = forest_of c.get_subcommands.result.now in
+    let same : arguments ≡ c.args.command.now.node.arguments = search rules in
+    let below : children ≡ c.args.command.now.children = search rules in
+    writes_same _ _ (words_written c.args.command.now arguments children _ _ _ same below
+    c.in_ok-write_shorts.ensures.begun c.in_ok-write_longs.ensures.begun c.in_ok-write_positional_values.ensures.begun)
+    (writes_then _ _
+    (writes_then _ _
+    (writes_then _ _ c.in_ok-write_shorts.ensures.written c.in_ok-write_longs.ensures.written)
+    c.in_ok-write_positional_values.ensures.written) c.write_children.ensures)

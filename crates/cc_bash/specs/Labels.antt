@@ -1,0 +1,75 @@
+-- The labels by which a bash script tells the commands of a tree apart.
+use Rattle.std.specs.Prelude.{ℕ, suc, List, [], ◌∷◌, ◌++◌, ◌==◌, if◌then◌else◌, map, flat_map, codes, Option, Some, None}
+use Rattle.cc_command.specs.declared.node.Node.{Node}
+use Rattle.cc_command.specs.Tree.{Forest, none, more, Tree}
+use Rattle.cc_command.specs.Names.{contains_name, full_name}
+
+-- the bytes that labels take the place of
+abbrev pub space_byte : ℕ
+space_byte = 32
+
+abbrev pub dash_byte : ℕ
+dash_byte = 45
+
+-- a text with another in place of each such byte
+abbrev pub replaced : ℕ → List ℕ → List ℕ → List ℕ
+replaced byte by text = flat_map (λ b. if b == byte then by else b ∷ []) text
+
+-- the label of the root: its bin name, with `__` for each `-`
+abbrev pub root_label : Tree → List ℕ
+root_label tree = replaced dash_byte (codes "__") (full_name tree.node)
+
+-- the label of a child: its parent's, `__subcmd__`, and its name with `__subcmd__` for each `-`
+abbrev pub child_label : List ℕ → List ℕ → List ℕ
+child_label parent name =
+    parent ++ codes "__subcmd__" ++ replaced dash_byte (codes "__subcmd__") name
+
+-- the text by which a node's arm is sorted: the full name, with `__subcmd__` for each space
+abbrev pub sort_text : Node → List ℕ
+sort_text node = replaced space_byte (codes "__subcmd__") (full_name node)
+
+-- a node below the root, with its parent's label, its own, the text by which it is sorted, and its
+-- level: how many names its path has, the root's included
+pub record Labelled : Type 0 where
+  pub parent : List ℕ
+  pub label : List ℕ
+  pub sort_text : List ℕ
+  pub level : ℕ
+  pub tree : Tree
+
+-- a node below a parent with this label, at this level
+abbrev pub labelled_node : List ℕ → ℕ → Tree → Labelled
+labelled_node parent level tree = record {
+  parent = parent;
+  label = child_label parent tree.node.name;
+  sort_text = sort_text tree.node;
+  level = level;
+  tree = tree;
+}
+
+-- siblings at this level below a parent with this label: a node and all below it, then those after
+-- it
+abbrev pub labelled_under : List ℕ → ℕ → Forest → List Labelled
+labelled_under parent level none = []
+labelled_under parent level (more node below rest) =
+    labelled_node parent level (record { node = node; children = below })
+    ∷ (labelled_under (child_label parent node.name) (suc level) below
+    ++ labelled_under parent level rest)
+
+-- all nodes below the root
+abbrev pub labelled : Tree → List Labelled
+labelled tree = labelled_under (root_label tree) 2 tree.children
+
+-- the labels of all nodes: the root's, then those of each child's whole subtree in turn
+abbrev pub labels : Tree → List (List ℕ)
+labels tree = root_label tree ∷ map (λ node. node.label) (labelled tree)
+
+-- the first of the texts that stands among those before it, or among these
+abbrev pub first_again : List (List ℕ) → List (List ℕ) → Option (List ℕ)
+first_again before [] = None
+first_again before (text ∷ texts) =
+    if contains_name before text then Some text else first_again (before ++ text ∷ []) texts
+
+-- the label of the first node whose label an earlier one has
+abbrev pub shared_label : Tree → Option (List ℕ)
+shared_label tree = first_again [] (labels tree)

@@ -1,0 +1,12 @@
+pub mod Arms
+pub mod CaseTable
+pub mod Labels
+pub mod Nodes
+pub mod Quiet
+pub mod Reader
+pub mod Reads
+pub mod Script
+pub mod Seen
+pub mod Texts
+pub mod Walk
+pub mod Words

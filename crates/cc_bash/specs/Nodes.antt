@@ -1,0 +1,49 @@
+-- What the code's nodes, its stack and its cases stand for.
+use Rattle.std.specs.Prelude.{ℕ, suc, ◌<◌, ◌≤◌, List, ◌∷◌, length, map, reverse, flat_map}
+use Rattle.std.specs.List.{AllByRecursion}
+use Rattle.cc_command.specs.Tree.{Tree}
+use Rattle.cc_flat.specs.Flat.{Entry, tree_at}
+use Rattle.cc_bash.specs.CaseTable.{Case}
+use Rattle.cc_bash.specs.Labels.{Labelled, child_label, labelled_node, labelled_under}
+use Rattle.cc_bash.specs.declared.cases.Case.{Case as CaseValue}
+use Rattle.cc_bash.specs.declared.nodes.LabelledNode.{LabelledNode}
+use Rattle.cc_bash.specs.declared.nodes.Pending.{Pending}
+
+-- a node as a clause sees it
+abbrev pub labelled_of : LabelledNode → Labelled
+labelled_of node = record {
+  parent = node.parent;
+  label = node.label;
+  sort_text = node.sort_text;
+  level = node.level;
+  tree = node.command.now;
+}
+
+-- a case as a clause sees it
+abbrev pub case_of : CaseValue → Case
+case_of c = record { from = c.from.now; word = c.word.now; to = c.to.now }
+
+-- a node and all below it, below a parent with this label
+abbrev pub labelled_from : List ℕ → ℕ → Tree → List Labelled
+labelled_from parent level tree =
+    labelled_node parent level tree
+    ∷ labelled_under (child_label parent tree.node.name) (suc level) tree.children
+
+-- the nodes that an item stands for, and those that a stack stands for, its last item first
+abbrev pub labelled_by : List Entry → Pending → List Labelled
+labelled_by flat pending = labelled_from pending.parent pending.level (tree_at flat pending.number)
+
+unfoldable pub labelled_by_all : List Entry → List Pending → List Labelled
+labelled_by_all flat stack = flat_map (labelled_by flat) (reverse stack)
+
+-- nodes at this level below a parent with this label, as items
+abbrev pub pending_of : List ℕ → ℕ → List ℕ → List Pending
+pending_of parent level numbers =
+    map (λ number. let p : Pending = record { number = number; level = level; parent = parent } in
+    p) numbers
+
+-- every item's number is in the list, and its level is at most one more
+abbrev pub AreListed : List Entry → List Pending → Type 0
+AreListed flat stack =
+    AllByRecursion
+    (λ pending. (pending.number < length flat) × (pending.level ≤ suc pending.number)) stack

@@ -1,0 +1,33 @@
+-- Which possible values are quiet: those that stand in a script as they are.
+use Rattle.std.specs.Prelude.{ℕ, Bool, true, false, ◌&&◌, ◌||◌, ◌==◌, List, [], ◌∷◌, codes}
+use Rattle.std.specs.Char.{is_ascii_alphanumeric}
+use Rattle.std.specs.List.{list_all, list_any}
+use Rattle.cc_arg.specs.declared.arg.Arg.{Arg}
+use Rattle.cc_command.specs.declared.node.Node.{Node}
+use Rattle.cc_command.specs.Tree.{Forest, none, more, Tree}
+use Rattle.cc_bash.specs.Arms.{value_names}
+
+-- a letter, a digit or one of these signs
+abbrev pub is_quiet_byte : ℕ → Bool
+is_quiet_byte byte =
+    is_ascii_alphanumeric byte || list_any (λ sign. byte == sign) (codes "+-./:@_,=")
+
+-- a text that is not empty, of such bytes
+abbrev pub is_quiet_value : List ℕ → Bool
+is_quiet_value [] = false
+is_quiet_value (byte ∷ value) = list_all is_quiet_byte (byte ∷ value)
+
+-- each possible value of an argument, of a node's arguments, and of all nodes is quiet
+abbrev pub is_quiet_argument : Arg → Bool
+is_quiet_argument argument = list_all is_quiet_value (value_names argument)
+
+abbrev pub is_quiet_node : Node → Bool
+is_quiet_node node = list_all is_quiet_argument node.arguments
+
+abbrev pub is_quiet_forest : Forest → Bool
+is_quiet_forest none = true
+is_quiet_forest (more node below rest) =
+    is_quiet_node node && (is_quiet_forest below && is_quiet_forest rest)
+
+abbrev pub is_quiet_tree : Tree → Bool
+is_quiet_tree tree = is_quiet_node tree.node && is_quiet_forest tree.children

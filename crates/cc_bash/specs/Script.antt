@@ -1,0 +1,91 @@
+-- The text of a bash script.
+use Rattle.std.specs.Prelude.{ℕ, List, [], ◌∷◌, ◌++◌, flat_map, codes, Option, Some, None}
+use Rattle.cc_command.specs.Tree.{Tree}
+use Rattle.cc_command.specs.Names.{full_name}
+use Rattle.cc_bash.specs.Labels.{root_label}
+use Rattle.cc_bash.specs.CaseTable.{Case, tree_cases}
+use Rattle.cc_bash.specs.Arms.{Offered, values, files, typed, nothing, Mode, filenames, plusdirs, nospace, Detail, Arm, tree_arms}
+use Rattle.cc_bash.specs.Texts.{function_begins, function_head, cases_begin, arms_begin, arms_end, unsorted, otherwise, sorted, script_ends, case_begins, case_comma, case_sets, case_ends, arm_begins, arm_words, arm_level, arm_details, arm_ends, detail_begins, detail_word_ends, separator_kept, separator_back, reply_begins, reply_ends, values_begin, values_end, files_offered, word_offered, mode_begins, mode_ends, filenames_word, plusdirs_word, nospace_word, detail_ends}
+
+-- a word after another
+abbrev pub spaced_word : List ℕ → List ℕ
+spaced_word word = codes " " ++ word
+
+-- some words, with a space between each and the next
+abbrev pub words_text : List (List ℕ) → List ℕ
+words_text [] = []
+words_text (word ∷ words) = word ++ flat_map spaced_word words
+
+-- a case: the label and the word, then the label that is set
+unfoldable pub case_text : Case → List ℕ
+case_text c =
+    (((((case_begins ++ c.from) ++ case_comma) ++ c.word) ++ case_sets) ++ c.to) ++ case_ends
+
+-- what offers
+unfoldable pub offered_text : Offered → List ℕ
+offered_text (values names) = (values_begin ++ words_text names) ++ values_end
+offered_text files = files_offered
+offered_text typed = word_offered
+offered_text nothing = []
+
+unfoldable pub reply_text : Offered → List ℕ
+reply_text offered = (reply_begins ++ offered_text offered) ++ reply_ends
+
+-- the word of a mode, and what tells bash the mode
+unfoldable pub mode_word : Mode → List ℕ
+mode_word filenames = filenames_word
+mode_word plusdirs = plusdirs_word
+mode_word nospace = nospace_word
+
+unfoldable pub mode_text : Mode → List ℕ
+mode_text mode = (mode_begins ++ mode_word mode) ++ mode_ends
+
+-- the reply of a detail with its mode; around names of files the separator of words is a line feed
+unfoldable pub moded_text : Option Mode → Offered → List ℕ
+moded_text None offered = reply_text offered
+moded_text (Some filenames) offered =
+    ((separator_kept ++ reply_text offered) ++ separator_back) ++ mode_text filenames
+moded_text (Some mode) offered = reply_text offered ++ mode_text mode
+
+-- the word of a detail as a pattern
+unfoldable pub pattern_text : List ℕ → List ℕ
+pattern_text word = (detail_begins ++ word) ++ detail_word_ends
+
+unfoldable pub detail_text : Detail → List ℕ
+detail_text detail =
+    (pattern_text detail.word ++ moded_text detail.mode detail.offered) ++ detail_ends
+
+-- the label of an arm, with its words
+unfoldable pub arm_words_text : List ℕ → List (List ℕ) → List ℕ
+arm_words_text label words = ((arm_begins ++ label) ++ arm_words) ++ words_text words
+
+-- the level of an arm
+unfoldable pub arm_level_text : List ℕ → List ℕ
+arm_level_text level = (arm_level ++ level) ++ arm_details
+
+unfoldable pub arm_text : Arm → List ℕ
+arm_text arm =
+    ((arm_words_text arm.label arm.words ++ arm_level_text arm.level)
+    ++ flat_map detail_text arm.details) ++ arm_ends
+
+-- what stands before the cases, for the function of this label
+unfoldable pub head_text : List ℕ → List ℕ
+head_text label = (((function_begins ++ label) ++ function_head) ++ label) ++ cases_begin
+
+-- what stands after the arms, in two parts, for the function of this label and the program bin
+unfoldable pub unsorted_text : List ℕ → List ℕ → List ℕ
+unsorted_text label bin = ((arms_end ++ label) ++ unsorted) ++ bin
+
+unfoldable pub sorted_text : List ℕ → List ℕ → List ℕ
+sorted_text label bin = (((otherwise ++ label) ++ sorted) ++ bin) ++ script_ends
+
+-- a script with these cases and arms
+unfoldable pub bash_script : List ℕ → List ℕ → List Case → List Arm → List ℕ
+bash_script label bin cases arms =
+    ((((head_text label ++ flat_map case_text cases) ++ arms_begin) ++ flat_map arm_text arms)
+    ++ unsorted_text label bin) ++ sorted_text label bin
+
+-- the script of a tree
+unfoldable pub tree_script : Tree → List ℕ
+tree_script tree =
+    bash_script (root_label tree) (full_name tree.node) (tree_cases tree) (tree_arms tree)

@@ -1,0 +1,187 @@
+-- The fixed texts of a bash script.
+use Rattle.std.specs.Prelude.{ℕ, List, ◌++◌, codes}
+
+-- what a script begins with, up to the label of its root
+unfoldable pub function_begins : List ℕ
+function_begins = codes "_"
+
+-- between the label and where the label is set
+unfoldable pub function_head : List ℕ
+function_head =
+    codes "() {\n"
+    ++ codes "    local i cur prev opts cmd\n"
+    ++ codes "    COMPREPLY=()\n"
+    ++ codes "    if [[ \"${BASH_VERSINFO[0]}\" -ge 4 ]]; then\n"
+    ++ codes "        cur=\"$2\"\n"
+    ++ codes "    else\n"
+    ++ codes "        cur=\"${COMP_WORDS[COMP_CWORD]}\"\n"
+    ++ codes "    fi\n"
+    ++ codes "    prev=\"$3\"\n"
+    ++ codes "    cmd=\"\"\n"
+    ++ codes "    opts=\"\"\n"
+    ++ codes "\n"
+    ++ codes "    for i in \"${COMP_WORDS[@]:0:COMP_CWORD}\"\n"
+    ++ codes "    do\n"
+    ++ codes "        case \"${cmd},${i}\" in\n"
+    ++ codes "            \",$1\")\n"
+    ++ codes "                cmd=\""
+
+-- between the root's label and the cases
+unfoldable pub cases_begin : List ℕ
+cases_begin = codes "\"\n                ;;"
+
+-- between the cases and the arms
+unfoldable pub arms_begin : List ℕ
+arms_begin =
+    codes "\n"
+    ++ codes "            *)\n"
+    ++ codes "                ;;\n"
+    ++ codes "        esac\n"
+    ++ codes "    done\n"
+    ++ codes "\n"
+    ++ codes "    case \"${cmd}\" in"
+
+-- between the arms and the name of the function
+unfoldable pub arms_end : List ℕ
+arms_end =
+    codes "\n"
+    ++ codes "    esac\n"
+    ++ codes "}\n"
+    ++ codes "\n"
+    ++ codes "if [[ \"${BASH_VERSINFO[0]}\" -eq 4 && \"${BASH_VERSINFO[1]}\" -ge 4 "
+    ++ codes "|| \"${BASH_VERSINFO[0]}\" -gt 4 ]]; then\n"
+    ++ codes "    complete -F _"
+
+-- between the name of the function and that of the program, where bash can keep an order
+unfoldable pub unsorted : List ℕ
+unsorted = codes " -o nosort -o bashdefault -o default "
+
+-- between that and the second name of the function
+unfoldable pub otherwise : List ℕ
+otherwise = codes "\nelse\n    complete -F _"
+
+-- between the name of the function and that of the program, where bash cannot keep an order
+unfoldable pub sorted : List ℕ
+sorted = codes " -o bashdefault -o default "
+
+-- what a script ends with
+unfoldable pub script_ends : List ℕ
+script_ends = codes "\nfi\n"
+
+-- before a case's first label
+unfoldable pub case_begins : List ℕ
+case_begins = codes "\n            "
+
+-- between the label and the word of a case
+unfoldable pub case_comma : List ℕ
+case_comma = codes ","
+
+-- between the pattern of a case and the label that it sets
+unfoldable pub case_sets : List ℕ
+case_sets = codes ")\n                cmd=\""
+
+-- what ends a case
+unfoldable pub case_ends : List ℕ
+case_ends = codes "\"\n                ;;"
+
+-- before the label of an arm
+unfoldable pub arm_begins : List ℕ
+arm_begins = codes "\n        "
+
+-- between the label of an arm and its words
+unfoldable pub arm_words : List ℕ
+arm_words = codes ")\n            opts=\""
+
+-- between the words of an arm and its level
+unfoldable pub arm_level : List ℕ
+arm_level = codes "\"\n            if [[ ${cur} == -* || ${COMP_CWORD} -eq "
+
+-- between the level of an arm and its details
+unfoldable pub arm_details : List ℕ
+arm_details =
+    codes " ]] ; then\n"
+    ++ codes "                COMPREPLY=( $(compgen -W \"${opts}\" -- \"${cur}\") )\n"
+    ++ codes "                return 0\n"
+    ++ codes "            fi\n"
+    ++ codes "            case \"${prev}\" in"
+
+-- what ends an arm
+unfoldable pub arm_ends : List ℕ
+arm_ends =
+    codes "\n"
+    ++ codes "                *)\n"
+    ++ codes "                    COMPREPLY=()\n"
+    ++ codes "                    ;;\n"
+    ++ codes "            esac\n"
+    ++ codes "            COMPREPLY=( $(compgen -W \"${opts}\" -- \"${cur}\") )\n"
+    ++ codes "            return 0\n"
+    ++ codes "            ;;"
+
+-- before and after the word of a detail
+unfoldable pub detail_begins : List ℕ
+detail_begins = codes "\n                "
+
+unfoldable pub detail_word_ends : List ℕ
+detail_word_ends = codes ")"
+
+-- what keeps the separator of words before names of files are offered, and what brings it back
+unfoldable pub separator_kept : List ℕ
+separator_kept =
+    codes "\n"
+    ++ codes "                    local oldifs\n"
+    ++ codes "                    if [ -n \"${IFS+x}\" ]; then\n"
+    ++ codes "                        oldifs=\"$IFS\"\n"
+    ++ codes "                    fi\n"
+    ++ codes "                    IFS=$'\\n'"
+
+unfoldable pub separator_back : List ℕ
+separator_back =
+    codes "\n"
+    ++ codes "                    if [ -n \"${oldifs+x}\" ]; then\n"
+    ++ codes "                        IFS=\"$oldifs\"\n"
+    ++ codes "                    fi"
+
+-- before and after what is offered
+unfoldable pub reply_begins : List ℕ
+reply_begins = codes "\n                    COMPREPLY=("
+
+unfoldable pub reply_ends : List ℕ
+reply_ends = codes ")"
+
+-- before and after values that are offered
+unfoldable pub values_begin : List ℕ
+values_begin = codes "$(compgen -W \""
+
+unfoldable pub values_end : List ℕ
+values_end = codes "\" -- \"${cur}\")"
+
+-- what offers files, and what offers the word as it is typed
+unfoldable pub files_offered : List ℕ
+files_offered = codes "$(compgen -f \"${cur}\")"
+
+unfoldable pub word_offered : List ℕ
+word_offered = codes "\"${cur}\""
+
+-- before and after a mode, which bash knows since version 4
+unfoldable pub mode_begins : List ℕ
+mode_begins =
+    codes "\n"
+    ++ codes "                    if [[ \"${BASH_VERSINFO[0]}\" -ge 4 ]]; then\n"
+    ++ codes "                        compopt -o "
+
+unfoldable pub mode_ends : List ℕ
+mode_ends = codes "\n                    fi"
+
+-- the words of the modes
+unfoldable pub filenames_word : List ℕ
+filenames_word = codes "filenames"
+
+unfoldable pub plusdirs_word : List ℕ
+plusdirs_word = codes "plusdirs"
+
+unfoldable pub nospace_word : List ℕ
+nospace_word = codes "nospace"
+
+-- what ends a detail
+unfoldable pub detail_ends : List ℕ
+detail_ends = codes "\n                    return 0\n                    ;;"

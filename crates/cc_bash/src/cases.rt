@@ -1,0 +1,114 @@
+//! The case table.
+
+ghost use Rattle.std.specs.Prelude.{◌≡◌, ◌++◌, List, map, flat_map, IfOk, OnOk};
+ghost use Rattle.cc_base.specs.Sorting.{in_order};
+ghost use Rattle.cc_base.specs.Writes.{Writes};
+ghost use Rattle.cc_bash.specs.CaseTable.{case_below, node_cases};
+ghost use Rattle.cc_bash.specs.Nodes.{case_of, labelled_of};
+ghost use Rattle.cc_bash.specs.Script.{case_text};
+ghost use Rattle.cc_bash.specs.Texts.{case_begins, case_comma, case_ends, case_sets};
+
+use crate::nodes::LabelledNode;
+use crate::texts::{case_begins, case_comma, case_ends, case_sets};
+use cc_base::{Error, Sink, put_all};
+use std::alloc::{AllocError, Global};
+
+/// From one label a word leads to another.
+#[derive(Clone, Copy, PartialEq, Eq, PartialOrd, Ord, Debug)]
+pub(crate) struct Case<'a> {
+    from: &'a str,
+    word: &'a str,
+    to: &'a str,
+}
+
+/// The cases that lead to some nodes, sorted by their bytes.
+#[tactic(auto, using(crate::proofs::CaseOrder::cases_in_order))]
+pub(crate) fn sorted_cases<'a, 'b>(
+    alloc: Global,
+    nodes: &'a [LabelledNode<'b>],
+) -> Result<Vec<Case<'a>>, AllocError>
+    ensures { IfOk result (λ cases. map case_of cases.items
+        ≡ in_order case_below (flat_map node_cases (map labelled_of nodes.now))) }
+{
+    let mut cases = cases_of(alloc, nodes)?;
+    cases.sort()?;
+    Ok(cases)
+}
+
+// Node by node.
+fn cases_of<'a, 'b>(
+    alloc: Global,
+    nodes: &'a [LabelledNode<'b>],
+) -> Result<Vec<Case<'a>>, AllocError>
+    ensures { IfOk result (λ cases.
+        map case_of cases.items ≡ flat_map node_cases (map labelled_of nodes.now)) }
+{
+    let mut cases = Vec::new(alloc);
+    for node in nodes {
+        push_cases(&mut cases, node)?;
+    }
+    Ok(cases)
+}
+
+// One for each visible name.
+fn push_cases<'a, 'b>(
+    cases: &mut Vec<Case<'a>>,
+    node: &'a LabelledNode<'b>,
+) -> Result<(), AllocError>
+    ensures { OnOk result (map case_of cases.new.items
+        ≡ map case_of cases.old.items ++ node_cases (labelled_of node.now)) }
+{
+    let from = node.parent.as_str();
+    let to = node.label.as_str();
+    cases.push(Case {
+        from,
+        word: node.command.get_name(),
+        to,
+    })?;
+    for alias in node.command.get_visible_aliases() {
+        cases.push(Case {
+            from,
+            word: alias.as_str(),
+            to,
+        })?;
+    }
+    Ok(())
+}
+
+/// Writes the cases.
+pub(crate) fn write_cases<W: Sink>(cases: &[Case<'_>], sink: &mut W) -> Result<(), Error>
+    ensures { Writes W.taken W.failed result sink.old sink.new
+        (flat_map case_text (map case_of cases.now)) }
+{
+    for case in cases {
+        write_case(case, sink)?;
+    }
+    Ok(())
+}
+
+#[tactic(auto, unfolding(crate::specs::Script::case_text))]
+fn write_case<W: Sink>(case: &Case<'_>, sink: &mut W) -> Result<(), Error>
+    ensures { Writes W.taken W.failed result sink.old sink.new (case_text (case_of case.now)) }
+{
+    write_pattern(case, sink)?;
+    write_target(case, sink)
+}
+
+fn write_pattern<W: Sink>(case: &Case<'_>, sink: &mut W) -> Result<(), Error>
+    ensures { Writes W.taken W.failed result sink.old sink.new
+        (((case_begins ++ case.now.from.now) ++ case_comma) ++ case.now.word.now) }
+{
+    put_all(sink, case_begins().as_bytes())?;
+    put_all(sink, case.from.as_bytes())?;
+    put_all(sink, case_comma().as_bytes())?;
+    put_all(sink, case.word.as_bytes())
+}
+
+fn write_target<W: Sink>(case: &Case<'_>, sink: &mut W) -> Result<(), Error>
+    ensures { Writes W.taken W.failed result sink.old sink.new
+        ((case_sets ++ case.now.to.now) ++ case_ends) }
+{
+    put_all(sink, case_sets().as_bytes())?;
+    put_all(sink, case.to.as_bytes())?;
+    put_all(sink, case_ends().as_bytes())
+}

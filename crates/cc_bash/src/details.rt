@@ -1,0 +1,172 @@
+//! What is offered after each option.
+
+ghost use Rattle.std.specs.Prelude.{◌++◌, filter, map, flat_map};
+ghost use Rattle.cc_arg.specs.ShownNames.{shown_longs, shown_shorts};
+ghost use Rattle.cc_base.specs.Writes.{Writes};
+ghost use Rattle.cc_command.specs.ArgumentLists.{is_option};
+ghost use Rattle.cc_bash.specs.Arms.{detail_of, filenames, long_word, mode_of, names_of_shown, nospace, offered_by, option_details, plusdirs, short_word, values};
+ghost use Rattle.cc_bash.specs.Script.{detail_text, mode_text, moded_text, offered_text, reply_text};
+
+use crate::texts::{
+    detail_begins, detail_ends, detail_word_ends, filenames_word, files_offered, mode_begins,
+    mode_ends, nospace_word, plusdirs_word, reply_begins, reply_ends, separator_back,
+    separator_kept, values_begin, values_end, word_offered,
+};
+use crate::words::{write_long, write_short, write_shown_values};
+use cc_arg::{Arg, PossibleValue, ValueHint, possible_values, shown_longs, shown_shorts};
+use cc_base::{Error, Sink, put_all};
+
+/// Writes the details of those of the arguments that are options.
+pub(crate) fn write_details<W: Sink>(arguments: &[Arg], sink: &mut W) -> Result<(), Error>
+    ensures { Writes W.taken W.failed result sink.old sink.new
+        (flat_map detail_text (flat_map option_details (filter is_option arguments.now))) }
+{
+    for argument in arguments {
+        if argument.is_positional() || !argument.takes_values() {
+            continue;
+        }
+        write_option(argument, sink)?;
+    }
+    Ok(())
+}
+
+// For the longs, then for the shorts.
+fn write_option<W: Sink>(argument: &Arg, sink: &mut W) -> Result<(), Error>
+    ensures { Writes W.taken W.failed result sink.old sink.new
+        (flat_map detail_text (option_details argument.now)) }
+{
+    write_long_details(argument, sink)?;
+    write_short_details(argument, sink)
+}
+
+fn write_long_details<W: Sink>(argument: &Arg, sink: &mut W) -> Result<(), Error>
+    ensures { Writes W.taken W.failed result sink.old sink.new
+        (flat_map detail_text
+        (map (detail_of argument.now) (map long_word (shown_longs argument.now)))) }
+{
+    for long in shown_longs(argument) {
+        write_long_detail(argument, long, sink)?;
+    }
+    Ok(())
+}
+
+fn write_short_details<W: Sink>(argument: &Arg, sink: &mut W) -> Result<(), Error>
+    ensures { Writes W.taken W.failed result sink.old sink.new
+        (flat_map detail_text
+        (map (detail_of argument.now) (map short_word (shown_shorts argument.now)))) }
+{
+    for short in shown_shorts(argument) {
+        write_short_detail(argument, short, sink)?;
+    }
+    Ok(())
+}
+
+#[tactic(auto, unfolding(crate::specs::Script::detail_text, crate::specs::Script::pattern_text))]
+fn write_long_detail<W: Sink>(argument: &Arg, long: &str, sink: &mut W) -> Result<(), Error>
+    ensures { Writes W.taken W.failed result sink.old sink.new
+        (detail_text (detail_of argument.now (long_word long.now))) }
+{
+    put_all(sink, detail_begins().as_bytes())?;
+    write_long(long, sink)?;
+    put_all(sink, detail_word_ends().as_bytes())?;
+    write_moded(argument, sink)?;
+    put_all(sink, detail_ends().as_bytes())
+}
+
+#[tactic(auto, unfolding(crate::specs::Script::detail_text, crate::specs::Script::pattern_text))]
+fn write_short_detail<W: Sink>(argument: &Arg, short: char, sink: &mut W) -> Result<(), Error>
+    ensures { Writes W.taken W.failed result sink.old sink.new
+        (detail_text (detail_of argument.now (short_word short))) }
+{
+    put_all(sink, detail_begins().as_bytes())?;
+    write_short(short, sink)?;
+    put_all(sink, detail_word_ends().as_bytes())?;
+    write_moded(argument, sink)?;
+    put_all(sink, detail_ends().as_bytes())
+}
+
+#[tactic(auto, unfolding(crate::specs::Script::moded_text))]
+fn write_moded<W: Sink>(argument: &Arg, sink: &mut W) -> Result<(), Error>
+    ensures { Writes W.taken W.failed result sink.old sink.new
+        (moded_text (mode_of argument.now) (offered_by argument.now)) }
+{
+    match argument.get_value_hint() {
+        ValueHint::FilePath => {
+            put_all(sink, separator_kept().as_bytes())?;
+            write_reply(argument, sink)?;
+            put_all(sink, separator_back().as_bytes())?;
+            write_filenames(sink)
+        }
+        ValueHint::DirPath => {
+            write_reply(argument, sink)?;
+            write_plusdirs(sink)
+        }
+        ValueHint::Other => {
+            write_reply(argument, sink)?;
+            write_nospace(sink)
+        }
+        _ => write_reply(argument, sink),
+    }
+}
+
+#[tactic(auto, unfolding(crate::specs::Script::reply_text))]
+fn write_reply<W: Sink>(argument: &Arg, sink: &mut W) -> Result<(), Error>
+    ensures { Writes W.taken W.failed result sink.old sink.new
+        (reply_text (offered_by argument.now)) }
+{
+    put_all(sink, reply_begins().as_bytes())?;
+    write_offered(argument, sink)?;
+    put_all(sink, reply_ends().as_bytes())
+}
+
+#[tactic(auto, unfolding(crate::specs::Script::offered_text))]
+fn write_offered<W: Sink>(argument: &Arg, sink: &mut W) -> Result<(), Error>
+    ensures { Writes W.taken W.failed result sink.old sink.new
+        (offered_text (offered_by argument.now)) }
+{
+    if let Some(possible) = possible_values(argument) {
+        return write_values(possible, sink);
+    }
+    match argument.get_value_hint() {
+        ValueHint::DirPath => Ok(()),
+        ValueHint::Other => put_all(sink, word_offered().as_bytes()),
+        _ => put_all(sink, files_offered().as_bytes()),
+    }
+}
+
+#[tactic(auto, unfolding(crate::specs::Script::offered_text))]
+fn write_values<W: Sink>(possible: &[PossibleValue], sink: &mut W) -> Result<(), Error>
+    ensures { Writes W.taken W.failed result sink.old sink.new
+        (offered_text (values (names_of_shown possible.now))) }
+{
+    put_all(sink, values_begin().as_bytes())?;
+    write_shown_values(possible, sink)?;
+    put_all(sink, values_end().as_bytes())
+}
+
+#[tactic(auto, unfolding(crate::specs::Script::mode_text, crate::specs::Script::mode_word))]
+fn write_filenames<W: Sink>(sink: &mut W) -> Result<(), Error>
+    ensures { Writes W.taken W.failed result sink.old sink.new (mode_text filenames) }
+{
+    put_all(sink, mode_begins().as_bytes())?;
+    put_all(sink, filenames_word().as_bytes())?;
+    put_all(sink, mode_ends().as_bytes())
+}
+
+#[tactic(auto, unfolding(crate::specs::Script::mode_text, crate::specs::Script::mode_word))]
+fn write_plusdirs<W: Sink>(sink: &mut W) -> Result<(), Error>
+    ensures { Writes W.taken W.failed result sink.old sink.new (mode_text plusdirs) }
+{
+    put_all(sink, mode_begins().as_bytes())?;
+    put_all(sink, plusdirs_word().as_bytes())?;
+    put_all(sink, mode_ends().as_bytes())
+}
+
+#[tactic(auto, unfolding(crate::specs::Script::mode_text, crate::specs::Script::mode_word))]
+fn write_nospace<W: Sink>(sink: &mut W) -> Result<(), Error>
+    ensures { Writes W.taken W.failed result sink.old sink.new (mode_text nospace) }
+{
+    put_all(sink, mode_begins().as_bytes())?;
+    put_all(sink, nospace_word().as_bytes())?;
+    put_all(sink, mode_ends().as_bytes())
+}

@@ -1,0 +1,14 @@
+//! The generator of bash scripts.
+#![tactic(auto)]
+
+mod arms;
+mod bash;
+mod cases;
+mod clash;
+mod details;
+mod nodes;
+mod script;
+mod texts;
+mod words;
+
+pub use crate::bash::Bash;

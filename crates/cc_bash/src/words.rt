@@ -1,0 +1,229 @@
+//! The options and names that are offered at a command.
+
+ghost use Rattle.std.specs.Prelude.{◌≡◌, ◌++◌, ◌||◌, List, filter, map, flat_map, true, OnOk};
+ghost use Rattle.cc_arg.specs.Arguments.{is_positional};
+ghost use Rattle.cc_base.specs.Writes.{Writes};
+ghost use Rattle.cc_command.specs.Names.{visible_names};
+ghost use Rattle.cc_command.specs.Tree.{forest_of};
+ghost use Rattle.cc_bash.specs.Arms.{long_word, long_words, names_of_shown, names_of_values, short_word, short_words, sibling_names, value_names, words_at};
+ghost use Rattle.cc_bash.specs.Script.{words_text};
+ghost use Rattle.cc_bash.specs.Words.{has_words, separator, words_after};
+
+use cc_arg::{Arg, PossibleValue, possible_values};
+use cc_base::{Error, Sink, put_all};
+use cc_command::Command;
+
+/// Writes the words at a command.
+pub(crate) fn write_words<W: Sink>(command: &Command, sink: &mut W) -> Result<(), Error>
+    ensures { Writes W.taken W.failed result sink.old sink.new (words_text (words_at command.now)) }
+{
+    let arguments = command.get_arguments();
+    let mut begun = false;
+    write_shorts(arguments, &mut begun, sink)?;
+    write_longs(arguments, &mut begun, sink)?;
+    write_positional_values(arguments, &mut begun, sink)?;
+    write_children(command.get_subcommands(), &mut begun, sink)
+}
+
+// `begun` tells whether a word was written before.
+fn write_shorts<W: Sink>(arguments: &[Arg], begun: &mut bool, sink: &mut W) -> Result<(), Error>
+    ensures written { Writes W.taken W.failed result sink.old sink.new
+        (words_after begun.old (flat_map short_words arguments.now)) }
+    ensures begun { OnOk result
+        (begun.new ≡ (begun.old || has_words (flat_map short_words arguments.now))) }
+{
+    for argument in arguments {
+        write_short_words(argument, begun, sink)?;
+    }
+    Ok(())
+}
+
+fn write_short_words<W: Sink>(argument: &Arg, begun: &mut bool, sink: &mut W) -> Result<(), Error>
+    ensures written { Writes W.taken W.failed result sink.old sink.new
+        (words_after begun.old (short_words argument.now)) }
+    ensures begun { OnOk result (begun.new ≡ (begun.old || has_words (short_words argument.now))) }
+{
+    let Some(short) = argument.get_short() else {
+        return Ok(());
+    };
+    for alias in argument.get_visible_short_aliases() {
+        write_short_word(*alias, begun, sink)?;
+    }
+    write_short_word(short, begun, sink)
+}
+
+fn write_short_word<W: Sink>(short: char, begun: &mut bool, sink: &mut W) -> Result<(), Error>
+    ensures written { Writes W.taken W.failed result sink.old sink.new
+        (separator begun.old ++ short_word short) }
+    ensures begun { OnOk result (begun.new ≡ true) }
+{
+    write_separator(begun, sink)?;
+    write_short(short, sink)
+}
+
+/// Writes a short as it is typed.
+pub(crate) fn write_short<W: Sink>(short: char, sink: &mut W) -> Result<(), Error>
+    ensures { Writes W.taken W.failed result sink.old sink.new (short_word short) }
+{
+    let mut buffer = [0; 4];
+    put_all(sink, "-".as_bytes())?;
+    put_all(sink, short.encode_utf8(&mut buffer).as_bytes())
+}
+
+fn write_longs<W: Sink>(arguments: &[Arg], begun: &mut bool, sink: &mut W) -> Result<(), Error>
+    ensures written { Writes W.taken W.failed result sink.old sink.new
+        (words_after begun.old (flat_map long_words arguments.now)) }
+    ensures begun { OnOk result
+        (begun.new ≡ (begun.old || has_words (flat_map long_words arguments.now))) }
+{
+    for argument in arguments {
+        write_long_words(argument, begun, sink)?;
+    }
+    Ok(())
+}
+
+fn write_long_words<W: Sink>(argument: &Arg, begun: &mut bool, sink: &mut W) -> Result<(), Error>
+    ensures written { Writes W.taken W.failed result sink.old sink.new
+        (words_after begun.old (long_words argument.now)) }
+    ensures begun { OnOk result (begun.new ≡ (begun.old || has_words (long_words argument.now))) }
+{
+    let Some(long) = argument.get_long() else {
+        return Ok(());
+    };
+    for alias in argument.get_visible_aliases() {
+        write_long_word(alias.as_str(), begun, sink)?;
+    }
+    write_long_word(long, begun, sink)
+}
+
+fn write_long_word<W: Sink>(long: &str, begun: &mut bool, sink: &mut W) -> Result<(), Error>
+    ensures written { Writes W.taken W.failed result sink.old sink.new
+        (separator begun.old ++ long_word long.now) }
+    ensures begun { OnOk result (begun.new ≡ true) }
+{
+    write_separator(begun, sink)?;
+    write_long(long, sink)
+}
+
+/// Writes a long as it is typed.
+pub(crate) fn write_long<W: Sink>(long: &str, sink: &mut W) -> Result<(), Error>
+    ensures { Writes W.taken W.failed result sink.old sink.new (long_word long.now) }
+{
+    put_all(sink, "--".as_bytes())?;
+    put_all(sink, long.as_bytes())
+}
+
+fn write_positional_values<W: Sink>(
+    arguments: &[Arg],
+    begun: &mut bool,
+    sink: &mut W,
+) -> Result<(), Error>
+    ensures written { Writes W.taken W.failed result sink.old sink.new
+        (words_after begun.old (flat_map value_names (filter is_positional arguments.now))) }
+    ensures begun { OnOk result (begun.new
+        ≡ (begun.old || has_words (flat_map value_names (filter is_positional arguments.now)))) }
+{
+    for argument in arguments {
+        if !argument.is_positional() {
+            continue;
+        }
+        write_argument_values(argument, begun, sink)?;
+    }
+    Ok(())
+}
+
+fn write_argument_values<W: Sink>(
+    argument: &Arg,
+    begun: &mut bool,
+    sink: &mut W,
+) -> Result<(), Error>
+    ensures written { Writes W.taken W.failed result sink.old sink.new
+        (words_after begun.old (value_names argument.now)) }
+    ensures begun { OnOk result (begun.new ≡ (begun.old || has_words (value_names argument.now))) }
+{
+    match possible_values(argument) {
+        Some(possible) => write_values(possible, begun, sink),
+        None => Ok(()),
+    }
+}
+
+fn write_values<W: Sink>(
+    possible: &[PossibleValue],
+    begun: &mut bool,
+    sink: &mut W,
+) -> Result<(), Error>
+    ensures written { Writes W.taken W.failed result sink.old sink.new
+        (words_after begun.old (names_of_values possible.now)) }
+    ensures begun { OnOk result (begun.new ≡ (begun.old || has_words (names_of_values possible.now))) }
+{
+    for value in possible {
+        write_word(value.get_name(), begun, sink)?;
+    }
+    Ok(())
+}
+
+/// Writes the names of those of the values that are shown.
+#[tactic(auto, using(crate::proofs::WordTexts::words_after_false))]
+pub(crate) fn write_shown_values<W: Sink>(
+    possible: &[PossibleValue],
+    sink: &mut W,
+) -> Result<(), Error>
+    ensures { Writes W.taken W.failed result sink.old sink.new
+        (words_text (names_of_shown possible.now)) }
+{
+    let mut begun = false;
+    for value in possible {
+        if value.is_hide_set() {
+            continue;
+        }
+        write_word(value.get_name(), &mut begun, sink)?;
+    }
+    Ok(())
+}
+
+fn write_children<W: Sink>(
+    children: &[Command],
+    begun: &mut bool,
+    sink: &mut W,
+) -> Result<(), Error>
+    ensures { Writes W.taken W.failed result sink.old sink.new
+        (words_after begun.old (sibling_names (forest_of children.now))) }
+{
+    for child in children {
+        write_names(child, begun, sink)?;
+    }
+    Ok(())
+}
+
+fn write_names<W: Sink>(command: &Command, begun: &mut bool, sink: &mut W) -> Result<(), Error>
+    ensures written { Writes W.taken W.failed result sink.old sink.new
+        (words_after begun.old (visible_names command.now.node)) }
+    ensures begun { OnOk result (begun.new ≡ true) }
+{
+    write_word(command.get_name(), begun, sink)?;
+    for alias in command.get_visible_aliases() {
+        write_word(alias.as_str(), begun, sink)?;
+    }
+    Ok(())
+}
+
+fn write_word<W: Sink>(word: &str, begun: &mut bool, sink: &mut W) -> Result<(), Error>
+    ensures written { Writes W.taken W.failed result sink.old sink.new
+        (separator begun.old ++ word.now) }
+    ensures begun { OnOk result (begun.new ≡ true) }
+{
+    write_separator(begun, sink)?;
+    put_all(sink, word.as_bytes())
+}
+
+// A space, where a word was written before.
+fn write_separator<W: Sink>(begun: &mut bool, sink: &mut W) -> Result<(), Error>
+    ensures written { Writes W.taken W.failed result sink.old sink.new (separator begun.old) }
+    ensures begun { OnOk result (begun.new ≡ true) }
+{
+    if *begun {
+        return put_all(sink, " ".as_bytes());
+    }
+    *begun = true;
+    Ok(())
+}

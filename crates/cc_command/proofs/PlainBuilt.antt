@@ -1,0 +1,282 @@
+-- A plain tree under a plain bin name builds to a plain tree.
+use Rattle.std.proofs.Common.{◌≡◌, ℕ, suc, List, [], ◌∷◌, ◌++◌, Bool, true, false, cond, not, ◌&&◌, ◌||◌, IsTrue, Option, Some, is_some, map, refl, ap, sym, subst, ◌∙◌, append_assoc}
+use Rattle.std.specs.List.{list_all}
+use Rattle.std.specs.Str.{bytes_eq}
+use Rattle.std.proofs.lemmas.Bool.Decides.{Decides-like, same_from_decides}
+use Rattle.std.proofs.lemmas.Slice.Eq.{bytes_eq-Decides}
+use Rattle.cc_base.proofs.Booleans.{both_true}
+use Rattle.cc_arg.specs.declared.arg.Arg.{Arg}
+use Rattle.cc_arg.specs.Arguments.{filled}
+use Rattle.cc_command.specs.declared.node.Node.{Node}
+use Rattle.cc_command.specs.Tree.{Forest, none, more, join, Tree}
+use Rattle.cc_command.specs.Names.{contains_name, has_name, has_child, has_id, full_name, joined_name}
+use Rattle.cc_command.specs.PlainName.{name_byte, is_joined, is_plain_name}
+use Rattle.cc_command.specs.Plain.{is_plain_tree, is_plain_forest, is_plain_node, is_plain_argument, siblings_differ, passes_if_some, all_differ, names_of, names_of_all}
+use Rattle.cc_command.specs.Texts.{help_name, help_about, version_name, last_order}
+use Rattle.cc_command.specs.Generated.{help_argument, version_argument, generated_help, generated_version, generated_arguments, generated_node, copies, help_command, needs_help_child, help_child}
+use Rattle.cc_command.specs.Built.{with_missing, lacks_index, with_index, next_index, indexed, inherited_by, built_arguments, built_node, built_forest, built_under}
+use Rattle.cc_command.proofs.BuiltAgain.{helped, join-none, has_child-built}
+use Rattle.cc_command.proofs.DifferentNames.{all_differ_append, contains_name-names_of_all}
+use Rattle.cc_command.proofs.PlainParts.{plain_more, plain_tree}
+use Rattle.cc_command.proofs.SiblingNames.{first_differs}
+
+both : (a b : Bool) → IsTrue a → IsTrue b → IsTrue (a && b)
+both true b h k = k
+both false b h k = cc
+
+neither : (a b : Bool) → IsTrue (not a) → IsTrue (not b) → IsTrue (not (a || b))
+neither true b h k = cc
+neither false b h k = k
+
+each_not : (a b : Bool) → IsTrue (not (a || b)) → IsTrue (not a) × IsTrue (not b)
+each_not true b h = cc
+each_not false b h = (refl, h)
+
+-- ---- arguments
+
+plain_filled : (xs : List Arg) → list_all is_plain_argument (map filled xs) ≡ list_all is_plain_argument xs
+plain_filled [] = refl
+plain_filled (x ∷ xs) = ap (λ b. is_plain_argument x && b) (plain_filled xs)
+
+plain_with_index : (place : ℕ) (x : Arg) → is_plain_argument (with_index place x) ≡ is_plain_argument x
+plain_with_index place x = elim (lacks_index x) as (λ b. is_plain_argument (cond b (record x { index = Some place }) x) ≡ is_plain_argument x) [ true ↦ refl | false ↦ refl ]
+
+plain_indexed : (place : ℕ) (xs : List Arg) → list_all is_plain_argument (indexed place xs) ≡ list_all is_plain_argument xs
+plain_indexed place [] = refl
+plain_indexed place (x ∷ xs) =
+    ap (λ b. b && list_all is_plain_argument (indexed (next_index place x) xs)) (plain_with_index place x) ∙
+    ap (λ b. is_plain_argument x && b) (plain_indexed (next_index place x) xs)
+
+all_append : (xs ys : List Arg) → IsTrue (list_all is_plain_argument xs) → IsTrue (list_all is_plain_argument ys) → IsTrue (list_all is_plain_argument (xs ++ ys))
+all_append [] ys h k = k
+all_append (x ∷ xs) ys h k =
+    let a = both_true (is_plain_argument x) (list_all is_plain_argument xs) h in
+    both (is_plain_argument x) (list_all is_plain_argument (xs ++ ys)) a.0 (all_append xs ys a.1 k)
+
+plain_with_missing : (xs others : List Arg) → IsTrue (list_all is_plain_argument xs) → IsTrue (list_all is_plain_argument others) →
+    IsTrue (list_all is_plain_argument (with_missing xs others))
+plain_with_missing xs [] h k = h
+plain_with_missing xs (other ∷ others) h k =
+    let a = both_true (is_plain_argument other) (list_all is_plain_argument others) k in
+    plain_with_missing (cond (has_id xs other.id) xs (xs ++ other ∷ [])) others (stepped (has_id xs other.id) a.0) a.1
+  where
+    stepped : (b : Bool) → IsTrue (is_plain_argument other) → IsTrue (list_all is_plain_argument (cond b xs (xs ++ other ∷ [])))
+    stepped true p = h
+    stepped false p = all_append xs (other ∷ []) h (both (is_plain_argument other) true p refl)
+
+-- the flags that building adds are plain
+help_argument_plain : IsTrue (is_plain_argument help_argument)
+unfolding help_argument help_name is_plain_name is_joined name_byte
+help_argument_plain = refl
+
+version_argument_plain : IsTrue (is_plain_argument version_argument)
+unfolding version_argument version_name is_plain_name is_joined name_byte
+version_argument_plain = refl
+
+generated_plain : (node : Node) → IsTrue (list_all is_plain_argument (generated_arguments node))
+generated_plain node =
+    all_append (generated_help node) (generated_version node) (of_help node.disable_help_flag)
+    (of_version (is_some node.version && not node.disable_version_flag))
+  where
+    of_help : (b : Bool) → IsTrue (list_all is_plain_argument (cond b [] (help_argument ∷ [])))
+    of_help true = refl
+    of_help false = both (is_plain_argument help_argument) true help_argument_plain refl
+
+    of_version : (b : Bool) → IsTrue (list_all is_plain_argument (cond b (version_argument ∷ []) []))
+    of_version true = both (is_plain_argument version_argument) true version_argument_plain refl
+    of_version false = refl
+
+-- ---- nodes
+
+-- the last of four tests in place of another
+in_place_of_last : (a b c d e : Bool) → IsTrue (a && (b && (c && d))) → (IsTrue d → IsTrue e) → IsTrue (a && (b && (c && e)))
+in_place_of_last true true true d e h follows = follows h
+in_place_of_last true true false d e h follows = h
+in_place_of_last true false c d e h follows = h
+in_place_of_last false b c d e h follows = h
+
+plain_built_node : (inherited : List Arg) (bin_name : Option (List ℕ)) (node : Node) → IsTrue (list_all is_plain_argument inherited) →
+    IsTrue (is_plain_node node) → IsTrue (is_plain_node (built_node inherited bin_name node))
+plain_built_node inherited bin_name node above h =
+    in_place_of_last (is_plain_name node.name) (list_all is_plain_name node.visible_aliases) (list_all is_plain_name node.aliases)
+    (list_all is_plain_argument node.arguments) (list_all is_plain_argument (built_arguments inherited node)) h (λ own.
+    let others : List Arg = inherited_by node inherited ++ generated_arguments node in
+    let all : List Arg = with_missing node.arguments others in
+    subst IsTrue (sym (plain_indexed 1 (map filled all) ∙ plain_filled all))
+    (plain_with_missing node.arguments others own (all_append (inherited_by node inherited) (generated_arguments node) (inherits node.generated) (generated_plain node))))
+  where
+    inherits : (b : Bool) → IsTrue (list_all is_plain_argument (cond b [] inherited))
+    inherits true = refl
+    inherits false = above
+
+-- a generated node has a name and no other
+plain_generated : (name bin_name : List ℕ) (about : Option (List ℕ)) (order : ℕ) (hide : Bool) → IsTrue (is_plain_name name) →
+    IsTrue (is_plain_node (generated_node name bin_name about order hide))
+plain_generated name bin_name about order hide h = both (is_plain_name name) true h refl
+
+-- ---- names of siblings
+
+names_of_all-join : (a b : Forest) → names_of_all (join a b) ≡ names_of_all a ++ names_of_all b
+names_of_all-join none b = refl
+names_of_all-join (more node below rest) b =
+    ap (λ names. names_of node ++ names) (names_of_all-join rest b) ∙ sym (append_assoc (names_of node) (names_of_all rest) (names_of_all b))
+
+names_of_all-built : (inherited : List Arg) (parent : List ℕ) (forest : Forest) → names_of_all (built_forest inherited parent forest) ≡ names_of_all forest
+names_of_all-built inherited parent none = refl
+names_of_all-built inherited parent (more node below rest) = ap (λ names. names_of node ++ names) (names_of_all-built inherited parent rest)
+
+-- a name that none has is one that no copy has
+copies_lack : (parent : List ℕ) (order : ℕ) (forest : Forest) (word : List ℕ) → IsTrue (not (has_child forest word)) → IsTrue (not (has_child (copies parent order forest) word))
+copies_lack parent order none word h = refl
+copies_lack parent order (more node below rest) word h =
+    let a = each_not (has_name node word) (has_child rest word) h in
+    let b = each_not (bytes_eq node.name word || contains_name node.visible_aliases word) (contains_name node.aliases word) a.0 in
+    let c = each_not (bytes_eq node.name word) (contains_name node.visible_aliases word) b.0 in
+    neither (bytes_eq node.name word || false || false) (has_child (copies parent (suc order) rest) word)
+    (neither (bytes_eq node.name word || false) false (neither (bytes_eq node.name word) false c.0 refl) refl)
+    (copies_lack parent (suc order) rest word a.1)
+
+-- the names of the copies of siblings that differ differ
+copies_differ : (parent : List ℕ) (order : ℕ) (forest : Forest) → IsTrue (siblings_differ forest) → IsTrue (all_differ (names_of_all (copies parent order forest)))
+copies_differ parent order none h = refl
+copies_differ parent order (more node below rest) h =
+    let d = first_differs node below rest h in
+    let a = both_true (not (has_child rest node.name)) (list_all (λ name. not (has_child rest name)) (node.visible_aliases ++ node.aliases)) d.apart in
+    both (not (contains_name (names_of_all (copies parent (suc order) rest)) node.name)) (all_differ (names_of_all (copies parent (suc order) rest)))
+    (subst (λ b. IsTrue (not b)) (sym (contains_name-names_of_all (copies parent (suc order) rest) node.name)) (copies_lack parent (suc order) rest node.name a.0))
+    (copies_differ parent (suc order) rest d.later)
+
+bytes_eq-turned : (xs ys : List ℕ) → bytes_eq xs ys ≡ bytes_eq ys xs
+bytes_eq-turned xs ys = same_from_decides (bytes_eq xs ys) (bytes_eq ys xs) (bytes_eq-Decides xs ys) (Decides-like (bytes_eq ys xs) sym sym (bytes_eq-Decides ys xs))
+
+apart_from_one : (names : List (List ℕ)) (word : List ℕ) → IsTrue (not (contains_name names word)) → IsTrue (list_all (λ name. not (contains_name (word ∷ []) name)) names)
+apart_from_one [] word h = refl
+apart_from_one (name ∷ names) word h =
+    let a = each_not (bytes_eq name word) (contains_name names word) h in
+    both (not (bytes_eq word name || false)) (list_all (λ name. not (contains_name (word ∷ []) name)) names)
+    (neither (bytes_eq word name) false (subst (λ b. IsTrue (not b)) (bytes_eq-turned name word) a.0) refl)
+    (apart_from_one names word a.1)
+
+-- names that differ, and one more that none of them is
+one_more_differs : (names : List (List ℕ)) (word : List ℕ) → IsTrue (all_differ names) → IsTrue (not (contains_name names word)) → IsTrue (all_differ (names ++ word ∷ []))
+one_more_differs names word h k =
+    subst IsTrue (sym (all_differ_append names (word ∷ [])))
+    (both (all_differ names) (list_all (λ name. not (contains_name (word ∷ []) name)) names && true) h
+    (both (list_all (λ name. not (contains_name (word ∷ []) name)) names) true (apart_from_one names word k) refl))
+
+-- ---- what building adds below a node
+
+plain_copies : (parent : List ℕ) (order : ℕ) (forest : Forest) → IsTrue (is_plain_forest forest) → IsTrue (is_plain_forest (copies parent order forest))
+unfolding siblings_differ
+plain_copies parent order none h = refl
+plain_copies parent order (more node below rest) h =
+    let p = plain_more node below rest h in
+    let name : List ℕ = joined_name parent node.name in
+    let a = both_true (is_plain_name node.name) (list_all is_plain_name node.visible_aliases && (list_all is_plain_name node.aliases && list_all is_plain_argument node.arguments)) p.first.node in
+    both (is_plain_node (generated_node node.name name node.about order node.hide)) (siblings_differ (copies name 0 below) && (is_plain_forest (copies name 0 below) && is_plain_forest (copies parent (suc order) rest)))
+    (plain_generated node.name name node.about order node.hide a.0)
+    (both (siblings_differ (copies name 0 below)) (is_plain_forest (copies name 0 below) && is_plain_forest (copies parent (suc order) rest))
+    (copies_differ name 0 below p.first.differ)
+    (both (is_plain_forest (copies name 0 below)) (is_plain_forest (copies parent (suc order) rest))
+    (plain_copies name 0 below p.first.children) (plain_copies parent (suc order) rest p.later)))
+
+plain_join : (a b : Forest) → IsTrue (is_plain_forest a) → IsTrue (is_plain_forest b) → IsTrue (is_plain_forest (join a b))
+plain_join none b h k = k
+plain_join (more node below rest) b h k =
+    let p = plain_more node below rest h in
+    both (is_plain_node node) (siblings_differ below && (is_plain_forest below && is_plain_forest (join rest b))) p.first.node
+    (both (siblings_differ below) (is_plain_forest below && is_plain_forest (join rest b)) p.first.differ
+    (both (is_plain_forest below) (is_plain_forest (join rest b)) p.first.children (plain_join rest b p.later k)))
+
+-- siblings that differ, and after them one of a name that none of them has
+last_differs : (forest last : Forest) (word : List ℕ) → IsTrue (all_differ (names_of_all forest)) → IsTrue (not (has_child forest word)) →
+    names_of_all last ≡ word ∷ [] → IsTrue (siblings_differ (join forest last))
+unfolding siblings_differ
+last_differs forest last word h k is =
+    subst (λ names. IsTrue (all_differ names)) (sym (names_of_all-join forest last ∙ ap (λ names. names_of_all forest ++ names) is))
+    (one_more_differs (names_of_all forest) word h (subst (λ b. IsTrue (not b)) (sym (contains_name-names_of_all forest word)) k))
+
+help_name_plain : IsTrue (is_plain_name help_name)
+unfolding help_name is_plain_name is_joined name_byte
+help_name_plain = refl
+
+none_differ : IsTrue (siblings_differ none)
+unfolding siblings_differ
+none_differ = refl
+
+-- a generated `help` over plain siblings that differ is plain
+plain_help : (parent : List ℕ) (children : Forest) → IsTrue (siblings_differ children) → IsTrue (is_plain_forest children) → IsTrue (is_plain_forest (help_command parent children))
+plain_help parent children differ h =
+    both (is_plain_node (generated_node help_name (joined_name parent help_name) (Some help_about) last_order false)) (siblings_differ children && (is_plain_forest children && true))
+    (plain_generated help_name (joined_name parent help_name) (Some help_about) last_order false help_name_plain)
+    (both (siblings_differ children) (is_plain_forest children && true) differ (both (is_plain_forest children) true h refl))
+
+-- where no child has the name `help`, so is the one that building adds
+plain_helped : (parent : List ℕ) (forest : Forest) → IsTrue (not (has_child forest help_name)) → IsTrue (siblings_differ forest) → IsTrue (is_plain_forest forest) →
+    IsTrue (is_plain_forest (help_command parent (helped (joined_name parent help_name) forest)))
+plain_helped parent forest lacks differ h =
+    let name : List ℕ = joined_name parent help_name in
+    plain_help parent (helped name forest)
+    (last_differs (copies name 0 forest) (help_command name none) help_name (copies_differ name 0 forest differ) (copies_lack name 0 forest help_name lacks) refl)
+    (plain_join (copies name 0 forest) (help_command name none) (plain_copies name 0 forest h) (plain_help name none none_differ refl))
+
+built_differ : (inherited : List Arg) (parent : List ℕ) (forest : Forest) → IsTrue (siblings_differ forest) → IsTrue (all_differ (names_of_all (built_forest inherited parent forest)))
+unfolding siblings_differ
+built_differ inherited parent forest differ = subst (λ names. IsTrue (all_differ names)) (sym (names_of_all-built inherited parent forest)) differ
+
+siblings_built_differ : (inherited : List Arg) (parent : List ℕ) (forest : Forest) → IsTrue (siblings_differ forest) → IsTrue (siblings_differ (built_forest inherited parent forest))
+unfolding siblings_differ
+siblings_built_differ inherited parent forest differ = built_differ inherited parent forest differ
+
+-- where building adds a `help` no child has that name
+lacks_help : (node : Node) (forest : Forest) → needs_help_child node forest ≡ true → IsTrue (not (has_child forest help_name))
+lacks_help node none is = refl
+lacks_help node (more child below rest) is = (both_true (not node.disable_help_subcommand) (not (has_child (more child below rest) help_name)) is).1
+
+-- the children of a built node: they differ, and they are plain
+record ArePlainChildren (children : Forest) : Type 0 where
+  pub differ : IsTrue (siblings_differ children)
+  pub plain : IsTrue (is_plain_forest children)
+
+with_help : (inherited : List Arg) (parent : List ℕ) (node : Node) (forest : Forest) → IsTrue (siblings_differ forest) → IsTrue (is_plain_forest forest) →
+    IsTrue (is_plain_forest (built_forest inherited parent forest)) → ArePlainChildren (join (built_forest inherited parent forest) (help_child parent node forest))
+with_help inherited parent node forest differ h built = added (needs_help_child node forest) refl
+  where
+    added : (b : Bool) → needs_help_child node forest ≡ b →
+        ArePlainChildren (join (built_forest inherited parent forest) (cond b (help_command parent (helped (joined_name parent help_name) forest)) none))
+    added false is = subst ArePlainChildren (sym (join-none (built_forest inherited parent forest))) (record { differ = siblings_built_differ inherited parent forest differ; plain = built })
+    added true is =
+        let lacks = lacks_help node forest is in
+        record {
+          differ = last_differs (built_forest inherited parent forest) (help_command parent (helped (joined_name parent help_name) forest)) help_name
+              (built_differ inherited parent forest differ)
+              (subst (λ b. IsTrue (not b)) (sym (has_child-built inherited parent forest help_name)) lacks) refl;
+          plain = plain_join (built_forest inherited parent forest) (help_command parent (helped (joined_name parent help_name) forest)) built (plain_helped parent forest lacks differ h);
+        }
+
+plain_built_forest : (inherited : List Arg) (parent : List ℕ) (forest : Forest) → IsTrue (list_all is_plain_argument inherited) → IsTrue (is_plain_forest forest) →
+    IsTrue (is_plain_forest (built_forest inherited parent forest))
+plain_built_forest inherited parent none above h = refl
+plain_built_forest inherited parent (more node below rest) above h =
+    let p = plain_more node below rest h in
+    let name : List ℕ = joined_name parent node.name in
+    let built : Node = built_node inherited (Some name) node in
+    let children : Forest = join (built_forest inherited name below) (help_child name node below) in
+    let c = with_help inherited name node below p.first.differ p.first.children (plain_built_forest inherited name below above p.first.children) in
+    both (is_plain_node built) (siblings_differ children && (is_plain_forest children && is_plain_forest (built_forest inherited parent rest)))
+    (plain_built_node inherited (Some name) node above p.first.node)
+    (both (siblings_differ children) (is_plain_forest children && is_plain_forest (built_forest inherited parent rest)) c.differ
+    (both (is_plain_forest children) (is_plain_forest (built_forest inherited parent rest)) c.plain (plain_built_forest inherited parent rest above p.later)))
+
+-- under a plain bin name, or without one, a plain tree builds to a plain tree
+pub plain_built_under : (bin_name : Option (List ℕ)) (tree : Tree) → IsTrue (passes_if_some is_plain_name bin_name) → IsTrue (is_plain_tree tree) →
+    IsTrue (is_plain_tree (built_under bin_name tree))
+plain_built_under bin_name tree named h =
+    let p = plain_tree tree h in
+    let name : List ℕ = full_name (record tree.node { bin_name = bin_name }) in
+    let children : Forest = join (built_forest [] name tree.children) (help_child name tree.node tree.children) in
+    let c = with_help [] name tree.node tree.children p.below.differ p.below.children (plain_built_forest [] name tree.children refl p.below.children) in
+    both (passes_if_some is_plain_name bin_name) (is_plain_node (built_node [] bin_name tree.node) && (siblings_differ children && is_plain_forest children)) named
+    (both (is_plain_node (built_node [] bin_name tree.node)) (siblings_differ children && is_plain_forest children)
+    (plain_built_node [] bin_name tree.node refl p.below.node)
+    (both (siblings_differ children) (is_plain_forest children) c.differ c.plain))

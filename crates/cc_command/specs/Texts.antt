@@ -1,0 +1,34 @@
+-- The texts of what building adds.
+use Rattle.std.specs.Prelude.{ℕ, List, codes}
+
+-- the name, the id and the long of what shows the help
+unfoldable pub help_name : List ℕ
+help_name = codes "help"
+
+-- the help of the flag `help`
+unfoldable pub help_help : List ℕ
+help_help = codes "Print help"
+
+-- what the child `help` says of itself
+unfoldable pub help_about : List ℕ
+help_about = codes "Print this message or the help of the given subcommand(s)"
+
+-- the id and the long of the flag that shows the version
+unfoldable pub version_name : List ℕ
+version_name = codes "version"
+
+-- the help of the flag `version`
+unfoldable pub version_help : List ℕ
+version_help = codes "Print version"
+
+-- the short of the flag `help`: `h`
+abbrev pub help_short : ℕ
+help_short = 104
+
+-- the short of the flag `version`: `V`
+abbrev pub version_short : ℕ
+version_short = 86
+
+-- the display order of what building adds
+abbrev pub last_order : ℕ
+last_order = 999

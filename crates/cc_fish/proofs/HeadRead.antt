@@ -1,0 +1,164 @@
+-- The head has no record.
+use Rattle.std.proofs.Common.{◌≡◌, ℕ, Bool, true, false, List, [], ◌∷◌, ◌++◌, refl, ap, ◌∙◌, sym, append_assoc, append-nil, inl, inr, ◌⊎◌, Option, Some, None, map, cond, codes, option_map, not, ◌&&◌, ◌||◌, filter, is_some, encode_utf8, flat_map}
+use Rattle.std.specs.List.{AllByRecursion}
+use Rattle.cc_base.proofs.Members.{AllByRecursion-weaker}
+use Rattle.cc_arg.specs.declared.arg.Arg.{Arg}
+use Rattle.cc_arg.specs.Arguments.{is_positional, takes_values}
+use Rattle.cc_arg.specs.ShownNames.{with_aliases, shown_shorts, shown_longs}
+use Rattle.cc_command.specs.declared.node.Node.{Node}
+use Rattle.cc_command.specs.Tree.{Forest, none, more, Tree, has_nodes}
+use Rattle.cc_command.proofs.PlainParts.{IsPlainArgument, IsPlainNode}
+use Rattle.cc_quote.specs.Bytes as ascii
+use Rattle.cc_quote.specs.FishQuote.{fish_sign, is_fish_safe}
+use Rattle.cc_quote.specs.FishQuote.FishPlace.{bare}
+use Rattle.cc_quote.specs.FishTokens.{between, in_word, commands_from, fish_commands}
+use Rattle.cc_quote.proofs.FishWords.{IsSafe}
+use Rattle.cc_quote.proofs.FishCutting.{Adds, adds_word, adds_flat_map, safe_goes_on, word_ends}
+use Rattle.cc_fish.specs.FishScript.{function_name, slash_text, first_short, first_long, spec_word, spec_text, specs_text, head_1, head_2, head_3, head_4, head_5, head_6, head_7, head_end, head_back, head_front, head_around, head_text}
+use Rattle.cc_fish.specs.RecordReader.{records_of, records}
+use Rattle.cc_fish.specs.Records.{Record}
+use Rattle.cc_fish.proofs.FishNames.{IsName, name_safe, name_spelled, IsShortName, plain_shorts, plain_longs}
+use Rattle.cc_fish.proofs.Conditions.{safe_append, function_safe}
+use Rattle.cc_fish.proofs.RecordsRead.{Yields, yields_none, unchanged}
+
+-- ---- the fixed texts, around any words
+
+head_then : (function specs rest : List ℕ) → head_around function specs ++ rest
+    ≡ head_1 ++ (function ++ (head_2 ++ (specs ++ (head_3 ++ (function ++ (head_4 ++ (function ++ (head_5 ++ (function ++ (head_6 ++ (function ++ (head_7 ++ rest))))))))))))
+unfolding head_front head_back head_end
+head_then function specs rest = simp append_assoc
+
+-- what is read in the word after these, which begins so
+abbrev read_in : List (List ℕ) → List ℕ → List ℕ → Option (List Record)
+read_in words word text = records_of (commands_from (in_word words (bare word)) text)
+
+abbrev after_function : List ℕ → List ℕ → Option (List Record)
+after_function word text = read_in (codes "function" ∷ []) word text
+
+abbrev after_argparse : List ℕ → List ℕ → Option (List Record)
+after_argparse word text = read_in (codes "argparse" ∷ codes "-s" ∷ []) word text
+
+abbrev after_set : List ℕ → List ℕ → Option (List Record)
+after_set word text = read_in (codes "set" ∷ codes "-l" ∷ codes "cmd" ∷ []) word text
+
+part_1 : (function text : List ℕ) → IsSafe function → records (head_1 ++ (function ++ text)) ≡ after_function (codes "__fish_" ++ function) text
+unfolding fish_sign fish_commands head_1
+part_1 function text h = ap records_of (safe_goes_on function (codes "function" ∷ []) (codes "__fish_") text h)
+
+part_2 : (word specs : List ℕ) (words : List (List ℕ)) (function text : List ℕ) → Adds specs words → IsSafe function
+    → after_function word (head_2 ++ (specs ++ (head_3 ++ (function ++ text)))) ≡ after_function (codes "__fish_" ++ function) text
+unfolding fish_sign head_2 head_3
+part_2 word specs words function text adds h =
+    ap records_of (word_ends (codes "string" ∷ codes "join" ∷ []) (ascii.line_feed ∷ []) (specs ++ (head_3 ++ (function ++ text))) (adds.ends (head_3 ++ (function ++ text)) (inr refl)))
+    ∙ ap records_of (adds.read (codes "string" ∷ codes "join" ∷ (ascii.line_feed ∷ []) ∷ []) (head_3 ++ (function ++ text)) (inr refl))
+    ∙ ap records_of (safe_goes_on function (codes "function" ∷ []) (codes "__fish_") text h)
+
+part_4 : (word function text : List ℕ) → IsSafe function → after_function word (head_4 ++ (function ++ text)) ≡ after_argparse (codes "(__fish_" ++ function) text
+unfolding fish_sign head_4
+part_4 word function text h = ap records_of (safe_goes_on function (codes "argparse" ∷ codes "-s" ∷ []) (codes "(__fish_") text h)
+
+part_5 : (word function text : List ℕ) → IsSafe function → after_argparse word (head_5 ++ (function ++ text)) ≡ after_function (codes "__fish_" ++ function) text
+unfolding fish_sign head_5
+part_5 word function text h = ap records_of (safe_goes_on function (codes "function" ∷ []) (codes "__fish_") text h)
+
+part_6 : (word function text : List ℕ) → IsSafe function → after_function word (head_6 ++ (function ++ text)) ≡ after_set (codes "(__fish_" ++ function) text
+unfolding fish_sign head_6
+part_6 word function text h = ap records_of (safe_goes_on function (codes "set" ∷ codes "-l" ∷ codes "cmd" ∷ []) (codes "(__fish_") text h)
+
+part_7 : (word text : List ℕ) → after_set word (head_7 ++ text) ≡ records text
+unfolding fish_sign fish_commands head_7
+part_7 word text = refl
+
+head_read : (function specs : List ℕ) (words : List (List ℕ)) (rest : List ℕ) → IsSafe function → Adds specs words → records (head_around function specs ++ rest) ≡ records rest
+head_read function specs words rest h adds =
+    let from_6 : List ℕ = head_6 ++ (function ++ (head_7 ++ rest)) in
+    let from_5 : List ℕ = head_5 ++ (function ++ from_6) in
+    let from_4 : List ℕ = head_4 ++ (function ++ from_5) in
+    ap records (head_then function specs rest)
+    ∙ part_1 function (head_2 ++ (specs ++ (head_3 ++ (function ++ from_4)))) h
+    ∙ part_2 (codes "__fish_" ++ function) specs words function from_4 adds h
+    ∙ part_4 (codes "__fish_" ++ function) function from_5 h
+    ∙ part_5 (codes "(__fish_" ++ function) function from_6 h
+    ∙ part_6 (codes "__fish_" ++ function) function (head_7 ++ rest) h
+    ∙ part_7 (codes "(__fish_" ++ function) rest
+
+-- ---- what `argparse` is told of an argument is one word
+
+abbrev no_names : {X : Type 0} → List X → Bool
+no_names [] = true
+no_names (x ∷ xs) = false
+
+named : (name text : List ℕ) → IsName name → IsSafe text → IsName (name ++ text)
+named [] text h k = absurd h
+named (byte ∷ bytes) text h k = safe_append (byte ∷ bytes) text h k
+
+equals_safe : (takes : Bool) → IsSafe (cond takes (codes "=") [])
+unfolding is_fish_safe
+equals_safe true = (refl, tt)
+equals_safe false = tt
+
+slash_safe : (longs : List (List ℕ)) → IsSafe (slash_text longs)
+unfolding is_fish_safe
+slash_safe [] = tt
+slash_safe (long ∷ longs) = (refl, tt)
+
+-- the word of these names
+abbrev spec_of : List ℕ → List (List ℕ) → Bool → List ℕ
+spec_of shorts longs takes = first_short shorts longs ++ (first_long longs ++ (cond takes (codes "=") []))
+
+spec_named : (shorts : List ℕ) (longs : List (List ℕ)) (takes : Bool) → AllByRecursion IsShortName shorts → AllByRecursion IsName longs → (no_names shorts && no_names longs) ≡ false → IsName (spec_of shorts longs takes)
+spec_named [] [] takes h k e = absurd (cc)
+spec_named [] (long ∷ longs) takes h (k, ks) e = named long (cond takes (codes "=") []) k (equals_safe takes)
+spec_named (short ∷ shorts) [] takes (h, hs) k e = named (encode_utf8 short ++ []) (cond takes (codes "=") []) (named (encode_utf8 short) [] h tt) (equals_safe takes)
+spec_named (short ∷ shorts) (long ∷ longs) takes (h, hs) (k, ks) e =
+    named (encode_utf8 short ++ codes "/") (long ++ cond takes (codes "=") []) (named (encode_utf8 short) (codes "/") h (slash_safe (long ∷ longs)))
+    (safe_append long (cond takes (codes "=") []) (name_safe long k) (equals_safe takes))
+
+-- a plain argument that is no positional
+record IsSpecified (argument : Arg) : Type 0 where
+  plain : IsPlainArgument argument
+  other : is_positional argument ≡ false
+
+-- it has a short or a long
+has_names : (argument : Arg) → is_positional argument ≡ false → (no_names (shown_shorts argument) && no_names (shown_longs argument)) ≡ false
+has_names argument e = by argument.short argument.long e
+  where
+    by : (short : Option ℕ) (long : Option (List ℕ)) → not (is_some short || is_some long) ≡ false
+        → (no_names (with_aliases short argument.visible_short_aliases) && no_names (with_aliases long argument.visible_aliases)) ≡ false
+    by None None e = absurd (cc)
+    by None (Some long) e = refl
+    by (Some short) long e = refl
+
+specified : (arguments : List Arg) → AllByRecursion IsPlainArgument arguments → AllByRecursion IsSpecified (filter (λ argument. not (is_positional argument)) arguments)
+specified [] h = tt
+specified (argument ∷ arguments) (h, hs) = by (is_positional argument) refl (specified arguments hs)
+  where
+    others : List Arg
+    others = filter (λ other. not (is_positional other)) arguments
+
+    by : (b : Bool) → is_positional argument ≡ b → AllByRecursion IsSpecified others → AllByRecursion IsSpecified (cond (not b) (argument ∷ others) others)
+    by true e rest = rest
+    by false e rest = (record { plain = h; other = e }, rest)
+
+spec_is_name : (argument : Arg) → IsSpecified argument → IsName (spec_word argument)
+spec_is_name argument h =
+    spec_named (shown_shorts argument) (shown_longs argument) (takes_values argument) (plain_shorts argument h.plain) (plain_longs argument h.plain) (has_names argument h.other)
+
+spec_adds : (argument : Arg) → IsSpecified argument → Adds (spec_text argument) (spec_word argument ∷ [])
+unfolding spec_text
+spec_adds argument h = adds_word (spec_word argument) (spec_word argument) (name_spelled (spec_word argument) (spec_is_name argument h))
+
+-- ---- the head
+
+pub head_yields : (bin_name : List ℕ) (root : Tree) → IsName bin_name → IsPlainNode root.node → Yields (head_text (function_name bin_name) root) []
+unfolding head_text
+head_yields bin_name root name is = by root.children
+  where
+    by : (children : Forest) → Yields (cond (has_nodes children) (head_around (function_name bin_name) (specs_text root.node.arguments)) []) []
+    by none = yields_none
+    by (more node below rest) = record {
+      read = λ later.
+          head_read (function_name bin_name) (specs_text root.node.arguments) _ later (function_safe bin_name (name_safe bin_name name))
+          (adds_flat_map IsSpecified spec_text (λ argument. spec_word argument ∷ []) spec_adds _ (specified root.node.arguments is.arguments))
+          ∙ unchanged (records later);
+    }

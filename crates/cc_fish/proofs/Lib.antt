@@ -1,0 +1,6 @@
+pub mod Conditions
+pub mod FishNames
+pub mod HeadRead
+pub mod RecordWords
+pub mod RecordsRead
+pub mod ScriptRead

@@ -1,0 +1,239 @@
+-- The words of a record are read back to the record.
+use Rattle.std.proofs.Common.{◌≡◌, ℕ, Bool, true, false, List, [], ◌∷◌, ◌++◌, refl, ap, ◌∙◌, sym, subst, append_assoc, append-nil, inl, inr, ◌⊎◌, Option, Some, None, IsTrue, map, cond, codes, encode_utf8, option_map, not, flat_map}
+use Rattle.std.specs.List.{AllByRecursion}
+use Rattle.cc_arg.specs.declared.arg.Arg.{Arg}
+use Rattle.cc_arg.specs.declared.possible_value.PossibleValue.{PossibleValue}
+use Rattle.cc_arg.specs.declared.value_hint.ValueHint.{ValueHint}
+use Rattle.cc_arg.specs.declared.value_hint.ValueHint.TheVariants.{Unknown, Other, AnyPath, FilePath, DirPath, ExecutablePath, CommandName, CommandString, CommandWithArguments, Username, Hostname, Url, EmailAddress}
+use Rattle.cc_arg.specs.Arguments.{possible_values}
+use Rattle.cc_arg.specs.ShownNames.{shown_shorts, shown_longs}
+use Rattle.cc_command.specs.declared.node.Node.{Node}
+use Rattle.cc_command.specs.ArgumentLists.{options, flags}
+use Rattle.cc_command.specs.Names.{visible_names}
+use Rattle.cc_command.specs.Plain.{is_plain_forest}
+use Rattle.cc_command.specs.Tree.{Forest, none, more, Tree}
+use Rattle.cc_command.proofs.PlainParts.{IsPlainName, IsPlainArgument, IsPlainBelow, plain_node, plain_more}
+use Rattle.cc_quote.specs.Bytes.{line_feed}
+use Rattle.cc_quote.specs.QuotedWord.{line_feeds_as_spaces}
+use Rattle.cc_quote.specs.FishQuote.{fish_sign}
+use Rattle.cc_quote.specs.FishTokens.{between, commands_from, fish_commands}
+use Rattle.cc_quote.proofs.FishWords.{IsSafe}
+use Rattle.cc_quote.proofs.FishCutting.{word_read, Adds, adds_none, adds_append, adds_word}
+use Rattle.cc_fish.specs.FishScript.{names_text, values_text, help_text, front_text, option_text, flag_text, child_text, children_text, node_text, options_text, flags_text, below_text}
+use Rattle.cc_fish.specs.FishTable.{condition_at, child_names, has_positionals, value_word, hint_marks, hint_offers, value_marks, value_offers, short_names, flag_record, option_record, child_record, child_records, node_records}
+use Rattle.cc_fish.specs.RecordReader.{offered_of, condition, condition_of, with_operand, record_from, an_option, the_operand, no_record, records_of, records}
+use Rattle.cc_fish.specs.Records.{Condition, Record}
+use Rattle.cc_fish.proofs.FishNames.{IsName, name_safe, name_spelled, plain_name}
+use Rattle.cc_fish.proofs.RecordWords.{IsKept, condition_words, front_words, names_words, short_words, long_words, help_words, values_words, value_inner, hint_words, shown_of, part_words, names_adds, values_adds, help_adds, values_twice, record_read, child_offer_adds, no_files_mark_adds}
+use Rattle.cc_fish.proofs.Conditions.{path_condition, condition_read, condition_kept}
+
+-- ---- the words of a record, part by part
+
+condition_operand : (text : List ℕ) (when : Condition) (read : Record) (words : List (List ℕ)) → condition_of text ≡ Some when
+    → record_from (the_operand condition) read (text ∷ words) ≡ record_from an_option (record read { when = when }) words
+condition_operand text when read words h =
+    ap (λ o. elim (option_map (λ when. record read { when = when }) o) as (λ x. Option Record) [ Some next ↦ record_from an_option next words | None ↦ None ]) h
+
+-- a record of which only the condition was read
+abbrev at : Condition → Record
+at when = record no_record { when = when }
+
+unconditional : (bin_name : List ℕ) (path : List (List ℕ)) (children : Forest) → path_condition bin_name path children ≡ None → no_record.when ≡ condition_at path children
+unconditional bin_name [] none e = refl
+unconditional bin_name [] (more node below rest) e = absurd (cc)
+unconditional bin_name (name ∷ names) children e = absurd (cc)
+
+front_read : (bin_name : List ℕ) (path : List (List ℕ)) (children : Forest) (words : List (List ℕ)) → IsSafe bin_name → AllByRecursion IsSafe path → AllByRecursion IsSafe (child_names children)
+    → record_from an_option no_record (front_words bin_name (path_condition bin_name path children) ++ words) ≡ record_from an_option (at (condition_at path children)) words
+front_read bin_name path children words b p hs = by (path_condition bin_name path children) refl
+  where
+    by : (when : Option (List ℕ)) → path_condition bin_name path children ≡ when
+        → record_from an_option no_record (front_words bin_name when ++ words) ≡ record_from an_option (at (condition_at path children)) words
+    by (Some text) e = condition_operand text (condition_at path children) no_record words (condition_read bin_name path children text b p hs e)
+    by None e = ap (λ when. record_from an_option (at when) words) (unconditional bin_name path children e)
+
+shorts_read : (shorts : List ℕ) (read : Record) (words : List (List ℕ))
+    → record_from an_option read (flat_map short_words shorts ++ words) ≡ record_from an_option (record read { shorts = read.shorts ++ map encode_utf8 shorts }) words
+shorts_read [] read words = rw append-nil
+shorts_read (short ∷ shorts) read words =
+    shorts_read shorts (record read { shorts = read.shorts ++ encode_utf8 short ∷ [] }) words
+    ∙ ap (λ names. record_from an_option (record read { shorts = names }) words) (append_assoc read.shorts (encode_utf8 short ∷ []) (map encode_utf8 shorts))
+
+longs_read : (longs : List (List ℕ)) (read : Record) (words : List (List ℕ))
+    → record_from an_option read (flat_map long_words longs ++ words) ≡ record_from an_option (record read { longs = read.longs ++ longs }) words
+longs_read [] read words = rw append-nil
+longs_read (long ∷ longs) read words =
+    longs_read longs (record read { longs = read.longs ++ long ∷ [] }) words
+    ∙ ap (λ names. record_from an_option (record read { longs = names }) words) (append_assoc read.longs (long ∷ []) longs)
+
+help_read : (help : Option (List ℕ)) (read : Record) (words : List (List ℕ)) → read.description ≡ None
+    → record_from an_option read (help_words help ++ words) ≡ record_from an_option (record read { description = option_map line_feeds_as_spaces help }) words
+help_read None read words e = ap (λ text. record_from an_option (record read { description = text }) words) e
+help_read (Some help) read words e = refl
+
+names_read : (argument : Arg) (when : Condition) (words : List (List ℕ)) → record_from an_option (at when) (names_words argument ++ words) ≡ record_from an_option (flag_record when argument) words
+names_read argument when words =
+    let longs : List (List ℕ) = flat_map long_words (shown_longs argument) in
+    let help : List (List ℕ) = help_words argument.help in
+    ap (record_from an_option (at when)) (append_assoc (flat_map short_words (shown_shorts argument)) (longs ++ help) words)
+    ∙ shorts_read (shown_shorts argument) (at when) ((longs ++ help) ++ words)
+    ∙ ap (record_from an_option (record (at when) { shorts = short_names argument })) (append_assoc longs help words)
+    ∙ longs_read (shown_longs argument) (record (at when) { shorts = short_names argument }) (help ++ words)
+    ∙ help_read argument.help (record (at when) { shorts = short_names argument; longs = shown_longs argument }) words refl
+
+hint_read : (hint : ValueHint) (when : Condition) (argument : Arg)
+    → record_from an_option (flag_record when argument) (hint_words hint) ≡ Some (record (flag_record when argument) { marks = hint_marks hint; offered = hint_offers hint })
+unfolding fish_sign fish_commands
+hint_read Unknown when argument = refl
+hint_read Other when argument = refl
+hint_read AnyPath when argument = refl
+hint_read FilePath when argument = refl
+hint_read DirPath when argument = refl
+hint_read ExecutablePath when argument = refl
+hint_read CommandName when argument = refl
+hint_read CommandString when argument = refl
+hint_read CommandWithArguments when argument = refl
+hint_read Username when argument = refl
+hint_read Hostname when argument = refl
+hint_read Url when argument = refl
+hint_read EmailAddress when argument = refl
+
+values_read : (argument : Arg) (when : Condition) → record_from an_option (flag_record when argument) (values_words argument) ≡ Some (option_record when argument)
+values_read argument when = by (possible_values argument)
+  where
+    by : (values : Option (List PossibleValue)) → record_from an_option (flag_record when argument) (part_words values argument.value_hint)
+        ≡ Some (record (flag_record when argument) { marks = value_marks (option_map shown_of values) argument.value_hint; offered = value_offers (option_map shown_of values) argument.value_hint })
+    by (Some values) = ap (λ words. Some (record (flag_record when argument) { marks = record { required = true; no_files = true; files = false }; offered = Some words })) (values_twice (shown_of values))
+    by None = hint_read argument.value_hint when argument
+
+name_offered : (name : List ℕ) → IsName name → offered_of name ≡ name ∷ []
+unfolding fish_commands
+name_offered name h = ap (λ t. flat_map (λ words. words) (commands_from (between []) t)) (sym (append-nil name)) ∙ ap (flat_map (λ words. words)) (word_read name name [] [] (name_spelled name h))
+
+child_words_read : (no_files : Bool) (about : Option (List ℕ)) (name : List ℕ) (when : Condition) → IsName name
+    → record_from an_option (at when) (cond no_files (codes "-f" ∷ []) [] ++ (codes "-a" ∷ name ∷ help_words about)) ≡ Some (child_record when no_files about name)
+child_words_read true about name when h =
+    let read : Record = record (at when) { marks = record { required = false; no_files = true; files = false }; offered = Some (offered_of name) } in
+    ap (record_from an_option read) (sym (append-nil (help_words about)))
+    ∙ help_read about read [] refl
+    ∙ ap (λ words. Some (record (child_record when true about name) { offered = Some words })) (name_offered name h)
+child_words_read false about name when h =
+    let read : Record = record (at when) { offered = Some (offered_of name) } in
+    ap (record_from an_option read) (sym (append-nil (help_words about)))
+    ∙ help_read about read [] refl
+    ∙ ap (λ words. Some (record (child_record when false about name) { offered = Some words })) (name_offered name h)
+
+-- ---- texts that are read to records
+
+-- the text is read to these records, whatever follows it
+pub record Yields (text : List ℕ) (reads : List Record) : Type 0 where
+  pub read : (rest : List ℕ) → records (text ++ rest) ≡ option_map (λ later. reads ++ later) (records rest)
+
+twice : (us vs : List Record) (later : Option (List Record)) → option_map (λ l. us ++ l) (option_map (λ l. vs ++ l) later) ≡ option_map (λ l. (us ++ vs) ++ l) later
+twice us vs None = refl
+twice us vs (Some later) = ap Some (sym (append_assoc us vs later))
+
+pub unchanged : (later : Option (List Record)) → later ≡ option_map (λ l. l) later
+unchanged None = refl
+unchanged (Some later) = refl
+
+pub yields_none : Yields [] []
+yields_none = record { read = λ rest. unchanged (records rest) }
+
+pub yields_append : (a b : List ℕ) (us vs : List Record) → Yields a us → Yields b vs → Yields (a ++ b) (us ++ vs)
+yields_append a b us vs h k = record {
+  read = λ rest. ap records (append_assoc a b rest) ∙ h.read (b ++ rest) ∙ ap (option_map (λ later. us ++ later)) (k.read rest) ∙ twice us vs (records rest);
+}
+
+pub yields_flat_map : {X : Type 0} (P : X → Type 0) (text : X → List ℕ) (reads : X → List Record) → ((x : X) → P x → Yields (text x) (reads x)) → (xs : List X) → AllByRecursion P xs
+    → Yields (flat_map text xs) (flat_map reads xs)
+yields_flat_map P text reads each [] h = yields_none
+yields_flat_map P text reads each (x ∷ xs) (h, hs) = yields_append (text x) (flat_map text xs) (reads x) (flat_map reads xs) (each x h) (yields_flat_map P text reads each xs hs)
+
+yields_map : {X : Type 0} (P : X → Type 0) (text : X → List ℕ) (read : X → Record) → ((x : X) → P x → Yields (text x) (read x ∷ [])) → (xs : List X) → AllByRecursion P xs
+    → Yields (flat_map text xs) (map read xs)
+yields_map P text read each [] h = yields_none
+yields_map P text read each (x ∷ xs) (h, hs) = yields_append (text x) (flat_map text xs) (read x ∷ []) (map read xs) (each x h) (yields_map P text read each xs hs)
+
+-- ---- the records of a node
+
+-- the names at a path need no quotes: the command's, those of the path, those of the children
+pub record IsAt (bin_name : List ℕ) (path : List (List ℕ)) (children : Forest) : Type 0 where
+  pub command : IsName bin_name
+  pub names : AllByRecursion IsSafe path
+  pub excluded : AllByRecursion IsSafe (child_names children)
+
+-- what each record of the node at a path begins with
+abbrev pub path_front : List ℕ → List (List ℕ) → Forest → List ℕ
+path_front bin_name path children = front_text bin_name (path_condition bin_name path children)
+
+record_yields : (bin_name : List ℕ) (path : List (List ℕ)) (children : Forest) (text : List ℕ) (words : List (List ℕ)) (read : Record) → IsAt bin_name path children → Adds text words
+    → record_from an_option (at (condition_at path children)) words ≡ Some read → Yields (path_front bin_name path children ++ (text ++ line_feed ∷ [])) (read ∷ [])
+unfolding fish_commands
+record_yields bin_name path children text words read is adds h =
+    let front : List ℕ = path_front bin_name path children in
+    record {
+      read = λ rest.
+          ap records (append_assoc front (text ++ line_feed ∷ []) rest ∙ ap (λ t. front ++ t) (append_assoc text (line_feed ∷ []) rest))
+          ∙ ap records_of (record_read bin_name (path_condition bin_name path children) text words rest is.command (condition_kept bin_name path children (name_safe bin_name is.command) is.names is.excluded) adds)
+          ∙ ap (λ o. elim o as (λ x. Option (List Record)) [ Some read ↦ option_map (λ later. read ∷ later) (records rest) | None ↦ None ])
+          (front_read bin_name path children words (name_safe bin_name is.command) is.names is.excluded ∙ h);
+    }
+
+flag_yields : (bin_name : List ℕ) (path : List (List ℕ)) (children : Forest) → IsAt bin_name path children → (argument : Arg) → IsPlainArgument argument
+    → Yields (flag_text (path_front bin_name path children) argument) (flag_record (condition_at path children) argument ∷ [])
+unfolding flag_text
+flag_yields bin_name path children is argument plain =
+    record_yields bin_name path children (names_text argument) (names_words argument) _ is (names_adds argument plain)
+    (ap (record_from an_option (at (condition_at path children))) (sym (append-nil (names_words argument))) ∙ names_read argument (condition_at path children) [])
+
+option_yields : (bin_name : List ℕ) (path : List (List ℕ)) (children : Forest) → IsAt bin_name path children → (argument : Arg) → IsPlainArgument argument
+    → Yields (option_text (path_front bin_name path children) argument) (option_record (condition_at path children) argument ∷ [])
+unfolding option_text
+option_yields bin_name path children is argument plain =
+    let front : List ℕ = path_front bin_name path children in
+    let one : Yields (front ++ ((names_text argument ++ values_text argument) ++ line_feed ∷ [])) (option_record (condition_at path children) argument ∷ []) =
+    record_yields bin_name path children (names_text argument ++ values_text argument) (names_words argument ++ values_words argument) (option_record (condition_at path children) argument) is
+    (adds_append (names_text argument) (values_text argument) (names_words argument) (values_words argument) (names_adds argument plain) (values_adds argument))
+    (names_read argument (condition_at path children) (values_words argument) ∙ values_read argument (condition_at path children)) in
+    rw (← append_assoc (names_text argument) (values_text argument) (line_feed ∷ [])) one
+
+child_yields : (bin_name : List ℕ) (path : List (List ℕ)) (children : Forest) → IsAt bin_name path children → (no_files : Bool) (about : Option (List ℕ)) (name : List ℕ) → IsPlainName name
+    → Yields (child_text (path_front bin_name path children) no_files about name) (child_record (condition_at path children) no_files about name ∷ [])
+unfolding child_text
+child_yields bin_name path children is no_files about name plain =
+    let front : List ℕ = path_front bin_name path children in
+    let mark : List ℕ = cond no_files (codes " -f") [] in
+    let offer : List ℕ = codes " -a \"" ++ (name ++ codes "\"") in
+    let named : IsName name = plain_name name plain in
+    let one : Yields (front ++ ((mark ++ (offer ++ help_text about)) ++ line_feed ∷ [])) (child_record (condition_at path children) no_files about name ∷ []) =
+    record_yields bin_name path children (mark ++ (offer ++ help_text about)) (cond no_files (codes "-f" ∷ []) [] ++ (codes "-a" ∷ name ∷ help_words about)) _ is
+    (adds_append _ _ _ _ (no_files_mark_adds no_files) (adds_append _ _ _ _ (child_offer_adds name named) (help_adds about)))
+    (child_words_read no_files about name (condition_at path children) named) in
+    subst (λ t. Yields (front ++ t) (child_record (condition_at path children) no_files about name ∷ [])) (regrouped mark name (help_text about)) one
+  where
+    regrouped : (mark name help : List ℕ) → (mark ++ ((codes " -a \"" ++ (name ++ codes "\"")) ++ help)) ++ line_feed ∷ [] ≡ mark ++ (codes " -a \"" ++ (name ++ (codes "\"" ++ (help ++ line_feed ∷ []))))
+    regrouped mark name help = simp append_assoc
+
+children_yield : (bin_name : List ℕ) (path : List (List ℕ)) (children : Forest) → IsAt bin_name path children → (no_files : Bool) (siblings : Forest) → IsTrue (is_plain_forest siblings)
+    → Yields (children_text (path_front bin_name path children) no_files siblings) (child_records (condition_at path children) no_files siblings)
+children_yield bin_name path children is no_files none h = yields_none
+children_yield bin_name path children is no_files (more node below rest) h =
+    let plain = plain_more node below rest h in
+    yields_append _ _ _ _
+    (yields_map IsPlainName (child_text (path_front bin_name path children) no_files node.about) (child_record (condition_at path children) no_files node.about) (child_yields bin_name path children is no_files node.about) (visible_names node) (plain_node node plain.first.node).names)
+    (children_yield bin_name path children is no_files rest plain.later)
+
+-- the records of the node at a path
+pub node_yields : (bin_name : List ℕ) (path : List (List ℕ)) (tree : Tree) → IsAt bin_name path tree.children → IsPlainBelow tree
+    → Yields (node_text (path_front bin_name path tree.children) tree) (node_records (condition_at path tree.children) tree)
+unfolding node_text options_text flags_text below_text
+node_yields bin_name path tree is plain =
+    let front : List ℕ = path_front bin_name path tree.children in
+    let when : Condition = condition_at path tree.children in
+    let node = plain_node tree.node plain.node in
+    yields_append _ _ _ _
+    (yields_map IsPlainArgument (option_text front) (option_record when) (option_yields bin_name path tree.children is) (options tree.node) node.options)
+    (yields_append _ _ _ _
+    (yields_map IsPlainArgument (flag_text front) (flag_record when) (flag_yields bin_name path tree.children is) (flags tree.node) node.flags)
+    (children_yield bin_name path tree.children is (not (has_positionals tree.node)) tree.children plain.children))

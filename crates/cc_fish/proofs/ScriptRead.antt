@@ -1,0 +1,129 @@
+-- The whole script of a plain tree is read back.
+use Rattle.std.proofs.Common.{◌≡◌, ℕ, Bool, true, false, List, [], ◌∷◌, ◌++◌, IsTrue, refl, ap, ◌∙◌, sym, append_assoc, append-nil, Option, Some, None, map, flat_map, codes, not}
+use Rattle.std.proofs.lemmas.List.Concat.{flat_map-append}
+use Rattle.std.specs.List.{AllByRecursion}
+use Rattle.cc_base.proofs.Members.{AllByRecursion-weaker}
+use Rattle.cc_arg.specs.declared.arg.Arg.{Arg}
+use Rattle.cc_command.specs.declared.node.Node.{Node}
+use Rattle.cc_command.specs.ArgumentLists.{options, flags}
+use Rattle.cc_command.specs.Names.{full_name, visible_names}
+use Rattle.cc_command.specs.Plain.{is_plain_tree}
+use Rattle.cc_command.specs.Tree.{Forest, none, more, Tree}
+use Rattle.cc_command.proofs.PlainParts.{plain_node, plain_tree, plain_full_name}
+use Rattle.cc_quote.specs.FishTokens.{fish_commands}
+use Rattle.cc_visits.specs.Visits.{Keyed, keyed, path_visits, path_steps, longer_path, rekeyed, where_entered}
+use Rattle.cc_visits.proofs.Entered.{entered_visits}
+use Rattle.cc_visits.proofs.PlainVisits.{IsPlainVisit, plain_visits}
+use Rattle.cc_visits.proofs.SameVisits.{rekeyed-path_visits}
+use Rattle.cc_visits.proofs.VisitedPaths.{paths_cover}
+use Rattle.cc_fish.specs.FishReads.{FishReads}
+use Rattle.cc_fish.specs.FishScript.{function_name, seen_text, excluded_text, fish_key, key_condition, front_text, node_text, visit_text, head_text, body_text, script_text, fish_script}
+use Rattle.cc_fish.specs.FishTable.{condition_at, has_positionals, option_record, flag_record, child_record, child_records, node_records, table, tables}
+use Rattle.cc_fish.specs.RecordReader.{records}
+use Rattle.cc_fish.specs.Records.{Condition, Record}
+use Rattle.cc_fish.proofs.FishNames.{IsName, plain_name, path_safe, children_safe}
+use Rattle.cc_fish.proofs.Conditions.{path_condition}
+use Rattle.cc_fish.proofs.RecordsRead.{Yields, yields_append, yields_flat_map, path_front, node_yields}
+use Rattle.cc_fish.proofs.HeadRead.{head_yields}
+
+-- ---- the script by paths
+
+-- the key of a path
+abbrev path_key : List (List ℕ) → List ℕ
+path_key [] = []
+path_key (first ∷ names) = codes "_using_subcommand " ++ (first ++ flat_map seen_text names)
+
+path_key-longer : (path : List (List ℕ)) (name : List ℕ) → path_key (longer_path path name) ≡ fish_key (path_key path) name
+path_key-longer [] name = ap (λ t. codes "_using_subcommand " ++ t) (append-nil name)
+path_key-longer (first ∷ names) name =
+    let start : List ℕ = codes "_using_subcommand " in
+    ap (λ t. start ++ (first ++ t)) (flat_map-append seen_text names (name ∷ []) ∙ ap (λ t. flat_map seen_text names ++ t) (append-nil (seen_text name)))
+    ∙ ap (λ t. start ++ t) (sym (append_assoc first (flat_map seen_text names) (seen_text name)))
+
+-- the condition by the key is that by the path
+key_condition-path_key : (bin_name : List ℕ) (path : List (List ℕ)) (children : Forest) → key_condition (function_name bin_name) (path_key path) children ≡ path_condition bin_name path children
+unfolding key_condition
+key_condition-path_key bin_name [] none = refl
+key_condition-path_key bin_name [] (more node below rest) = refl
+key_condition-path_key bin_name (first ∷ names) children =
+    ap (λ t. Some (codes "__fish_" ++ t))
+    (append_assoc (function_name bin_name) (path_key (first ∷ names)) (excluded_text children)
+    ∙ ap (λ t. function_name bin_name ++ (codes "_using_subcommand " ++ t)) (append_assoc first (flat_map seen_text names) (excluded_text children)))
+
+-- the records of a path
+abbrev path_text : List ℕ → Keyed (List (List ℕ)) → List ℕ
+path_text bin_name visit = node_text (path_front bin_name visit.key visit.tree.children) visit.tree
+
+same_text : (bin_name : List ℕ) (visit : Keyed (List (List ℕ))) → visit_text bin_name (function_name bin_name) (rekeyed path_key visit) ≡ path_text bin_name visit
+unfolding visit_text
+same_text bin_name visit = ap (λ when. node_text (front_text bin_name when) visit.tree) (key_condition-path_key bin_name visit.key visit.tree.children)
+
+same_texts : (bin_name : List ℕ) (visits : List (Keyed (List (List ℕ)))) → flat_map (visit_text bin_name (function_name bin_name)) (map (rekeyed path_key) visits) ≡ flat_map (path_text bin_name) visits
+same_texts bin_name [] = refl
+same_texts bin_name (visit ∷ visits) =
+    ap (λ t. t ++ flat_map (visit_text bin_name (function_name bin_name)) (map (rekeyed path_key) visits)) (same_text bin_name visit)
+    ∙ ap (λ t. path_text bin_name visit ++ t) (same_texts bin_name visits)
+
+by_paths : (bin_name : List ℕ) (root : Tree) → body_text bin_name (function_name bin_name) root ≡ flat_map (path_text bin_name) (path_visits longer_path [] root)
+unfolding body_text
+by_paths bin_name root =
+    ap (flat_map (visit_text bin_name (function_name bin_name))) (sym (rekeyed-path_visits longer_path fish_key path_key path_key-longer [] root)) ∙ same_texts bin_name (path_visits longer_path [] root)
+
+-- ---- what is read
+
+visit_yields : (bin_name : List ℕ) → IsName bin_name → (visit : Keyed (List (List ℕ))) → IsPlainVisit visit → Yields (path_text bin_name visit) (table visit)
+visit_yields bin_name named visit is =
+    node_yields bin_name visit.key visit.tree (record { command = named; names = path_safe visit.key is.names; excluded = children_safe visit.tree.children is.tree.children }) is.tree
+
+records_read : (root : Tree) → IsTrue (is_plain_tree root) → records (fish_script root) ≡ Some (tables root)
+unfolding script_text fish_commands
+records_read root h =
+    let bin_name : List ℕ = full_name root.node in
+    let named : IsName bin_name = plain_name bin_name (plain_full_name root h) in
+    let plain = (plain_tree root h).below in
+    let visits : List (Keyed (List (List ℕ))) = path_visits longer_path [] root in
+    let head : List ℕ = head_text (function_name bin_name) root in
+    let text : List ℕ = head ++ flat_map (path_text bin_name) visits in
+    let whole : Yields text (tables root) =
+    yields_append head (flat_map (path_text bin_name) visits) [] (tables root) (head_yields bin_name root named (plain_node root.node plain.node))
+    (yields_flat_map IsPlainVisit (path_text bin_name) table (visit_yields bin_name named) visits (plain_visits root visits h (paths_cover root h))) in
+    ap (λ body. records (head ++ body)) (by_paths bin_name root) ∙ ap records (sym (append-nil text)) ∙ whole.read [] ∙ ap Some (append-nil (tables root))
+
+-- ---- each record of a table names its path
+
+abbrev HoldAt : Condition → List Record → Type 0
+HoldAt when reads = AllByRecursion (λ read. read.when ≡ when) reads
+
+hold_append : (when : Condition) (us vs : List Record) → HoldAt when us → HoldAt when vs → HoldAt when (us ++ vs)
+hold_append when [] vs h k = k
+hold_append when (u ∷ us) vs h k = (h.0, hold_append when us vs h.1 k)
+
+hold_map : {X : Type 0} (when : Condition) (read : X → Record) → ((x : X) → (read x).when ≡ when) → (xs : List X) → HoldAt when (map read xs)
+hold_map when read each [] = tt
+hold_map when read each (x ∷ xs) = (each x, hold_map when read each xs)
+
+hold_children : (when : Condition) (no_files : Bool) (children : Forest) → HoldAt when (child_records when no_files children)
+hold_children when no_files none = tt
+hold_children when no_files (more node below rest) =
+    hold_append when (map (child_record when no_files node.about) (visible_names node)) (child_records when no_files rest)
+    (hold_map when (child_record when no_files node.about) (λ name. refl) (visible_names node)) (hold_children when no_files rest)
+
+hold_table : (visit : Keyed (List (List ℕ))) → HoldAt (condition_at visit.key visit.tree.children) (table visit)
+hold_table visit =
+    let when : Condition = condition_at visit.key visit.tree.children in
+    let of_options : List Record = map (option_record when) (options visit.tree.node) in
+    let of_flags : List Record = map (flag_record when) (flags visit.tree.node) in
+    let of_children : List Record = child_records when (not (has_positionals visit.tree.node)) visit.tree.children in
+    hold_append when of_options (of_flags ++ of_children) (hold_map when (option_record when) (λ argument. refl) (options visit.tree.node))
+    (hold_append when of_flags of_children (hold_map when (flag_record when) (λ argument. refl) (flags visit.tree.node)) (hold_children when (not (has_positionals visit.tree.node)) visit.tree.children))
+
+-- ---- for the code
+
+-- the script of a plain tree reads to its tables
+pub reads_back : (root : Tree) → IsTrue (is_plain_tree root) → FishReads root
+reads_back root h = record { tables = records_read root h; covers = paths_cover root h; places = hold_table }
+
+-- where nodes are entered, their records
+pub entered_texts : (bin_name function : List ℕ) (root : Tree) → flat_map (where_entered (visit_text bin_name function)) (path_steps fish_key [] root) ≡ body_text bin_name function root
+unfolding body_text
+entered_texts bin_name function root = entered_visits fish_key (visit_text bin_name function) [] root

@@ -1,0 +1,140 @@
+-- What fish is told of a command tree: the records of each visible path.
+use Rattle.std.specs.Prelude.{ℕ, List, [], ◌∷◌, ◌++◌, Bool, true, false, not, Option, Some, None, codes, encode_utf8, filter, flat_map, map, option_map, unwrap_or}
+use Rattle.std.specs.List.{list_any}
+use Rattle.cc_arg.specs.declared.arg.Arg.{Arg}
+use Rattle.cc_arg.specs.declared.possible_value.PossibleValue.{PossibleValue}
+use Rattle.cc_arg.specs.declared.value_hint.ValueHint.{ValueHint}
+use Rattle.cc_arg.specs.declared.value_hint.ValueHint.TheVariants.{Unknown, AnyPath, FilePath, DirPath, ExecutablePath, CommandName, CommandString, Username, Hostname}
+use Rattle.cc_arg.specs.Arguments.{is_positional, possible_values}
+use Rattle.cc_arg.specs.ShownNames.{shown_shorts, shown_longs}
+use Rattle.cc_command.specs.declared.node.Node.{Node}
+use Rattle.cc_command.specs.ArgumentLists.{options, flags}
+use Rattle.cc_command.specs.Names.{visible_names}
+use Rattle.cc_command.specs.Tree.{Forest, none, more, Tree}
+use Rattle.cc_quote.specs.Bytes.{tab}
+use Rattle.cc_quote.specs.QuotedWord.{line_feeds_as_spaces}
+use Rattle.cc_visits.specs.Visits.{Keyed, path_visits, longer_path}
+use Rattle.cc_fish.specs.Records.{Condition, Marks, Record}
+
+-- ---- when the records of a node hold
+
+-- the visible names of some siblings
+abbrev pub child_names : Forest → List (List ℕ)
+child_names none = []
+child_names (more node below rest) = visible_names node ++ child_names rest
+
+-- the names that are excluded: those of the children; at the root none
+abbrev pub excluded_names : List (List ℕ) → Forest → List (List ℕ)
+excluded_names [] children = []
+excluded_names (name ∷ names) children = child_names children
+
+-- where the records of the node at a path hold
+abbrev pub condition_at : List (List ℕ) → Forest → Condition
+condition_at path children = record { path = path; excluded = excluded_names path children }
+
+-- ---- what an option's value may be
+
+-- the possible values that are shown, where there is a list of them
+abbrev pub shown_values : Arg → Option (List PossibleValue)
+shown_values argument = option_map (filter (λ value. not value.hide)) (possible_values argument)
+
+-- the word that offers a value: its name, a tab, and its help or nothing
+abbrev pub value_word : PossibleValue → List ℕ
+value_word value = value.name ++ tab ∷ line_feeds_as_spaces (unwrap_or value.help [])
+
+-- a value follows, and fish offers what it does by default
+abbrev pub only_required : Marks
+only_required = record { required = true; no_files = false; files = false }
+
+-- a value follows, and files are offered
+abbrev pub required_files : Marks
+required_files = record { required = true; no_files = false; files = true }
+
+-- a value follows, and no files are offered
+abbrev pub required_no_files : Marks
+required_no_files = record { required = true; no_files = true; files = false }
+
+-- the marks where a hint alone tells what the value is
+abbrev pub hint_marks : ValueHint → Marks
+hint_marks Unknown = only_required
+hint_marks AnyPath = required_files
+hint_marks FilePath = required_files
+hint_marks ExecutablePath = required_files
+hint_marks _ = required_no_files
+
+-- the function of fish that offers such values
+abbrev pub hint_offers : ValueHint → Option (List (List ℕ))
+hint_offers DirPath = Some (codes "(__fish_complete_directories)" ∷ [])
+hint_offers CommandString = Some (codes "(__fish_complete_command)" ∷ [])
+hint_offers CommandName = Some (codes "(__fish_complete_command)" ∷ [])
+hint_offers Username = Some (codes "(__fish_complete_users)" ∷ [])
+hint_offers Hostname = Some (codes "(__fish_print_hostnames)" ∷ [])
+hint_offers _ = None
+
+-- the marks, and what is offered: the listed values where there is a list, else what the hint tells
+abbrev pub value_marks : Option (List PossibleValue) → ValueHint → Marks
+value_marks (Some values) hint = required_no_files
+value_marks None hint = hint_marks hint
+
+abbrev pub value_offers : Option (List PossibleValue) → ValueHint → Option (List (List ℕ))
+value_offers (Some values) hint = Some (map value_word values)
+value_offers None hint = hint_offers hint
+
+-- ---- the records of a node
+
+-- the shorts of an argument, in UTF-8
+abbrev pub short_names : Arg → List (List ℕ)
+short_names argument = map encode_utf8 (shown_shorts argument)
+
+-- the record of a flag: its names and its help
+abbrev pub flag_record : Condition → Arg → Record
+flag_record when argument = record {
+  when = when;
+  shorts = short_names argument;
+  longs = shown_longs argument;
+  description = option_map line_feeds_as_spaces argument.help;
+  marks = record { required = false; no_files = false; files = false };
+  offered = None;
+}
+
+-- the record of an option: also what its value may be
+abbrev pub option_record : Condition → Arg → Record
+option_record when argument = record (flag_record when argument) {
+  marks = value_marks (shown_values argument) argument.value_hint;
+  offered = value_offers (shown_values argument) argument.value_hint;
+}
+
+-- whether one of a node's arguments is a positional
+abbrev pub has_positionals : Node → Bool
+has_positionals node = list_any is_positional node.arguments
+
+-- the record of a child's name, which marks no files where the node has no positional
+abbrev pub child_record : Condition → Bool → Option (List ℕ) → List ℕ → Record
+child_record when no_files about name = record {
+  when = when;
+  shorts = [];
+  longs = [];
+  description = option_map line_feeds_as_spaces about;
+  marks = record { required = false; no_files = no_files; files = false };
+  offered = Some (name ∷ []);
+}
+
+-- the records of some siblings' visible names
+abbrev pub child_records : Condition → Bool → Forest → List Record
+child_records when no_files none = []
+child_records when no_files (more node below rest) =
+    map (child_record when no_files node.about) (visible_names node) ++ child_records when no_files rest
+
+-- the records of a node: its options, its flags, its children's visible names
+abbrev pub node_records : Condition → Tree → List Record
+node_records when tree =
+    map (option_record when) (options tree.node) ++
+    (map (flag_record when) (flags tree.node) ++ child_records when (not (has_positionals tree.node)) tree.children)
+
+-- the records at a visible path
+abbrev pub table : Keyed (List (List ℕ)) → List Record
+table visit = node_records (condition_at visit.key visit.tree.children) visit.tree
+
+-- the records at all visible paths, path by path
+abbrev pub tables : Tree → List Record
+tables tree = flat_map table (path_visits longer_path [] tree)

@@ -1,0 +1,5 @@
+pub mod FishReads
+pub mod FishScript
+pub mod FishTable
+pub mod RecordReader
+pub mod Records

@@ -1,0 +1,125 @@
+//! The fish script: a head where the root has children, then the records of each visible path.
+
+ghost use Rattle.std.specs.Prelude.{◌≡◌, ◌++◌, ◌<◌, None, codes, flat_map, length, IfOk, IfErr};
+ghost use Rattle.std.specs.String.{string_bytes};
+ghost use Rattle.cc_base.specs.Writes.{Writes};
+ghost use Rattle.cc_command.specs.Names.{full_name};
+ghost use Rattle.cc_flat.specs.Flat.{tree_at};
+ghost use Rattle.cc_visits.specs.Visits.{where_entered};
+ghost use Rattle.cc_fish.specs.FishScript.{body_text, fish_script, script_text, visit_text};
+
+use crate::function::function_name;
+use crate::head::write_head;
+use crate::keys::FishKeys;
+use crate::lines::write_visit;
+use cc_base::{Error, Sink};
+use cc_command::Command;
+use cc_flat::Flat;
+use cc_lists::Generator;
+use cc_visits::{PathStep, PathSteps};
+use std::alloc::Global;
+
+/// Writes fish scripts.
+#[derive(Clone, Copy, PartialEq, Eq, Debug)]
+pub struct Fish;
+
+impl Generator for Fish {
+    ghost use Rattle.cc_fish.specs.FishReads.{FishReads};
+
+    ghost script = { λ _ root. fish_script root };
+
+    ghost Reads = { λ _ root. FishReads root };
+
+    ghost clash = { λ _ _. None };
+
+    ghost file = { λ _ name. name ++ codes ".fish" };
+
+    fn file_name(&self, alloc: Global, name: &str) -> Result<String, Error> {
+        let mut text = String::from_str(alloc, name)?;
+        text.push_str(".fish")?;
+        Ok(text)
+    }
+
+    #[tactic(auto, using(crate::proofs::ScriptRead::reads_back))]
+    fn generate<W: Sink>(
+        &self,
+        alloc: Global,
+        command: &Command,
+        sink: &mut W,
+    ) -> Result<(), Error> {
+        let flat = Flat::new(alloc, command)?;
+        write_script(alloc, &flat, sink)
+    }
+}
+
+// Writes the script of the tree that the list holds.
+fn write_script<W: Sink>(alloc: Global, flat: &Flat<'_>, sink: &mut W) -> Result<(), Error>
+    requires { 0 < length flat.now }
+    ensures { Writes W.taken W.failed result sink.old sink.new (fish_script (tree_at flat.now 0)) }
+{
+    let bin_name = full_name(flat.command(0));
+    let function = function_name(alloc, bin_name)?;
+    write_parts(alloc, flat, bin_name, function.as_str(), sink)
+}
+
+// Writes the head and the records.
+#[tactic(auto, unfolding(crate::specs::FishScript::script_text))]
+fn write_parts<W: Sink>(
+    alloc: Global,
+    flat: &Flat<'_>,
+    bin_name: &str,
+    function: &str,
+    sink: &mut W,
+) -> Result<(), Error>
+    requires { 0 < length flat.now }
+    ensures { Writes W.taken W.failed result sink.old sink.new
+        (script_text bin_name.now function.now (tree_at flat.now 0)) }
+{
+    write_head(function, flat.command(0), sink)?;
+    write_body(alloc, flat, bin_name, function, sink)
+}
+
+// Writes the records of all visible paths.
+#[tactic(auto, using(crate::proofs::ScriptRead::entered_texts))]
+fn write_body<W: Sink>(
+    alloc: Global,
+    flat: &Flat<'_>,
+    bin_name: &str,
+    function: &str,
+    sink: &mut W,
+) -> Result<(), Error>
+    requires { 0 < length flat.now }
+    ensures { Writes W.taken W.failed result sink.old sink.new
+        (body_text bin_name.now function.now (tree_at flat.now 0)) }
+{
+    let keys = FishKeys;
+    let steps = PathSteps::new(alloc, flat, "", &keys)?;
+    write_steps(alloc, bin_name, function, steps, sink)
+}
+
+// Writes the records of the nodes that are still to be entered.
+fn write_steps<W: Sink>(
+    alloc: Global,
+    bin_name: &str,
+    function: &str,
+    mut steps: PathSteps<'_, '_, FishKeys>,
+    sink: &mut W,
+) -> Result<(), Error>
+    ensures { Writes W.taken W.failed result sink.old sink.new
+        (flat_map (where_entered (visit_text bin_name.now function.now)) steps.entry) }
+{
+    while let Some(step) = steps.next(alloc)? {
+        let PathStep::Enter(visit) = step else {
+            continue;
+        };
+        write_visit(alloc, bin_name, function, &visit, sink)?;
+    }
+    Ok(())
+}
+
+// The bin name where there is one, else the name.
+fn full_name(command: &Command) -> &str
+    ensures { result.now ≡ full_name command.now.node }
+{
+    command.get_bin_name().unwrap_or(command.get_name())
+}

@@ -1,0 +1,100 @@
+//! What each record of a node begins with: the command, and when the record holds.
+
+ghost use Rattle.std.specs.Prelude.{◌≡◌, ◌++◌, [], flat_map, IfOk, OnOk};
+ghost use Rattle.std.specs.String.{string_bytes};
+ghost use Rattle.cc_command.specs.Names.{visible_names};
+ghost use Rattle.cc_command.specs.Tree.{forest_of};
+ghost use Rattle.cc_fish.specs.FishScript.{condition_text, excluded_text, front_text, key_condition, spaced_name};
+ghost use Rattle.cc_fish.specs.FishTable.{child_names};
+
+use crate::fixed::not_seen;
+use cc_command::Command;
+use std::alloc::{AllocError, Global};
+
+/// What each record of a node begins with.
+#[tactic(auto, unfolding(crate::specs::FishScript::front_text))]
+pub(crate) fn front(
+    alloc: Global,
+    bin_name: &str,
+    function: &str,
+    key: &str,
+    command: &Command,
+) -> Result<String, AllocError>
+    ensures { IfOk result (λ front. string_bytes front
+        ≡ front_text bin_name.now (key_condition function.now key.now command.now.children)) }
+{
+    let mut front = String::from_str(alloc, "complete -c ")?;
+    front.push_str(bin_name)?;
+    push_condition(&mut front, function, key, command)?;
+    Ok(front)
+}
+
+// Adds when the records of a node hold.
+#[tactic(auto, unfolding(crate::specs::FishScript::key_condition))]
+fn push_condition(
+    front: &mut String,
+    function: &str,
+    key: &str,
+    command: &Command,
+) -> Result<(), AllocError>
+    ensures { OnOk result (string_bytes front.new ≡ string_bytes front.old
+        ++ condition_text (key_condition function.now key.now command.now.children)) }
+{
+    if key.is_empty() {
+        return push_root(front, function, command);
+    }
+    front.push_str(" -n \"__fish_")?;
+    front.push_str(function)?;
+    front.push_str(key)?;
+    push_excluded(front, command)?;
+    front.push_str("\"")
+}
+
+// Adds when the records of the root hold.
+#[tactic(auto, unfolding(crate::specs::FishScript::key_condition))]
+fn push_root(front: &mut String, function: &str, command: &Command) -> Result<(), AllocError>
+    ensures { OnOk result (string_bytes front.new ≡ string_bytes front.old
+        ++ condition_text (key_condition function.now [] command.now.children)) }
+{
+    if !command.has_subcommands() {
+        return Ok(());
+    }
+    front.push_str(" -n \"__fish_")?;
+    front.push_str(function)?;
+    front.push_str("_needs_command\"")
+}
+
+// Adds that none of the children's names was seen, where there are children.
+fn push_excluded(front: &mut String, command: &Command) -> Result<(), AllocError>
+    ensures { OnOk result (string_bytes front.new
+        ≡ string_bytes front.old ++ excluded_text command.now.children) }
+{
+    if !command.has_subcommands() {
+        return Ok(());
+    }
+    front.push_str(not_seen())?;
+    push_children(front, command.get_subcommands())
+}
+
+// Adds the visible names of the children, each after a space.
+fn push_children(front: &mut String, children: &[Command]) -> Result<(), AllocError>
+    ensures { OnOk result (string_bytes front.new
+        ≡ string_bytes front.old ++ flat_map spaced_name (child_names (forest_of children.now))) }
+{
+    for child in children {
+        push_names(front, child)?;
+    }
+    Ok(())
+}
+
+// Adds the visible names of a child, each after a space.
+fn push_names(front: &mut String, child: &Command) -> Result<(), AllocError>
+    ensures { OnOk result (string_bytes front.new
+        ≡ string_bytes front.old ++ flat_map spaced_name (visible_names child.now.node)) }
+{
+    for name in child.get_name_and_visible_aliases() {
+        front.push_str(" ")?;
+        front.push_str(name)?;
+    }
+    Ok(())
+}

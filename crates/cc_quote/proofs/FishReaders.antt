@@ -1,0 +1,83 @@
+-- What the readers of fish's words read back.
+use Rattle.std.proofs.Common.{◌≡◌, ℕ, Bool, true, false, List, [], ◌∷◌, ◌++◌, refl, ap, ◌∙◌, sym, append_assoc, append-nil, inl, inr, ◌⊎◌, Option, Some, None, codes, arith}
+use Rattle.std.proofs.lemmas.Bool.{cases_Bool}
+use Rattle.std.proofs.lemmas.Bool.Decides.{nat_tests}
+use Rattle.std.specs.List.{flat_map, list_all}
+use Rattle.cc_quote.specs.QuotedWord.{line_feeds_as_spaces}
+use Rattle.cc_quote.specs.FishQuote.{FishSign, FishPlace, fish_sign, next_place, advance, begins_word, fish_word_from, fish_word_of, fish_double_from, fish_double_of, is_fish_safe, double_byte, double_escaped, single_quoted, fish_quoted, fish_quoted_for_eval, fish_help_for_eval_of, fish_escaped, ReadsTwice}
+use Rattle.cc_quote.specs.FishQuote.FishPlace.{bare, in_single, in_double}
+use Rattle.cc_quote.proofs.FishWords.{IsSafe, safe_sign, safe_bytes, single_quoted_read, fish_quoted_read}
+
+pub option_cases : {A : Type 0} (option : Option A) → ((value : A) × (option ≡ Some value)) ⊎ (option ≡ None)
+option_cases (Some value) = inl (value, refl)
+option_cases None = inr refl
+
+pub advance_none : (bytes : List ℕ) → advance None bytes ≡ None
+advance_none [] = refl
+advance_none (byte ∷ bytes) = refl
+
+-- the reader of a word goes over bytes that lead on
+pub word_after : (bytes : List ℕ) (from to : FishPlace) (rest : List ℕ) → advance (Some from) bytes ≡ Some to → fish_word_from from (bytes ++ rest) ≡ fish_word_from to rest
+word_after [] from to rest h = let same : from ≡ to = cc in ap (λ place. fish_word_from place rest) same
+word_after (byte ∷ bytes) from to rest h = elim (option_cases (next_place from byte)) [
+  | inl found ↦ rw (fish_word_from, found.1) (word_after bytes found.0 to rest (ap (λ place. advance place bytes) (sym found.1) ∙ h))
+  | inr none ↦ absurd (let stops : None ≡ Some to = sym (advance_none bytes) ∙ ap (λ place. advance place bytes) (sym none) ∙ h in cc)
+]
+
+-- a text that spells a word is read as that word
+spelled_word : (bytes word : List ℕ) → advance (Some (bare [])) bytes ≡ Some (bare word) → fish_word_from (bare []) bytes ≡ Some (word, [])
+spelled_word bytes word h = ap (fish_word_from (bare [])) (sym (append-nil bytes)) ∙ word_after bytes (bare []) (bare word) [] h
+
+-- a text in `'`
+pub single_quoted_reads_back : (text : List ℕ) → fish_word_of (single_quoted text) ≡ Some (text, [])
+unfolding fish_sign
+single_quoted_reads_back text = spelled_word (single_quoted text) text (single_quoted_read text [])
+
+-- a quoted text is read back, and nothing is left
+pub fish_quoted_reads_back : (text : List ℕ) → fish_word_of (fish_quoted text) ≡ Some (text, [])
+unfolding fish_quoted
+fish_quoted_reads_back [] = single_quoted_reads_back []
+fish_quoted_reads_back (byte ∷ text) = elim (cases_Bool (list_all is_fish_safe (byte ∷ text))) [
+  | inl safe ↦ rw safe (let bytes = safe_bytes (byte ∷ text) safe in rw (safe_sign byte bytes.0) (rw safe at (spelled_word (fish_quoted (byte ∷ text)) (byte ∷ text) (fish_quoted_read (byte ∷ text) []))))
+  | inr unsafe ↦ rw unsafe (single_quoted_reads_back (byte ∷ text))
+]
+
+double_byte_from : (byte : ℕ) (word rest : List ℕ) → fish_double_from (in_double word) (double_byte byte ++ rest) ≡ fish_double_from (in_double (word ++ byte ∷ [])) rest
+unfolding fish_sign
+double_byte_from byte word rest = grind (arith, nat_tests)
+
+double_from : (text word rest : List ℕ) → fish_double_from (in_double word) (double_escaped text ++ rest) ≡ fish_double_from (in_double (word ++ text)) rest
+double_from [] word rest = rw append-nil
+double_from (byte ∷ text) word rest =
+    ap (fish_double_from (in_double word)) (append_assoc (double_byte byte) (double_escaped text) rest)
+    ∙ double_byte_from byte word (double_escaped text ++ rest)
+    ∙ double_from text (word ++ byte ∷ []) rest
+    ∙ ap (λ whole. fish_double_from (in_double whole) rest) (append_assoc word (byte ∷ []) text)
+
+-- an escaped text between `"` is read back
+pub double_escaped_reads_back : (text : List ℕ) → fish_double_of (codes "\"" ++ double_escaped text ++ codes "\"") ≡ Some (text, [])
+unfolding fish_sign
+double_escaped_reads_back text = double_from text [] (codes "\"")
+
+-- a text quoted for two readings
+pub quoted_for_eval_reads_twice : (text : List ℕ) → ReadsTwice (fish_quoted_for_eval text) text
+unfolding fish_quoted_for_eval
+quoted_for_eval_reads_twice text = record {
+  between = fish_quoted text;
+  first = double_escaped_reads_back (fish_quoted text);
+  second = fish_quoted_reads_back text;
+}
+
+-- a help quoted for two readings
+pub help_for_eval_reads_twice : (help : List ℕ) → ReadsTwice (fish_help_for_eval_of help) (line_feeds_as_spaces help)
+unfolding fish_help_for_eval_of
+help_for_eval_reads_twice help = record {
+  between = single_quoted (line_feeds_as_spaces help);
+  first = double_escaped_reads_back (single_quoted (line_feeds_as_spaces help));
+  second = single_quoted_reads_back (line_feeds_as_spaces help);
+}
+
+-- a description between `'`
+pub fish_escaped_reads_back : (text : List ℕ) → fish_word_of (codes "'" ++ fish_escaped text ++ codes "'") ≡ Some (line_feeds_as_spaces text, [])
+unfolding fish_escaped
+fish_escaped_reads_back text = single_quoted_reads_back (line_feeds_as_spaces text)

@@ -1,0 +1,88 @@
+-- Quoted texts of fish lead the reader of a word to the text.
+use Rattle.std.proofs.Common.{◌≡◌, ℕ, Bool, true, false, List, [], ◌∷◌, ◌++◌, refl, ap, ◌∙◌, sym, append_assoc, append-nil, inl, inr, ◌⊎◌, Option, Some, None, ◌||◌, ◌==◌, arith, codes, map}
+use Rattle.std.proofs.lemmas.Bool.{cases_Bool, ne_eqb, and_parts}
+use Rattle.std.proofs.lemmas.Bool.Decides.{nat_tests}
+use Rattle.std.specs.List.{flat_map, list_all, AllByRecursion}
+use Rattle.std.proofs.lemmas.List.Concat.{flat_map-append}
+use Rattle.cc_quote.specs.FishQuote.{FishSign, FishPlace, fish_sign, next_place, advance, begins_word, is_fish_safe, is_fish_safe_word, single_byte, single_escaped, double_byte, double_escaped, single_quoted, fish_quoted}
+use Rattle.cc_quote.specs.FishQuote.FishSign.{blank, line_feed, single, double, backslash, dollar, hash, other}
+use Rattle.cc_quote.specs.FishQuote.FishPlace.{bare, bare_escape, in_single, single_escape, in_double, double_escape}
+
+-- a text of bytes that need no quotes
+abbrev pub IsSafe : List ℕ → Type 0
+IsSafe text = AllByRecursion (λ byte. is_fish_safe byte ≡ true) text
+
+-- ---- one byte
+
+-- a byte that needs no quotes is none that does
+pub safe_is_not : (byte special : ℕ) → is_fish_safe byte ≡ true → is_fish_safe special ≡ false → (byte == special) ≡ false
+safe_is_not byte special h f = ne_eqb byte special (λ e. let k : is_fish_safe special ≡ true = rw e at h in cc)
+
+pub safe_sign : (byte : ℕ) → is_fish_safe byte ≡ true → fish_sign byte ≡ other
+unfolding fish_sign is_fish_safe
+safe_sign byte h = rw (safe_is_not byte 32 h refl, safe_is_not byte 9 h refl, safe_is_not byte 10 h refl, safe_is_not byte 39 h refl, safe_is_not byte 34 h refl, safe_is_not byte 92 h refl, safe_is_not byte 36 h refl, safe_is_not byte 35 h refl)
+
+-- no byte that needs no quotes is escaped between `"`
+pub safe_double : (byte : ℕ) → is_fish_safe byte ≡ true → double_byte byte ≡ byte ∷ []
+unfolding is_fish_safe
+safe_double byte h = rw (safe_is_not byte 92 h refl, safe_is_not byte 34 h refl, safe_is_not byte 36 h refl)
+
+single_byte_read : (byte : ℕ) (word rest : List ℕ) → advance (Some (in_single word)) (single_byte byte ++ rest) ≡ advance (Some (in_single (word ++ byte ∷ []))) rest
+unfolding fish_sign
+single_byte_read byte word rest = grind (arith, nat_tests)
+
+double_byte_read : (byte : ℕ) (word rest : List ℕ) → advance (Some (in_double word)) (double_byte byte ++ rest) ≡ advance (Some (in_double (word ++ byte ∷ []))) rest
+unfolding fish_sign
+double_byte_read byte word rest = grind (arith, nat_tests)
+
+-- ---- a text
+
+-- what advances over one text and then another
+pub advance-append : (bytes rest : List ℕ) (place : Option FishPlace) → advance place (bytes ++ rest) ≡ advance (advance place bytes) rest
+advance-append [] rest place = refl
+advance-append (byte ∷ bytes) [] None = refl
+advance-append (byte ∷ bytes) (next ∷ rest) None = refl
+advance-append (byte ∷ bytes) rest (Some place) = advance-append bytes rest (next_place place byte)
+
+-- bytes that need no quotes stand for themselves outside quotes
+pub safe_bare : (text word : List ℕ) → IsSafe text → advance (Some (bare word)) text ≡ Some (bare (word ++ text))
+safe_bare [] word h = rw append-nil
+safe_bare (byte ∷ text) word (h, hs) = rw (advance, safe_sign byte h) (rw append_assoc at (safe_bare text (word ++ byte ∷ []) hs))
+
+-- an escaped text between `'`
+pub single_read : (text word : List ℕ) → advance (Some (in_single word)) (single_escaped text) ≡ Some (in_single (word ++ text))
+single_read [] word = rw append-nil
+single_read (byte ∷ text) word = single_byte_read byte word (single_escaped text) ∙ rw append_assoc at (single_read text (word ++ byte ∷ []))
+
+-- an escaped text between `"`
+pub double_read : (text word : List ℕ) → advance (Some (in_double word)) (double_escaped text) ≡ Some (in_double (word ++ text))
+double_read [] word = rw append-nil
+double_read (byte ∷ text) word = double_byte_read byte word (double_escaped text) ∙ rw append_assoc at (double_read text (word ++ byte ∷ []))
+
+-- a text of bytes that need no quotes is escaped as it is between `"`
+pub safe_double_escaped : (text : List ℕ) → IsSafe text → double_escaped text ≡ text
+safe_double_escaped [] h = refl
+safe_double_escaped (byte ∷ text) (h, hs) = ap (λ bytes. bytes ++ double_escaped text) (safe_double byte h) ∙ ap (λ bytes. byte ∷ bytes) (safe_double_escaped text hs)
+
+-- so it stands for itself there
+pub safe_in_double : (text word : List ℕ) → IsSafe text → advance (Some (in_double word)) text ≡ Some (in_double (word ++ text))
+safe_in_double text word h = ap (advance (Some (in_double word))) (sym (safe_double_escaped text h)) ∙ double_read text word
+
+-- a text in `'`
+pub single_quoted_read : (text word : List ℕ) → advance (Some (bare word)) (single_quoted text) ≡ Some (bare (word ++ text))
+unfolding fish_sign
+single_quoted_read text word = advance-append (single_escaped text) (codes "'") (Some (in_single word)) ∙ ap (λ place. advance place (codes "'")) (single_read text word)
+
+-- whether a text is a safe word: its bytes need no quotes
+pub safe_bytes : (text : List ℕ) → list_all is_fish_safe text ≡ true → IsSafe text
+safe_bytes [] h = tt
+safe_bytes (byte ∷ text) h = let parts = and_parts _ _ h in (parts.0, safe_bytes text parts.1)
+
+-- a quoted text outside quotes
+pub fish_quoted_read : (text word : List ℕ) → advance (Some (bare word)) (fish_quoted text) ≡ Some (bare (word ++ text))
+unfolding fish_quoted
+fish_quoted_read [] word = single_quoted_read [] word
+fish_quoted_read (byte ∷ text) word = elim (cases_Bool (list_all is_fish_safe (byte ∷ text))) [
+  | inl safe ↦ rw safe (safe_bare (byte ∷ text) word (safe_bytes (byte ∷ text) safe))
+  | inr unsafe ↦ rw unsafe (single_quoted_read (byte ∷ text) word)
+]

@@ -1,0 +1,42 @@
+-- Scripts for a posix shell that are cut as the definitions say.
+use Rattle.std.proofs.Common.{◌≡◌, ◌∷◌, [], refl, codes, Some, None}
+use Rattle.cc_quote.specs.PosixQuote.{next_place, word_after, ended, posix_word_from, posix_word_of}
+use Rattle.cc_quote.specs.PosixTokens.{sign, byte_of, cut, posix_tokens, single, double}
+use Rattle.cc_quote.specs.Tokens.Piece.{bare, unclosed}
+
+-- quotes of both kinds, a backslash with a line feed and one before a quote, and no comment
+quotes_row : posix_tokens (codes "a 'b c'\\''d' \"e\\$f\\g\"\\\nh #i\\ j")
+    ≡ (bare (codes "a") ∷ [])
+    ∷ (single (codes "b c") ∷ bare (codes "'") ∷ single (codes "d") ∷ [])
+    ∷ (double (codes "e$f\\g") ∷ bare (codes "h") ∷ [])
+    ∷ (bare (codes "#i j") ∷ [])
+    ∷ []
+unfolding sign byte_of cut posix_tokens
+quotes_row = refl
+
+-- a quote that is open at the end, and a backslash that is last
+open_row : posix_tokens (codes "a\"b c")
+    ≡ (bare (codes "a") ∷ unclosed (codes "\"") (codes "b c") ∷ []) ∷ []
+unfolding sign byte_of cut posix_tokens
+open_row = refl
+
+backslash_row : posix_tokens (codes "a\\") ≡ (bare (codes "a") ∷ unclosed (codes "\\") [] ∷ []) ∷ []
+unfolding sign byte_of cut posix_tokens
+backslash_row = refl
+
+-- words: pieces of each kind, a quote that is open at the end, and a backslash that is last
+word_row : posix_word_of (codes "'a'\\''b' c") ≡ Some (codes "a'b", codes " c")
+unfolding sign byte_of next_place word_after ended posix_word_from posix_word_of
+word_row = refl
+
+pieces_row : posix_word_of (codes "\"a\\$b\\c\"d\\ e\\\nf g") ≡ Some (codes "a$b\\cd ef", codes " g")
+unfolding sign byte_of next_place word_after ended posix_word_from posix_word_of
+pieces_row = refl
+
+open_word_row : posix_word_of (codes "'a") ≡ None
+unfolding sign byte_of next_place word_after ended posix_word_from posix_word_of
+open_word_row = refl
+
+last_backslash_row : posix_word_of (codes "a\\") ≡ None
+unfolding sign byte_of next_place word_after ended posix_word_from posix_word_of
+last_backslash_row = refl

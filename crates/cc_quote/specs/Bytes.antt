@@ -1,0 +1,49 @@
+-- Bytes by name.
+use Rattle.std.specs.Prelude.{ℕ, List, [], ◌∷◌}
+
+abbrev pub tab : ℕ
+tab = 9
+
+abbrev pub line_feed : ℕ
+line_feed = 10
+
+abbrev pub space : ℕ
+space = 32
+
+-- `"`
+abbrev pub double_quote : ℕ
+double_quote = 34
+
+-- `#`
+abbrev pub hash : ℕ
+hash = 35
+
+-- `$`
+abbrev pub dollar : ℕ
+dollar = 36
+
+-- `'`
+abbrev pub single_quote : ℕ
+single_quote = 39
+
+-- `\`
+abbrev pub backslash : ℕ
+backslash = 92
+
+-- ``` ` ```
+abbrev pub backtick : ℕ
+backtick = 96
+
+-- `’`, the right single quotation mark U+2019, is three bytes
+abbrev pub right_quote_first : ℕ
+right_quote_first = 226
+
+abbrev pub right_quote_second : ℕ
+right_quote_second = 128
+
+abbrev pub right_quote_third : ℕ
+right_quote_third = 153
+
+-- all three
+abbrev pub right_quote : List ℕ
+right_quote = right_quote_first ∷ right_quote_second ∷ right_quote_third ∷ []

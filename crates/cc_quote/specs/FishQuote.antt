@@ -1,0 +1,178 @@
+-- Words as fish spells them, and how a text is quoted for it.
+use Rattle.std.specs.Prelude.{◌≡◌, ℕ, Bool, true, false, List, [], ◌∷◌, ◌++◌, Option, Some, None, map, codes, ◌==◌, ◌||◌, if◌then◌else◌}
+use Rattle.std.specs.Char.{is_ascii_alphanumeric}
+use Rattle.std.specs.List.{flat_map, list_all, list_any}
+use Rattle.cc_quote.specs.Bytes as ascii
+use Rattle.cc_quote.specs.QuotedWord.{line_feeds_as_spaces}
+
+-- ---- how a word is read
+
+-- what a byte is to the reader of a word: a space or a tab, a line feed, `'`, `"`, `\`, `$`, `#`, or any other
+pub data FishSign : Type 0 where
+  blank : FishSign
+  line_feed : FishSign
+  single : FishSign
+  double : FishSign
+  backslash : FishSign
+  dollar : FishSign
+  hash : FishSign
+  other : FishSign
+
+-- the sign of a byte
+unfoldable pub fish_sign : ℕ → FishSign
+fish_sign byte =
+    if byte == ascii.space || byte == ascii.tab then blank else if byte == ascii.line_feed then line_feed
+    else if byte == ascii.single_quote then single else if byte == ascii.double_quote then double
+    else if byte == ascii.backslash then backslash else if byte == ascii.dollar then dollar
+    else if byte == ascii.hash then hash else other
+
+-- Where the reader stands in a word that spells this so far: outside quotes, after a backslash there,
+-- between `'`, after a backslash there, between `"`, or after a backslash there.
+pub data FishPlace : Type 0 where
+  bare : List ℕ → FishPlace
+  bare_escape : List ℕ → FishPlace
+  in_single : List ℕ → FishPlace
+  single_escape : List ℕ → FishPlace
+  in_double : List ℕ → FishPlace
+  double_escape : List ℕ → FishPlace
+
+-- what a byte spells after a backslash outside quotes: `t` (116) a tab, `n` (110) a line feed, any other itself
+abbrev pub after_backslash : ℕ → ℕ
+after_backslash byte = if byte == 116 then ascii.tab else if byte == 110 then ascii.line_feed else byte
+
+-- the place after one more byte, which has this sign; none where the word ends before it
+abbrev pub place_after : FishPlace → FishSign → ℕ → Option FishPlace
+place_after (bare word) blank byte = None
+place_after (bare word) line_feed byte = None
+place_after (bare word) single byte = Some (in_single word)
+place_after (bare word) double byte = Some (in_double word)
+place_after (bare word) backslash byte = Some (bare_escape word)
+place_after (bare word) _ byte = Some (bare (word ++ byte ∷ []))
+place_after (bare_escape word) _ byte = Some (bare (word ++ after_backslash byte ∷ []))
+place_after (in_single word) single byte = Some (bare word)
+place_after (in_single word) backslash byte = Some (single_escape word)
+place_after (in_single word) _ byte = Some (in_single (word ++ byte ∷ []))
+place_after (single_escape word) single byte = Some (in_single (word ++ byte ∷ []))
+place_after (single_escape word) backslash byte = Some (in_single (word ++ byte ∷ []))
+place_after (single_escape word) _ byte = Some (in_single (word ++ codes "\\" ++ byte ∷ []))
+place_after (in_double word) double byte = Some (bare word)
+place_after (in_double word) backslash byte = Some (double_escape word)
+place_after (in_double word) _ byte = Some (in_double (word ++ byte ∷ []))
+place_after (double_escape word) double byte = Some (in_double (word ++ byte ∷ []))
+place_after (double_escape word) backslash byte = Some (in_double (word ++ byte ∷ []))
+place_after (double_escape word) dollar byte = Some (in_double (word ++ byte ∷ []))
+place_after (double_escape word) line_feed byte = Some (in_double word)
+place_after (double_escape word) _ byte = Some (in_double (word ++ codes "\\" ++ byte ∷ []))
+
+-- the place after one more byte; none where the word ends before it
+abbrev pub next_place : FishPlace → ℕ → Option FishPlace
+next_place place byte = place_after place (fish_sign byte) byte
+
+-- the place after some more bytes; none where the word ends before the last of them
+abbrev pub advance : Option FishPlace → List ℕ → Option FishPlace
+advance place [] = place
+advance None (byte ∷ bytes) = None
+advance (Some place) (byte ∷ bytes) = advance (next_place place byte) bytes
+
+-- what the word spells so far
+abbrev pub spelled : FishPlace → List ℕ
+spelled (bare word) = word
+spelled (bare_escape word) = word
+spelled (in_single word) = word
+spelled (single_escape word) = word
+spelled (in_double word) = word
+spelled (double_escape word) = word
+
+-- from a place on, the word and what follows it; none where a quote or an escape is open at the end
+abbrev pub fish_word_from : FishPlace → List ℕ → Option (List ℕ × List ℕ)
+fish_word_from (bare word) [] = Some (word, [])
+fish_word_from place [] = None
+fish_word_from place (byte ∷ bytes) = elim (next_place place byte) [
+  | Some next ↦ fish_word_from next bytes
+  | None ↦ Some (spelled place, byte ∷ bytes)
+]
+
+-- whether a word begins with a byte of this sign: no blank stands before it, and `#` begins a comment
+abbrev pub begins_word : FishSign → Bool
+begins_word blank = false
+begins_word line_feed = false
+begins_word hash = false
+begins_word _ = true
+
+-- whether a text begins with a word
+abbrev pub begins_with_word : List ℕ → Bool
+begins_with_word [] = false
+begins_with_word (byte ∷ bytes) = begins_word (fish_sign byte)
+
+-- the word that a text begins with, and what follows it
+abbrev pub fish_word_of : List ℕ → Option (List ℕ × List ℕ)
+fish_word_of text = if begins_with_word text then fish_word_from (bare []) text else None
+
+-- from a place between `"` on, what is spelled up to the `"` that closes them, and what follows it
+abbrev pub fish_double_from : FishPlace → List ℕ → Option (List ℕ × List ℕ)
+fish_double_from place [] = None
+fish_double_from place (byte ∷ bytes) = elim (next_place place byte) [
+  | Some (bare word) ↦ Some (word, bytes)
+  | Some next ↦ fish_double_from next bytes
+  | None ↦ None
+]
+
+-- what a text that begins with `"` spells between it and the `"` that closes it, and what follows that
+abbrev pub fish_double_of : List ℕ → Option (List ℕ × List ℕ)
+fish_double_of [] = None
+fish_double_of (byte ∷ bytes) = if byte == ascii.double_quote then fish_double_from (in_double []) bytes else None
+
+-- ---- how a text is quoted
+
+-- ASCII letters, digits and `/ _ - . , + = : @`, which need no quotes
+unfoldable pub is_fish_safe : ℕ → Bool
+is_fish_safe byte = is_ascii_alphanumeric byte || list_any (λ safe. byte == safe) (codes "/_-.,+=:@")
+
+-- whether a text that is not empty is made of such bytes
+abbrev pub is_fish_safe_word : List ℕ → Bool
+is_fish_safe_word [] = false
+is_fish_safe_word (byte ∷ bytes) = list_all is_fish_safe (byte ∷ bytes)
+
+-- a byte between `'`: `\` and `'` stand after a backslash
+abbrev pub single_byte : ℕ → List ℕ
+single_byte byte =
+    if byte == ascii.backslash || byte == ascii.single_quote then ascii.backslash ∷ byte ∷ [] else byte ∷ []
+
+-- a text between `'`
+abbrev pub single_escaped : List ℕ → List ℕ
+single_escaped text = flat_map single_byte text
+
+-- a byte between `"`: `\`, `"` and `$` stand after a backslash
+abbrev pub double_byte : ℕ → List ℕ
+double_byte byte =
+    if byte == ascii.backslash || byte == ascii.double_quote || byte == ascii.dollar then ascii.backslash ∷ byte ∷ [] else byte ∷ []
+
+-- a text between `"`
+abbrev pub double_escaped : List ℕ → List ℕ
+double_escaped text = flat_map double_byte text
+
+-- a text in `'`
+abbrev pub single_quoted : List ℕ → List ℕ
+single_quoted text = codes "'" ++ single_escaped text ++ codes "'"
+
+-- a text as a word of fish
+unfoldable pub fish_quoted : List ℕ → List ℕ
+fish_quoted text = if is_fish_safe_word text then text else single_quoted text
+
+-- a text as a word of what stands between `"` and is read a second time: the word, escaped again
+unfoldable pub fish_quoted_for_eval : List ℕ → List ℕ
+fish_quoted_for_eval text = double_escaped (fish_quoted text)
+
+-- a help there: always in quotes, with line feeds as spaces
+unfoldable pub fish_help_for_eval_of : List ℕ → List ℕ
+fish_help_for_eval_of help = double_escaped (single_quoted (line_feeds_as_spaces help))
+
+-- a description between `'`, with line feeds as spaces
+unfoldable pub fish_escaped : List ℕ → List ℕ
+fish_escaped text = single_escaped (line_feeds_as_spaces text)
+
+-- what stands between `"` is read as the text that spells it there, and that text as one word
+pub record ReadsTwice (quoted word : List ℕ) : Type 0 where
+  pub between : List ℕ
+  pub first : fish_double_of (codes "\"" ++ quoted ++ codes "\"") ≡ Some (between, [])
+  pub second : fish_word_of between ≡ Some (word, [])

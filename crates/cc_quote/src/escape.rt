@@ -1,0 +1,71 @@
+//! Escapes by runs: what needs no escape is passed on unchanged, up to the next escape.
+
+ghost use Rattle.std.specs.Prelude.{◌≡◌, ◌++◌, ℕ, List, IfErr, OnOk, MatchOption};
+ghost use Rattle.std.specs.String.{string_bytes};
+ghost use Rattle.cc_base.specs.Writes.{IsWrite, Writes};
+ghost use Rattle.cc_quote.specs.Escapes.{IsFirstEscape};
+
+use cc_base::{Error, Sink, put_all};
+use std::alloc::AllocError;
+
+/// How a shell escapes a text within quotes.
+pub trait Escape {
+    // the escaped text
+    ghost escaped: { Self → List ℕ → List ℕ };
+
+    /// The run before the first character that is escaped, what stands for that character, and the
+    /// text after it. `None` where no character is escaped.
+    fn split<'a>(&self, text: &'a str) -> Option<(&'a str, &'static str, &'a str)>
+        ensures { MatchOption result (escaped self.now text.now ≡ text.now)
+            (λ cut. IsFirstEscape (escaped self.now) text.now cut.0.now cut.1.now cut.2.now) };
+}
+
+/// Writes the escaped text. Allocates nothing, and fails with `Write` where a put failed.
+pub fn put_escaped<E: Escape, S: Sink>(escape: &E, text: &str, sink: &mut S) -> Result<(), Error>
+    ensures written { Writes S.taken S.failed result sink.old sink.new
+        (E.escaped escape.now text.now) }
+    ensures write_only { IfErr result IsWrite }
+{
+    let mut rest = text;
+    while let Some((run, replacement, next)) = escape.split(rest) {
+        put_all(sink, run.as_bytes())?;
+        put_all(sink, replacement.as_bytes())?;
+        rest = next;
+    }
+    put_all(sink, rest.as_bytes())
+}
+
+/// Appends the escaped text. Fails where memory runs out.
+pub fn push_escaped<E: Escape>(escape: &E, text: &str, made: &mut String) -> Result<(), AllocError>
+    ensures { OnOk result
+        (string_bytes made.new ≡ string_bytes made.old ++ E.escaped escape.now text.now) }
+{
+    let mut rest = text;
+    while let Some((run, replacement, next)) = escape.split(rest) {
+        made.push_str(run)?;
+        made.push_str(replacement)?;
+        rest = next;
+    }
+    made.push_str(rest)
+}
+
+#[cfg(test)]
+mod tests {
+    use super::*;
+    use crate::{ElvishEscape, PowershellEscape};
+    use cc_base::Collected;
+    use std::test::Fail;
+
+    #[test]
+    fn writes_and_appends(rt: HostRuntime) -> Result<(), Fail> {
+        let mut sink = Collected::new(rt.alloc());
+        put_escaped(&ElvishEscape, "it's\n’", &mut sink)?;
+        put_escaped(&PowershellEscape, "’it's\n", &mut sink)?;
+        assert_eq!(rt; sink.as_slice(), "it''s ’'’it''s ".as_bytes());
+        let mut made = String::from_str(rt.alloc(), "'")?;
+        push_escaped(&PowershellEscape, "’'–“b”", &mut made)?;
+        push_escaped(&ElvishEscape, "’'", &mut made)?;
+        assert_eq!(rt; made.as_str(), "''’''–“b”’''");
+        Ok(())
+    }
+}

@@ -1,0 +1,333 @@
+//! Texts as fish quotes them, for one reading and for two.
+
+ghost use Rattle.std.specs.Prelude.{◌≡◌, [], ◌++◌, true, codes, IfOk, IfErr, Some};
+ghost use Rattle.std.specs.List.{list_all};
+ghost use Rattle.std.specs.String.{string_bytes};
+ghost use Rattle.cc_base.specs.Writes.{Writes};
+ghost use Rattle.cc_quote.specs.Bytes.{backslash, line_feed, single_quote};
+ghost use Rattle.memchr.specs.Find.{IsFirstByte, is_byte2, is_byte3};
+ghost use Rattle.cc_quote.specs.FishEscapes.{description_byte, eval_byte, help_byte, is_eval_byte, is_help_byte};
+ghost use Rattle.cc_quote.specs.FishQuote.{double_escaped, fish_escaped, fish_help_for_eval_of, fish_quoted, fish_quoted_for_eval, fish_word_of, is_fish_safe, is_fish_safe_word, single_byte, single_escaped, ReadsTwice};
+ghost use Rattle.cc_quote.specs.QuotedWord.{line_feeds_as_spaces};
+
+use crate::escape::{Escape, push_escaped, put_escaped};
+use cc_base::{Error, Sink, put_all};
+use memchr::{memchr2, memchr3};
+use std::alloc::{AllocError, Global};
+
+/// fish's escape of a description between two `'`: `\` as `\\`, `'` as `\'`, and each line feed as a
+/// space.
+pub struct FishEscape;
+
+impl Escape for FishEscape {
+    ghost escaped = { λ _ text. fish_escaped text };
+
+    fn split<'a>(&self, text: &'a str) -> Option<(&'a str, &'static str, &'a str)> {
+        let bytes = text.as_bytes();
+        let Some(at) = memchr3(b'\\', b'\'', b'\n', bytes) else {
+            return None;
+        };
+        let replacement = in_description(bytes[at]);
+        Some((&text[..at], replacement, &text[at + 1..]))
+    }
+}
+
+// What stands for a byte that is escaped in a description.
+fn in_description(escaped: u8) -> &'static str
+    requires { is_byte3 backslash single_quote line_feed escaped ≡ true }
+    ensures { result.now ≡ description_byte escaped }
+{
+    match escaped {
+        b'\\' => "\\\\",
+        b'\'' => "\\'",
+        _ => " ",
+    }
+}
+
+// The escape of a text between two `'` for one reading: `\` as `\\` and `'` as `\'`.
+struct SingleEscape;
+
+impl Escape for SingleEscape {
+    ghost escaped = { λ _ text. single_escaped text };
+
+    fn split<'a>(&self, text: &'a str) -> Option<(&'a str, &'static str, &'a str)> {
+        let bytes = text.as_bytes();
+        let Some(at) = memchr2(b'\\', b'\'', bytes) else {
+            return None;
+        };
+        let replacement = in_single(bytes[at]);
+        Some((&text[..at], replacement, &text[at + 1..]))
+    }
+}
+
+// What stands for a byte that is escaped between two `'`.
+fn in_single(escaped: u8) -> &'static str
+    requires { is_byte2 backslash single_quote escaped ≡ true }
+    ensures { result.now ≡ single_byte escaped }
+{
+    if escaped == b'\\' { "\\\\" } else { "\\'" }
+}
+
+// The escape of a text between two `'` that stand between two `"`.
+struct EvalEscape;
+
+impl Escape for EvalEscape {
+    ghost escaped = { λ _ text. double_escaped (single_escaped text) };
+
+    fn split<'a>(&self, text: &'a str) -> Option<(&'a str, &'static str, &'a str)> {
+        let bytes = text.as_bytes();
+        let Some(at) = find_for_eval(bytes) else {
+            return None;
+        };
+        let replacement = for_eval(bytes[at]);
+        Some((&text[..at], replacement, &text[at + 1..]))
+    }
+}
+
+// The same with each line feed as a space.
+struct HelpEscape;
+
+impl Escape for HelpEscape {
+    ghost escaped = { λ _ text. double_escaped (single_escaped (line_feeds_as_spaces text)) };
+
+    fn split<'a>(&self, text: &'a str) -> Option<(&'a str, &'static str, &'a str)> {
+        let bytes = text.as_bytes();
+        let Some(at) = find_in_help(bytes) else {
+            return None;
+        };
+        let replacement = in_help(bytes[at]);
+        Some((&text[..at], replacement, &text[at + 1..]))
+    }
+}
+
+// The place of the first byte that is escaped for two readings.
+fn find_for_eval(bytes: &[u8]) -> Option<usize>
+    ensures { IsFirstByte is_eval_byte bytes.now result }
+{
+    for at in 0..bytes.len() {
+        if matches!(bytes[at], b'\\' | b'\'' | b'"' | b'$') {
+            return Some(at);
+        }
+    }
+    None
+}
+
+// The place of the first byte that is escaped for two readings, or is a line feed.
+fn find_in_help(bytes: &[u8]) -> Option<usize>
+    ensures { IsFirstByte is_help_byte bytes.now result }
+{
+    for at in 0..bytes.len() {
+        if matches!(bytes[at], b'\\' | b'\'' | b'"' | b'$' | b'\n') {
+            return Some(at);
+        }
+    }
+    None
+}
+
+// What stands for a byte that is escaped for two readings.
+fn for_eval(escaped: u8) -> &'static str
+    requires { is_eval_byte escaped ≡ true }
+    ensures { result.now ≡ eval_byte escaped }
+{
+    match escaped {
+        b'\\' => "\\\\\\\\",
+        b'\'' => "\\\\'",
+        b'"' => "\\\"",
+        _ => "\\$",
+    }
+}
+
+// The same, and a space for a line feed.
+fn in_help(escaped: u8) -> &'static str
+    requires { is_help_byte escaped ≡ true }
+    ensures { result.now ≡ help_byte escaped }
+{
+    if escaped == b'\n' {
+        return " ";
+    }
+    for_eval(escaped)
+}
+
+// Whether a text that is not empty is made of ASCII letters, digits and `/ _ - . , + = : @`.
+fn is_safe_word(text: &str) -> bool
+    ensures { result ≡ is_fish_safe_word text.now }
+{
+    !text.is_empty() && are_safe(text.as_bytes())
+}
+
+// Whether none of the bytes needs quotes.
+fn are_safe(bytes: &[u8]) -> bool
+    ensures { result ≡ list_all is_fish_safe bytes.now }
+{
+    for byte in bytes {
+        if !is_safe(*byte) {
+            return false;
+        }
+    }
+    true
+}
+
+// Whether a byte needs no quotes.
+#[tactic(auto, unfolding(crate::specs::FishQuote::is_fish_safe))]
+fn is_safe(byte: u8) -> bool
+    ensures { result ≡ is_fish_safe byte }
+{
+    byte.is_ascii_alphanumeric()
+        || matches!(
+            byte,
+            b'/' | b'_' | b'-' | b'.' | b',' | b'+' | b'=' | b':' | b'@'
+        )
+}
+
+/// The text as one word of fish: as it is where it is not empty and made of ASCII letters, digits
+/// and `/ _ - . , + = : @`; else in `'`, with `\` as `\\` and `'` as `\'`. Fails with `Memory`
+/// alone.
+#[tactic(auto, using(crate::proofs::FishReaders::fish_quoted_reads_back))]
+pub fn fish_quote(alloc: Global, text: &str) -> Result<String, Error>
+    ensures quoted { IfOk result (λ quoted. string_bytes quoted ≡ fish_quoted text.now) }
+
+    // What was written is read as the text, and nothing is left.
+    ensures read_back { IfOk result
+        (λ quoted. fish_word_of (string_bytes quoted) ≡ Some (text.now, [])) }
+    ensures memory { IfErr result (λ error. error ≡ Error.Memory) }
+{
+    Ok(quoted(alloc, text)?)
+}
+
+// The word, where memory suffices.
+#[tactic(auto, using(crate::proofs::FishEscaped::quoted_safe, crate::proofs::FishEscaped::quoted_unsafe))]
+fn quoted(alloc: Global, text: &str) -> Result<String, AllocError>
+    ensures { IfOk result (λ quoted. string_bytes quoted ≡ fish_quoted text.now) }
+{
+    if is_safe_word(text) {
+        return String::from_str(alloc, text);
+    }
+    let mut quoted = String::from_str(alloc, "'")?;
+    push_escaped(&SingleEscape, text, &mut quoted)?;
+    quoted.push_str("'")?;
+    Ok(quoted)
+}
+
+/// The text as one word of what stands between two `"` and is read a second time: as it is where
+/// `fish_quote` leaves it; else in `'`, with `\` as `\\\\`, `'` as `\\'`, `"` as `\"` and `$` as
+/// `\$`. Fails with `Memory` alone.
+#[tactic(auto, using(crate::proofs::FishReaders::quoted_for_eval_reads_twice))]
+pub fn fish_quote_for_eval(alloc: Global, text: &str) -> Result<String, Error>
+    ensures quoted { IfOk result (λ quoted. string_bytes quoted ≡ fish_quoted_for_eval text.now) }
+
+    // Between two `"` it is read as a word, and that word as the text.
+    ensures read_back { IfOk result (λ quoted. ReadsTwice (string_bytes quoted) text.now) }
+    ensures memory { IfErr result (λ error. error ≡ Error.Memory) }
+{
+    Ok(quoted_for_eval(alloc, text)?)
+}
+
+// The word for two readings, where memory suffices.
+#[tactic(auto, using(crate::proofs::FishEscaped::eval_safe, crate::proofs::FishEscaped::eval_unsafe))]
+fn quoted_for_eval(alloc: Global, text: &str) -> Result<String, AllocError>
+    ensures { IfOk result (λ quoted. string_bytes quoted ≡ fish_quoted_for_eval text.now) }
+{
+    if is_safe_word(text) {
+        return String::from_str(alloc, text);
+    }
+    let mut quoted = String::from_str(alloc, "'")?;
+    push_escaped(&EvalEscape, text, &mut quoted)?;
+    quoted.push_str("'")?;
+    Ok(quoted)
+}
+
+/// A help as one word of what stands between two `"` and is read a second time: always in `'`, with
+/// the escapes of `fish_quote_for_eval` and each line feed as a space. Fails with `Memory` alone.
+#[tactic(auto, using(crate::proofs::FishReaders::help_for_eval_reads_twice))]
+pub fn fish_help_for_eval(alloc: Global, help: &str) -> Result<String, Error>
+    ensures quoted { IfOk result (λ quoted. string_bytes quoted ≡ fish_help_for_eval_of help.now) }
+
+    // Between two `"` it is read as a word, and that word as the help.
+    ensures read_back { IfOk result
+        (λ quoted. ReadsTwice (string_bytes quoted) (line_feeds_as_spaces help.now)) }
+    ensures memory { IfErr result (λ error. error ≡ Error.Memory) }
+{
+    Ok(quoted_help(alloc, help)?)
+}
+
+// The help for two readings, where memory suffices.
+#[tactic(auto, using(crate::proofs::FishEscaped::help_quoted))]
+fn quoted_help(alloc: Global, help: &str) -> Result<String, AllocError>
+    ensures { IfOk result (λ quoted. string_bytes quoted ≡ fish_help_for_eval_of help.now) }
+{
+    let mut quoted = String::from_str(alloc, "'")?;
+    push_escaped(&HelpEscape, help, &mut quoted)?;
+    quoted.push_str("'")?;
+    Ok(quoted)
+}
+
+/// The text as it stands between two `'` in fish: `\` as `\\`, `'` as `\'`, and each line feed as a
+/// space. Fails with `Memory` alone.
+#[tactic(auto, using(crate::proofs::FishReaders::fish_escaped_reads_back))]
+pub fn fish_escape(alloc: Global, text: &str) -> Result<String, Error>
+    ensures escaped { IfOk result (λ escaped. string_bytes escaped ≡ fish_escaped text.now) }
+
+    // Between two quotes, what was written is read as the text, and nothing is left.
+    ensures read_back { IfOk result
+        (λ escaped. fish_word_of (codes "'" ++ string_bytes escaped ++ codes "'")
+        ≡ Some (line_feeds_as_spaces text.now, [])) }
+    ensures memory { IfErr result (λ error. error ≡ Error.Memory) }
+{
+    let mut escaped = String::new(alloc);
+    push_escaped(&FishEscape, text, &mut escaped)?;
+    Ok(escaped)
+}
+
+/// Writes what `fish_quote_for_eval` makes of the text.
+#[tactic(auto, using(crate::proofs::FishEscaped::eval_safe, crate::proofs::FishEscaped::eval_unsafe_text))]
+pub fn put_fish_quoted_for_eval<W: Sink>(text: &str, sink: &mut W) -> Result<(), Error>
+    ensures { Writes W.taken W.failed result sink.old sink.new (fish_quoted_for_eval text.now) }
+{
+    if is_safe_word(text) {
+        return put_all(sink, text.as_bytes());
+    }
+    put_in_quotes(&EvalEscape, text, sink)
+}
+
+/// Writes what `fish_help_for_eval` makes of the help.
+#[tactic(auto, using(crate::proofs::FishEscaped::help_text))]
+pub fn put_fish_help_for_eval<W: Sink>(help: &str, sink: &mut W) -> Result<(), Error>
+    ensures { Writes W.taken W.failed result sink.old sink.new (fish_help_for_eval_of help.now) }
+{
+    put_in_quotes(&HelpEscape, help, sink)
+}
+
+// Writes an escaped text between two `'`.
+fn put_in_quotes<E: Escape, W: Sink>(escape: &E, text: &str, sink: &mut W) -> Result<(), Error>
+    ensures { Writes W.taken W.failed result sink.old sink.new
+        (codes "'" ++ E.escaped escape.now text.now ++ codes "'") }
+{
+    put_all(sink, "'".as_bytes())?;
+    put_escaped(escape, text, sink)?;
+    put_all(sink, "'".as_bytes())
+}
+
+#[cfg(test)]
+mod tests {
+    use super::*;
+    use std::test::Fail;
+
+    #[test]
+    fn quotes(rt: HostRuntime) -> Result<(), Fail> {
+        let alloc = rt.alloc();
+        assert_eq!(rt; fish_quote(alloc, "")?.as_str(), "''");
+        assert_eq!(rt; fish_quote(alloc, "dyn\\amic")?.as_str(), "'dyn\\\\amic'");
+        assert_eq!(rt; fish_quote_for_eval(alloc, "auto")?.as_str(), "auto");
+        assert_eq!(rt;
+            fish_quote_for_eval(alloc, "/p/$var/c")?.as_str(),
+            "'/p/\\$var/c'"
+        );
+        let help = fish_help_for_eval(alloc, "it's \\ \"$x\"")?;
+        assert_eq!(rt; help.as_str(), "'it\\\\'s \\\\\\\\ \\\"\\$x\\\"'");
+        assert_eq!(rt;
+            fish_escape(alloc, "it's\n[x]:\\")?.as_str(),
+            "it\\'s [x]:\\\\"
+        );
+        Ok(())
+    }
+}

@@ -1,0 +1,217 @@
+//! Words as a posix shell quotes and reads them: bare, between `'`, between `"`, and after `\`.
+
+ghost use Rattle.std.specs.Prelude.{◌≡◌, ◌++◌, [], codes, encode_utf8, map, option_map, true, IfOk, IfErr, OnOk, MatchOption, Some};
+ghost use Rattle.std.specs.List.{list_all};
+ghost use Rattle.std.specs.String.{string_bytes};
+ghost use Rattle.cc_quote.specs.PosixQuote.{ended, is_posix_safe, is_posix_safe_word, next_place, posix_escaped, posix_quoted, posix_word_of, word_after};
+ghost use Rattle.cc_quote.specs.PosixTokens.{sign};
+ghost use Rattle.cc_quote.specs.QuotedWord.{contents};
+
+use crate::escape::{Escape, push_escaped};
+use cc_base::Error;
+use memchr::memchr;
+use std::alloc::{AllocError, Global};
+
+// The escape of a text between two `'`: each `'` as `'\''`.
+struct PosixEscape;
+
+impl Escape for PosixEscape {
+    ghost escaped = { λ _ text. posix_escaped text };
+
+    fn split<'a>(&self, text: &'a str) -> Option<(&'a str, &'static str, &'a str)> {
+        let Some(at) = memchr(b'\'', text.as_bytes()) else {
+            return None;
+        };
+        Some((&text[..at], "'\\''", &text[at + 1..]))
+    }
+}
+
+/// The text as one word of a posix shell: as it is where it is not empty and made of ASCII letters,
+/// digits and `+ - . / : @ _`; else between `'`, with each `'` as `'\''`. Fails with `Memory`
+/// alone.
+#[tactic(auto)]
+pub fn posix_quote(alloc: Global, text: &str) -> Result<String, Error>
+    ensures quoted { IfOk result (λ quoted. string_bytes quoted ≡ posix_quoted text.now) }
+
+    // What was written is read as the text, and nothing is left.
+    ensures read_back { IfOk result
+        (λ quoted. posix_word_of (string_bytes quoted) ≡ Some (text.now, [])) }
+    ensures memory { IfErr result (λ error. error ≡ Error.Memory) }
+{
+    if is_safe_word(text) {
+        return Ok(String::from_str(alloc, text)?);
+    }
+    Ok(in_quotes(alloc, text)?)
+}
+
+// The text between `'`.
+fn in_quotes(alloc: Global, text: &str) -> Result<String, AllocError>
+    ensures { IfOk result
+        (λ quoted. string_bytes quoted ≡ codes "'" ++ posix_escaped text.now ++ codes "'") }
+{
+    let mut quoted = String::from_str(alloc, "'")?;
+    push_escaped(&PosixEscape, text, &mut quoted)?;
+    quoted.push_str("'")?;
+    Ok(quoted)
+}
+
+// Whether a text that is not empty is made of bytes that need no quotes.
+#[tactic(auto, unfolding(crate::specs::PosixQuote::is_posix_safe_word))]
+fn is_safe_word(text: &str) -> bool
+    ensures { result ≡ is_posix_safe_word text.now }
+{
+    !text.is_empty() && are_safe(text.as_bytes())
+}
+
+// Whether no byte needs quotes.
+fn are_safe(bytes: &[u8]) -> bool
+    ensures { result ≡ list_all is_posix_safe bytes.now }
+{
+    for byte in bytes {
+        if !is_safe(*byte) {
+            return false;
+        }
+    }
+    true
+}
+
+// Whether a byte needs no quotes.
+#[tactic(auto, unfolding(crate::specs::PosixQuote::is_posix_safe))]
+fn is_safe(byte: u8) -> bool
+    ensures { result ≡ is_posix_safe byte }
+{
+    byte.is_ascii_alphanumeric() || matches!(byte, b'+' | b'-' | b'.' | b'/' | b':' | b'@' | b'_')
+}
+
+// Where the reader of a word is: before the word; in it, outside quotes, between `'` or between
+// `"`; or after a backslash in each of these but `'`.
+#[derive(Clone, Copy)]
+enum Place {
+    Before,
+    BeforeEscaped,
+    Bare,
+    BareEscaped,
+    InSingle,
+    InDouble,
+    InDoubleEscaped,
+}
+
+/// The word that a text begins with, and what follows it. Pieces up to a space, tab or line feed
+/// outside quotes make it: `'` keep everything; between `"` a backslash is special before `$`, a
+/// backtick, `"`, `\` and a line feed, with which it vanishes; outside quotes it keeps the next
+/// character, and vanishes with a line feed. `None` where no word begins the text, or where a quote
+/// or a backslash is open at its end. Fails with `Memory` alone.
+pub fn posix_word(alloc: Global, text: &str) -> Result<Option<(String, &str)>, Error>
+    ensures word { IfOk result (λ read. contents read ≡ posix_word_of text.now) }
+    ensures memory { IfErr result (λ error. error ≡ Error.Memory) }
+{
+    Ok(read_word(alloc, text)?)
+}
+
+// The word, where memory suffices.
+fn read_word(alloc: Global, text: &str) -> Result<Option<(String, &str)>, AllocError>
+    ensures { IfOk result (λ read. contents read ≡ posix_word_of text.now) }
+{
+    let mut place = Place::Before;
+    let mut word = String::new(alloc);
+    let mut rest = text;
+    while let Some((character, after)) = split_first(rest) {
+        let Some(next) = next_place(place, character) else {
+            return Ok(end_word(place, word, rest));
+        };
+        push_added(place, character, &mut word)?;
+        place = next;
+        rest = after;
+    }
+    Ok(end_word(place, word, rest))
+}
+
+// The first character of a text, and what follows it.
+fn split_first(text: &str) -> Option<(char, &str)>
+    ensures { MatchOption result (text.now ≡ [])
+        (λ cut. text.now ≡ encode_utf8 cut.0 ++ cut.1.now) }
+{
+    let mut characters = text.chars();
+    let Some(first) = characters.next() else {
+        return None;
+    };
+    Some((first, characters.as_str()))
+}
+
+// The place after a character; `None` where the word ends before it.
+#[tactic(auto, unfolding(crate::specs::PosixQuote::next_place, crate::specs::PosixTokens::sign))]
+fn next_place(place: Place, character: char) -> Option<Place>
+    ensures { result ≡ next_place place (sign character) }
+{
+    match (place, character) {
+        (Place::Before | Place::Bare, ' ' | '\t' | '\n') => None,
+        (Place::Before | Place::Bare, '\'') => Some(Place::InSingle),
+        (Place::Before | Place::Bare, '"') => Some(Place::InDouble),
+        (Place::Before, '\\') => Some(Place::BeforeEscaped),
+        (Place::Bare, '\\') => Some(Place::BareEscaped),
+        (Place::BeforeEscaped, '\n') => Some(Place::Before),
+        (Place::Before | Place::Bare | Place::BeforeEscaped | Place::BareEscaped, _) => {
+            Some(Place::Bare)
+        }
+        (Place::InSingle, '\'') => Some(Place::Bare),
+        (Place::InSingle, _) => Some(Place::InSingle),
+        (Place::InDouble, '"') => Some(Place::Bare),
+        (Place::InDouble, '\\') => Some(Place::InDoubleEscaped),
+        (Place::InDouble | Place::InDoubleEscaped, _) => Some(Place::InDouble),
+    }
+}
+
+// Adds to the word what the character at a place spells.
+#[tactic(auto, unfolding(crate::specs::PosixQuote::word_after, crate::specs::PosixTokens::sign))]
+fn push_added(place: Place, character: char, word: &mut String) -> Result<(), AllocError>
+    ensures { OnOk result
+        (string_bytes word.new
+        ≡ word_after place (sign character) (string_bytes word.old) (encode_utf8 character)) }
+{
+    match (place, character) {
+        (Place::InSingle, '\'') => Ok(()),
+        (Place::InDouble | Place::Before | Place::Bare, '"' | '\\') => Ok(()),
+        (Place::Before | Place::Bare, '\'') => Ok(()),
+        (Place::InDoubleEscaped | Place::BeforeEscaped | Place::BareEscaped, '\n') => Ok(()),
+        (Place::InDoubleEscaped, '"' | '\\' | '$' | '`') => word.push(character),
+        (Place::InDoubleEscaped, _) => {
+            word.push('\\')?;
+            word.push(character)
+        }
+        _ => word.push(character),
+    }
+}
+
+// The word and what follows it, where the reading stops at a place.
+#[tactic(auto, unfolding(crate::specs::PosixQuote::ended))]
+fn end_word(place: Place, word: String, rest: &str) -> Option<(String, &str)>
+    ensures { contents result ≡ ended place (string_bytes word) rest.now }
+{
+    match place {
+        Place::Bare => Some((word, rest)),
+        _ => None,
+    }
+}
+
+#[cfg(test)]
+mod tests {
+    use super::*;
+    use std::test::Fail;
+
+    #[test]
+    fn quotes_and_reads_back(rt: HostRuntime) -> Result<(), Fail> {
+        let alloc = rt.alloc();
+        assert_eq!(rt; posix_quote(alloc, "a'b")?.as_str(), "'a'\\''b'");
+        assert_eq!(rt; posix_quote(alloc, "a/b:c")?.as_str(), "a/b:c");
+        assert_eq!(rt; posix_quote(alloc, "")?.as_str(), "''");
+        let (word, rest) = posix_word(alloc, "'a'\\''b' c")?.ok_or("no word")?;
+        assert_eq!(rt; word.as_str(), "a'b");
+        assert_eq!(rt; rest, " c");
+        let (word, rest) = posix_word(alloc, "\"a\\$b\\c\"é\\ y\\\nz w")?.ok_or("no word")?;
+        assert_eq!(rt; word.as_str(), "a$b\\cé yz");
+        assert_eq!(rt; rest, " w");
+        assert!(rt; posix_word(alloc, "'a")?.is_none());
+        assert!(rt; posix_word(alloc, "a\\")?.is_none());
+        Ok(())
+    }
+}

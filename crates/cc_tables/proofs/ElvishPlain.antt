@@ -1,0 +1,47 @@
+-- The Elvish script of a plain tree reads to the tree's tables.
+use Rattle.std.proofs.Common.{◌≡◌, ◌≢◌, ◌==◌, ◌||◌, not, ℕ, Bool, true, false, cond, IsTrue, refl, arith}
+use Rattle.std.specs.Char.{is_ascii_alphanumeric}
+use Rattle.std.proofs.lemmas.Bool.Decides.{nat_tests}
+use Rattle.cc_base.proofs.Members.{AllByRecursion-weaker}
+use Rattle.cc_command.specs.Names.{full_name}
+use Rattle.cc_command.specs.Plain.{is_plain_tree}
+use Rattle.cc_command.specs.PlainName.{name_byte, foreign, joiner, letter}
+use Rattle.cc_command.specs.Tree.{Tree}
+use Rattle.cc_command.proofs.PlainParts.{plain_full_name}
+use Rattle.cc_quote.specs.Bytes.{single_quote}
+use Rattle.cc_quote.specs.ElvishTokens.{is_bare, IsBareWord}
+use Rattle.cc_tables.specs.ElvishReader.{elvish_tables, ElvishReads}
+use Rattle.cc_tables.specs.ElvishScript.{offer_row, script_text}
+use Rattle.cc_tables.specs.Offers.{word}
+use Rattle.cc_tables.specs.Tables.{tree_tables}
+use Rattle.cc_tables.specs.declared.offers.Offer.{Offer}
+use Rattle.cc_tables.proofs.ElvishReadsBack.{spaced_row, elvish_reads_back}
+use Rattle.cc_tables.proofs.PlainOffers.{IsPlainOffer}
+use Rattle.cc_tables.proofs.PlainTables.{of_plain_name, reads_tables}
+
+-- a byte that may stand in a plain name is bare
+bare_byte : (byte : ℕ) → name_byte byte ≢ foreign → IsTrue (is_bare byte)
+unfolding name_byte is_bare
+bare_byte byte h = by_tests (is_ascii_alphanumeric byte) (byte == 45 || byte == 95) refl refl h
+  where
+    by_tests : (a j : Bool) → is_ascii_alphanumeric byte ≡ a → (byte == 45 || byte == 95) ≡ j → cond a letter (cond j joiner foreign) ≢ foreign → IsTrue (is_bare byte)
+    by_tests true j e f k = grind (arith, nat_tests)
+    by_tests false true e f k = grind (arith, nat_tests)
+    by_tests false false e f k = absurd (k refl)
+
+-- and no quote
+no_quote_byte : (byte : ℕ) → name_byte byte ≢ foreign → IsTrue (not (byte == single_quote))
+unfolding is_bare
+no_quote_byte byte h = let bare = bare_byte byte h in grind (arith, nat_tests)
+
+-- the word of a plain offer is bare
+word_bare : (offer : Offer) → IsPlainOffer offer → IsBareWord (word offer)
+word_bare offer h = (h.is_some, AllByRecursion-weaker (λ byte. name_byte byte ≢ foreign) (λ byte. IsTrue (is_bare byte)) bare_byte (word offer) h.bytes)
+
+-- the script of a plain tree reads to its tables
+pub elvish_plain_reads : (tree : Tree) → IsTrue (is_plain_tree tree) → ElvishReads tree
+elvish_plain_reads tree h =
+    let bin_name = full_name tree.node in
+    reads_tables offer_row spaced_row (λ byte. IsTrue (not (byte == single_quote))) (λ row. IsBareWord row.word) no_quote_byte refl word_bare
+    (λ tables. elvish_tables (script_text bin_name tables)) tree h
+    (elvish_reads_back bin_name (tree_tables offer_row tree) (of_plain_name (λ byte. IsTrue (is_bare byte)) bare_byte bin_name (plain_full_name tree h)))

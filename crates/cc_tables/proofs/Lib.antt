@@ -1,0 +1,12 @@
+pub mod ElvishExamples
+pub mod ElvishPlain
+pub mod ElvishReadsBack
+pub mod ElvishTexts
+pub mod ItemsRead
+pub mod PlainOffers
+pub mod PlainTables
+pub mod PowershellExamples
+pub mod PowershellPlain
+pub mod PowershellReadsBack
+pub mod PowershellTexts
+pub mod VisitedTables

@@ -1,0 +1,87 @@
+-- Rows, tables and scripts, worked by the definitions, byte by byte.
+use Rattle.std.proofs.Common.{◌≡◌, List, [], ◌∷◌, Some, None, codes, map, flat_map, refl, encode_utf8_all}
+use Rattle.std.specs.Char.{encode_utf8}
+use Rattle.cc_arg.specs.declared.arg.Arg.{Arg}
+use Rattle.cc_arg.specs.Arguments.{new_arg}
+use Rattle.cc_quote.specs.PowershellQuote.{sign_before, powershell_signs}
+use Rattle.cc_quote.specs.PowershellTokens.{powershell_tokens}
+use Rattle.cc_quote.specs.Signs.{sign}
+use Rattle.cc_quote.specs.Tokens.{cut, is_word, strip_words, after_words}
+use Rattle.cc_tables.specs.Offers.{argument_offers}
+use Rattle.cc_tables.specs.PowershellReader.{if_quoted, part, kind_of, step, spelling, tables_begin, powershell_tables}
+use Rattle.cc_tables.specs.PowershellScript.{Row, parameter_name, parameter_value, offer_row, head, command, completions, head_text, tail, kind_text, row_begin, list_begin, kind_begin, text_begin, row_end, words_text, details_text, row_text, table_begin, key_end, key_text, table_end, table_text, script_text}
+use Rattle.cc_tables.specs.TableReader.{after_step, next, tables_of, read}
+use Rattle.cc_tables.specs.Tables.{Table}
+
+-- a row
+row : row_text (record { word = codes "-V"; list = codes "-V "; kind = parameter_name; text = codes "it's\n[x]:\\" })
+    ≡ codes "\n            [CompletionResult]::new('-V', '-V ', [CompletionResultType]::ParameterName, 'it''s [x]:\\')"
+unfolding kind_text row_begin list_begin kind_begin text_begin row_end words_text details_text row_text
+row = refl
+
+-- a table without rows
+table : table_text (record { key = codes "app"; rows = [] }) ≡ codes "\n        'app' {\n            break\n        }"
+unfolding table_begin key_end key_text table_end table_text
+table = refl
+
+-- a script without tables
+script : script_text (codes "app") []
+    ≡ codes "\nusing namespace System.Management.Automation\nusing namespace System.Management.Automation.Language\n\nRegister-ArgumentCompleter -Native -CommandName 'app' -ScriptBlock {\n    param($wordToComplete, $commandAst, $cursorPosition)\n\n    $commandElements = $commandAst.CommandElements\n    $command = @(\n        'app'\n        for ($i = 1; $i -lt $commandElements.Count; $i++) {\n            $element = $commandElements[$i]\n            if ($element -isnot [StringConstantExpressionAst] -or\n                $element.StringConstantType -ne [StringConstantType]::BareWord -or\n                $element.Value.StartsWith('-') -or\n                $element.Value -eq $wordToComplete) {\n                break\n        }\n        $element.Value\n    }) -join ';'\n\n    $completions = @(switch ($command) {\n    })\n\n    $completions.Where{ $_.CompletionText -like \"$wordToComplete*\" } |\n        Sort-Object -Property ListItemText\n}\n"
+unfolding head command completions head_text tail script_text
+script = refl
+
+-- two tables as a program's help gives them
+abbrev given : List (Table Row)
+given =
+    record {
+      key = codes "app";
+      rows = record { word = codes "--out"; list = codes "--out"; kind = parameter_name; text = codes "out" }
+          ∷ record { word = codes "-V"; list = codes "-V "; kind = parameter_name; text = encode_utf8_all (codes "It's\nrun’s café") }
+          ∷ record { word = codes "run"; list = codes "run"; kind = parameter_value; text = codes "" }
+          ∷ [];
+    }
+    ∷ record { key = codes "app;run"; rows = record { word = codes "break"; list = codes "break"; kind = parameter_value; text = codes "'}" } ∷ [] }
+    ∷ []
+
+-- the same, as they are read
+abbrev read_back : List (Table Row)
+read_back =
+    record {
+      key = codes "app";
+      rows = record { word = codes "--out"; list = codes "--out"; kind = parameter_name; text = codes "out" }
+          ∷ record { word = codes "-V"; list = codes "-V "; kind = parameter_name; text = encode_utf8_all (codes "It's run’s café") }
+          ∷ record { word = codes "run"; list = codes "run"; kind = parameter_value; text = codes "" }
+          ∷ [];
+    }
+    ∷ record { key = codes "app;run"; rows = record { word = codes "break"; list = codes "break"; kind = parameter_value; text = codes "'}" } ∷ [] }
+    ∷ []
+
+-- an argument with a capital short, whose help is empty, and a visible short alias
+abbrev switch : Arg
+switch = record (new_arg (codes "switch")) { short = Some 83; visible_short_aliases = 120 ∷ []; help = Some [] }
+
+-- its rows: a space stands after the capital, and the short describes both
+switch_rows : flat_map row_text (map offer_row (argument_offers switch)) ≡ codes "\n            [CompletionResult]::new('-S', '-S ', [CompletionResultType]::ParameterName, 'S')\n            [CompletionResult]::new('-x', '-x', [CompletionResultType]::ParameterName, 'S')"
+unfolding encode_utf8 kind_text row_begin list_begin kind_begin text_begin row_end words_text details_text row_text
+switch_rows = refl
+
+-- a long is described by its help, and an alias by the same
+level_rows : map offer_row (argument_offers (record (new_arg (codes "level")) { long = Some (codes "level"); visible_aliases = codes "depth" ∷ []; help = Some (codes "How deep") }))
+    ≡ record { word = codes "--level"; list = codes "--level"; kind = parameter_name; text = codes "How deep" }
+    ∷ record { word = codes "--depth"; list = codes "--depth"; kind = parameter_name; text = codes "How deep" }
+    ∷ []
+level_rows = refl
+
+-- a script with these tables reads back to them
+two_tables : powershell_tables (script_text (codes "app") given) ≡ Some read_back
+unfolding encode_utf8 is_word strip_words after_words sign sign_before powershell_signs cut powershell_tokens if_quoted part kind_of step spelling after_step next tables_of read tables_begin powershell_tables kind_text row_begin list_begin kind_begin text_begin row_end words_text details_text row_text table_begin key_end key_text table_end table_text head command completions head_text tail script_text
+two_tables = refl
+
+-- tables that are not closed, an unknown kind, a group without `break`, a key between other quotes, and no tables at all
+malformed : (powershell_tables (codes "@(switch ($command) { 'app' { break } ") ≡ None)
+    × (powershell_tables (codes "@(switch ($command) { 'app' { [CompletionResult]::new('a', 'a', [CompletionResultType]::Text, 'a') break } })") ≡ None)
+    × (powershell_tables (codes "@(switch ($command) { 'app' { } })") ≡ None)
+    × (powershell_tables (encode_utf8_all (codes "@(switch ($command) { ’app’ { break } })")) ≡ None)
+    × (powershell_tables (codes "switch ($command) { 'app' { break } })") ≡ None)
+unfolding encode_utf8 is_word strip_words after_words sign sign_before powershell_signs cut powershell_tokens if_quoted part kind_of step spelling after_step next tables_of read tables_begin powershell_tables
+malformed = (refl, refl, refl, refl, refl)

@@ -1,0 +1,66 @@
+-- The PowerShell script of a plain tree reads to the tree's tables.
+use Rattle.std.proofs.Common.{◌≡◌, ◌≢◌, ◌==◌, ◌||◌, not, ℕ, Bool, true, false, cond, IsTrue, List, [], ◌∷◌, codes, refl, arith}
+use Rattle.std.specs.Char.{is_ascii_alphanumeric, is_ascii_uppercase}
+use Rattle.std.proofs.lemmas.Bool.Decides.{nat_tests}
+use Rattle.cc_base.proofs.Members.{AllByRecursion-weaker, AllByRecursion-append}
+use Rattle.cc_command.specs.Names.{full_name}
+use Rattle.cc_command.specs.Plain.{is_plain_tree}
+use Rattle.cc_command.specs.PlainName.{name_byte, foreign, joiner, letter}
+use Rattle.cc_command.specs.Tree.{Tree}
+use Rattle.cc_command.proofs.PlainParts.{plain_full_name}
+use Rattle.cc_quote.specs.PowershellTokens.{is_quote_first, IsUnquoted}
+use Rattle.cc_tables.specs.Offers.{word}
+use Rattle.cc_tables.specs.PowershellReader.{powershell_tables, PowershellReads}
+use Rattle.cc_tables.specs.PowershellScript.{capital_space, offer_row, script_text}
+use Rattle.cc_tables.specs.Tables.{tree_tables}
+use Rattle.cc_tables.specs.declared.offers.Kind.{Kind}
+use Rattle.cc_tables.specs.declared.offers.Kind.TheVariants.{Short, Long, Subcommand}
+use Rattle.cc_tables.specs.declared.offers.Offer.{Offer}
+use Rattle.cc_tables.proofs.PowershellReadsBack.{spaced_row, IsPowershellRow, powershell_reads_back}
+use Rattle.cc_tables.proofs.PlainOffers.{IsPlainOffer}
+use Rattle.cc_tables.proofs.PlainTables.{of_plain_name, reads_tables}
+
+-- a byte that may stand in a plain name begins no quote
+unquoted_byte : (byte : ℕ) → name_byte byte ≢ foreign → IsTrue (not (is_quote_first byte))
+unfolding name_byte is_quote_first
+unquoted_byte byte h = by_tests (is_ascii_alphanumeric byte) (byte == 45 || byte == 95) refl refl h
+  where
+    by_tests : (a j : Bool) → is_ascii_alphanumeric byte ≡ a → (byte == 45 || byte == 95) ≡ j → cond a letter (cond j joiner foreign) ≢ foreign → IsTrue (not (is_quote_first byte))
+    by_tests true j e f k = grind (arith, nat_tests)
+    by_tests false true e f k = grind (arith, nat_tests)
+    by_tests false false e f k = absurd (k refl)
+
+-- nor does a `;`
+unquoted_separator : IsTrue (not (is_quote_first 59))
+unfolding is_quote_first
+unquoted_separator = refl
+
+-- nor does the space after a capital
+space_unquoted : (kind : Kind) (name : List ℕ) → IsUnquoted (capital_space kind name)
+unfolding is_quote_first
+space_unquoted Short [] = tt
+space_unquoted Short (byte ∷ []) = by_test (is_ascii_uppercase byte)
+  where
+    by_test : (b : Bool) → IsUnquoted (cond b (codes " ") [])
+    by_test true = (refl, tt)
+    by_test false = tt
+space_unquoted Short (byte ∷ next ∷ name) = tt
+space_unquoted Long name = tt
+space_unquoted Subcommand name = tt
+
+-- the row of a plain offer
+row_unquoted : (offer : Offer) → IsPlainOffer offer → IsPowershellRow (offer_row offer)
+row_unquoted offer h =
+    let unquoted = AllByRecursion-weaker (λ byte. name_byte byte ≢ foreign) (λ byte. IsTrue (not (is_quote_first byte))) unquoted_byte (word offer) h.bytes in
+    record {
+      word = unquoted;
+      list = AllByRecursion-append (λ byte. IsTrue (not (is_quote_first byte))) (word offer) (capital_space offer.kind offer.name) unquoted (space_unquoted offer.kind offer.name);
+    }
+
+-- the script of a plain tree reads to its tables
+pub powershell_plain_reads : (tree : Tree) → IsTrue (is_plain_tree tree) → PowershellReads tree
+powershell_plain_reads tree h =
+    let bin_name = full_name tree.node in
+    reads_tables offer_row spaced_row (λ byte. IsTrue (not (is_quote_first byte))) IsPowershellRow unquoted_byte unquoted_separator row_unquoted
+    (λ tables. powershell_tables (script_text bin_name tables)) tree h
+    (powershell_reads_back bin_name (tree_tables offer_row tree) (of_plain_name (λ byte. IsTrue (not (is_quote_first byte))) unquoted_byte bin_name (plain_full_name tree h)))

@@ -1,0 +1,83 @@
+-- The tables that a PowerShell script spells: after the bare words `@(switch`, `($command)` and `{` stand
+-- groups of a quoted key, `{`, rows, `break` and `}`, up to the bare word `})`. A row is a call
+-- `[CompletionResult]::new(` with four arguments and `)`. Every quote is a `'`. What follows is not read.
+use Rattle.std.specs.Prelude.{ℕ, List, [], ◌∷◌, ◌&&◌, if◌then◌else◌, Option, Some, None, option_map, unwrap_or, bytes_eq, codes}
+use Rattle.cc_command.specs.Tree.{Tree}
+use Rattle.cc_quote.specs.PowershellTokens.{powershell_tokens}
+use Rattle.cc_quote.specs.QuotedWord.{line_feeds_as_spaces}
+use Rattle.cc_quote.specs.Tokens.{Token, after_words}
+use Rattle.cc_quote.specs.Tokens.Piece.{bare, quoted}
+use Rattle.cc_tables.specs.PowershellScript.{ResultKind, parameter_name, parameter_value, Row, offer_row, powershell_script}
+use Rattle.cc_tables.specs.TableReader.{Part, ReadsTables, Spelling, Step, read}
+use Rattle.cc_tables.specs.TableReader.Part.{word, argument, key, unknown}
+use Rattle.cc_tables.specs.TableReader.State.{between_tables}
+use Rattle.cc_tables.specs.TableReader.Step.{goes_on, ends_row, ends_table, fails}
+use Rattle.cc_tables.specs.Tables.{Table}
+use Rattle.cc_tables.specs.declared.offers.Offer.{Offer}
+
+-- a quoted argument of the call: the first, one before others, or the last
+pub data Argument : Type 0 where
+  first : List ℕ → Argument
+  further : List ℕ → Argument
+  last : List ℕ → Argument
+
+-- a part, where its quotes are `'`
+unfoldable pub if_quoted : List ℕ → Part Argument → Part Argument
+if_quoted opening part = if bytes_eq opening (codes "'") then part else unknown
+
+-- a key stands alone; the first argument stands between the name of the call and `,`, a further one before
+-- `,`, and the last one before `)`
+unfoldable pub part : Token → Part Argument
+part (bare run ∷ []) = word run
+part (quoted opening text ∷ []) = if_quoted opening (key text)
+part (bare before ∷ quoted opening text ∷ bare after ∷ []) =
+    if bytes_eq before (codes "[CompletionResult]::new(") && bytes_eq after (codes ",") then if_quoted opening (argument (first text))
+    else unknown
+part (quoted opening text ∷ bare after ∷ []) =
+    if bytes_eq after (codes ",") then if_quoted opening (argument (further text))
+    else (if bytes_eq after (codes ")") then if_quoted opening (argument (last text)) else unknown)
+part _ = unknown
+
+-- the kind that an argument names
+unfoldable pub kind_of : List ℕ → Option ResultKind
+kind_of run =
+    if bytes_eq run (codes "[CompletionResultType]::ParameterName,") then Some parameter_name
+    else (if bytes_eq run (codes "[CompletionResultType]::ParameterValue,") then Some parameter_value else None)
+
+-- where the reader is in a table: between two rows, after the word, the list text or the kind of a row, or
+-- after `break`
+pub data Place : Type 0 where
+  between_rows : Place
+  after_word : List ℕ → Place
+  after_list : List ℕ → List ℕ → Place
+  after_kind : List ℕ → List ℕ → ResultKind → Place
+  after_break : Place
+
+-- what a part does there
+unfoldable pub step : Place → Part Argument → Step Place Row
+step between_rows (argument (first run)) = goes_on (after_word run)
+step between_rows (word run) = if bytes_eq run (codes "break") then goes_on after_break else fails
+step (after_word run) (argument (further list)) = goes_on (after_list run list)
+step (after_list run list) (word name) = unwrap_or (option_map (λ kind. goes_on (after_kind run list kind)) (kind_of name)) fails
+step (after_kind run list kind) (argument (last text)) = ends_row (record { word = run; list = list; kind = kind; text = text })
+step after_break (word run) = if bytes_eq run (codes "}") then ends_table else fails
+step _ _ = fails
+
+unfoldable pub spelling : Spelling Argument Place Row
+spelling = record { part = part; between_rows = between_rows; step = step; last_word = codes "})" }
+
+-- the bare words before the tables
+unfoldable pub tables_begin : List (List ℕ)
+tables_begin = codes "@(switch" ∷ codes "($command)" ∷ codes "{" ∷ []
+
+-- the tables of a script; `None` where it spells none
+unfoldable pub powershell_tables : List ℕ → Option (List (Table Row))
+powershell_tables script = read spelling (between_tables []) (after_words tables_begin (powershell_tokens script))
+
+-- the row of an offer as it is read: with a space for each line feed of its text
+abbrev pub offer_read : Offer → Row
+offer_read offer = record (offer_row offer) { text = line_feeds_as_spaces (offer_row offer).text }
+
+-- the script of a tree reads to the tree's tables
+abbrev pub PowershellReads : Tree → Type 0
+PowershellReads tree = ReadsTables (powershell_tables (powershell_script tree)) offer_read tree

@@ -1,0 +1,257 @@
+//! The Elvish script: a frame, and in it a table for each visible path.
+
+ghost use Rattle.std.specs.Prelude.{◌≡◌, ◌++◌, ◌<◌, None, codes, flat_map, length, map, IfOk, IfErr, OnOk};
+ghost use Rattle.std.specs.Option.{option_copied};
+ghost use Rattle.std.specs.String.{string_bytes};
+ghost use Rattle.cc_base.specs.Writes.{Writes};
+ghost use Rattle.cc_flat.specs.Flat.{tree_at};
+ghost use Rattle.cc_tables.specs.ElvishScript.{completions, elvish_script, functions, head, head_text, key_end, key_text, node_text, offer_row, row_begin, row_end, row_text, table_begin, table_end, table_text, tail, text_begin};
+ghost use Rattle.cc_tables.specs.Offers.{node_offers};
+
+use crate::offers::{Offer, Rows, full_name, write_rows};
+use cc_base::{Error, Sink, put_all};
+use cc_command::Command;
+use cc_flat::Flat;
+use cc_lists::Generator;
+use cc_quote::{ElvishEscape, put_escaped};
+use cc_visits::{Joined, TableVisits};
+use std::alloc::Global;
+
+// ---- the fixed texts
+
+#[tactic(auto, unfolding(crate::specs::ElvishScript::head))]
+fn head() -> &'static str
+    ensures { result.now ≡ head }
+{
+    "
+use builtin;
+use str;
+
+set edit:completion:arg-completer["
+}
+
+#[tactic(auto, unfolding(crate::specs::ElvishScript::functions))]
+fn functions() -> &'static str
+    ensures { result.now ≡ functions }
+{
+    "] = {|@words|
+    fn spaces {|n|
+        builtin:repeat $n ' ' | str:join ''
+    }
+    fn cand {|text desc|
+        edit:complex-candidate $text &display=$text' '(spaces (- 14 (wcswidth $text)))$desc
+    }
+    var command = '"
+}
+
+#[tactic(auto, unfolding(crate::specs::ElvishScript::completions))]
+fn completions() -> &'static str
+    ensures { result.now ≡ completions }
+{
+    "'
+    for word $words[1..-1] {
+        if (str:has-prefix $word '-') {
+            break
+        }
+        set command = $command';'$word
+    }
+    var completions = ["
+}
+
+#[tactic(auto, unfolding(crate::specs::ElvishScript::tail))]
+fn tail() -> &'static str
+    ensures { result.now ≡ tail }
+{
+    "
+    ]
+    $completions[$command]
+}
+"
+}
+
+#[tactic(auto, unfolding(crate::specs::ElvishScript::table_begin))]
+fn table_begin() -> &'static str
+    ensures { result.now ≡ table_begin }
+{
+    "\n        &'"
+}
+
+#[tactic(auto, unfolding(crate::specs::ElvishScript::key_end))]
+fn key_end() -> &'static str
+    ensures { result.now ≡ key_end }
+{
+    "'= {"
+}
+
+#[tactic(auto, unfolding(crate::specs::ElvishScript::table_end))]
+fn table_end() -> &'static str
+    ensures { result.now ≡ table_end }
+{
+    "\n        }"
+}
+
+#[tactic(auto, unfolding(crate::specs::ElvishScript::row_begin))]
+fn row_begin() -> &'static str
+    ensures { result.now ≡ row_begin }
+{
+    "\n            cand "
+}
+
+#[tactic(auto, unfolding(crate::specs::ElvishScript::text_begin))]
+fn text_begin() -> &'static str
+    ensures { result.now ≡ text_begin }
+{
+    " '"
+}
+
+#[tactic(auto, unfolding(crate::specs::ElvishScript::row_end))]
+fn row_end() -> &'static str
+    ensures { result.now ≡ row_end }
+{
+    "'"
+}
+
+/// Writes Elvish scripts.
+#[derive(Clone, Copy, PartialEq, Eq, Debug)]
+pub struct Elvish;
+
+impl Generator for Elvish {
+    ghost use Rattle.std.specs.Prelude.{◌++◌, None, codes};
+    ghost use Rattle.cc_tables.specs.ElvishReader.{ElvishReads};
+    ghost use Rattle.cc_tables.specs.ElvishScript.{elvish_script};
+
+    ghost script = { λ _ tree. elvish_script tree };
+
+    ghost Reads = { λ _ tree. ElvishReads tree };
+
+    ghost clash = { λ _ _. None };
+
+    ghost file = { λ _ name. name ++ codes ".elv" };
+
+    fn file_name(&self, alloc: Global, name: &str) -> Result<String, Error> {
+        let mut file = String::from_str(alloc, name)?;
+        file.push_str(".elv")?;
+        Ok(file)
+    }
+
+    #[tactic(auto, using(crate::proofs::ElvishPlain::elvish_plain_reads))]
+    fn generate<W: Sink>(
+        &self,
+        alloc: Global,
+        command: &Command,
+        sink: &mut W,
+    ) -> Result<(), Error> {
+        let flat = Flat::new(alloc, command)?;
+        write_script(alloc, &flat, sink)
+    }
+}
+
+// Writes the script of the tree that the list holds.
+#[tactic(auto, using(crate::proofs::ElvishTexts::tables_of_visits), unfolding(crate::specs::ElvishScript::script_text))]
+fn write_script<W: Sink>(alloc: Global, flat: &Flat<'_>, sink: &mut W) -> Result<(), Error>
+    requires { 0 < length flat.now }
+    ensures { Writes W.taken W.failed result sink.old sink.new
+        (elvish_script (tree_at flat.now 0)) }
+{
+    let bin_name = full_name(flat.command(0));
+    let keys = Joined { separator: ";" };
+    let visits = TableVisits::new(alloc, flat, bin_name, &keys)?;
+    write_frame(alloc, bin_name, visits, sink)
+}
+
+// Writes the frame, and in it a table for each visit.
+fn write_frame<W: Sink>(
+    alloc: Global,
+    bin_name: &str,
+    visits: TableVisits<'_, '_, Joined<'_>>,
+    sink: &mut W,
+) -> Result<(), Error>
+    ensures { Writes W.taken W.failed result sink.old sink.new (head_text bin_name.now
+        ++ flat_map (λ visit. node_text visit.key visit.tree) visits.entry ++ tail) }
+{
+    write_head(bin_name, sink)?;
+    write_tables(alloc, visits, sink)?;
+    put_all(sink, tail().as_bytes())
+}
+
+// Writes the frame up to the tables.
+#[tactic(auto, unfolding(crate::specs::ElvishScript::head_text))]
+fn write_head<W: Sink>(bin_name: &str, sink: &mut W) -> Result<(), Error>
+    ensures { Writes W.taken W.failed result sink.old sink.new (head_text bin_name.now) }
+{
+    put_all(sink, head().as_bytes())?;
+    put_all(sink, bin_name.as_bytes())?;
+    put_all(sink, functions().as_bytes())?;
+    put_all(sink, bin_name.as_bytes())?;
+    put_all(sink, completions().as_bytes())
+}
+
+// Writes a table for each visit that is left.
+fn write_tables<W: Sink>(
+    alloc: Global,
+    mut visits: TableVisits<'_, '_, Joined<'_>>,
+    sink: &mut W,
+) -> Result<(), Error>
+    ensures { Writes W.taken W.failed result sink.old sink.new
+        (flat_map (λ visit. node_text visit.key visit.tree) visits.entry) }
+{
+    while let Some(visit) = visits.next(alloc)? {
+        write_table(visit.key.as_str(), visit.command, sink)?;
+    }
+    Ok(())
+}
+
+// Writes the table of a node.
+#[tactic(auto, unfolding(crate::specs::ElvishScript::node_text, crate::specs::ElvishScript::table_text))]
+fn write_table<W: Sink>(key: &str, command: &Command, sink: &mut W) -> Result<(), Error>
+    ensures { Writes W.taken W.failed result sink.old sink.new (node_text key.now command.now) }
+{
+    write_key(key, sink)?;
+    write_table_rows(command, sink)?;
+    put_all(sink, table_end().as_bytes())
+}
+
+// Writes the rows of a table.
+#[tactic(auto, using(crate::proofs::ElvishTexts::rows_of_offers))]
+fn write_table_rows<W: Sink>(command: &Command, sink: &mut W) -> Result<(), Error>
+    ensures { Writes W.taken W.failed result sink.old sink.new
+        (flat_map row_text (map offer_row (node_offers command.now))) }
+{
+    write_rows(&Elvish, command, sink)
+}
+
+// Writes the beginning of a table.
+#[tactic(auto, unfolding(crate::specs::ElvishScript::key_text))]
+fn write_key<W: Sink>(key: &str, sink: &mut W) -> Result<(), Error>
+    ensures { Writes W.taken W.failed result sink.old sink.new (key_text key.now) }
+{
+    put_all(sink, table_begin().as_bytes())?;
+    put_all(sink, key.as_bytes())?;
+    put_all(sink, key_end().as_bytes())
+}
+
+impl Rows for Elvish {
+    ghost use Rattle.cc_tables.specs.ElvishScript.{offer_text};
+
+    ghost row_text = { offer_text };
+
+    #[tactic(auto, unfolding(crate::specs::ElvishScript::offer_text, crate::specs::ElvishScript::row_text))]
+    fn write_row<W: Sink>(&self, offer: &Offer<'_>, sink: &mut W) -> Result<(), Error> {
+        put_all(sink, row_begin().as_bytes())?;
+        put_all(sink, offer.kind.dashes().as_bytes())?;
+        put_all(sink, offer.name.as_str().as_bytes())?;
+        put_all(sink, text_begin().as_bytes())?;
+        put_escaped(&ElvishEscape, shown_text(offer), sink)?;
+        put_all(sink, row_end().as_bytes())
+    }
+}
+
+// The help or the about where there is one.
+fn shown_text<'a>(offer: &'a Offer<'_>) -> &'a str
+    ensures { result.now ≡ (offer_row offer.now).text }
+{
+    match &offer.description {
+        Some(description) => description.as_str(),
+        None => offer.fallback.as_str(),
+    }
+}

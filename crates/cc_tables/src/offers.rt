@@ -1,0 +1,214 @@
+//! What a table offers at a node.
+
+ghost use Rattle.std.specs.Prelude.{◌≡◌, ◌++◌, List, ℕ, flat_map, codes};
+ghost use Rattle.std.specs.Option.{option_copied};
+ghost use Rattle.cc_base.specs.Writes.{Writes};
+ghost use Rattle.cc_tables.specs.Offers.{argument_offer, argument_offers, child_offer, child_offers, children_offers, dashes, node_offers, short_offer};
+ghost use Rattle.cc_command.specs.ArgumentLists.{flags, options};
+ghost use Rattle.cc_command.specs.Names.{full_name, visible_names};
+ghost use Rattle.cc_command.specs.Tree.{forest_of};
+
+use cc_arg::{Arg, ShownName, shown_names};
+use cc_base::{Error, Sink, TextRef};
+use cc_command::Command;
+
+/// What kind of name is offered.
+#[derive(Clone, Copy)]
+pub enum Kind {
+    /// A short of an argument.
+    Short,
+    /// A long of an argument.
+    Long,
+    /// A name of a child.
+    Subcommand,
+}
+
+/// A name that is offered at a node.
+#[derive(Drop)]
+pub struct Offer<'a> {
+    /// The kind of the name.
+    pub kind: Kind,
+    /// The name, without its dashes.
+    pub name: TextRef<'a>,
+    /// The help of the argument or the about of the child.
+    pub description: Option<TextRef<'a>>,
+    /// What describes it where there is no help or about.
+    pub fallback: TextRef<'a>,
+}
+
+impl Kind {
+    ghost use Rattle.std.specs.Prelude.{◌≡◌};
+    ghost use Rattle.cc_tables.specs.Offers.{dashes};
+
+    /// The dashes that stand before a name of this kind.
+    pub fn dashes(self) -> &'static str
+        ensures { result.now ≡ dashes self }
+    {
+        match self {
+            Kind::Short => "-",
+            Kind::Long => "--",
+            Kind::Subcommand => "",
+        }
+    }
+}
+
+/// A shell whose tables have a row for each offer.
+pub trait Rows {
+    ghost use Rattle.std.specs.Prelude.{List, ℕ};
+    ghost use Rattle.cc_base.specs.Writes.{Writes};
+    ghost use Rattle.cc_tables.specs.declared.offers.Offer.{Offer};
+
+    // the text of the row of an offer
+    ghost row_text: { Offer → List ℕ };
+
+    /// Writes the row of an offer.
+    fn write_row<W: Sink>(&self, offer: &Offer<'_>, sink: &mut W) -> Result<(), Error>
+        ensures { Writes W.taken W.failed result sink.old sink.new (row_text offer.now) };
+}
+
+/// Writes the rows at a node: of its options, of its flags and of its children.
+#[tactic(auto, unfolding(crate::specs::Offers::node_offers))]
+pub fn write_rows<R: Rows, W: Sink>(rows: &R, command: &Command, sink: &mut W) -> Result<(), Error>
+    ensures { Writes W.taken W.failed result sink.old sink.new
+        (flat_map R.row_text (node_offers command.now)) }
+{
+    write_options(rows, command, sink)?;
+    write_flags(rows, command, sink)?;
+    write_children(rows, command.get_subcommands(), sink)
+}
+
+fn write_options<R: Rows, W: Sink>(rows: &R, command: &Command, sink: &mut W) -> Result<(), Error>
+    ensures { Writes W.taken W.failed result sink.old sink.new
+        (flat_map R.row_text (flat_map argument_offers (options command.now.node))) }
+{
+    for option in command.get_opts() {
+        write_argument(rows, option, sink)?;
+    }
+    Ok(())
+}
+
+fn write_flags<R: Rows, W: Sink>(rows: &R, command: &Command, sink: &mut W) -> Result<(), Error>
+    ensures { Writes W.taken W.failed result sink.old sink.new
+        (flat_map R.row_text (flat_map argument_offers (flags command.now.node))) }
+{
+    for flag in command.get_flags() {
+        write_argument(rows, flag, sink)?;
+    }
+    Ok(())
+}
+
+// Writes a row for each name of an argument that is shown.
+fn write_argument<R: Rows, W: Sink>(rows: &R, argument: &Arg, sink: &mut W) -> Result<(), Error>
+    ensures { Writes W.taken W.failed result sink.old sink.new
+        (flat_map R.row_text (argument_offers argument.now)) }
+{
+    for name in shown_names(argument) {
+        write_name(rows, argument, name, sink)?;
+    }
+    Ok(())
+}
+
+fn write_name<R: Rows, W: Sink>(
+    rows: &R,
+    argument: &Arg,
+    name: ShownName<'_>,
+    sink: &mut W,
+) -> Result<(), Error>
+    ensures { Writes W.taken W.failed result sink.old sink.new
+        (R.row_text (argument_offer argument.now name.entry)) }
+{
+    match name {
+        ShownName::Short(short) => write_short(rows, argument, short, sink),
+        ShownName::Long(long) => {
+            let fallback = TextRef::new(argument.get_long().unwrap_or(long.as_str()));
+            let description = described(argument.get_help());
+            let offer = Offer {
+                kind: Kind::Long,
+                name: long,
+                description,
+                fallback,
+            };
+            rows.write_row(&offer, sink)
+        }
+    }
+}
+
+fn write_short<R: Rows, W: Sink>(
+    rows: &R,
+    argument: &Arg,
+    short: char,
+    sink: &mut W,
+) -> Result<(), Error>
+    ensures { Writes W.taken W.failed result sink.old sink.new
+        (R.row_text (short_offer argument.now short)) }
+{
+    let mut name = [0; 4];
+    let mut fallback = [0; 4];
+    let own = argument.get_short().unwrap_or(short);
+    let offer = Offer {
+        kind: Kind::Short,
+        name: TextRef::new(short.encode_utf8(&mut name)),
+        description: described(argument.get_help()),
+        fallback: TextRef::new(own.encode_utf8(&mut fallback)),
+    };
+    rows.write_row(&offer, sink)
+}
+
+fn described<'a>(help: Option<&'a str>) -> Option<TextRef<'a>>
+    ensures { result ≡ option_copied help.entry }
+{
+    match help {
+        Some(help) => Some(TextRef::new(help)),
+        None => None,
+    }
+}
+
+fn write_children<R: Rows, W: Sink>(
+    rows: &R,
+    children: &[Command],
+    sink: &mut W,
+) -> Result<(), Error>
+    ensures { Writes W.taken W.failed result sink.old sink.new
+        (flat_map R.row_text (children_offers (forest_of children.now))) }
+{
+    for child in children {
+        write_child(rows, child, sink)?;
+    }
+    Ok(())
+}
+
+// Writes a row for each visible name of a child.
+fn write_child<R: Rows, W: Sink>(rows: &R, child: &Command, sink: &mut W) -> Result<(), Error>
+    ensures { Writes W.taken W.failed result sink.old sink.new
+        (flat_map R.row_text (child_offers child.now.node)) }
+{
+    for name in child.get_name_and_visible_aliases() {
+        write_child_name(rows, child, name, sink)?;
+    }
+    Ok(())
+}
+
+fn write_child_name<R: Rows, W: Sink>(
+    rows: &R,
+    child: &Command,
+    name: &str,
+    sink: &mut W,
+) -> Result<(), Error>
+    ensures { Writes W.taken W.failed result sink.old sink.new
+        (R.row_text (child_offer child.now.node name.now)) }
+{
+    let offer = Offer {
+        kind: Kind::Subcommand,
+        name: TextRef::new(name),
+        description: described(child.get_about()),
+        fallback: TextRef::new(name),
+    };
+    rows.write_row(&offer, sink)
+}
+
+/// The bin name where there is one, else the name.
+pub fn full_name(command: &Command) -> &str
+    ensures { result.now ≡ full_name command.now.node }
+{
+    command.get_bin_name().unwrap_or(command.get_name())
+}

@@ -1,0 +1,324 @@
+//! The PowerShell script: a frame, and in it a table for each visible path.
+
+ghost use Rattle.std.specs.Prelude.{◌≡◌, ◌++◌, ◌<◌, None, codes, flat_map, length, map, IfOk, IfErr, OnOk};
+ghost use Rattle.std.specs.Option.{option_copied};
+ghost use Rattle.std.specs.String.{string_bytes};
+ghost use Rattle.cc_base.specs.Writes.{Writes};
+ghost use Rattle.cc_flat.specs.Flat.{tree_at};
+ghost use Rattle.cc_tables.specs.PowershellScript.{capital_space, command, completions, details_text, head, head_text, key_end, key_text, kind_begin, kind_text, list_begin, node_text, offer_row, powershell_script, result_kind, row_begin, row_end, row_text, table_begin, table_end, table_text, tail, text_begin, words_text};
+ghost use Rattle.cc_tables.specs.Offers.{node_offers, word};
+
+use crate::offers::{Kind, Offer, Rows, full_name, write_rows};
+use cc_base::{Error, Sink, put_all};
+use cc_command::Command;
+use cc_flat::Flat;
+use cc_lists::Generator;
+use cc_quote::{PowershellEscape, put_escaped};
+use cc_visits::{Joined, TableVisits};
+use std::alloc::Global;
+
+// ---- the fixed texts
+
+#[tactic(auto, unfolding(crate::specs::PowershellScript::head))]
+fn head() -> &'static str
+    ensures { result.now ≡ head }
+{
+    "
+using namespace System.Management.Automation
+using namespace System.Management.Automation.Language
+
+Register-ArgumentCompleter -Native -CommandName '"
+}
+
+#[tactic(auto, unfolding(crate::specs::PowershellScript::command))]
+fn command() -> &'static str
+    ensures { result.now ≡ command }
+{
+    "' -ScriptBlock {
+    param($wordToComplete, $commandAst, $cursorPosition)
+
+    $commandElements = $commandAst.CommandElements
+    $command = @(
+        '"
+}
+
+#[tactic(auto, unfolding(crate::specs::PowershellScript::completions))]
+fn completions() -> &'static str
+    ensures { result.now ≡ completions }
+{
+    "'
+        for ($i = 1; $i -lt $commandElements.Count; $i++) {
+            $element = $commandElements[$i]
+            if ($element -isnot [StringConstantExpressionAst] -or
+                $element.StringConstantType -ne [StringConstantType]::BareWord -or
+                $element.Value.StartsWith('-') -or
+                $element.Value -eq $wordToComplete) {
+                break
+        }
+        $element.Value
+    }) -join ';'
+
+    $completions = @(switch ($command) {"
+}
+
+#[tactic(auto, unfolding(crate::specs::PowershellScript::tail))]
+fn tail() -> &'static str
+    ensures { result.now ≡ tail }
+{
+    "
+    })
+
+    $completions.Where{ $_.CompletionText -like \"$wordToComplete*\" } |
+        Sort-Object -Property ListItemText
+}
+"
+}
+
+#[tactic(auto, unfolding(crate::specs::PowershellScript::table_begin))]
+fn table_begin() -> &'static str
+    ensures { result.now ≡ table_begin }
+{
+    "\n        '"
+}
+
+#[tactic(auto, unfolding(crate::specs::PowershellScript::key_end))]
+fn key_end() -> &'static str
+    ensures { result.now ≡ key_end }
+{
+    "' {"
+}
+
+#[tactic(auto, unfolding(crate::specs::PowershellScript::table_end))]
+fn table_end() -> &'static str
+    ensures { result.now ≡ table_end }
+{
+    "\n            break\n        }"
+}
+
+#[tactic(auto, unfolding(crate::specs::PowershellScript::row_begin))]
+fn row_begin() -> &'static str
+    ensures { result.now ≡ row_begin }
+{
+    "\n            [CompletionResult]::new('"
+}
+
+#[tactic(auto, unfolding(crate::specs::PowershellScript::list_begin))]
+fn list_begin() -> &'static str
+    ensures { result.now ≡ list_begin }
+{
+    "', '"
+}
+
+#[tactic(auto, unfolding(crate::specs::PowershellScript::kind_begin))]
+fn kind_begin() -> &'static str
+    ensures { result.now ≡ kind_begin }
+{
+    "', [CompletionResultType]::"
+}
+
+#[tactic(auto, unfolding(crate::specs::PowershellScript::text_begin))]
+fn text_begin() -> &'static str
+    ensures { result.now ≡ text_begin }
+{
+    ", '"
+}
+
+#[tactic(auto, unfolding(crate::specs::PowershellScript::row_end))]
+fn row_end() -> &'static str
+    ensures { result.now ≡ row_end }
+{
+    "')"
+}
+
+#[tactic(auto, unfolding(crate::specs::PowershellScript::kind_text))]
+fn kind_text(kind: Kind) -> &'static str
+    ensures { result.now ≡ kind_text (result_kind kind) }
+{
+    match kind {
+        Kind::Short | Kind::Long => "ParameterName",
+        Kind::Subcommand => "ParameterValue",
+    }
+}
+
+/// Writes PowerShell scripts.
+#[derive(Clone, Copy, PartialEq, Eq, Debug)]
+pub struct PowerShell;
+
+impl Generator for PowerShell {
+    ghost use Rattle.std.specs.Prelude.{◌++◌, None, codes};
+    ghost use Rattle.cc_tables.specs.PowershellReader.{PowershellReads};
+    ghost use Rattle.cc_tables.specs.PowershellScript.{powershell_script};
+
+    ghost script = { λ _ tree. powershell_script tree };
+
+    ghost Reads = { λ _ tree. PowershellReads tree };
+
+    ghost clash = { λ _ _. None };
+
+    ghost file = { λ _ name. codes "_" ++ name ++ codes ".ps1" };
+
+    fn file_name(&self, alloc: Global, name: &str) -> Result<String, Error> {
+        let mut file = String::from_str(alloc, "_")?;
+        file.push_str(name)?;
+        file.push_str(".ps1")?;
+        Ok(file)
+    }
+
+    #[tactic(auto, using(crate::proofs::PowershellPlain::powershell_plain_reads))]
+    fn generate<W: Sink>(
+        &self,
+        alloc: Global,
+        command: &Command,
+        sink: &mut W,
+    ) -> Result<(), Error> {
+        let flat = Flat::new(alloc, command)?;
+        write_script(alloc, &flat, sink)
+    }
+}
+
+// Writes the script of the tree that the list holds.
+#[tactic(auto, using(crate::proofs::PowershellTexts::tables_of_visits), unfolding(crate::specs::PowershellScript::script_text))]
+fn write_script<W: Sink>(alloc: Global, flat: &Flat<'_>, sink: &mut W) -> Result<(), Error>
+    requires { 0 < length flat.now }
+    ensures { Writes W.taken W.failed result sink.old sink.new
+        (powershell_script (tree_at flat.now 0)) }
+{
+    let bin_name = full_name(flat.command(0));
+    let keys = Joined { separator: ";" };
+    let visits = TableVisits::new(alloc, flat, bin_name, &keys)?;
+    write_frame(alloc, bin_name, visits, sink)
+}
+
+// Writes the frame, and in it a table for each visit.
+fn write_frame<W: Sink>(
+    alloc: Global,
+    bin_name: &str,
+    visits: TableVisits<'_, '_, Joined<'_>>,
+    sink: &mut W,
+) -> Result<(), Error>
+    ensures { Writes W.taken W.failed result sink.old sink.new (head_text bin_name.now
+        ++ flat_map (λ visit. node_text visit.key visit.tree) visits.entry ++ tail) }
+{
+    write_head(bin_name, sink)?;
+    write_tables(alloc, visits, sink)?;
+    put_all(sink, tail().as_bytes())
+}
+
+// Writes the frame up to the tables.
+#[tactic(auto, unfolding(crate::specs::PowershellScript::head_text))]
+fn write_head<W: Sink>(bin_name: &str, sink: &mut W) -> Result<(), Error>
+    ensures { Writes W.taken W.failed result sink.old sink.new (head_text bin_name.now) }
+{
+    put_all(sink, head().as_bytes())?;
+    put_all(sink, bin_name.as_bytes())?;
+    put_all(sink, command().as_bytes())?;
+    put_all(sink, bin_name.as_bytes())?;
+    put_all(sink, completions().as_bytes())
+}
+
+// Writes a table for each visit that is left.
+fn write_tables<W: Sink>(
+    alloc: Global,
+    mut visits: TableVisits<'_, '_, Joined<'_>>,
+    sink: &mut W,
+) -> Result<(), Error>
+    ensures { Writes W.taken W.failed result sink.old sink.new
+        (flat_map (λ visit. node_text visit.key visit.tree) visits.entry) }
+{
+    while let Some(visit) = visits.next(alloc)? {
+        write_table(visit.key.as_str(), visit.command, sink)?;
+    }
+    Ok(())
+}
+
+// Writes the table of a node.
+#[tactic(auto, unfolding(crate::specs::PowershellScript::node_text, crate::specs::PowershellScript::table_text))]
+fn write_table<W: Sink>(key: &str, command: &Command, sink: &mut W) -> Result<(), Error>
+    ensures { Writes W.taken W.failed result sink.old sink.new (node_text key.now command.now) }
+{
+    write_key(key, sink)?;
+    write_table_rows(command, sink)?;
+    put_all(sink, table_end().as_bytes())
+}
+
+// Writes the rows of a table.
+#[tactic(auto, using(crate::proofs::PowershellTexts::rows_of_offers))]
+fn write_table_rows<W: Sink>(command: &Command, sink: &mut W) -> Result<(), Error>
+    ensures { Writes W.taken W.failed result sink.old sink.new
+        (flat_map row_text (map offer_row (node_offers command.now))) }
+{
+    write_rows(&PowerShell, command, sink)
+}
+
+// Writes the beginning of a table.
+#[tactic(auto, unfolding(crate::specs::PowershellScript::key_text))]
+fn write_key<W: Sink>(key: &str, sink: &mut W) -> Result<(), Error>
+    ensures { Writes W.taken W.failed result sink.old sink.new (key_text key.now) }
+{
+    put_all(sink, table_begin().as_bytes())?;
+    put_all(sink, key.as_bytes())?;
+    put_all(sink, key_end().as_bytes())
+}
+
+impl Rows for PowerShell {
+    ghost use Rattle.cc_tables.specs.PowershellScript.{offer_text};
+
+    ghost row_text = { offer_text };
+
+    #[tactic(auto, unfolding(crate::specs::PowershellScript::offer_text, crate::specs::PowershellScript::row_text))]
+    fn write_row<W: Sink>(&self, offer: &Offer<'_>, sink: &mut W) -> Result<(), Error> {
+        write_words(offer, sink)?;
+        write_details(offer, sink)
+    }
+}
+
+// Writes what is typed, and what lists show for it.
+#[tactic(auto, unfolding(crate::specs::PowershellScript::words_text))]
+fn write_words<W: Sink>(offer: &Offer<'_>, sink: &mut W) -> Result<(), Error>
+    ensures { Writes W.taken W.failed result sink.old sink.new (words_text (offer_row offer.now)) }
+{
+    put_all(sink, row_begin().as_bytes())?;
+    write_word(offer, sink)?;
+    put_all(sink, list_begin().as_bytes())?;
+    write_word(offer, sink)?;
+    put_all(sink, capital_space(offer).as_bytes())
+}
+
+fn write_word<W: Sink>(offer: &Offer<'_>, sink: &mut W) -> Result<(), Error>
+    ensures { Writes W.taken W.failed result sink.old sink.new (word offer.now) }
+{
+    put_all(sink, offer.kind.dashes().as_bytes())?;
+    put_all(sink, offer.name.as_str().as_bytes())
+}
+
+// Writes the rest of a row: its kind and what describes it.
+#[tactic(auto, unfolding(crate::specs::PowershellScript::details_text))]
+fn write_details<W: Sink>(offer: &Offer<'_>, sink: &mut W) -> Result<(), Error>
+    ensures { Writes W.taken W.failed result sink.old sink.new (details_text (offer_row offer.now)) }
+{
+    put_all(sink, kind_begin().as_bytes())?;
+    put_all(sink, kind_text(offer.kind).as_bytes())?;
+    put_all(sink, text_begin().as_bytes())?;
+    put_escaped(&PowershellEscape, shown_text(offer), sink)?;
+    put_all(sink, row_end().as_bytes())
+}
+
+// The lists of PowerShell take no account of case, so a space tells a capital apart.
+fn capital_space(offer: &Offer<'_>) -> &'static str
+    ensures { result.now ≡ capital_space offer.now.kind offer.now.name }
+{
+    match (offer.kind, offer.name.as_str().as_bytes()) {
+        (Kind::Short, [byte]) if byte.is_ascii_uppercase() => " ",
+        _ => "",
+    }
+}
+
+// The help or the about where there is one and it is not empty.
+fn shown_text<'a>(offer: &'a Offer<'_>) -> &'a str
+    ensures { result.now ≡ (offer_row offer.now).text }
+{
+    match &offer.description {
+        Some(description) if !description.as_str().is_empty() => description.as_str(),
+        _ => offer.fallback.as_str(),
+    }
+}

@@ -1,0 +1,18 @@
+-- What a call that writes an Elvish script of plain commands alone does.
+use Rattle.std.specs.Prelude.{◌≡◌, ℕ, List, ◌++◌, Bool, true, false, Some, Result, Ok, ⊤}
+use Rattle.cc_base.specs.declared.error.Error.{Error}
+use Rattle.cc_command.specs.Tree.{Tree}
+use Rattle.cc_tables.specs.ElvishReader.{elvish_tables, offer_read}
+use Rattle.cc_tables.specs.ElvishScript.{elvish_script}
+use Rattle.cc_tables.specs.Tables.{tree_tables}
+
+-- the script of the tree is taken, and it reads to the tree's tables
+pub record TakesTables (old new : List ℕ) (tree : Tree) : Type 0 where
+  pub taken : new ≡ old ++ elvish_script tree
+  pub tables : elvish_tables (elvish_script tree) ≡ Some (tree_tables offer_read tree)
+
+-- On `Ok(true)` the script is taken and reads to the tables; on `Ok(false)` nothing is taken.
+abbrev pub TakesPlain : Result Bool Error → List ℕ → List ℕ → Tree → Type 0
+TakesPlain (Ok true) old new tree = TakesTables old new tree
+TakesPlain (Ok false) old new tree = new ≡ old
+TakesPlain _ old new tree = ⊤

@@ -1,0 +1,276 @@
+//! Bash scripts.
+
+use crate::fixtures::{built, chain, clashing, colored, helped, hinted};
+use crate::written::{script, script_for};
+use clap_complete::aot::{Bash, Collected};
+use clap_complete::command::{Command, ValueHint};
+use clap_complete::{Error, Generator, generate};
+use std::alloc::Global;
+use std::test::Fail;
+
+const HELPED: &str = "_my__app() {
+    local i cur prev opts cmd
+    COMPREPLY=()
+    if [[ \"${BASH_VERSINFO[0]}\" -ge 4 ]]; then
+        cur=\"$2\"
+    else
+        cur=\"${COMP_WORDS[COMP_CWORD]}\"
+    fi
+    prev=\"$3\"
+    cmd=\"\"
+    opts=\"\"
+
+    for i in \"${COMP_WORDS[@]:0:COMP_CWORD}\"
+    do
+        case \"${cmd},${i}\" in
+            \",$1\")
+                cmd=\"my__app\"
+                ;;
+            my__app,help)
+                cmd=\"my__app__subcmd__help\"
+                ;;
+            my__app,test)
+                cmd=\"my__app__subcmd__test\"
+                ;;
+            my__app__subcmd__help,help)
+                cmd=\"my__app__subcmd__help__subcmd__help\"
+                ;;
+            my__app__subcmd__help,test)
+                cmd=\"my__app__subcmd__help__subcmd__test\"
+                ;;
+            *)
+                ;;
+        esac
+    done
+
+    case \"${cmd}\" in
+        my__app)
+            opts=\"-h --help test help\"
+            if [[ ${cur} == -* || ${COMP_CWORD} -eq 1 ]] ; then
+                COMPREPLY=( $(compgen -W \"${opts}\" -- \"${cur}\") )
+                return 0
+            fi
+            case \"${prev}\" in
+                *)
+                    COMPREPLY=()
+                    ;;
+            esac
+            COMPREPLY=( $(compgen -W \"${opts}\" -- \"${cur}\") )
+            return 0
+            ;;
+        my__app__subcmd__help)
+            opts=\"test help\"
+            if [[ ${cur} == -* || ${COMP_CWORD} -eq 2 ]] ; then
+                COMPREPLY=( $(compgen -W \"${opts}\" -- \"${cur}\") )
+                return 0
+            fi
+            case \"${prev}\" in
+                *)
+                    COMPREPLY=()
+                    ;;
+            esac
+            COMPREPLY=( $(compgen -W \"${opts}\" -- \"${cur}\") )
+            return 0
+            ;;
+        my__app__subcmd__help__subcmd__help)
+            opts=\"\"
+            if [[ ${cur} == -* || ${COMP_CWORD} -eq 3 ]] ; then
+                COMPREPLY=( $(compgen -W \"${opts}\" -- \"${cur}\") )
+                return 0
+            fi
+            case \"${prev}\" in
+                *)
+                    COMPREPLY=()
+                    ;;
+            esac
+            COMPREPLY=( $(compgen -W \"${opts}\" -- \"${cur}\") )
+            return 0
+            ;;
+        my__app__subcmd__help__subcmd__test)
+            opts=\"\"
+            if [[ ${cur} == -* || ${COMP_CWORD} -eq 3 ]] ; then
+                COMPREPLY=( $(compgen -W \"${opts}\" -- \"${cur}\") )
+                return 0
+            fi
+            case \"${prev}\" in
+                *)
+                    COMPREPLY=()
+                    ;;
+            esac
+            COMPREPLY=( $(compgen -W \"${opts}\" -- \"${cur}\") )
+            return 0
+            ;;
+        my__app__subcmd__test)
+            opts=\"-h --help\"
+            if [[ ${cur} == -* || ${COMP_CWORD} -eq 2 ]] ; then
+                COMPREPLY=( $(compgen -W \"${opts}\" -- \"${cur}\") )
+                return 0
+            fi
+            case \"${prev}\" in
+                *)
+                    COMPREPLY=()
+                    ;;
+            esac
+            COMPREPLY=( $(compgen -W \"${opts}\" -- \"${cur}\") )
+            return 0
+            ;;
+    esac
+}
+
+if [[ \"${BASH_VERSINFO[0]}\" -eq 4 && \"${BASH_VERSINFO[1]}\" -ge 4 || \"${BASH_VERSINFO[0]}\" -gt 4 ]]; then
+    complete -F _my__app -o nosort -o bashdefault -o default my-app
+else
+    complete -F _my__app -o bashdefault -o default my-app
+fi
+";
+
+#[test]
+fn the_whole_script(rt: HostRuntime) -> Result<(), Fail> {
+    let script = script_for(rt.alloc(), Bash, helped(rt.alloc()), "my-app")?;
+    assert_eq!(rt; script.as_str(), HELPED);
+    Ok(())
+}
+
+// Whether the call failed with a clash of this label.
+fn is_clash(outcome: &Result<(), Error>, label: &str) -> bool {
+    match outcome {
+        Err(Error::LabelClash(shared)) => shared.as_str() == label,
+        _ => false,
+    }
+}
+
+// Whether the call for two commands with one label reports it, and how much is written.
+fn clash(alloc: Global) -> Result<(bool, usize), Error> {
+    let mut sink = Collected::new(alloc);
+    let mut command = clashing(alloc)?;
+    let bin_name = String::from_str(alloc, "p")?;
+    let result = generate(alloc, Bash, &mut command, bin_name, &mut sink);
+    let reported = is_clash(&result, "p__subcmd__a__subcmd__b");
+    Ok((reported, sink.as_slice().len()))
+}
+
+#[test]
+fn a_label_of_two_commands_is_reported_and_nothing_is_written(rt: HostRuntime) -> Result<(), Fail> {
+    assert_eq!(rt; clash(rt.alloc())?, (true, 0));
+    Ok(())
+}
+
+const COLORED: &str = "
+            case \"${prev}\" in
+                --color)
+                    COMPREPLY=($(compgen -W \"auto\" -- \"${cur}\"))
+                    return 0
+                    ;;
+                -c)
+                    COMPREPLY=($(compgen -W \"auto\" -- \"${cur}\"))
+                    return 0
+                    ;;
+                *)";
+
+#[test]
+fn values_that_are_shown_are_offered(rt: HostRuntime) -> Result<(), Fail> {
+    let script = script(rt.alloc(), Bash, colored(rt.alloc()))?;
+    assert!(rt;
+        script
+            .as_str()
+            .contains("opts=\"-c -h --color --help run help\"")
+    );
+    assert!(rt; script.as_str().contains(COLORED));
+    Ok(())
+}
+
+const FILE: &str = "
+                --path)
+                    local oldifs
+                    if [ -n \"${IFS+x}\" ]; then
+                        oldifs=\"$IFS\"
+                    fi
+                    IFS=$'\\n'
+                    COMPREPLY=($(compgen -f \"${cur}\"))
+                    if [ -n \"${oldifs+x}\" ]; then
+                        IFS=\"$oldifs\"
+                    fi
+                    if [[ \"${BASH_VERSINFO[0]}\" -ge 4 ]]; then
+                        compopt -o filenames
+                    fi
+                    return 0
+                    ;;";
+
+const DIRECTORY: &str = "
+                --path)
+                    COMPREPLY=()
+                    if [[ \"${BASH_VERSINFO[0]}\" -ge 4 ]]; then
+                        compopt -o plusdirs
+                    fi
+                    return 0
+                    ;;";
+
+const OTHER: &str = "
+                --path)
+                    COMPREPLY=(\"${cur}\")
+                    if [[ \"${BASH_VERSINFO[0]}\" -ge 4 ]]; then
+                        compopt -o nospace
+                    fi
+                    return 0
+                    ;;";
+
+const UNKNOWN: &str = "
+                --path)
+                    COMPREPLY=($(compgen -f \"${cur}\"))
+                    return 0
+                    ;;";
+
+// Whether the script of an option with this hint has these lines.
+fn offers(alloc: Global, hint: ValueHint, lines: &str) -> Result<bool, Error> {
+    Ok(
+        script(alloc, Bash, hinted(alloc, hint))?
+            .as_str()
+            .contains(lines),
+    )
+}
+
+#[test]
+fn each_hint_has_its_lines(rt: HostRuntime) -> Result<(), Fail> {
+    assert!(rt; offers(rt.alloc(), ValueHint::FilePath, FILE)?);
+    assert!(rt; offers(rt.alloc(), ValueHint::DirPath, DIRECTORY)?);
+    assert!(rt; offers(rt.alloc(), ValueHint::Other, OTHER)?);
+    assert!(rt; offers(rt.alloc(), ValueHint::Unknown, UNKNOWN)?);
+    Ok(())
+}
+
+#[test]
+fn the_last_of_two_hundred_commands_has_the_level_two_hundred(rt: HostRuntime) -> Result<(), Fail> {
+    let script = script(rt.alloc(), Bash, chain(rt.alloc()))?;
+    assert!(rt; script.as_str().contains("${COMP_CWORD} -eq 200 ]] ; then"));
+    assert!(rt; !script.as_str().contains("${COMP_CWORD} -eq 201 ]] ; then"));
+    Ok(())
+}
+
+// What the methods write of a command that is ready.
+fn twice(alloc: Global, command: &Command) -> Result<String, Error> {
+    let mut sink = Collected::new(alloc);
+    if command.is_ready() {
+        Bash.generate(alloc, command, &mut sink)?;
+        Bash.try_generate(alloc, command, &mut sink)?;
+    }
+    Ok(String::from_utf8_lossy(alloc, sink.as_slice())?)
+}
+
+fn ready(alloc: Global) -> Result<Command, Error> {
+    let bin_name = String::from_str(alloc, "my-app")?;
+    built(alloc, Ok(helped(alloc)?.bin_name(bin_name)))
+}
+
+#[test]
+fn the_methods_write_the_script(rt: HostRuntime) -> Result<(), Fail> {
+    let written = twice(rt.alloc(), &ready(rt.alloc())?)?;
+    assert_eq!(rt; written.as_str().strip_prefix(HELPED), Some(HELPED));
+    Ok(())
+}
+
+#[test]
+fn the_file_is_named_after_the_program(rt: HostRuntime) -> Result<(), Fail> {
+    let file = Bash.file_name(rt.alloc(), "app")?;
+    assert_eq!(rt; file.as_str(), "app.bash");
+    Ok(())
+}

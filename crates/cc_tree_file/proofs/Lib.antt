@@ -1,0 +1,4 @@
+pub mod ChildrenLemmas
+pub mod NestingLemmas
+pub mod TreeFormExamples
+pub mod TreeFormLemmas

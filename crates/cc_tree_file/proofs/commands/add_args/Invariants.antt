@@ -1,0 +1,13 @@
+use Rattle.std.specs.Prelude.{◌≡◌, drop, fold, option_map}
+use Rattle.serde_json.specs.View.{items_view}
+use Rattle.cc_tree_file.specs.ArgumentForm.{argument_of}
+use Rattle.cc_tree_file.specs.CommandForm.{add_argument}
+use Rattle.cc_tree_file.specs.TreeForm.{all_of}
+use Rattle.cc_tree_file.proofs.commands.add_args.Given as goal
+
+-- with the arguments that are left it is the whole
+abbrev pub invariant-loop-item : goal.invariant-loop-item
+invariant-loop-item l =
+    option_map (fold add_argument l.command)
+    (all_of argument_of (items_view (drop l.item-index l.item-items)))
+    ≡ option_map (fold add_argument l.fn.command) (all_of argument_of (items_view l.item-items))

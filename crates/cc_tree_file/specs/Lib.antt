@@ -1,0 +1,5 @@
+pub mod ArgumentForm
+pub mod CommandForm
+pub mod PossibleValueForm
+pub mod TreeFile
+pub mod TreeForm

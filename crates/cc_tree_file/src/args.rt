@@ -1,0 +1,262 @@
+//! The arguments of a tree file.
+
+ghost use Rattle.std.specs.Prelude.{◌≡◌, Some, fold, map, string_bytes};
+ghost use Rattle.serde_json.specs.View.{view};
+ghost use Rattle.cc_tree_file.specs.ArgumentForm as form;
+ghost use Rattle.cc_tree_file.specs.TreeForm.{Gives, GivesSame, has_only};
+
+use crate::error::{TreeError, builder_error};
+use crate::possible_values::possible_values;
+use crate::values::{
+    action, boolean, character, characters, has_only_keys, hint, range, text, texts,
+};
+use cc_arg::Arg;
+use serde_json::Value;
+use std::alloc::Global;
+
+const KEYS: [&str; 14] = [
+    "id",
+    "short",
+    "long",
+    "help",
+    "action",
+    "num_args",
+    "short_aliases",
+    "visible_short_aliases",
+    "aliases",
+    "visible_aliases",
+    "value_names",
+    "possible_values",
+    "value_hint",
+    "hide",
+];
+
+/// The argument that an object describes.
+#[tactic(auto, unfolding(crate::specs::ArgumentForm::argument_of))]
+pub fn arg(alloc: Global, tree: &Value) -> Result<Arg, TreeError>
+    ensures { GivesSame result (form.argument_of (view tree.now)) }
+{
+    let id = id(alloc, tree)?;
+    with_rest(alloc, Arg::new(alloc, id), tree)
+}
+
+// The id, of an object with no other keys than an argument's.
+fn id(alloc: Global, tree: &Value) -> Result<String, TreeError>
+    ensures { Gives string_bytes result (form.id_of (view tree.now)) }
+{
+    if !has_argument_keys(tree) {
+        return Err(TreeError::BadForm);
+    }
+    text(alloc, tree.get("id").ok_or(TreeError::BadForm)?)
+}
+
+#[tactic(auto, unfolding(crate::specs::ArgumentForm::argument_keys))]
+fn has_argument_keys(tree: &Value) -> bool
+    ensures { result ≡ has_only form.argument_keys (view tree.now) }
+{
+    has_only_keys(tree, KEYS.as_slice())
+}
+
+// What the keys besides the id say.
+fn with_rest(alloc: Global, arg: Arg, tree: &Value) -> Result<Arg, TreeError>
+    ensures { GivesSame result (form.with_rest (view tree.now) arg) }
+{
+    let arg = with_names(alloc, arg, tree)?;
+    let arg = with_values(alloc, arg, tree)?;
+    let arg = with_hide(arg, tree)?;
+    with_all_aliases(alloc, arg, tree)
+}
+
+fn with_names(alloc: Global, arg: Arg, tree: &Value) -> Result<Arg, TreeError>
+    ensures { GivesSame result (form.with_names (view tree.now) arg) }
+{
+    let arg = with_short(arg, tree)?;
+    let arg = with_long(alloc, arg, tree)?;
+    with_help(alloc, arg, tree)
+}
+
+fn with_short(arg: Arg, tree: &Value) -> Result<Arg, TreeError>
+    ensures { GivesSame result (form.with_short (view tree.now) arg) }
+{
+    match tree.get("short") {
+        Some(value) => Ok(arg.short(character(value)?)),
+        None => Ok(arg),
+    }
+}
+
+fn with_long(alloc: Global, arg: Arg, tree: &Value) -> Result<Arg, TreeError>
+    ensures { GivesSame result (form.with_long (view tree.now) arg) }
+{
+    match tree.get("long") {
+        Some(value) => Ok(arg.long(text(alloc, value)?)),
+        None => Ok(arg),
+    }
+}
+
+fn with_help(alloc: Global, arg: Arg, tree: &Value) -> Result<Arg, TreeError>
+    ensures { GivesSame result (form.with_help (view tree.now) arg) }
+{
+    match tree.get("help") {
+        Some(value) => Ok(arg.help(text(alloc, value)?)),
+        None => Ok(arg),
+    }
+}
+
+fn with_values(alloc: Global, arg: Arg, tree: &Value) -> Result<Arg, TreeError>
+    ensures { GivesSame result (form.with_values (view tree.now) arg) }
+{
+    let arg = with_action(arg, tree)?;
+    let arg = with_num_args(arg, tree)?;
+    let arg = with_value_names(alloc, arg, tree)?;
+    let arg = with_possible_values(alloc, arg, tree)?;
+    with_value_hint(arg, tree)
+}
+
+fn with_action(arg: Arg, tree: &Value) -> Result<Arg, TreeError>
+    ensures { GivesSame result (form.with_action (view tree.now) arg) }
+{
+    match tree.get("action") {
+        Some(value) => Ok(arg.action(action(value)?)),
+        None => Ok(arg),
+    }
+}
+
+fn with_num_args(arg: Arg, tree: &Value) -> Result<Arg, TreeError>
+    ensures { GivesSame result (form.with_num_args (view tree.now) arg) }
+{
+    match tree.get("num_args") {
+        Some(value) => Ok(arg.num_args(range(value)?)),
+        None => Ok(arg),
+    }
+}
+
+fn with_value_names(alloc: Global, arg: Arg, tree: &Value) -> Result<Arg, TreeError>
+    ensures { GivesSame result (form.with_value_names (view tree.now) arg) }
+{
+    match tree.get("value_names") {
+        Some(value) => add_value_names(arg, texts(alloc, value)?),
+        None => Ok(arg),
+    }
+}
+
+fn add_value_names(arg: Arg, names: Vec<String>) -> Result<Arg, TreeError>
+    ensures { GivesSame result (Some (fold form.with_value_name arg (map string_bytes names.items))) }
+{
+    let mut arg = arg;
+    for name in names {
+        arg = arg.value_name(name).map_err(builder_error)?;
+    }
+    Ok(arg)
+}
+
+fn with_possible_values(alloc: Global, arg: Arg, tree: &Value) -> Result<Arg, TreeError>
+    ensures { GivesSame result (form.with_possible_values (view tree.now) arg) }
+{
+    match tree.get("possible_values") {
+        Some(value) => Ok(arg.value_parser(possible_values(alloc, value)?)),
+        None => Ok(arg),
+    }
+}
+
+fn with_value_hint(arg: Arg, tree: &Value) -> Result<Arg, TreeError>
+    ensures { GivesSame result (form.with_value_hint (view tree.now) arg) }
+{
+    match tree.get("value_hint") {
+        Some(value) => Ok(arg.value_hint(hint(value)?)),
+        None => Ok(arg),
+    }
+}
+
+fn with_hide(arg: Arg, tree: &Value) -> Result<Arg, TreeError>
+    ensures { GivesSame result (form.with_hide (view tree.now) arg) }
+{
+    match tree.get("hide") {
+        Some(value) => Ok(arg.hide(boolean(value)?)),
+        None => Ok(arg),
+    }
+}
+
+fn with_all_aliases(alloc: Global, arg: Arg, tree: &Value) -> Result<Arg, TreeError>
+    ensures { GivesSame result (form.with_all_aliases (view tree.now) arg) }
+{
+    let arg = with_short_aliases(alloc, arg, tree)?;
+    let arg = with_visible_short_aliases(alloc, arg, tree)?;
+    let arg = with_aliases(alloc, arg, tree)?;
+    with_visible_aliases(alloc, arg, tree)
+}
+
+fn with_short_aliases(alloc: Global, arg: Arg, tree: &Value) -> Result<Arg, TreeError>
+    ensures { GivesSame result (form.with_short_aliases (view tree.now) arg) }
+{
+    match tree.get("short_aliases") {
+        Some(value) => add_short_aliases(arg, characters(alloc, value)?),
+        None => Ok(arg),
+    }
+}
+
+fn add_short_aliases(arg: Arg, names: Vec<char>) -> Result<Arg, TreeError>
+    ensures { GivesSame result (Some (fold form.with_short_alias arg names.items)) }
+{
+    let mut arg = arg;
+    for name in names {
+        arg = arg.short_alias(name).map_err(builder_error)?;
+    }
+    Ok(arg)
+}
+
+fn with_visible_short_aliases(alloc: Global, arg: Arg, tree: &Value) -> Result<Arg, TreeError>
+    ensures { GivesSame result (form.with_visible_short_aliases (view tree.now) arg) }
+{
+    match tree.get("visible_short_aliases") {
+        Some(value) => add_visible_short_aliases(arg, characters(alloc, value)?),
+        None => Ok(arg),
+    }
+}
+
+fn add_visible_short_aliases(arg: Arg, names: Vec<char>) -> Result<Arg, TreeError>
+    ensures { GivesSame result (Some (fold form.with_visible_short_alias arg names.items)) }
+{
+    let mut arg = arg;
+    for name in names {
+        arg = arg.visible_short_alias(name).map_err(builder_error)?;
+    }
+    Ok(arg)
+}
+
+fn with_aliases(alloc: Global, arg: Arg, tree: &Value) -> Result<Arg, TreeError>
+    ensures { GivesSame result (form.with_aliases (view tree.now) arg) }
+{
+    match tree.get("aliases") {
+        Some(value) => add_aliases(arg, texts(alloc, value)?),
+        None => Ok(arg),
+    }
+}
+
+fn add_aliases(arg: Arg, names: Vec<String>) -> Result<Arg, TreeError>
+    ensures { GivesSame result (Some (fold form.with_alias arg (map string_bytes names.items))) }
+{
+    let mut arg = arg;
+    for name in names {
+        arg = arg.alias(name).map_err(builder_error)?;
+    }
+    Ok(arg)
+}
+
+fn with_visible_aliases(alloc: Global, arg: Arg, tree: &Value) -> Result<Arg, TreeError>
+    ensures { GivesSame result (form.with_visible_aliases (view tree.now) arg) }
+{
+    match tree.get("visible_aliases") {
+        Some(value) => add_visible_aliases(arg, texts(alloc, value)?),
+        None => Ok(arg),
+    }
+}
+
+fn add_visible_aliases(arg: Arg, names: Vec<String>) -> Result<Arg, TreeError>
+    ensures { GivesSame result (Some (fold form.with_visible_alias arg (map string_bytes names.items))) }
+{
+    let mut arg = arg;
+    for name in names {
+        arg = arg.visible_alias(name).map_err(builder_error)?;
+    }
+    Ok(arg)
+}

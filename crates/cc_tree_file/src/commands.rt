@@ -1,0 +1,267 @@
+//! The command of a tree file.
+
+ghost use Rattle.std.specs.Prelude.{◌≡◌, Some, fold, map, option_map, string_bytes};
+ghost use Rattle.serde_json.specs.View.{view};
+ghost use Rattle.cc_command.specs.Made.{with_child};
+ghost use Rattle.cc_tree_file.specs.CommandForm as form;
+ghost use Rattle.cc_tree_file.specs.TreeForm.{Gives, GivesSame, has_only};
+
+use crate::args::arg;
+use crate::error::{TreeError, builder_error};
+use crate::values::{boolean, has_only_keys, number, text, texts};
+use cc_command::Command;
+use serde_json::Value;
+use std::alloc::Global;
+
+const KEYS: [&str; 14] = [
+    "name",
+    "bin_name",
+    "about",
+    "version",
+    "subcommand_help_heading",
+    "aliases",
+    "visible_aliases",
+    "display_order",
+    "hide",
+    "disable_help_flag",
+    "disable_version_flag",
+    "disable_help_subcommand",
+    "args",
+    "subcommands",
+];
+
+/// The command that an object describes, with its children.
+#[cycle(commands)]
+pub fn command(alloc: Global, tree: &Value) -> Result<Command, TreeError>
+    ensures { GivesSame result (form.command_of (view tree.now)) }
+{
+    let command = own(alloc, tree)?;
+    match tree.get("subcommands") {
+        Some(value) => with_children(alloc, command, value),
+        None => Ok(command),
+    }
+}
+
+// The command with the children that a list describes, each added as it is read.
+#[cycle(commands)]
+fn with_children(alloc: Global, parent: Command, value: &Value) -> Result<Command, TreeError>
+    ensures { GivesSame result
+        (option_map (fold with_child parent) (form.commands_of (view value.now))) }
+{
+    let items = value.as_array().ok_or(TreeError::BadForm)?;
+    let mut parent = parent;
+    for item in items {
+        parent = parent
+            .subcommand(command(alloc, item)?)
+            .map_err(builder_error)?;
+    }
+    Ok(parent)
+}
+
+// The command that an object describes, without its children.
+fn own(alloc: Global, tree: &Value) -> Result<Command, TreeError>
+    ensures { GivesSame result (form.own_of (view tree.now)) }
+{
+    let name = name(alloc, tree)?;
+    with_rest(alloc, Command::new(alloc, name), tree)
+}
+
+// The name, of an object with no other keys than a command's.
+fn name(alloc: Global, tree: &Value) -> Result<String, TreeError>
+    ensures { Gives string_bytes result (form.name_of (view tree.now)) }
+{
+    if !has_command_keys(tree) {
+        return Err(TreeError::BadForm);
+    }
+    text(alloc, tree.get("name").ok_or(TreeError::BadForm)?)
+}
+
+#[tactic(auto, unfolding(crate::specs::CommandForm::command_keys))]
+fn has_command_keys(tree: &Value) -> bool
+    ensures { result ≡ has_only form.command_keys (view tree.now) }
+{
+    has_only_keys(tree, KEYS.as_slice())
+}
+
+// What the keys besides the name and the children say.
+fn with_rest(alloc: Global, command: Command, tree: &Value) -> Result<Command, TreeError>
+    ensures { GivesSame result (form.with_rest (view tree.now) command) }
+{
+    let command = with_texts(alloc, command, tree)?;
+    let command = with_all_aliases(alloc, command, tree)?;
+    let command = with_display_order(command, tree)?;
+    let command = with_flags(command, tree)?;
+    with_args(alloc, command, tree)
+}
+
+fn with_texts(alloc: Global, command: Command, tree: &Value) -> Result<Command, TreeError>
+    ensures { GivesSame result (form.with_texts (view tree.now) command) }
+{
+    let command = with_bin_name(alloc, command, tree)?;
+    let command = with_about(alloc, command, tree)?;
+    let command = with_version(alloc, command, tree)?;
+    with_subcommand_help_heading(alloc, command, tree)
+}
+
+fn with_bin_name(alloc: Global, command: Command, tree: &Value) -> Result<Command, TreeError>
+    ensures { GivesSame result (form.with_bin_name (view tree.now) command) }
+{
+    match tree.get("bin_name") {
+        Some(value) => Ok(command.bin_name(text(alloc, value)?)),
+        None => Ok(command),
+    }
+}
+
+fn with_about(alloc: Global, command: Command, tree: &Value) -> Result<Command, TreeError>
+    ensures { GivesSame result (form.with_about (view tree.now) command) }
+{
+    match tree.get("about") {
+        Some(value) => Ok(command.about(text(alloc, value)?)),
+        None => Ok(command),
+    }
+}
+
+fn with_version(alloc: Global, command: Command, tree: &Value) -> Result<Command, TreeError>
+    ensures { GivesSame result (form.with_version (view tree.now) command) }
+{
+    match tree.get("version") {
+        Some(value) => Ok(command.version(text(alloc, value)?)),
+        None => Ok(command),
+    }
+}
+
+fn with_subcommand_help_heading(
+    alloc: Global,
+    command: Command,
+    tree: &Value,
+) -> Result<Command, TreeError>
+    ensures { GivesSame result (form.with_subcommand_help_heading (view tree.now) command) }
+{
+    match tree.get("subcommand_help_heading") {
+        Some(value) => Ok(command.subcommand_help_heading(text(alloc, value)?)),
+        None => Ok(command),
+    }
+}
+
+fn with_all_aliases(alloc: Global, command: Command, tree: &Value) -> Result<Command, TreeError>
+    ensures { GivesSame result (form.with_all_aliases (view tree.now) command) }
+{
+    let command = with_aliases(alloc, command, tree)?;
+    with_visible_aliases(alloc, command, tree)
+}
+
+fn with_aliases(alloc: Global, command: Command, tree: &Value) -> Result<Command, TreeError>
+    ensures { GivesSame result (form.with_aliases (view tree.now) command) }
+{
+    match tree.get("aliases") {
+        Some(value) => add_aliases(command, texts(alloc, value)?),
+        None => Ok(command),
+    }
+}
+
+fn add_aliases(command: Command, names: Vec<String>) -> Result<Command, TreeError>
+    ensures { GivesSame result
+        (Some (fold form.with_alias command (map string_bytes names.items))) }
+{
+    let mut command = command;
+    for name in names {
+        command = command.alias(name).map_err(builder_error)?;
+    }
+    Ok(command)
+}
+
+fn with_visible_aliases(alloc: Global, command: Command, tree: &Value) -> Result<Command, TreeError>
+    ensures { GivesSame result (form.with_visible_aliases (view tree.now) command) }
+{
+    match tree.get("visible_aliases") {
+        Some(value) => add_visible_aliases(command, texts(alloc, value)?),
+        None => Ok(command),
+    }
+}
+
+fn add_visible_aliases(command: Command, names: Vec<String>) -> Result<Command, TreeError>
+    ensures { GivesSame result
+        (Some (fold form.with_visible_alias command (map string_bytes names.items))) }
+{
+    let mut command = command;
+    for name in names {
+        command = command.visible_alias(name).map_err(builder_error)?;
+    }
+    Ok(command)
+}
+
+fn with_display_order(command: Command, tree: &Value) -> Result<Command, TreeError>
+    ensures { GivesSame result (form.with_display_order (view tree.now) command) }
+{
+    match tree.get("display_order") {
+        Some(value) => Ok(command.display_order(number(value)?)),
+        None => Ok(command),
+    }
+}
+
+fn with_flags(command: Command, tree: &Value) -> Result<Command, TreeError>
+    ensures { GivesSame result (form.with_flags (view tree.now) command) }
+{
+    let command = with_hide(command, tree)?;
+    let command = with_disable_help_flag(command, tree)?;
+    let command = with_disable_version_flag(command, tree)?;
+    with_disable_help_subcommand(command, tree)
+}
+
+fn with_hide(command: Command, tree: &Value) -> Result<Command, TreeError>
+    ensures { GivesSame result (form.with_hide (view tree.now) command) }
+{
+    match tree.get("hide") {
+        Some(value) => Ok(command.hide(boolean(value)?)),
+        None => Ok(command),
+    }
+}
+
+fn with_disable_help_flag(command: Command, tree: &Value) -> Result<Command, TreeError>
+    ensures { GivesSame result (form.with_disable_help_flag (view tree.now) command) }
+{
+    match tree.get("disable_help_flag") {
+        Some(value) => Ok(command.disable_help_flag(boolean(value)?)),
+        None => Ok(command),
+    }
+}
+
+fn with_disable_version_flag(command: Command, tree: &Value) -> Result<Command, TreeError>
+    ensures { GivesSame result (form.with_disable_version_flag (view tree.now) command) }
+{
+    match tree.get("disable_version_flag") {
+        Some(value) => Ok(command.disable_version_flag(boolean(value)?)),
+        None => Ok(command),
+    }
+}
+
+fn with_disable_help_subcommand(command: Command, tree: &Value) -> Result<Command, TreeError>
+    ensures { GivesSame result (form.with_disable_help_subcommand (view tree.now) command) }
+{
+    match tree.get("disable_help_subcommand") {
+        Some(value) => Ok(command.disable_help_subcommand(boolean(value)?)),
+        None => Ok(command),
+    }
+}
+
+fn with_args(alloc: Global, command: Command, tree: &Value) -> Result<Command, TreeError>
+    ensures { GivesSame result (form.with_args (view tree.now) command) }
+{
+    match tree.get("args") {
+        Some(value) => add_args(alloc, command, value),
+        None => Ok(command),
+    }
+}
+
+// The command with the arguments that a list describes, each added as it is read.
+fn add_args(alloc: Global, command: Command, value: &Value) -> Result<Command, TreeError>
+    ensures { GivesSame result
+        (option_map (fold form.add_argument command) (form.arguments_of (view value.now))) }
+{
+    let items = value.as_array().ok_or(TreeError::BadForm)?;
+    let mut command = command;
+    for item in items {
+        command = command.arg(arg(alloc, item)?).map_err(builder_error)?;
+    }
+    Ok(command)
+}

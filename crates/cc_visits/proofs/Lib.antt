@@ -1,0 +1,12 @@
+pub mod DifferentKeys
+pub mod Entered
+pub mod FromStack
+pub mod Parents
+pub mod PlainVisits
+pub mod SameVisits
+pub mod StepStack
+pub mod TableOrder
+pub mod TableStack
+pub mod VisitExamples
+pub mod VisitedPaths
+pub mod VisitedTables

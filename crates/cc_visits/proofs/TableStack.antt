@@ -1,0 +1,124 @@
+-- The visits that are still to come in table order, as items are taken from the stack and put on it.
+use Rattle.std.proofs.Common.{◌≡◌, ℕ, zero, suc, ◌+◌, ◌<◌, ◌≤◌, List, [], ◌∷◌, ◌++◌, length, reverse, refl, ap, ◌∙◌, sym, subst, append_assoc, append-nil, arith, Some}
+use Rattle.std.specs.List.{flat_map, range_with_len, All}
+use Rattle.std.proofs.lemmas.List.{nil_from_length}
+use Rattle.std.proofs.lemmas.List.Concat.{flat_map-append}
+use Rattle.std.proofs.lemmas.List.Folds.{flat_map-map}
+use Rattle.std.proofs.lemmas.List.Elements.{All-nil, All-pop, All-append, All-map}
+use Rattle.std.proofs.lemmas.List.Sorted.{All-permutation, IsPermutation-reverse}
+use Rattle.cc_command.specs.declared.node.Node.{Node}
+use Rattle.cc_command.specs.Tree.{Tree, forest_of}
+use Rattle.cc_flat.specs.Flat.{Entry, HasItsChildren, children_at, entry_at, tree_at, trees_at}
+use Rattle.cc_visits.specs.Stack.{from_stack}
+use Rattle.cc_visits.specs.TableStack.{AreListed, IsListed, item_at, items_at, table_items, tables_of}
+use Rattle.cc_visits.specs.Visits.{keyed, keys_below, tables_below, tables_from, table_visits, under_each}
+use Rattle.cc_visits.specs.declared.table_visits.TableItem.{TableItem}
+use Rattle.cc_visits.proofs.FromStack.{from_stack_none, from_stack_popped, from_stack_pushed}
+
+-- ---- items whose numbers are listed
+
+module _ (flat : List Entry) (stack rest : List TableItem) (item : TableItem) (popped : stack ≡ rest ++ item ∷ []) where
+  -- the rest of a stack
+  pub AreListed_rest : AreListed flat stack → AreListed flat rest
+  unfolding AreListed
+  AreListed_rest listed = (All-pop (IsListed flat) stack rest (Some item) popped listed).0
+
+  -- the item on top
+  pub AreListed_top : AreListed flat stack → item.number < length flat
+  unfolding AreListed
+  AreListed_top listed = (All-pop (IsListed flat) stack rest (Some item) popped listed).1.0
+
+  pub AreListed_above : AreListed flat stack → item.above < length flat
+  unfolding AreListed
+  AreListed_above listed = (All-pop (IsListed flat) stack rest (Some item) popped listed).1.1
+
+module _ (flat : List Entry) (keys : List (List ℕ)) (above : ℕ) (is_listed : above < length flat) where
+  AreListed-range : (first count : ℕ) → first + count ≤ length flat → All (IsListed flat) (table_items above keys (range_with_len first count))
+  AreListed-range first zero within = All-nil (IsListed flat)
+  AreListed-range first (suc count) within =
+      All-append (IsListed flat) (items_at above first keys) (table_items above keys (range_with_len (first + 1) count))
+      (All-map (IsListed flat) (item_at above first) keys (λ i d k. (omega arith, is_listed)))
+      (AreListed-range (first + 1) count (omega arith))
+
+  -- the items of a node's children
+  pub table_listed : (rest items new : List TableItem) → HasItsChildren flat above →
+      items ≡ table_items above keys (children_at flat above) → new ≡ rest ++ reverse items → AreListed flat rest → AreListed flat new
+  unfolding AreListed
+  table_listed rest items new its are pushed listed =
+      let P : List TableItem → Type 0 = All (IsListed flat) in
+      subst P (sym pushed) (All-append (IsListed flat) rest (reverse items) listed
+      (All-permutation (IsListed flat) items (reverse items) (IsPermutation-reverse items)
+      (subst P (sym are) (AreListed-range (entry_at flat above).first_child (entry_at flat above).child_count its.within))))
+
+  -- those of the root's children alone
+  pub tables_listed : (items stack : List TableItem) → HasItsChildren flat above →
+      items ≡ table_items above keys (children_at flat above) → stack ≡ reverse items → AreListed flat stack
+  unfolding AreListed
+  tables_listed items stack its are reversed = table_listed [] items stack its are reversed (All-nil (IsListed flat))
+
+-- ---- the visits that are still to come
+
+module _ (flat : List Entry) (longer : List ℕ → List ℕ → List ℕ) where
+  abbrev node_at : ℕ → Node
+  node_at number = (tree_at flat number).node
+
+  tables_of-items : (above : ℕ) (keys : List (List ℕ)) (numbers : List ℕ) →
+      flat_map (tables_of flat longer) (table_items above keys numbers) ≡ tables_below longer keys (node_at above) (forest_of (trees_at flat numbers))
+  unfolding tables_below
+  tables_of-items above keys [] = refl
+  tables_of-items above keys (number ∷ numbers) =
+      flat_map-append (tables_of flat longer) (items_at above number keys) (table_items above keys numbers) ∙
+      ap (λ t. t ++ flat_map (tables_of flat longer) (table_items above keys numbers)) (flat_map-map (tables_of flat longer) (item_at above number) keys) ∙
+      ap (λ t. flat_map (λ key. tables_from longer key (node_at above) (tree_at flat number)) keys ++ t) (tables_of-items above keys numbers)
+
+  -- what is below a node is put on the stack
+  tables-pushed : (number : ℕ) (keys : List (List ℕ)) (rest items new : List TableItem) → HasItsChildren flat number →
+      items ≡ table_items number keys (children_at flat number) → new ≡ rest ++ reverse items →
+      from_stack (tables_of flat longer) new ≡ tables_below longer keys (node_at number) (tree_at flat number).children ++ from_stack (tables_of flat longer) rest
+  tables-pushed number keys rest items new its are pushed =
+      let from_item = tables_of flat longer in
+      ap (from_stack from_item) pushed ∙ from_stack_pushed from_item rest items ∙
+      ap (λ t. t ++ from_stack from_item rest)
+      (ap (flat_map from_item) are ∙ tables_of-items number keys (children_at flat number) ∙ ap (tables_below longer keys (node_at number)) its.forest)
+
+  -- a child is taken from the stack: its visits come first, and what is below it is put on
+  table-step : (number above : ℕ) (key : List ℕ) (keys : List (List ℕ)) (old rest items new : List TableItem) → HasItsChildren flat number →
+      old ≡ rest ++ item_at above number key ∷ [] → keys ≡ keys_below longer key (node_at number) →
+      items ≡ table_items number keys (children_at flat number) → new ≡ rest ++ reverse items →
+      from_stack (tables_of flat longer) old ≡ under_each keys (node_at above) (tree_at flat number) ++ from_stack (tables_of flat longer) new
+  table-step number above key keys old rest items new its popped keys_are are pushed =
+      let from_item = tables_of flat longer in
+      let tree : Tree = tree_at flat number in
+      ap (from_stack from_item) popped ∙ from_stack_popped from_item rest (item_at above number key) ∙
+      ap (λ ks. (under_each ks (node_at above) tree ++ tables_below longer ks tree.node tree.children) ++ from_stack from_item rest) (sym keys_are) ∙
+      append_assoc (under_each keys (node_at above) tree) (tables_below longer keys tree.node tree.children) (from_stack from_item rest) ∙
+      ap (λ t. under_each keys (node_at above) tree ++ t) (sym (tables-pushed number keys rest items new its are pushed))
+
+  -- the root under its key, then what is below it
+  pub tables_begin : (key : List ℕ) (keys : List (List ℕ)) (items stack : List TableItem) → HasItsChildren flat 0 → keys ≡ key ∷ [] →
+      items ≡ table_items 0 keys (children_at flat 0) → stack ≡ reverse items →
+      under_each keys (node_at 0) (tree_at flat 0) ++ from_stack (tables_of flat longer) stack ≡ table_visits longer key (tree_at flat 0)
+  tables_begin key keys items stack its keys_are are reversed =
+      ap (λ t. under_each keys (node_at 0) (tree_at flat 0) ++ t) (tables-pushed 0 keys [] items stack its are reversed ∙
+      ap (λ t. tables_below longer keys (node_at 0) (tree_at flat 0).children ++ t) (from_stack_none (tables_of flat longer) [] refl) ∙
+      append-nil (tables_below longer keys (node_at 0) (tree_at flat 0).children)) ∙
+      ap (λ ks. under_each ks (node_at 0) (tree_at flat 0) ++ tables_below longer ks (node_at 0) (tree_at flat 0).children) keys_are
+
+  -- no keys and no nodes are left
+  pub tables_end : (number above : ℕ) (keys : List (List ℕ)) (stack : List TableItem) → length keys ≡ 0 → length stack ≡ 0 →
+      under_each keys (node_at above) (tree_at flat number) ++ from_stack (tables_of flat longer) stack ≡ []
+  tables_end number above keys stack no_keys no_items =
+      ap (λ ks. under_each ks (node_at above) (tree_at flat number) ++ from_stack (tables_of flat longer) stack) (nil_from_length keys no_keys) ∙
+      from_stack_none (tables_of flat longer) stack no_items
+
+  -- no key is left: the next node's first key comes
+  pub table_next : (before above_before number above : ℕ) (key first : List ℕ) (done keys later : List (List ℕ)) (old rest items new : List TableItem) → length done ≡ 0 → HasItsChildren flat number →
+      old ≡ rest ++ item_at above number key ∷ [] → keys ≡ keys_below longer key (node_at number) →
+      items ≡ table_items number keys (children_at flat number) → new ≡ rest ++ reverse items → keys ≡ first ∷ later →
+      under_each done (node_at above_before) (tree_at flat before) ++ from_stack (tables_of flat longer) old
+      ≡ keyed first (node_at above) (tree_at flat number) ∷ (under_each later (node_at above) (tree_at flat number) ++ from_stack (tables_of flat longer) new)
+  table_next before above_before number above key first done keys later old rest items new no_keys its popped keys_are are pushed first_is =
+      let from_item = tables_of flat longer in
+      ap (λ ks. under_each ks (node_at above_before) (tree_at flat before) ++ from_stack from_item old) (nil_from_length done no_keys) ∙
+      table-step number above key keys old rest items new its popped keys_are are pushed ∙
+      ap (λ ks. under_each ks (node_at above) (tree_at flat number) ++ from_stack from_item new) first_is

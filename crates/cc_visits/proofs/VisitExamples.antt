@@ -1,0 +1,45 @@
+-- The visits of a small tree, in both orders.
+use Rattle.std.proofs.Common.{◌≡◌, ℕ, List, [], ◌∷◌, ◌++◌, map, codes, refl}
+use Rattle.std.specs.List.{flat_map}
+use Rattle.cc_command.specs.Made.{new_tree, with_child}
+use Rattle.cc_command.specs.Tree.{Tree}
+use Rattle.cc_visits.specs.Visits.{Step, enter, leave, joined, longer_path, paths_below, path_visits, steps_below, path_steps, tables_below, table_visits}
+
+-- `app` with the children `run`, also called `r`, and `list`; `job` is a child of `run`
+abbrev app : Tree
+app =
+    let run = with_child (new_tree (codes "run")) (new_tree (codes "job")) in
+    let aliased = record run { node = record run.node { visible_aliases = codes "r" ∷ [] } } in
+    with_child (with_child (new_tree (codes "app")) aliased) (new_tree (codes "list"))
+
+-- table order: both names of `run`, then what is below it under each
+tables : map (λ visit. visit.key) (table_visits (joined (codes ";")) (codes "app") app)
+    ≡ codes "app" ∷ codes "app;run" ∷ codes "app;r" ∷ codes "app;run;job" ∷ codes "app;r;job" ∷ codes "app;list" ∷ []
+unfolding tables_below
+tables = refl
+
+-- path order: one name of `run` with what is below it, then the other
+paths : map (λ visit. visit.key) (path_visits (joined (codes " ")) (codes "app") app)
+    ≡ codes "app" ∷ codes "app run" ∷ codes "app run job" ∷ codes "app r" ∷ codes "app r job" ∷ codes "app list" ∷ []
+unfolding paths_below
+paths = refl
+
+-- the nodes that are visited in path order, and the nodes above them
+nodes : map (λ visit. visit.tree.node.name) (path_visits longer_path [] app)
+    ≡ codes "app" ∷ codes "run" ∷ codes "job" ∷ codes "run" ∷ codes "job" ∷ codes "list" ∷ []
+unfolding paths_below
+nodes = refl
+
+parents : map (λ visit. visit.above.name) (path_visits longer_path [] app)
+    ≡ codes "app" ∷ codes "app" ∷ codes "run" ∷ codes "app" ∷ codes "run" ∷ codes "app" ∷ []
+unfolding paths_below
+parents = refl
+
+-- a name and a bracket where a node is entered, a bracket where it is left
+abbrev shown : Step (List ℕ) → List ℕ
+shown (enter visit) = visit.key ++ codes "{"
+shown (leave visit) = codes "}"
+
+steps : flat_map shown (path_steps (λ _ name. name) (codes "app") app) ≡ codes "app{run{job{}}r{job{}}list{}}"
+unfolding steps_below
+steps = refl

@@ -1,0 +1,161 @@
+//! The visits of a tree in table order.
+
+ghost use Rattle.std.specs.Prelude.{◌≡◌, ◌++◌, ◌<◌, length, IfOk, OnOk};
+ghost use Rattle.cc_flat.specs.Flat.{HasItsChildren, children_at};
+ghost use Rattle.cc_visits.specs.TableStack.{items_at, table_items};
+
+use crate::keys::{Keys, keys_below};
+use crate::stack::push_reversed;
+use crate::visit::{Visit, visit_at};
+use cc_base::Text;
+use cc_flat::Flat;
+use std::alloc::{AllocError, Global};
+use std::marker::Model;
+use std::vec::IntoIter;
+
+// A child that is still to be visited, under one key of its parent.
+#[derive(Drop)]
+pub(crate) struct TableItem {
+    pub above: usize,
+    pub number: usize,
+    pub key: Text,
+}
+
+/// The visits of a tree that are still to come, in table order: the root under its key; then child
+/// by child, and for each key of the parent in turn, the child under each of its keys, then all
+/// below it.
+///
+/// A clause sees the list of visits.
+#[derive(Drop)]
+pub struct TableVisits<'f, 'a, K: Keys> {
+    flat: &'f Flat<'a>,
+    keys: &'f K,
+    // the node that is being visited, the node above it, and its keys that are still to come
+    number: usize,
+    above: usize,
+    ready: IntoIter<Text>,
+    // what comes after it, the next one last
+    stack: Vec<TableItem>,
+}
+
+impl<'f, 'a, K: Keys> Model for TableVisits<'f, 'a, K> {
+    ghost use Rattle.std.specs.Prelude.{ℕ, List, ◌++◌, ◌<◌, length};
+    ghost use Rattle.std.specs.Vec.Iter.{into_iter_items};
+    ghost use Rattle.cc_flat.specs.Flat.{tree_at};
+    ghost use Rattle.cc_visits.specs.Visits.{Keyed, under_each};
+    ghost use Rattle.cc_visits.specs.VisitCode.{visits_code};
+
+    ghost Value = { List (Keyed (List ℕ)) };
+
+    ghost coded = { visits_code };
+
+    ghost use Rattle.cc_visits.specs.Stack.{from_stack};
+    ghost use Rattle.cc_visits.specs.TableStack.{AreListed, tables_of};
+
+    ghost view = { λ visits.
+        under_each (into_iter_items visits.ready) (tree_at visits.flat.now visits.above).node
+        (tree_at visits.flat.now visits.number)
+        ++ from_stack (tables_of visits.flat.now (K.longer visits.keys.now)) visits.stack.items };
+
+    ghost invariant = { λ visits.
+        (visits.number < length visits.flat.now) × ((visits.above < length visits.flat.now)
+        × AreListed visits.flat.now visits.stack.items) };
+}
+
+impl<'f, 'a, K: Keys> TableVisits<'f, 'a, K> {
+    ghost use Rattle.std.specs.Prelude.{◌≡◌, ◌++◌, ◌<◌, [], length, IfOk, IfNone};
+    ghost use Rattle.std.specs.Option.{option_map, option_to_list};
+    ghost use Rattle.cc_flat.specs.Flat.{tree_at};
+    ghost use Rattle.cc_visits.specs.Visits.{table_visits};
+    ghost use Rattle.cc_visits.specs.Meaning.{visit_of};
+
+    #[tactic(auto, using(crate::proofs::TableStack::tables_begin, crate::proofs::TableStack::tables_listed))]
+    /// All visits: the root under the key, then all below it. Fails where memory runs out.
+    pub fn new(
+        alloc: Global,
+        flat: &'f Flat<'a>,
+        key: &str,
+        keys: &'f K,
+    ) -> Result<TableVisits<'f, 'a, K>, AllocError>
+        requires { 0 < length flat.now }
+        ensures { IfOk result
+            (λ visits. visits ≡ table_visits (K.longer keys.now) key.now (tree_at flat.now 0)) }
+    {
+        let mut own = Vec::new(alloc);
+        own.push(Text::copy_of(alloc, key)?)?;
+        let mut stack = items_below(alloc, flat, 0, &own)?;
+        stack.reverse();
+        Ok(TableVisits {
+            flat,
+            keys,
+            number: 0,
+            above: 0,
+            ready: own.into_iter(),
+            stack,
+        })
+    }
+
+    #[tactic(auto, using(crate::proofs::TableStack::table_next, crate::proofs::TableStack::tables_end, crate::proofs::TableStack::table_listed, crate::proofs::TableStack::AreListed_rest, crate::proofs::TableStack::AreListed_top, crate::proofs::TableStack::AreListed_above))]
+    /// The next visit; `None` where none is left. Fails where memory runs out; what is left is then
+    /// open.
+    pub fn next(&mut self, alloc: Global) -> Result<Option<Visit<'a>>, AllocError>
+        ensures first { IfOk result
+            (λ found. self.old ≡ option_to_list (option_map visit_of found) ++ self.new) }
+        ensures end { IfOk result (λ found. IfNone found (self.new ≡ [])) }
+    {
+        let flat = self.flat;
+        if let Some(key) = self.ready.next() {
+            return Ok(Some(visit_at(flat, self.above, self.number, key)));
+        }
+        let Some(TableItem { above, number, key }) = self.stack.pop() else {
+            return Ok(None);
+        };
+        let keys = keys_below(alloc, self.keys, key.as_str(), flat.command(number))?;
+        let below = items_below(alloc, flat, number, &keys)?;
+        push_reversed(&mut self.stack, below)?;
+        self.number = number;
+        self.above = above;
+        self.ready = keys.into_iter();
+        match self.ready.next() {
+            Some(key) => Ok(Some(visit_at(flat, above, number, key))),
+            None => Ok(None),
+        }
+    }
+}
+
+// The children of a node, each under each of the node's keys.
+fn items_below(
+    alloc: Global,
+    flat: &Flat<'_>,
+    number: usize,
+    keys: &[Text],
+) -> Result<Vec<TableItem>, AllocError>
+    requires { number < length flat.now }
+    ensures items { IfOk result
+        (λ items. items.items ≡ table_items number keys.now (children_at flat.now number)) }
+    ensures children { OnOk result (HasItsChildren flat.now number) }
+{
+    let mut items = Vec::new(alloc);
+    let children = flat.children(number);
+    for child in children.start..children.end {
+        push_copies(&mut items, alloc, number, child, keys)?;
+    }
+    Ok(items)
+}
+
+// Adds a node under a copy of each of its parent's keys.
+fn push_copies(
+    items: &mut Vec<TableItem>,
+    alloc: Global,
+    above: usize,
+    number: usize,
+    keys: &[Text],
+) -> Result<(), AllocError>
+    ensures { OnOk result (items.new.items ≡ items.old.items ++ items_at above number keys.now) }
+{
+    for key in keys {
+        let key = key.try_clone(alloc)?;
+        items.push(TableItem { above, number, key })?;
+    }
+    Ok(())
+}

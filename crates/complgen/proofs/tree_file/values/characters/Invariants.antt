@@ -1,8 +1,0 @@
-use Rattle.std.proofs.Common.{◌≡◌, Some, take}
-use Rattle.serde_json.specs.View.{items_view}
-use Rattle.complgen.specs.TreeForm.{all_of, character_of}
-use Rattle.complgen.proofs.tree_file.values.characters.Given as goal
-
-abbrev pub invariant-loop-item : goal.invariant-loop-item
-invariant-loop-item l =
-    all_of character_of (items_view (take l.item-index l.item-items)) ≡ Some (l.characters.items)
