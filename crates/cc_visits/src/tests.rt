@@ -1,4 +1,4 @@
-//! The visits of a small tree in both orders: each key with the node visited and the node above it.
+//! The visits of a small tree in both orders: each key with the node above and the node visited.
 
 use crate::keys::Joined;
 use crate::path_steps::{PathStep, PathSteps};
@@ -9,20 +9,22 @@ use cc_flat::Flat;
 use std::alloc::{AllocError, Global};
 use std::test::Fail;
 
+// More than the visits and steps of the tree, so that a loop of so many turns sees all.
+const TURNS: usize = 20;
+
 fn named(alloc: Global, name: &str) -> Result<Command, AllocError> {
     Ok(Command::new(alloc, String::from_str(alloc, name)?))
 }
 
 fn tree(alloc: Global) -> Result<Command, Fail> {
     let job = named(alloc, "job")?;
-    let run = named(alloc, "run")?
-        .visible_alias(String::from_str(alloc, "r")?)?
-        .subcommand(job)?;
+    let alias = String::from_str(alloc, "r")?;
+    let run = named(alloc, "run")?.visible_alias(alias)?.subcommand(job)?;
     let list = named(alloc, "list")?;
     Ok(named(alloc, "app")?.subcommand(run)?.subcommand(list)?)
 }
 
-fn push_visit(text: &mut String, visit: &Visit<'_>) -> Result<(), Fail> {
+fn push_visit(text: &mut String, visit: &Visit<'_>) -> Result<(), AllocError> {
     text.push_str(visit.key.as_str())?;
     text.push_str("=")?;
     text.push_str(visit.above.get_name())?;
@@ -32,53 +34,88 @@ fn push_visit(text: &mut String, visit: &Visit<'_>) -> Result<(), Fail> {
     Ok(())
 }
 
-#[test]
-fn table_order(rt: HostRuntime) -> Result<(), Fail> {
-    let root = tree(rt.alloc())?;
-    let flat = Flat::new(rt.alloc(), &root)?;
-    let keys = Joined { separator: ";" };
-    assert!(rt; flat.len() > 0);
-    let mut visits = TableVisits::new(rt.alloc(), &flat, "app", &keys)?;
-    let mut text = String::new(rt.alloc());
-    while let Some(visit) = visits.next(rt.alloc())? {
-        push_visit(&mut text, &visit)?;
+fn push_step(text: &mut String, step: &PathStep<'_>) -> Result<(), AllocError> {
+    match step {
+        PathStep::Enter(visit) => push_visit(text, visit),
+        PathStep::Leave(_) => Ok(text.push_str("| ")?),
     }
-    assert_eq!(rt;
-        text.as_str(),
-        "app=app/app app;run=app/run app;r=app/run app;run;job=run/job app;r;job=run/job app;list=app/list "
-    );
-    Ok(())
 }
 
-#[test]
-fn path_order(rt: HostRuntime) -> Result<(), Fail> {
-    let root = tree(rt.alloc())?;
-    let flat = Flat::new(rt.alloc(), &root)?;
+fn table_order_of(alloc: Global, root: &Command) -> Result<String, AllocError> {
+    let mut text = String::new(alloc);
+    let flat = Flat::new(alloc, root)?;
+    if flat.len() == 0 {
+        return Ok(text);
+    }
     let keys = Joined { separator: ";" };
-    assert!(rt; flat.len() > 0);
-    let mut steps = PathSteps::new(rt.alloc(), &flat, "app", &keys)?;
-    let mut text = String::new(rt.alloc());
-    while let Some(step) = steps.next(rt.alloc())? {
-        match step {
-            PathStep::Enter(visit) => push_visit(&mut text, &visit)?,
-            PathStep::Leave(_) => text.push_str("| ")?,
+    let mut visits = TableVisits::new(alloc, &flat, "app", &keys)?;
+    for _ in 0..TURNS {
+        if let Some(visit) = visits.next(alloc)? {
+            push_visit(&mut text, &visit)?;
         }
     }
+    Ok(text)
+}
+
+fn path_order_of(alloc: Global, root: &Command) -> Result<String, AllocError> {
+    let mut text = String::new(alloc);
+    let flat = Flat::new(alloc, root)?;
+    if flat.len() == 0 {
+        return Ok(text);
+    }
+    let keys = Joined { separator: ";" };
+    let mut steps = PathSteps::new(alloc, &flat, "app", &keys)?;
+    for _ in 0..TURNS {
+        if let Some(step) = steps.next(alloc)? {
+            push_step(&mut text, &step)?;
+        }
+    }
+    Ok(text)
+}
+
+// The first step below the root.
+fn first_below(alloc: Global, root: &Command) -> Result<String, AllocError> {
+    let mut text = String::new(alloc);
+    let flat = Flat::new(alloc, root)?;
+    if flat.len() == 0 {
+        return Ok(text);
+    }
+    let keys = Joined { separator: " " };
+    let mut steps = PathSteps::below(alloc, &flat, "app", &keys)?;
+    if let Some(step) = steps.next(alloc)? {
+        push_step(&mut text, &step)?;
+    }
+    Ok(text)
+}
+
+#[test]
+fn a_key_of_the_parent_comes_before_the_next_child(rt: HostRuntime) -> Result<(), Fail> {
+    let root = tree(rt.alloc())?;
+    let text = table_order_of(rt.alloc(), &root)?;
     assert_eq!(rt;
         text.as_str(),
-        "app=app/app app;run=app/run app;run;job=run/job | | app;r=app/run app;r;job=run/job | | app;list=app/list | | "
+        "app=app/app app;run=app/run app;r=app/run \
+app;run;job=run/job app;r;job=run/job app;list=app/list "
     );
     Ok(())
 }
 
 #[test]
-fn below_the_root(rt: HostRuntime) -> Result<(), Fail> {
+fn a_path_comes_with_all_below_it(rt: HostRuntime) -> Result<(), Fail> {
     let root = tree(rt.alloc())?;
-    let flat = Flat::new(rt.alloc(), &root)?;
-    let keys = Joined { separator: " " };
-    assert!(rt; flat.len() > 0);
-    let mut steps = PathSteps::below(rt.alloc(), &flat, "app", &keys)?;
-    let first = steps.next(rt.alloc())?;
-    assert!(rt; matches!(&first, Some(PathStep::Enter(visit)) if visit.key.as_str() == "app run"));
+    let text = path_order_of(rt.alloc(), &root)?;
+    assert_eq!(rt;
+        text.as_str(),
+        "app=app/app app;run=app/run app;run;job=run/job | | \
+app;r=app/run app;r;job=run/job | | app;list=app/list | | "
+    );
+    Ok(())
+}
+
+#[test]
+fn below_the_root_its_first_child_comes_first(rt: HostRuntime) -> Result<(), Fail> {
+    let root = tree(rt.alloc())?;
+    let text = first_below(rt.alloc(), &root)?;
+    assert_eq!(rt; text.as_str(), "app run=app/run ");
     Ok(())
 }
