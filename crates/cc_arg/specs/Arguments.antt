@@ -24,8 +24,13 @@ new_arg id = record {
   value_names = [];
   possible_values = None;
   value_hint = Unknown;
+  value_terminator = None;
   index = None;
   display_order = None;
+  conflicts = [];
+  required = false;
+  last = false;
+  global = false;
   hide = false;
 }
 

@@ -35,8 +35,13 @@ pub struct Arg {
     value_names: Items<Text>,
     possible_values: Option<Items<PossibleValue>>,
     value_hint: ValueHint,
+    value_terminator: Option<Text>,
     index: Option<usize>,
     display_order: Option<usize>,
+    conflicts: Items<Text>,
+    required: bool,
+    last: bool,
+    global: bool,
     hide: bool,
 }
 
@@ -59,8 +64,13 @@ impl Arg {
             value_names: Items::new(alloc),
             possible_values: None,
             value_hint: ValueHint::Unknown,
+            value_terminator: None,
             index: None,
             display_order: None,
+            conflicts: Items::new(alloc),
+            required: false,
+            last: false,
+            global: false,
             hide: false,
         }
     }
@@ -168,6 +178,57 @@ impl Arg {
         ensures { result ≡ record self { value_hint = hint } }
     {
         self.value_hint = hint;
+        self
+    }
+
+    /// Sets the word that ends the values.
+    pub fn value_terminator(mut self, terminator: String) -> Arg
+        ensures { result ≡ record self { value_terminator = Some (string_bytes terminator) } }
+    {
+        self.value_terminator = Some(Text::from(terminator));
+        self
+    }
+
+    /// Sets the index of a positional, counted from 1. A build keeps it.
+    pub fn index(mut self, index: usize) -> Arg
+        ensures { result ≡ record self { index = Some index } }
+    {
+        self.index = Some(index);
+        self
+    }
+
+    /// Adds the id of an argument that may not be given together with this one. Fails with
+    /// `Memory` alone.
+    pub fn conflicts_with(mut self, id: String) -> Result<Arg, Error>
+        ensures ok { IfOk result (λ arg.
+            arg ≡ record self { conflicts = self.conflicts ++ string_bytes id ∷ [] }) }
+        ensures memory { IfErr result (λ error. error ≡ Error.Memory) }
+    {
+        self.conflicts.push(Text::from(id))?;
+        Ok(self)
+    }
+
+    /// Says whether the argument has to be given.
+    pub fn required(mut self, required: bool) -> Arg
+        ensures { result ≡ record self { required = required } }
+    {
+        self.required = required;
+        self
+    }
+
+    /// Says whether the argument is given only after `--`.
+    pub fn last(mut self, last: bool) -> Arg
+        ensures { result ≡ record self { last = last } }
+    {
+        self.last = last;
+        self
+    }
+
+    /// Says whether a build gives the argument to all commands below its own.
+    pub fn global(mut self, global: bool) -> Arg
+        ensures { result ≡ record self { global = global } }
+    {
+        self.global = global;
         self
     }
 
@@ -289,7 +350,17 @@ impl Arg {
         self.value_hint
     }
 
-    /// The index of a positional, counted from 1, once the command is built.
+    /// The word that ends the values.
+    pub fn get_value_terminator(&self) -> Option<&str>
+        ensures { option_copied result ≡ self.now.value_terminator }
+    {
+        match &self.value_terminator {
+            Some(terminator) => Some(terminator.as_str()),
+            None => None,
+        }
+    }
+
+    /// The index of a positional, counted from 1, where it was set or the command is built.
     pub fn get_index(&self) -> Option<usize>
         ensures { result ≡ self.now.index }
     {
@@ -301,6 +372,27 @@ impl Arg {
         ensures { result ≡ unwrap_or self.now.display_order 999 }
     {
         self.display_order.unwrap_or(999)
+    }
+
+    /// Whether the argument has to be given.
+    pub fn is_required_set(&self) -> bool
+        ensures { result ≡ self.now.required }
+    {
+        self.required
+    }
+
+    /// Whether the argument is given only after `--`.
+    pub fn is_last_set(&self) -> bool
+        ensures { result ≡ self.now.last }
+    {
+        self.last
+    }
+
+    /// Whether a build gives the argument to all commands below its own.
+    pub fn is_global_set(&self) -> bool
+        ensures { result ≡ self.now.global }
+    {
+        self.global
     }
 
     /// Whether the argument is left out of help texts.
@@ -344,8 +436,13 @@ impl Arg {
             value_names: Items::copy_of_texts(alloc, self.value_names.as_slice())?,
             possible_values: copy_of_given(alloc, &self.possible_values)?,
             value_hint: self.value_hint,
+            value_terminator: Text::copy_of_some(alloc, self.get_value_terminator())?,
             index: self.index,
             display_order: self.display_order,
+            conflicts: Items::copy_of_texts(alloc, self.conflicts.as_slice())?,
+            required: self.required,
+            last: self.last,
+            global: self.global,
             hide: self.hide,
         })
     }
@@ -394,6 +491,14 @@ pub fn possible_values(argument: &Arg) -> Option<&[PossibleValue]>
         Some(values) => Some(values.as_slice()),
         None => None,
     }
+}
+
+/// The ids of the arguments that may not be given together with this one, in the order in which
+/// they were added. A free function, since `clap` has no such getter.
+pub fn conflicting_ids(argument: &Arg) -> &[Text]
+    ensures { result.now ≡ argument.now.conflicts }
+{
+    argument.conflicts.as_slice()
 }
 
 // Filling in is done by free functions, so that `clap_complete` need not re-export them.

@@ -1,5 +1,8 @@
 -- The lists of a command's arguments by kind.
-use Rattle.std.specs.Prelude.{List, Bool, not, ◌&&◌, filter}
+use Rattle.std.specs.Prelude.{ℕ, List, [], ◌∷◌, Bool, not, ◌&&◌, if◌then◌else◌, filter, Option, Some, None}
+use Rattle.std.specs.List.{flat_map}
+use Rattle.std.specs.Option.{option_to_list}
+use Rattle.std.specs.Str.{bytes_eq}
 use Rattle.cc_arg.specs.declared.arg.Arg.{Arg}
 use Rattle.cc_arg.specs.Arguments.{is_positional, takes_values}
 use Rattle.cc_command.specs.declared.node.Node.{Node}
@@ -23,3 +26,15 @@ flags node = filter is_flag node.arguments
 -- a node's positionals, in the order of its arguments
 abbrev pub positionals : Node → List Arg
 positionals node = filter is_positional node.arguments
+
+-- the first of the arguments that has the id
+abbrev pub first_with : List Arg → List ℕ → Option Arg
+first_with [] id = None
+first_with (argument ∷ arguments) id =
+    if bytes_eq argument.id id then Some argument else first_with arguments id
+
+-- the arguments that may not be given together with one: for each id that it names, in order, the
+-- first of the arguments that has it; an id that none has is passed over
+abbrev pub conflicting : List Arg → Arg → List Arg
+conflicting arguments argument =
+    flat_map (λ id. option_to_list (first_with arguments id)) argument.conflicts

@@ -22,6 +22,7 @@ new_node name = record {
   disable_help_flag = false;
   disable_version_flag = false;
   disable_help_subcommand = false;
+  allow_external_subcommands = false;
   generated = false;
   built = false;
 }

@@ -7,11 +7,13 @@ ghost use Rattle.cc_command.specs.Made.{new_tree};
 mod build;
 mod builders;
 mod children;
+mod conflicts;
 mod getters;
 mod iterators;
 mod plain;
 
 pub use crate::command::build::build_as;
+pub use crate::command::conflicts::first_with;
 pub use crate::command::iterators::{Flags, NameAndVisibleAliases, Options, Positionals};
 pub use crate::command::plain::is_plain_name;
 use crate::node::Node;

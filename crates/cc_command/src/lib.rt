@@ -5,5 +5,6 @@ mod command;
 mod node;
 
 pub use crate::command::{
-    Command, Flags, NameAndVisibleAliases, Options, Positionals, build_as, is_plain_name,
+    Command, Flags, NameAndVisibleAliases, Options, Positionals, build_as, first_with,
+    is_plain_name,
 };

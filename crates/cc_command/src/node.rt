@@ -37,6 +37,8 @@ pub struct Node {
     pub disable_version_flag: bool,
     /// Whether building adds no child `help`.
     pub disable_help_subcommand: bool,
+    /// Whether words that name no child are taken as the names of other programs.
+    pub allow_external_subcommands: bool,
     /// Whether building made this node.
     pub generated: bool,
     /// Whether this node and all below it are built.
@@ -65,6 +67,7 @@ impl Node {
             disable_help_flag: false,
             disable_version_flag: false,
             disable_help_subcommand: false,
+            allow_external_subcommands: false,
             generated: false,
             built: false,
         }

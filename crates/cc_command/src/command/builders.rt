@@ -157,6 +157,16 @@ impl Command {
         self
     }
 
+    /// Says whether words that name no child are taken as the names of other programs.
+    pub fn allow_external_subcommands(mut self, allow: bool) -> Command
+        ensures { result
+            ≡ with_root (λ node. record node { allow_external_subcommands = allow }) self }
+    {
+        self.node.built = false;
+        self.node.allow_external_subcommands = allow;
+        self
+    }
+
     // This keeps a built command built.
     fn fill_display_order(&mut self, order: usize)
         ensures { self.new ≡ record self.old { node = ordered_node order self.old.node } }

@@ -85,6 +85,13 @@ impl Command {
         self.node.hide
     }
 
+    /// Whether words that name no child are taken as the names of other programs.
+    pub fn is_allow_external_subcommands_set(&self) -> bool
+        ensures { result ≡ self.now.node.allow_external_subcommands }
+    {
+        self.node.allow_external_subcommands
+    }
+
     /// The arguments in the order in which they were added.
     pub fn get_arguments(&self) -> &[Arg]
         ensures { result.now ≡ self.now.node.arguments }

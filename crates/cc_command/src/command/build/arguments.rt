@@ -35,6 +35,7 @@ pub(super) fn built_node(
         disable_help_flag: node.disable_help_flag,
         disable_version_flag: node.disable_version_flag,
         disable_help_subcommand: node.disable_help_subcommand,
+        allow_external_subcommands: node.allow_external_subcommands,
         generated: node.generated,
         built: true,
     })

@@ -1,0 +1,47 @@
+//! The arguments of a command that may not be given together with one.
+
+ghost use Rattle.std.specs.Prelude.{◌≡◌, map, IfOk, IfErr};
+ghost use Rattle.std.specs.Option.{option_copied};
+ghost use Rattle.cc_command.specs.ArgumentLists.{conflicting, first_with};
+
+use crate::command::Command;
+use cc_arg::{Arg, conflicting_ids};
+use cc_base::Error;
+use std::alloc::Global;
+
+impl Command {
+    /// The arguments that may not be given together with this one: for each id that it names, in
+    /// order, the command's first argument with that id. An id that none has is passed over.
+    ///
+    /// Fails with `Memory` alone.
+    pub fn get_arg_conflicts_with<'a>(
+        &'a self,
+        alloc: Global,
+        argument: &Arg,
+    ) -> Result<Vec<&'a Arg>, Error>
+        ensures ok { IfOk result (λ found. map (λ other. other.now) found.items
+            ≡ conflicting self.now.node.arguments argument.now) }
+        ensures memory { IfErr result (λ error. error ≡ Error.Memory) }
+    {
+        let mut found = Vec::new(alloc);
+        for id in conflicting_ids(argument) {
+            let Some(other) = first_with(self.get_arguments(), id.as_str()) else {
+                continue;
+            };
+            found.push(other)?;
+        }
+        Ok(found)
+    }
+}
+
+/// The first of the arguments that has the id.
+pub fn first_with<'a>(arguments: &'a [Arg], id: &str) -> Option<&'a Arg>
+    ensures { option_copied result ≡ first_with arguments.now id.now }
+{
+    for argument in arguments {
+        if argument.get_id() == id {
+            return Some(argument);
+        }
+    }
+    None
+}
