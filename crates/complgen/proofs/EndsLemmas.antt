@@ -11,7 +11,7 @@ use Rattle.clap_complete.specs.Tree.{Tree}
 use Rattle.cc_tree_file.specs.TreeFile.{HoldsTree}
 use Rattle.cc_tree_file.specs.declared.error.TreeError.TheVariants.{BadForm, Memory, NotJson}
 use Rattle.clap_complete.specs.Writes.{CountsWrite, IsMemoryOrWrite}
-use Rattle.complgen.specs.Ends.{Finishes, ReportsFile, Untouched, Writer, writer_for, unreadable, not_json, bad_form, label_clash, write_failed, out_of_memory, script_written}
+use Rattle.complgen.specs.Ends.{Finishes, ReportsFile, Untouched, Writer, writer_for, unreadable, not_json, bad_form, label_clash, write_failed, out_of_memory, out_of_memory_in_script, script_written}
 use Rattle.complgen.specs.Refusals.{IsOutOfMemory, Reports}
 use Rattle.complgen.specs.declared.types.Refusal.{Refusal}
 
@@ -47,7 +47,7 @@ module _ {S : Type 0} (taken : S → List ℕ) (failed : S → Failures) (writer
   ends_unread state (Some bytes) refusal (BadForm, reported, reads) =
       bad_form bytes refusal reads reported (same taken failed state)
   ends_unread state (Some bytes) refusal (Memory, reported, reads) =
-      out_of_memory bytes refusal reported (λ none. refl) refl
+      out_of_memory bytes refusal reported (same taken failed state)
 
   -- nothing is written yet
   pub ends_unwritten : (state : S) (file : Option (List ℕ)) (tree : Tree) (refusal : Refusal)
@@ -55,7 +55,7 @@ module _ {S : Type 0} (taken : S → List ℕ) (failed : S → Failures) (writer
       → Finishes taken failed writer bin state state file (Err refusal)
   ends_unwritten state None tree refusal held out = absurd held
   ends_unwritten state (Some bytes) tree refusal held out =
-      out_of_memory bytes refusal out (λ none. refl) refl
+      out_of_memory bytes refusal out (same taken failed state)
 
   -- what the sink counts for an error
   abbrev Counts : Error → S → S → Type 0
@@ -69,27 +69,31 @@ module _ {S : Type 0} (taken : S → List ℕ) (failed : S → Failures) (writer
   Wrote Reads tree result old new =
       Generates taken failed writer.script writer.clash Reads (built_under (Some bin) tree) result old new
 
+  -- a call returns `Ok` only where no label is shared
+  none_shared : (clash : Option (List ℕ)) (old new : List ℕ)
+      → ReportsClash clash (Ok tt) old new → clash ≡ None
+  none_shared None old new reports = refl
+  none_shared (Some label) old new (inl clash, unwritten) = cc
+  none_shared (Some label) old new (inr out, unwritten) = cc
+
   -- the script is written
   pub ends_written : (Reads : Tree → Type 0) (old new : S) (file : Option (List ℕ)) (tree : Tree)
       → HoldsTree file tree → Wrote Reads tree (Ok tt) old new
       → Finishes taken failed writer bin old new file (Ok tt)
   ends_written Reads old new None tree held wrote = absurd held
   ends_written Reads old new (Some bytes) tree held wrote =
-      script_written bytes tree held wrote.ok wrote.failures
+      script_written bytes tree held (none_shared _ _ _ wrote.clashes) wrote.ok wrote.failures
 
   -- an error where no label is shared
   failed_alone : (old new : S) (bytes : List ℕ) (tree : Tree) (e : Error) (refusal : Refusal)
-      → HoldsTree (Some bytes) tree → Counts e old new → IsMemoryOrWrite e → Reports e refusal
+      → writer.clash (built_under (Some bin) tree) ≡ None → HoldsTree (Some bytes) tree
+      → Counts e old new → IsMemoryOrWrite e → Reports e refusal
       → Finishes taken failed writer bin old new (Some bytes) (Err refusal)
-  failed_alone old new bytes tree error.Memory refusal held counts is reported =
-      out_of_memory bytes refusal reported (λ none. absurd (none tree held)) counts
-  failed_alone old new bytes tree (error.Write kind) refusal held counts is reported =
-      write_failed bytes tree kind refusal held reported counts
-  failed_alone old new bytes tree (error.LabelClash label) refusal held counts is reported = absurd is
-  failed_alone old new bytes tree error.NoCompletion refusal held counts is reported = absurd is
-  failed_alone old new bytes tree error.NoArguments refusal held counts is reported = absurd is
-  failed_alone old new bytes tree (error.UnknownShell text) refusal held counts is reported = absurd is
-  failed_alone old new bytes tree (error.InvalidVariant text) refusal held counts is reported = absurd is
+  failed_alone old new bytes tree error.Memory refusal alone held counts is reported =
+      out_of_memory_in_script bytes tree refusal held alone reported counts
+  failed_alone old new bytes tree (error.Write kind) refusal alone held counts is reported =
+      write_failed bytes tree kind refusal held alone reported counts
+  failed_alone old new bytes tree _ refusal alone held counts is reported = absurd is
 
   -- an error where this label is shared, if any is
   failed_with : (old new : S) (bytes : List ℕ) (tree : Tree) (e : Error) (refusal : Refusal)
@@ -97,13 +101,13 @@ module _ {S : Type 0} (taken : S → List ℕ) (failed : S → Failures) (writer
       → HoldsTree (Some bytes) tree → Counts e old new → ReportsClash clash (Err e) (taken old) (taken new)
       → Reports e refusal → Finishes taken failed writer bin old new (Some bytes) (Err refusal)
   failed_with old new bytes tree e refusal None is held counts clashes reported =
-      failed_alone old new bytes tree e refusal held counts clashes reported
+      failed_alone old new bytes tree e refusal is held counts clashes reported
   failed_with old new bytes tree e refusal (Some label) is held counts (inl clash, unwritten) reported =
       label_clash bytes label tree refusal held is (subst (λ e. Reports e refusal) (same_error e _ clash) reported)
       (record { taken_same = unwritten; failed_same = subst (λ e. Counts e old new) (same_error e _ clash) counts })
   failed_with old new bytes tree e refusal (Some label) is held counts (inr out, unwritten) reported =
-      out_of_memory bytes refusal (subst (λ e. Reports e refusal) (same_error e _ out) reported) (λ none. unwritten)
-      (subst (λ e. Counts e old new) (same_error e _ out) counts)
+      out_of_memory bytes refusal (subst (λ e. Reports e refusal) (same_error e _ out) reported)
+      (record { taken_same = unwritten; failed_same = subst (λ e. Counts e old new) (same_error e _ out) counts })
 
   -- the generator fails
   pub ends_failed : (Reads : Tree → Type 0) (old new : S) (file : Option (List ℕ)) (tree : Tree)

@@ -46,7 +46,8 @@ pub record Untouched {S : Type 0} (taken : S → List ℕ) (failed : S → Failu
 
 -- How writing the script of a tree file ends: the file can't be read (None), spells no JSON, or
 -- describes no command; two commands would share a label; a write failed; memory ran out; or all went
--- well. The script is that of the very command that the file describes, built under the bin name.
+-- well. The script is that of the very command that the file describes, built under the bin name; it
+-- is begun only where no two nodes of that command share a label.
 pub data Finishes {S : Type 0} (taken : S → List ℕ) (failed : S → Failures) (writer : Writer) (bin : List ℕ) (old new : S) : Option (List ℕ) → Result (Unit {0}) Refusal → Type 0 where
   -- the file can't be read
   unreadable : (refusal : Refusal) → IsRefusal unreadable_line refusal
@@ -66,15 +67,21 @@ pub data Finishes {S : Type 0} (taken : S → List ℕ) (failed : S → Failures
       → Finishes taken failed writer bin old new (Some bytes) (Err refusal)
   -- a write failed, which is counted with its kind
   write_failed : (bytes : List ℕ) (tree : Tree) (kind : ErrorKind) (refusal : Refusal)
-      → Describes bytes (Some tree) → IsRefusal (error_line (Write kind)) refusal
-      → failed new ≡ raised kind (failed old)
+      → Describes bytes (Some tree) → writer.clash (built_under (Some bin) tree) ≡ None
+      → IsRefusal (error_line (Write kind)) refusal → failed new ≡ raised kind (failed old)
       → Finishes taken failed writer bin old new (Some bytes) (Err refusal)
-  -- out of memory; no write failed, and nothing is written for a file that describes no command
+  -- out of memory, and nothing is written
   out_of_memory : (bytes : List ℕ) (refusal : Refusal) → IsOutOfMemory refusal
-      → (((tree : Tree) → Describes bytes (Some tree) → ⊥) → taken new ≡ taken old)
-      → failed new ≡ failed old → Finishes taken failed writer bin old new (Some bytes) (Err refusal)
+      → Untouched taken failed old new
+      → Finishes taken failed writer bin old new (Some bytes) (Err refusal)
+  -- out of memory once the script of the command may have been begun; how much of it is written is left open
+  out_of_memory_in_script : (bytes : List ℕ) (tree : Tree) (refusal : Refusal)
+      → Describes bytes (Some tree) → writer.clash (built_under (Some bin) tree) ≡ None
+      → IsOutOfMemory refusal → failed new ≡ failed old
+      → Finishes taken failed writer bin old new (Some bytes) (Err refusal)
   -- the script is written
   script_written : (bytes : List ℕ) (tree : Tree) → Describes bytes (Some tree)
+      → writer.clash (built_under (Some bin) tree) ≡ None
       → taken new ≡ taken old ++ writer.script (built_under (Some bin) tree)
       → failed new ≡ failed old → Finishes taken failed writer bin old new (Some bytes) (Ok tt)
 
