@@ -1,7 +1,7 @@
 -- Files and the commands that they describe.
 use Rattle.std.proofs.Common.{◌≡◌, [], ◌∷◌, None, Some, codes, refl, true}
 use Rattle.std.specs.Str.{chars}
-use Rattle.serde_json.specs.Data.{Data, null, array, boolean, object, string, item, no_items}
+use Rattle.serde_json.specs.Data.{Data, null, array, boolean, number, unsigned, object, string, item, no_items}
 use Rattle.serde_json.specs.Data.{member, no_members}
 use Rattle.serde_json.specs.Read.{read}
 use Rattle.serde_json.proofs.OnLiterals.{serde_json_on_literals}
@@ -120,3 +120,38 @@ other_kind : argument_of (object (member (codes "help") null
     (member (codes "id") (string (codes "v")) no_members))) ≡ None
 unfolding argument_keys argument_of
 other_kind = refl
+
+-- `{"conflicts_with":["c","b"],"global":true,"id":"a","index":2,"last":true,"required":true,
+-- "value_terminator":";"}`: the ids of conflicts in their order
+with_surroundings : argument_of (object (member (codes "conflicts_with")
+    (array (item (string (codes "c")) (item (string (codes "b")) no_items)))
+    (member (codes "global") (boolean true) (member (codes "id") (string (codes "a"))
+    (member (codes "index") (number (unsigned 2)) (member (codes "last") (boolean true)
+    (member (codes "required") (boolean true)
+    (member (codes "value_terminator") (string (codes ";")) no_members))))))))
+    ≡ Some (record (new_arg (codes "a")) {
+      value_terminator = Some (codes ";");
+      index = Some 2;
+      conflicts = codes "c" ∷ codes "b" ∷ [];
+      required = true;
+      last = true;
+      global = true;
+    })
+unfolding argument_keys argument_of
+with_surroundings = refl
+
+-- `{"conflicts_with":"b","id":"a"}`: another kind
+no_list : argument_of (object (member (codes "conflicts_with") (string (codes "b"))
+    (member (codes "id") (string (codes "a")) no_members))) ≡ None
+unfolding argument_keys argument_of
+no_list = refl
+
+-- `{"allow_external_subcommands":true,"name":"app"}`
+with_external_subcommands : command_of (object
+    (member (codes "allow_external_subcommands") (boolean true)
+    (member (codes "name") (string (codes "app")) no_members)))
+    ≡ Some (record (new_tree (codes "app")) {
+      node = record (new_node (codes "app")) { allow_external_subcommands = true };
+    })
+unfolding command_keys
+with_external_subcommands = refl

@@ -6,14 +6,15 @@ use Rattle.cc_arg.specs.Arguments.{new_arg}
 use Rattle.cc_arg.specs.declared.arg.Arg.{Arg}
 use Rattle.cc_tree_file.specs.PossibleValueForm.{possible_values_of}
 use Rattle.cc_tree_file.specs.TreeForm.{◌>>=◌, action_of, character_of, characters_of, has_only}
-use Rattle.cc_tree_file.specs.TreeForm.{hint_of, range_of, texts_of, with_key}
+use Rattle.cc_tree_file.specs.TreeForm.{hint_of, number_of, range_of, texts_of, with_key}
 
 -- the keys that an argument may have
 unfoldable pub argument_keys : List (List ℕ)
 argument_keys = codes "id" ∷ codes "short" ∷ codes "long" ∷ codes "help" ∷ codes "action"
     ∷ codes "num_args" ∷ codes "short_aliases" ∷ codes "visible_short_aliases" ∷ codes "aliases"
     ∷ codes "visible_aliases" ∷ codes "value_names" ∷ codes "possible_values"
-    ∷ codes "value_hint" ∷ codes "hide" ∷ []
+    ∷ codes "value_hint" ∷ codes "index" ∷ codes "value_terminator" ∷ codes "conflicts_with"
+    ∷ codes "required" ∷ codes "last" ∷ codes "global" ∷ codes "hide" ∷ []
 
 -- ---- names
 
@@ -60,10 +61,45 @@ abbrev pub with_values : Data → Arg → Option Arg
 with_values d argument = with_action d argument >>= with_num_args d >>= with_value_names d
     >>= with_possible_values d >>= with_value_hint d
 
--- ---- whether it is left out of help texts
+-- ---- its index, the word that ends its values, and the arguments that exclude it
+
+abbrev pub with_index : Data → Arg → Option Arg
+with_index = with_key (codes "index") number_of
+    (λ argument index. record argument { index = Some index })
+
+abbrev pub with_value_terminator : Data → Arg → Option Arg
+with_value_terminator = with_key (codes "value_terminator") as_str
+    (λ argument terminator. record argument { value_terminator = Some terminator })
+
+-- one more id of an argument that may not be given together with this one
+abbrev pub with_conflict : Arg → List ℕ → Arg
+with_conflict argument id = record argument { conflicts = argument.conflicts ++ id ∷ [] }
+
+abbrev pub with_conflicts : Data → Arg → Option Arg
+with_conflicts = with_key (codes "conflicts_with") texts_of (fold with_conflict)
+
+abbrev pub with_surroundings : Data → Arg → Option Arg
+with_surroundings d argument =
+    with_index d argument >>= with_value_terminator d >>= with_conflicts d
+
+-- ---- whether it has to be given, only after `--`, also below; whether help texts leave it out
+
+abbrev pub with_required : Data → Arg → Option Arg
+with_required = with_key (codes "required") as_bool
+    (λ argument required. record argument { required = required })
+
+abbrev pub with_last : Data → Arg → Option Arg
+with_last = with_key (codes "last") as_bool (λ argument last. record argument { last = last })
+
+abbrev pub with_global : Data → Arg → Option Arg
+with_global = with_key (codes "global") as_bool
+    (λ argument global. record argument { global = global })
 
 abbrev pub with_hide : Data → Arg → Option Arg
 with_hide = with_key (codes "hide") as_bool (λ argument hide. record argument { hide = hide })
+
+abbrev pub with_flags : Data → Arg → Option Arg
+with_flags d argument = with_required d argument >>= with_last d >>= with_global d >>= with_hide d
 
 -- ---- aliases
 
@@ -112,7 +148,8 @@ id_of d = if has_only argument_keys d then get (codes "id") d >>= as_str else No
 -- what the keys besides the id set
 abbrev pub with_rest : Data → Arg → Option Arg
 with_rest d argument =
-    with_names d argument >>= with_values d >>= with_hide d >>= with_all_aliases d
+    with_names d argument >>= with_values d >>= with_surroundings d >>= with_flags d
+    >>= with_all_aliases d
 
 -- the argument that an object describes
 unfoldable pub argument_of : Data → Option Arg

@@ -16,8 +16,8 @@ unfoldable pub command_keys : List (List ℕ)
 command_keys = codes "name" ∷ codes "bin_name" ∷ codes "about" ∷ codes "version"
     ∷ codes "subcommand_help_heading" ∷ codes "aliases" ∷ codes "visible_aliases"
     ∷ codes "display_order" ∷ codes "hide" ∷ codes "disable_help_flag"
-    ∷ codes "disable_version_flag" ∷ codes "disable_help_subcommand" ∷ codes "args"
-    ∷ codes "subcommands" ∷ []
+    ∷ codes "disable_version_flag" ∷ codes "disable_help_subcommand"
+    ∷ codes "allow_external_subcommands" ∷ codes "args" ∷ codes "subcommands" ∷ []
 
 -- ---- texts
 
@@ -68,7 +68,7 @@ abbrev pub with_display_order : Data → Tree → Option Tree
 with_display_order = with_key (codes "display_order") number_of
     (λ tree order. with_root (λ node. record node { display_order = Some order }) tree)
 
--- ---- what is left out
+-- ---- what is left out, and whether other programs may be named
 
 abbrev pub with_hide : Data → Tree → Option Tree
 with_hide = with_key (codes "hide") as_bool
@@ -86,9 +86,14 @@ abbrev pub with_disable_help_subcommand : Data → Tree → Option Tree
 with_disable_help_subcommand = with_key (codes "disable_help_subcommand") as_bool
     (λ tree disable. with_root (λ node. record node { disable_help_subcommand = disable }) tree)
 
+abbrev pub with_allow_external_subcommands : Data → Tree → Option Tree
+with_allow_external_subcommands = with_key (codes "allow_external_subcommands") as_bool
+    (λ tree allow. with_root (λ node. record node { allow_external_subcommands = allow }) tree)
+
 abbrev pub with_flags : Data → Tree → Option Tree
 with_flags d tree = with_hide d tree >>= with_disable_help_flag d
     >>= with_disable_version_flag d >>= with_disable_help_subcommand d
+    >>= with_allow_external_subcommands d
 
 -- ---- arguments
 

@@ -8,13 +8,13 @@ ghost use Rattle.cc_tree_file.specs.TreeForm.{Gives, GivesSame, has_only};
 use crate::error::{TreeError, builder_error};
 use crate::possible_values::possible_values;
 use crate::values::{
-    action, boolean, character, characters, has_only_keys, hint, range, text, texts,
+    action, boolean, character, characters, has_only_keys, hint, number, range, text, texts,
 };
 use cc_arg::Arg;
 use serde_json::Value;
 use std::alloc::Global;
 
-const KEYS: [&str; 14] = [
+const KEYS: [&str; 20] = [
     "id",
     "short",
     "long",
@@ -28,6 +28,12 @@ const KEYS: [&str; 14] = [
     "value_names",
     "possible_values",
     "value_hint",
+    "index",
+    "value_terminator",
+    "conflicts_with",
+    "required",
+    "last",
+    "global",
     "hide",
 ];
 
@@ -63,7 +69,8 @@ fn with_rest(alloc: Global, arg: Arg, tree: &Value) -> Result<Arg, TreeError>
 {
     let arg = with_names(alloc, arg, tree)?;
     let arg = with_values(alloc, arg, tree)?;
-    let arg = with_hide(arg, tree)?;
+    let arg = with_surroundings(alloc, arg, tree)?;
+    let arg = with_flags(arg, tree)?;
     with_all_aliases(alloc, arg, tree)
 }
 
@@ -163,6 +170,87 @@ fn with_value_hint(arg: Arg, tree: &Value) -> Result<Arg, TreeError>
 {
     match tree.get("value_hint") {
         Some(value) => Ok(arg.value_hint(hint(value)?)),
+        None => Ok(arg),
+    }
+}
+
+fn with_surroundings(alloc: Global, arg: Arg, tree: &Value) -> Result<Arg, TreeError>
+    ensures { GivesSame result (form.with_surroundings (view tree.now) arg) }
+{
+    let arg = with_index(arg, tree)?;
+    let arg = with_value_terminator(alloc, arg, tree)?;
+    with_conflicts(alloc, arg, tree)
+}
+
+fn with_index(arg: Arg, tree: &Value) -> Result<Arg, TreeError>
+    ensures { GivesSame result (form.with_index (view tree.now) arg) }
+{
+    match tree.get("index") {
+        Some(value) => Ok(arg.index(number(value)?)),
+        None => Ok(arg),
+    }
+}
+
+fn with_value_terminator(alloc: Global, arg: Arg, tree: &Value) -> Result<Arg, TreeError>
+    ensures { GivesSame result (form.with_value_terminator (view tree.now) arg) }
+{
+    match tree.get("value_terminator") {
+        Some(value) => Ok(arg.value_terminator(text(alloc, value)?)),
+        None => Ok(arg),
+    }
+}
+
+fn with_conflicts(alloc: Global, arg: Arg, tree: &Value) -> Result<Arg, TreeError>
+    ensures { GivesSame result (form.with_conflicts (view tree.now) arg) }
+{
+    match tree.get("conflicts_with") {
+        Some(value) => add_conflicts(arg, texts(alloc, value)?),
+        None => Ok(arg),
+    }
+}
+
+fn add_conflicts(arg: Arg, ids: Vec<String>) -> Result<Arg, TreeError>
+    ensures { GivesSame result (Some (fold form.with_conflict arg (map string_bytes ids.items))) }
+{
+    let mut arg = arg;
+    for id in ids {
+        arg = arg.conflicts_with(id).map_err(builder_error)?;
+    }
+    Ok(arg)
+}
+
+fn with_flags(arg: Arg, tree: &Value) -> Result<Arg, TreeError>
+    ensures { GivesSame result (form.with_flags (view tree.now) arg) }
+{
+    let arg = with_required(arg, tree)?;
+    let arg = with_last(arg, tree)?;
+    let arg = with_global(arg, tree)?;
+    with_hide(arg, tree)
+}
+
+fn with_required(arg: Arg, tree: &Value) -> Result<Arg, TreeError>
+    ensures { GivesSame result (form.with_required (view tree.now) arg) }
+{
+    match tree.get("required") {
+        Some(value) => Ok(arg.required(boolean(value)?)),
+        None => Ok(arg),
+    }
+}
+
+fn with_last(arg: Arg, tree: &Value) -> Result<Arg, TreeError>
+    ensures { GivesSame result (form.with_last (view tree.now) arg) }
+{
+    match tree.get("last") {
+        Some(value) => Ok(arg.last(boolean(value)?)),
+        None => Ok(arg),
+    }
+}
+
+fn with_global(arg: Arg, tree: &Value) -> Result<Arg, TreeError>
+    ensures { GivesSame result (form.with_global (view tree.now) arg) }
+{
+    match tree.get("global") {
+        Some(value) => Ok(arg.global(boolean(value)?)),
         None => Ok(arg),
     }
 }

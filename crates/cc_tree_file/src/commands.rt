@@ -13,7 +13,7 @@ use cc_command::Command;
 use serde_json::Value;
 use std::alloc::Global;
 
-const KEYS: [&str; 14] = [
+const KEYS: [&str; 15] = [
     "name",
     "bin_name",
     "about",
@@ -26,6 +26,7 @@ const KEYS: [&str; 14] = [
     "disable_help_flag",
     "disable_version_flag",
     "disable_help_subcommand",
+    "allow_external_subcommands",
     "args",
     "subcommands",
 ];
@@ -205,7 +206,8 @@ fn with_flags(command: Command, tree: &Value) -> Result<Command, TreeError>
     let command = with_hide(command, tree)?;
     let command = with_disable_help_flag(command, tree)?;
     let command = with_disable_version_flag(command, tree)?;
-    with_disable_help_subcommand(command, tree)
+    let command = with_disable_help_subcommand(command, tree)?;
+    with_allow_external_subcommands(command, tree)
 }
 
 fn with_hide(command: Command, tree: &Value) -> Result<Command, TreeError>
@@ -240,6 +242,15 @@ fn with_disable_help_subcommand(command: Command, tree: &Value) -> Result<Comman
 {
     match tree.get("disable_help_subcommand") {
         Some(value) => Ok(command.disable_help_subcommand(boolean(value)?)),
+        None => Ok(command),
+    }
+}
+
+fn with_allow_external_subcommands(command: Command, tree: &Value) -> Result<Command, TreeError>
+    ensures { GivesSame result (form.with_allow_external_subcommands (view tree.now) command) }
+{
+    match tree.get("allow_external_subcommands") {
+        Some(value) => Ok(command.allow_external_subcommands(boolean(value)?)),
         None => Ok(command),
     }
 }
