@@ -1,14 +1,14 @@
 -- The visits that are still to come in table order, as items are taken from the stack and put on it.
-use Rattle.std.proofs.Common.{◌≡◌, ℕ, zero, suc, ◌+◌, ◌<◌, ◌≤◌, List, [], ◌∷◌, ◌++◌, length, reverse, refl, ap, ◌∙◌, sym, subst, append_assoc, append-nil, arith, Some}
+use Rattle.std.proofs.Common.{◌≡◌, ℕ, zero, suc, ◌+◌, ◌-◌, ◌<◌, ◌≤◌, List, [], ◌∷◌, ◌++◌, length, reverse, refl, ap, ◌∙◌, sym, subst, append_assoc, append-nil, arith, Some}
 use Rattle.std.specs.List.{flat_map, range_with_len, All}
-use Rattle.std.proofs.lemmas.List.{nil_from_length}
+use Rattle.std.proofs.lemmas.List.{nil_from_length, length-append, length-reverse, reverse-append, reverse-reverse}
 use Rattle.std.proofs.lemmas.List.Concat.{flat_map-append}
 use Rattle.std.proofs.lemmas.List.Folds.{flat_map-map}
 use Rattle.std.proofs.lemmas.List.Elements.{All-nil, All-pop, All-append, All-map}
 use Rattle.std.proofs.lemmas.List.Sorted.{All-permutation, IsPermutation-reverse}
 use Rattle.cc_command.specs.declared.node.Node.{Node}
 use Rattle.cc_command.specs.Tree.{Tree, forest_of}
-use Rattle.cc_flat.specs.Flat.{Entry, HasItsChildren, children_at, entry_at, tree_at, trees_at}
+use Rattle.cc_flat.specs.Flat.{Entry, HasItsChildren, children_at, entry_at, numbers_between, tree_at, trees_at}
 use Rattle.cc_visits.specs.Stack.{from_stack}
 use Rattle.cc_visits.specs.TableStack.{AreListed, IsListed, item_at, items_at, table_items, tables_of}
 use Rattle.cc_visits.specs.Visits.{keyed, keys_below, tables_below, tables_from, table_visits, under_each}
@@ -56,6 +56,13 @@ module _ (flat : List Entry) (keys : List (List ℕ)) (above : ℕ) (is_listed :
   unfolding AreListed
   tables_listed items stack its are reversed = table_listed [] items stack its are reversed (All-nil (IsListed flat))
 
+-- a node without children has no items
+pub no_items : (above : ℕ) (keys : List (List ℕ)) (start end : ℕ) (numbers : List ℕ) → start ≡ end →
+    numbers_between start end ≡ numbers → [] ≡ table_items above keys numbers
+no_items above keys start end numbers none is =
+    let no_more : 0 ≡ end - start = omega arith in
+    ap (λ n. table_items above keys (range_with_len start n)) no_more ∙ ap (table_items above keys) is
+
 -- ---- the visits that are still to come
 
 module _ (flat : List Entry) (longer : List ℕ → List ℕ → List ℕ) where
@@ -97,28 +104,51 @@ module _ (flat : List Entry) (longer : List ℕ → List ℕ → List ℕ) where
   -- the root under its key, then what is below it
   pub tables_begin : (key : List ℕ) (keys : List (List ℕ)) (items stack : List TableItem) → HasItsChildren flat 0 → keys ≡ key ∷ [] →
       items ≡ table_items 0 keys (children_at flat 0) → stack ≡ reverse items →
-      under_each keys (node_at 0) (tree_at flat 0) ++ from_stack (tables_of flat longer) stack ≡ table_visits longer key (tree_at flat 0)
+      under_each (reverse keys) (node_at 0) (tree_at flat 0) ++ from_stack (tables_of flat longer) stack ≡ table_visits longer key (tree_at flat 0)
   tables_begin key keys items stack its keys_are are reversed =
-      ap (λ t. under_each keys (node_at 0) (tree_at flat 0) ++ t) (tables-pushed 0 keys [] items stack its are reversed ∙
+      ap (λ t. under_each (reverse keys) (node_at 0) (tree_at flat 0) ++ t) (tables-pushed 0 keys [] items stack its are reversed ∙
       ap (λ t. tables_below longer keys (node_at 0) (tree_at flat 0).children ++ t) (from_stack_none (tables_of flat longer) [] refl) ∙
       append-nil (tables_below longer keys (node_at 0) (tree_at flat 0).children)) ∙
-      ap (λ ks. under_each ks (node_at 0) (tree_at flat 0) ++ tables_below longer ks (node_at 0) (tree_at flat 0).children) keys_are
+      ap (λ ks. under_each (reverse ks) (node_at 0) (tree_at flat 0) ++ tables_below longer ks (node_at 0) (tree_at flat 0).children) keys_are
 
   -- no keys and no nodes are left
-  pub tables_end : (number above : ℕ) (keys : List (List ℕ)) (stack : List TableItem) → length keys ≡ 0 → length stack ≡ 0 →
-      under_each keys (node_at above) (tree_at flat number) ++ from_stack (tables_of flat longer) stack ≡ []
-  tables_end number above keys stack no_keys no_items =
-      ap (λ ks. under_each ks (node_at above) (tree_at flat number) ++ from_stack (tables_of flat longer) stack) (nil_from_length keys no_keys) ∙
+  pub tables_end : (number above : ℕ) (ready : List (List ℕ)) (stack : List TableItem) → length ready ≡ 0 → length stack ≡ 0 →
+      under_each (reverse ready) (node_at above) (tree_at flat number) ++ from_stack (tables_of flat longer) stack ≡ []
+  tables_end number above ready stack no_keys no_items =
+      ap (λ ks. under_each (reverse ks) (node_at above) (tree_at flat number) ++ from_stack (tables_of flat longer) stack) (nil_from_length ready no_keys) ∙
       from_stack_none (tables_of flat longer) stack no_items
 
+  -- the key that is taken from the end is the first one
+  taken_first : (first : List ℕ) (ready left : List (List ℕ)) → ready ≡ left ++ first ∷ [] →
+      reverse ready ≡ first ∷ reverse left
+  taken_first first ready left taken = ap (λ ks. reverse ks) taken ∙ reverse-append left (first ∷ [])
+
+  -- the node that is being visited has a further key
+  pub table_later : (number above : ℕ) (first : List ℕ) (ready left : List (List ℕ)) (stack : List TableItem) →
+      ready ≡ left ++ first ∷ [] →
+      under_each (reverse ready) (node_at above) (tree_at flat number) ++ from_stack (tables_of flat longer) stack
+      ≡ keyed first (node_at above) (tree_at flat number) ∷ (under_each (reverse left) (node_at above) (tree_at flat number) ++ from_stack (tables_of flat longer) stack)
+  table_later number above first ready left stack taken =
+      ap (λ ks. under_each ks (node_at above) (tree_at flat number) ++ from_stack (tables_of flat longer) stack) (taken_first first ready left taken)
+
   -- no key is left: the next node's first key comes
-  pub table_next : (before above_before number above : ℕ) (key first : List ℕ) (done keys later : List (List ℕ)) (old rest items new : List TableItem) → length done ≡ 0 → HasItsChildren flat number →
-      old ≡ rest ++ item_at above number key ∷ [] → keys ≡ keys_below longer key (node_at number) →
-      items ≡ table_items number keys (children_at flat number) → new ≡ rest ++ reverse items → keys ≡ first ∷ later →
-      under_each done (node_at above_before) (tree_at flat before) ++ from_stack (tables_of flat longer) old
-      ≡ keyed first (node_at above) (tree_at flat number) ∷ (under_each later (node_at above) (tree_at flat number) ++ from_stack (tables_of flat longer) new)
-  table_next before above_before number above key first done keys later old rest items new no_keys its popped keys_are are pushed first_is =
+  pub table_next : (before above_before number above : ℕ) (key first : List ℕ) (done empty keys left : List (List ℕ))
+      (old rest items new : List TableItem) → length done ≡ 0 → length empty ≡ 0 → HasItsChildren flat number →
+      old ≡ rest ++ item_at above number key ∷ [] → keys ≡ empty ++ keys_below longer key (node_at number) →
+      items ≡ table_items number keys (children_at flat number) → new ≡ rest ++ reverse items → reverse keys ≡ left ++ first ∷ [] →
+      under_each (reverse done) (node_at above_before) (tree_at flat before) ++ from_stack (tables_of flat longer) old
+      ≡ keyed first (node_at above) (tree_at flat number) ∷ (under_each (reverse left) (node_at above) (tree_at flat number) ++ from_stack (tables_of flat longer) new)
+  table_next before above_before number above key first done empty keys left old rest items new no_keys is_empty its popped keys_are are pushed taken =
       let from_item = tables_of flat longer in
-      ap (λ ks. under_each ks (node_at above_before) (tree_at flat before) ++ from_stack from_item old) (nil_from_length done no_keys) ∙
-      table-step number above key keys old rest items new its popped keys_are are pushed ∙
+      let first_is : keys ≡ first ∷ reverse left = sym (reverse-reverse keys) ∙ taken_first first (reverse keys) left taken in
+      ap (λ ks. under_each (reverse ks) (node_at above_before) (tree_at flat before) ++ from_stack from_item old) (nil_from_length done no_keys) ∙
+      table-step number above key keys old rest items new its popped (keys_are ∙ ap (λ ks. ks ++ keys_below longer key (node_at number)) (nil_from_length empty is_empty)) are pushed ∙
       ap (λ ks. under_each ks (node_at above) (tree_at flat number) ++ from_stack from_item new) first_is
+
+  -- a node has a key
+  pub some_key : (number : ℕ) (key : List ℕ) (done keys : List (List ℕ)) →
+      keys ≡ done ++ keys_below longer key (node_at number) → 0 < length (reverse keys)
+  some_key number key done keys keys_are =
+      let names : List (List ℕ) = keys_below longer key (node_at number) in
+      let some : 0 < length names = omega arith in
+      subst (λ n. 0 < n) (sym (length-reverse keys ∙ ap (λ ks. length ks) keys_are ∙ length-append done names)) (omega arith)

@@ -1,12 +1,14 @@
 //! How the keys of nodes are made.
 
-ghost use Rattle.std.specs.Prelude.{◌≡◌, ℕ, List, IfOk};
+ghost use Rattle.std.specs.Prelude.{◌≡◌, ◌++◌, ℕ, List, IfOk, OnOk};
 ghost use Rattle.cc_command.specs.Names.{visible_names};
 ghost use Rattle.cc_visits.specs.Visits.{keys_below};
 
 use cc_base::Text;
 use cc_command::Command;
 use std::alloc::{AllocError, Global};
+use std::marker::Model;
+use std::rc::Rc;
 
 /// How the key of a node is made from its parent's key and one of its own names.
 pub trait Keys {
@@ -32,27 +34,75 @@ impl<'a> Keys for Joined<'a> {
     ghost longer = { λ keys. joined keys.separator.now };
 
     fn longer(&self, alloc: Global, key: &str, name: &str) -> Result<Text, AllocError> {
-        let mut text = String::from_str(alloc, key)?;
+        let room = key
+            .len()
+            .saturating_add(self.separator.len())
+            .saturating_add(name.len());
+        let mut text = String::with_capacity(alloc, room)?;
+        text.push_str(key)?;
         text.push_str(self.separator)?;
         text.push_str(name)?;
         Ok(Text::from(text))
     }
 }
 
-/// The keys of a node below a parent with this key: one for each of its visible names. Fails
-/// where memory runs out.
-pub(crate) fn keys_below<K: Keys>(
+/// Adds the keys of a node below a parent with this key: one for each of its visible names.
+/// Fails where memory runs out.
+pub(crate) fn push_keys_below<K: Keys>(
+    made: &mut Vec<Text>,
     alloc: Global,
     keys: &K,
     key: &str,
     command: &Command,
-) -> Result<Vec<Text>, AllocError>
-    ensures { IfOk result
-        (λ made. made.items ≡ keys_below (K.longer keys.now) key.now command.now.node) }
+) -> Result<(), AllocError>
+    ensures { OnOk result (made.new.items
+        ≡ made.old.items ++ keys_below (K.longer keys.now) key.now command.now.node) }
 {
-    let mut made = Vec::new(alloc);
     for name in command.get_name_and_visible_aliases() {
         made.push(keys.longer(alloc, key, name)?)?;
     }
-    Ok(made)
+    Ok(())
+}
+
+/// A key that several items hold.
+///
+/// A clause sees its bytes.
+#[derive(Drop)]
+pub(crate) struct SharedKey {
+    text: Rc<Text>,
+}
+
+impl Model for SharedKey {
+    ghost use Rattle.std.specs.Prelude.{ℕ, List};
+    ghost use Rattle.std.specs.Rc.{rc_value};
+
+    ghost Value = { List ℕ };
+
+    ghost view = { λ key. rc_value key.text };
+}
+
+impl SharedKey {
+    /// A copy of a key, to be shared. Fails where memory runs out.
+    pub fn copy_of(alloc: Global, key: &Text) -> Result<SharedKey, AllocError>
+        ensures { IfOk result (λ copy. copy ≡ key.now) }
+    {
+        let text = Rc::new(alloc, key.try_clone(alloc)?)?;
+        Ok(SharedKey { text })
+    }
+
+    /// The same key once more, with no copy of its text. Fails where it is held too often to be
+    /// counted.
+    pub fn share(&self) -> Result<SharedKey, AllocError>
+        ensures { IfOk result (λ shared. shared ≡ self.now) }
+    {
+        let text = self.text.clone()?;
+        Ok(SharedKey { text })
+    }
+
+    /// The text of the key.
+    pub fn as_str(&self) -> &str
+        ensures { result.now ≡ self.now }
+    {
+        self.text.as_ref().as_str()
+    }
 }

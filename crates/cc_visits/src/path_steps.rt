@@ -4,7 +4,7 @@ ghost use Rattle.std.specs.Prelude.{◌≡◌, ◌++◌, ◌<◌, length, IfOk, 
 ghost use Rattle.cc_flat.specs.Flat.{HasItsChildren, children_at};
 ghost use Rattle.cc_visits.specs.StepStack.{entries_at, step_items};
 
-use crate::keys::{Keys, keys_below};
+use crate::keys::{Keys, push_keys_below};
 use crate::stack::push_reversed;
 use crate::visit::{Visit, visit_at};
 use cc_base::Text;
@@ -159,7 +159,8 @@ fn items_below<K: Keys>(
     let mut items = Vec::new(alloc);
     let children = flat.children(number);
     for child in children.start..children.end {
-        let own = keys_below(alloc, keys, key, flat.command(child))?;
+        let mut own = Vec::new(alloc);
+        push_keys_below(&mut own, alloc, keys, key, flat.command(child))?;
         push_at(&mut items, number, child, own)?;
     }
     Ok(items)

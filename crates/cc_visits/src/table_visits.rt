@@ -4,21 +4,20 @@ ghost use Rattle.std.specs.Prelude.{◌≡◌, ◌++◌, ◌<◌, length, IfOk, 
 ghost use Rattle.cc_flat.specs.Flat.{HasItsChildren, children_at};
 ghost use Rattle.cc_visits.specs.TableStack.{items_at, table_items};
 
-use crate::keys::{Keys, keys_below};
+use crate::keys::{Keys, SharedKey, push_keys_below};
 use crate::stack::push_reversed;
 use crate::visit::{Visit, visit_at};
 use cc_base::Text;
 use cc_flat::Flat;
 use std::alloc::{AllocError, Global};
 use std::marker::Model;
-use std::vec::IntoIter;
 
 // A child that is still to be visited, under one key of its parent.
 #[derive(Drop)]
 pub(crate) struct TableItem {
     pub above: usize,
     pub number: usize,
-    pub key: Text,
+    pub key: SharedKey,
 }
 
 /// The visits of a tree that are still to come, in table order: the root under its key; then child
@@ -30,17 +29,17 @@ pub(crate) struct TableItem {
 pub struct TableVisits<'f, 'a, K: Keys> {
     flat: &'f Flat<'a>,
     keys: &'f K,
-    // the node that is being visited, the node above it, and its keys that are still to come
+    // the node that is being visited, the node above it, and its keys that are still to come, the
+    // next one last
     number: usize,
     above: usize,
-    ready: IntoIter<Text>,
+    ready: Vec<Text>,
     // what comes after it, the next one last
     stack: Vec<TableItem>,
 }
 
 impl<'f, 'a, K: Keys> Model for TableVisits<'f, 'a, K> {
-    ghost use Rattle.std.specs.Prelude.{ℕ, List, ◌++◌, ◌<◌, length};
-    ghost use Rattle.std.specs.Vec.Iter.{into_iter_items};
+    ghost use Rattle.std.specs.Prelude.{ℕ, List, ◌++◌, ◌<◌, length, reverse};
     ghost use Rattle.cc_flat.specs.Flat.{tree_at};
     ghost use Rattle.cc_visits.specs.Visits.{Keyed, under_each};
     ghost use Rattle.cc_visits.specs.VisitCode.{visits_code};
@@ -53,7 +52,7 @@ impl<'f, 'a, K: Keys> Model for TableVisits<'f, 'a, K> {
     ghost use Rattle.cc_visits.specs.TableStack.{AreListed, tables_of};
 
     ghost view = { λ visits.
-        under_each (into_iter_items visits.ready) (tree_at visits.flat.now visits.above).node
+        under_each (reverse visits.ready.items) (tree_at visits.flat.now visits.above).node
         (tree_at visits.flat.now visits.number)
         ++ from_stack (tables_of visits.flat.now (K.longer visits.keys.now)) visits.stack.items };
 
@@ -90,12 +89,12 @@ impl<'f, 'a, K: Keys> TableVisits<'f, 'a, K> {
             keys,
             number: 0,
             above: 0,
-            ready: own.into_iter(),
+            ready: own,
             stack,
         })
     }
 
-    #[tactic(auto, using(crate::proofs::TableStack::table_next, crate::proofs::TableStack::tables_end, crate::proofs::TableStack::table_listed, crate::proofs::TableStack::AreListed_rest, crate::proofs::TableStack::AreListed_top, crate::proofs::TableStack::AreListed_above))]
+    #[tactic(auto, using(crate::proofs::TableStack::table_later, crate::proofs::TableStack::some_key, crate::proofs::TableStack::tables_end, crate::proofs::TableStack::table_listed, crate::proofs::TableStack::AreListed_rest, crate::proofs::TableStack::AreListed_top, crate::proofs::TableStack::AreListed_above))]
     /// The next visit; `None` where none is left. Fails where memory runs out; what is left is then
     /// open.
     pub fn next(&mut self, alloc: Global) -> Result<Option<Visit<'a>>, AllocError>
@@ -104,19 +103,20 @@ impl<'f, 'a, K: Keys> TableVisits<'f, 'a, K> {
         ensures end { IfOk result (λ found. IfNone found (self.new ≡ [])) }
     {
         let flat = self.flat;
-        if let Some(key) = self.ready.next() {
+        if let Some(key) = self.ready.pop() {
             return Ok(Some(visit_at(flat, self.above, self.number, key)));
         }
         let Some(TableItem { above, number, key }) = self.stack.pop() else {
             return Ok(None);
         };
-        let keys = keys_below(alloc, self.keys, key.as_str(), flat.command(number))?;
-        let below = items_below(alloc, flat, number, &keys)?;
+        let command = flat.command(number);
+        push_keys_below(&mut self.ready, alloc, self.keys, key.as_str(), command)?;
+        let below = items_below(alloc, flat, number, &self.ready)?;
         push_reversed(&mut self.stack, below)?;
         self.number = number;
         self.above = above;
-        self.ready = keys.into_iter();
-        match self.ready.next() {
+        self.ready.reverse();
+        match self.ready.pop() {
             Some(key) => Ok(Some(visit_at(flat, above, number, key))),
             None => Ok(None),
         }
@@ -124,6 +124,7 @@ impl<'f, 'a, K: Keys> TableVisits<'f, 'a, K> {
 }
 
 // The children of a node, each under each of the node's keys.
+#[tactic(auto, using(crate::proofs::TableStack::no_items))]
 fn items_below(
     alloc: Global,
     flat: &Flat<'_>,
@@ -137,24 +138,38 @@ fn items_below(
 {
     let mut items = Vec::new(alloc);
     let children = flat.children(number);
+    if children.start == children.end {
+        return Ok(items);
+    }
+    let shared = shared_keys(alloc, keys)?;
     for child in children.start..children.end {
-        push_copies(&mut items, alloc, number, child, keys)?;
+        push_shared(&mut items, number, child, &shared)?;
     }
     Ok(items)
 }
 
-// Adds a node under a copy of each of its parent's keys.
-fn push_copies(
+// A copy of each key, to be shared.
+fn shared_keys(alloc: Global, keys: &[Text]) -> Result<Vec<SharedKey>, AllocError>
+    ensures { IfOk result (λ shared. shared.items ≡ keys.now) }
+{
+    let mut shared = Vec::with_capacity(alloc, keys.len())?;
+    for key in keys {
+        shared.push(SharedKey::copy_of(alloc, key)?)?;
+    }
+    Ok(shared)
+}
+
+// Adds a node under each of the keys of its parent.
+fn push_shared(
     items: &mut Vec<TableItem>,
-    alloc: Global,
     above: usize,
     number: usize,
-    keys: &[Text],
+    keys: &[SharedKey],
 ) -> Result<(), AllocError>
     ensures { OnOk result (items.new.items ≡ items.old.items ++ items_at above number keys.now) }
 {
     for key in keys {
-        let key = key.try_clone(alloc)?;
+        let key = key.share()?;
         items.push(TableItem { above, number, key })?;
     }
     Ok(())

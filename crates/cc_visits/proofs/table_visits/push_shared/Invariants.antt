@@ -1,6 +1,6 @@
 use Rattle.std.proofs.Common.{◌≡◌, ◌++◌, drop}
 use Rattle.cc_visits.specs.TableStack.{items_at}
-use Rattle.cc_visits.proofs.table_visits.push_copies.Given as goal
+use Rattle.cc_visits.proofs.table_visits.push_shared.Given as goal
 
 -- the items so far and those of the keys that are left make the whole
 abbrev pub invariant-loop-key : goal.invariant-loop-key
