@@ -1,10 +1,12 @@
 //! An argument: its builders and getters.
 
-ghost use Rattle.std.specs.Prelude.{◌≡◌, [], ◌∷◌, ◌++◌, Some, None, Option, unwrap_or, IfOk, IfErr};
+ghost use Rattle.std.specs.Prelude.{◌≡◌, [], ◌∷◌, ◌++◌, Some, None, Option, unwrap_or};
+ghost use Rattle.std.specs.Prelude.{IfOk, IfErr};
 ghost use Rattle.std.specs.Option.{option_map, option_copied};
 ghost use Rattle.std.specs.String.{string_bytes};
 ghost use Rattle.cc_arg.specs.Aliases.{shorts_left, longs_left};
-ghost use Rattle.cc_arg.specs.Arguments.{new_arg, is_positional, range_of, action_of, takes_values, filled, possible_values};
+ghost use Rattle.cc_arg.specs.Arguments.{new_arg, is_positional, range_of, action_of};
+ghost use Rattle.cc_arg.specs.Arguments.{takes_values, filled, possible_values};
 
 use crate::action::ArgAction;
 use crate::aliases::{LongAndVisibleAliases, ShortAndVisibleAliases};
@@ -224,7 +226,7 @@ impl Arg {
         self
     }
 
-    /// Says whether a build gives the argument to all commands below its own.
+    /// Says whether a build propagates the argument to the commands below.
     pub fn global(mut self, global: bool) -> Arg
         ensures { result ≡ record self { global = global } }
     {
@@ -388,7 +390,7 @@ impl Arg {
         self.last
     }
 
-    /// Whether a build gives the argument to all commands below its own.
+    /// Whether a build propagates the argument to the commands below.
     pub fn is_global_set(&self) -> bool
         ensures { result ≡ self.now.global }
     {
@@ -591,6 +593,26 @@ mod tests {
         assert_eq!(rt; copy.get_num_args(), Some(ValueRange::new(0, 1)));
         assert_eq!(rt; copy.get_display_order(), 3);
         assert!(rt; copy.takes_values() && copy.is_hide_set());
+        Ok(())
+    }
+
+    #[test]
+    fn copies_a_positional(rt: HostRuntime) -> Result<(), Fail> {
+        let alloc = rt.alloc();
+        let positional = argument(alloc, "in")?
+            .index(2)
+            .value_terminator(String::from_str(alloc, ";")?)
+            .conflicts_with(String::from_str(alloc, "out")?)?
+            .required(true)
+            .last(true)
+            .global(true);
+        let mut copy = positional.try_clone(alloc)?;
+        fill_index(&mut copy, 1);
+        assert_eq!(rt; copy.get_index(), Some(2));
+        assert_eq!(rt; copy.get_value_terminator(), Some(";"));
+        assert_eq!(rt; conflicting_ids(&copy).len(), 1);
+        assert_eq!(rt; conflicting_ids(&copy)[0].as_str(), "out");
+        assert!(rt; copy.is_required_set() && copy.is_last_set() && copy.is_global_set());
         Ok(())
     }
 

@@ -1,6 +1,9 @@
 -- Trees that are built as the definitions say.
 use Rattle.std.proofs.Common.{◌≡◌, ℕ, List, [], ◌∷◌, ◌++◌, Some, map, codes, true, false, refl}
+use Rattle.cc_arg.specs.declared.arg.Arg.{Arg}
+use Rattle.cc_arg.specs.declared.action.ArgAction.TheVariants.{SetTrue}
 use Rattle.cc_arg.specs.Arguments.{new_arg}
+use Rattle.cc_command.specs.ArgumentLists.{conflicting}
 use Rattle.cc_command.specs.Texts.{help_name, version_name}
 use Rattle.cc_command.specs.Tree.{Forest, none, more, Tree}
 use Rattle.cc_command.specs.Names.{full_name}
@@ -54,3 +57,59 @@ not_plain_with_quote = refl
 not_plain_with_twins : is_plain_tree (with_child app (new_tree (codes "run"))) ≡ false
 unfolding siblings_differ is_plain_name is_joined name_byte
 not_plain_with_twins = refl
+
+-- ---- global arguments
+
+abbrev flag : List ℕ → Arg
+flag id = record (new_arg id) { long = Some id; action = Some SetTrue }
+
+abbrev global_flag : List ℕ → Arg
+global_flag id = record (flag id) { global = true }
+
+abbrev with_flag : Tree → Arg → Tree
+with_flag tree argument = record tree { node = with_argument tree.node argument }
+
+-- the ids of a tree's arguments, a list for each node, in the order of the full names
+ids_below : Forest → List (List (List ℕ))
+ids_below none = []
+ids_below (more node below rest) =
+    map (λ argument. argument.id) node.arguments ∷ ids_below below ++ ids_below rest
+
+abbrev ids : Tree → List (List (List ℕ))
+ids tree = map (λ argument. argument.id) tree.node.arguments ∷ ids_below tree.children
+
+-- the global `--json`, which excludes `--yaml`
+abbrev json : Arg
+json = record (global_flag (codes "json")) { conflicts = codes "yaml" ∷ [] }
+
+-- `app` with `--json` and `--yaml`, and with a child `run`
+abbrev with_json : Tree
+with_json = with_flag (with_flag (with_child (new_tree (codes "app")) (new_tree (codes "run"))) json)
+    (flag (codes "yaml"))
+
+-- a global argument goes to the child, before its `help`, and to nothing that building made
+global_propagated : ids (built_tree with_json)
+    ≡ (codes "json" ∷ codes "yaml" ∷ codes "help" ∷ []) ∷ (codes "json" ∷ codes "help" ∷ [])
+    ∷ [] ∷ [] ∷ [] ∷ []
+unfolding ids_below help_argument help_name
+global_propagated = refl
+
+-- its conflicts are found among the arguments of the parent
+conflict_found : map (λ argument. argument.id) (conflicting with_json.node.arguments json)
+    ≡ codes "yaml" ∷ []
+conflict_found = refl
+
+-- one that is added after a build goes to the child after all that the child has by then
+global_added_late : ids (built_tree (with_flag (built_tree with_json) (global_flag (codes "late"))))
+    ≡ (codes "json" ∷ codes "yaml" ∷ codes "help" ∷ codes "late" ∷ [])
+    ∷ (codes "json" ∷ codes "help" ∷ codes "late" ∷ []) ∷ [] ∷ [] ∷ [] ∷ []
+unfolding ids_below help_argument help_name
+global_added_late = refl
+
+-- a command whose own argument with the id is not global passes nothing of that id on
+global_held_back : ids (built_tree (with_flag (with_child (new_tree (codes "app"))
+    (with_flag (with_child (new_tree (codes "run")) (new_tree (codes "job"))) (flag (codes "json")))) json))
+    ≡ (codes "json" ∷ codes "help" ∷ []) ∷ (codes "json" ∷ codes "help" ∷ []) ∷ (codes "help" ∷ [])
+    ∷ [] ∷ [] ∷ [] ∷ [] ∷ [] ∷ [] ∷ [] ∷ []
+unfolding ids_below help_argument help_name
+global_held_back = refl

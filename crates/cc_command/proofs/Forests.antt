@@ -8,7 +8,7 @@ use Rattle.cc_command.specs.Texts.{help_name}
 use Rattle.cc_command.specs.Tree.{Forest, none, more, join, has_nodes, Tree, forest_of, forest_size}
 use Rattle.cc_command.specs.Names.{has_child, has_id, has_name, joined_name}
 use Rattle.cc_command.specs.Generated.{copies, generated_node, help_command, needs_help_child, help_child}
-use Rattle.cc_command.specs.Built.{built_forest, built_under, with_missing}
+use Rattle.cc_command.specs.Built.{built_forest, built_below, with_missing}
 use Rattle.cc_command.proofs.BuiltAgain.{built_forest-join, join-none, helped}
 
 pub forest_of-append : (xs ys : List Tree) → forest_of (xs ++ ys) ≡ join (forest_of xs) (forest_of ys)
@@ -34,13 +34,13 @@ below_is_smaller (tree ∷ trees) (suc i) d lt = omega (arith, below_is_smaller 
 
 -- one more sibling is built after the others
 pub built_forest-push : (inherited : List Arg) (parent : List ℕ) (made trees : List Tree) (tree : Tree) →
-    forest_of made ≡ built_forest [] parent (forest_of trees) →
-    forest_of (made ++ built_under (Some (joined_name parent tree.node.name)) tree ∷ []) ≡ built_forest [] parent (forest_of (trees ++ tree ∷ []))
+    forest_of made ≡ built_forest inherited parent (forest_of trees) →
+    forest_of (made ++ built_below inherited (Some (joined_name parent tree.node.name)) tree ∷ []) ≡ built_forest inherited parent (forest_of (trees ++ tree ∷ []))
 built_forest-push inherited parent made trees tree so_far =
-    forest_of-append made (built_under (Some (joined_name parent tree.node.name)) tree ∷ []) ∙
-    ap (λ f. join f (built_forest [] parent (forest_of (tree ∷ [])))) so_far ∙
-    sym (built_forest-join [] parent (forest_of trees) (forest_of (tree ∷ []))) ∙
-    ap (built_forest [] parent) (sym (forest_of-append trees (tree ∷ [])))
+    forest_of-append made (built_below inherited (Some (joined_name parent tree.node.name)) tree ∷ []) ∙
+    ap (λ f. join f (built_forest inherited parent (forest_of (tree ∷ [])))) so_far ∙
+    sym (built_forest-join inherited parent (forest_of trees) (forest_of (tree ∷ []))) ∙
+    ap (built_forest inherited parent) (sym (forest_of-append trees (tree ∷ [])))
 
 -- one more sibling is copied at the place after the others
 abbrev copy_of : List ℕ → ℕ → Tree → Forest → Forest
@@ -72,19 +72,19 @@ helped-push name made forest last so_far is =
     forest_of-append made (last ∷ []) ∙ ap (λ f. join f (forest_of (last ∷ []))) so_far ∙ ap (join (copies name 0 forest)) is
 
 -- the children as building leaves them, where the child `help` is not missing
-pub children-whole : (name : List ℕ) (node : Node) (forest built : Forest) → built ≡ built_forest [] name forest → needs_help_child node forest ≡ false →
-    built ≡ join (built_forest [] name forest) (help_child name node forest)
-children-whole name node forest built is not_missing =
-    is ∙ sym (join-none (built_forest [] name forest)) ∙
-    ap (λ b. join (built_forest [] name forest) (cond b (help_command name (helped (joined_name name help_name) forest)) none)) (sym not_missing)
+pub children-whole : (inherited : List Arg) (name : List ℕ) (node : Node) (forest built : Forest) → built ≡ built_forest inherited name forest → needs_help_child node forest ≡ false →
+    built ≡ join (built_forest inherited name forest) (help_child name node forest)
+children-whole inherited name node forest built is not_missing =
+    is ∙ sym (join-none (built_forest inherited name forest)) ∙
+    ap (λ b. join (built_forest inherited name forest) (cond b (help_command name (helped (joined_name name help_name) forest)) none)) (sym not_missing)
 
 -- the children as building leaves them, where the child `help` was missing
-pub children-helped : (name : List ℕ) (node : Node) (forest : Forest) (built : List Tree) (help : Tree) → forest_of built ≡ built_forest [] name forest →
+pub children-helped : (inherited : List Arg) (name : List ℕ) (node : Node) (forest : Forest) (built : List Tree) (help : Tree) → forest_of built ≡ built_forest inherited name forest →
     needs_help_child node forest ≡ true → forest_of (help ∷ []) ≡ help_command name (helped (joined_name name help_name) forest) →
-    forest_of (built ++ help ∷ []) ≡ join (built_forest [] name forest) (help_child name node forest)
-children-helped name node forest built help is missing made =
-    forest_of-append built (help ∷ []) ∙ ap (λ f. join f (forest_of (help ∷ []))) is ∙ ap (join (built_forest [] name forest)) made ∙
-    ap (λ b. join (built_forest [] name forest) (cond b (help_command name (helped (joined_name name help_name) forest)) none)) (sym missing)
+    forest_of (built ++ help ∷ []) ≡ join (built_forest inherited name forest) (help_child name node forest)
+children-helped inherited name node forest built help is missing made =
+    forest_of-append built (help ∷ []) ∙ ap (λ f. join f (forest_of (help ∷ []))) is ∙ ap (join (built_forest inherited name forest)) made ∙
+    ap (λ b. join (built_forest inherited name forest) (cond b (help_command name (helped (joined_name name help_name) forest)) none)) (sym missing)
 
 -- the help child is missing from a list of children
 pub needs_help_child-forest_of : (node : Node) (trees : List Tree) →

@@ -1,5 +1,5 @@
 -- A plain tree under a plain bin name builds to a plain tree.
-use Rattle.std.proofs.Common.{◌≡◌, ℕ, suc, List, [], ◌∷◌, ◌++◌, Bool, true, false, cond, not, ◌&&◌, ◌||◌, IsTrue, Option, Some, is_some, map, refl, ap, sym, subst, ◌∙◌, append_assoc}
+use Rattle.std.proofs.Common.{◌≡◌, ℕ, suc, List, [], ◌∷◌, ◌++◌, Bool, true, false, cond, not, ◌&&◌, ◌||◌, IsTrue, Option, Some, is_some, map, filter, refl, ap, sym, subst, ◌∙◌, append_assoc}
 use Rattle.std.specs.List.{list_all}
 use Rattle.std.specs.Str.{bytes_eq}
 use Rattle.std.proofs.lemmas.Bool.Decides.{Decides-like, same_from_decides}
@@ -14,7 +14,7 @@ use Rattle.cc_command.specs.PlainName.{name_byte, is_joined, is_plain_name}
 use Rattle.cc_command.specs.Plain.{is_plain_tree, is_plain_forest, is_plain_node, is_plain_argument, siblings_differ, passes_if_some, all_differ, names_of, names_of_all}
 use Rattle.cc_command.specs.Texts.{help_name, help_about, version_name, last_order}
 use Rattle.cc_command.specs.Generated.{help_argument, version_argument, generated_help, generated_version, generated_arguments, generated_node, copies, help_command, needs_help_child, help_child}
-use Rattle.cc_command.specs.Built.{with_missing, lacks_index, with_index, next_index, indexed, inherited_by, built_arguments, built_node, built_forest, built_under}
+use Rattle.cc_command.specs.Built.{with_missing, lacks_index, with_index, next_index, indexed, inherited_by, given_arguments, globals, propagated, built_arguments, built_node, built_forest, built_under}
 use Rattle.cc_command.proofs.BuiltAgain.{helped, join-none, has_child-built}
 use Rattle.cc_command.proofs.DifferentNames.{all_differ_append, contains_name-names_of_all}
 use Rattle.cc_command.proofs.PlainParts.{plain_more, plain_tree}
@@ -86,6 +86,35 @@ generated_plain node =
     of_version true = both (is_plain_argument version_argument) true version_argument_plain refl
     of_version false = refl
 
+-- what a node is given is plain, and so is what it propagates
+plain_given : (inherited : List Arg) (node : Node) → IsTrue (list_all is_plain_argument inherited) → IsTrue (list_all is_plain_argument node.arguments) →
+    IsTrue (list_all is_plain_argument (given_arguments inherited node))
+plain_given inherited node above own = plain_with_missing node.arguments (inherited_by node inherited) own (inherits node.generated)
+  where
+    inherits : (b : Bool) → IsTrue (list_all is_plain_argument (cond b [] inherited))
+    inherits true = refl
+    inherits false = above
+
+plain_globals : (xs : List Arg) → IsTrue (list_all is_plain_argument xs) → IsTrue (list_all is_plain_argument (globals xs))
+plain_globals [] h = h
+plain_globals (x ∷ xs) h =
+    let a = both_true (is_plain_argument x) (list_all is_plain_argument xs) h in
+    kept x.global a.0 (plain_globals xs a.1)
+  where
+    kept : (b : Bool) → IsTrue (is_plain_argument x) → IsTrue (list_all is_plain_argument (globals xs)) →
+        IsTrue (list_all is_plain_argument (cond b (x ∷ globals xs) (globals xs)))
+    kept true p q = both (is_plain_argument x) (list_all is_plain_argument (globals xs)) p q
+    kept false p q = q
+
+plain_propagated : (inherited : List Arg) (node : Node) → IsTrue (list_all is_plain_argument inherited) → IsTrue (is_plain_node node) →
+    IsTrue (list_all is_plain_argument (propagated inherited node))
+plain_propagated inherited node above h =
+    let arguments = list_all is_plain_argument node.arguments in
+    let a = both_true (is_plain_name node.name) (list_all is_plain_name node.visible_aliases && (list_all is_plain_name node.aliases && arguments)) h in
+    let b = both_true (list_all is_plain_name node.visible_aliases) (list_all is_plain_name node.aliases && arguments) a.1 in
+    let c = both_true (list_all is_plain_name node.aliases) arguments b.1 in
+    plain_globals (given_arguments inherited node) (plain_given inherited node above c.1)
+
 -- ---- nodes
 
 -- the last of four tests in place of another
@@ -100,14 +129,10 @@ plain_built_node : (inherited : List Arg) (bin_name : Option (List ℕ)) (node :
 plain_built_node inherited bin_name node above h =
     in_place_of_last (is_plain_name node.name) (list_all is_plain_name node.visible_aliases) (list_all is_plain_name node.aliases)
     (list_all is_plain_argument node.arguments) (list_all is_plain_argument (built_arguments inherited node)) h (λ own.
-    let others : List Arg = inherited_by node inherited ++ generated_arguments node in
-    let all : List Arg = with_missing node.arguments others in
+    let given : List Arg = given_arguments inherited node in
+    let all : List Arg = with_missing given (generated_arguments node) in
     subst IsTrue (sym (plain_indexed 1 (map filled all) ∙ plain_filled all))
-    (plain_with_missing node.arguments others own (all_append (inherited_by node inherited) (generated_arguments node) (inherits node.generated) (generated_plain node))))
-  where
-    inherits : (b : Bool) → IsTrue (list_all is_plain_argument (cond b [] inherited))
-    inherits true = refl
-    inherits false = above
+    (plain_with_missing given (generated_arguments node) (plain_given inherited node above own) (generated_plain node)))
 
 -- a generated node has a name and no other
 plain_generated : (name bin_name : List ℕ) (about : Option (List ℕ)) (order : ℕ) (hide : Bool) → IsTrue (is_plain_name name) →
@@ -261,8 +286,10 @@ plain_built_forest inherited parent (more node below rest) above h =
     let p = plain_more node below rest h in
     let name : List ℕ = joined_name parent node.name in
     let built : Node = built_node inherited (Some name) node in
-    let children : Forest = join (built_forest inherited name below) (help_child name node below) in
-    let c = with_help inherited name node below p.first.differ p.first.children (plain_built_forest inherited name below above p.first.children) in
+    let children_inherit : List Arg = propagated inherited node in
+    let children : Forest = join (built_forest children_inherit name below) (help_child name node below) in
+    let c = with_help children_inherit name node below p.first.differ p.first.children
+    (plain_built_forest children_inherit name below (plain_propagated inherited node above p.first.node) p.first.children) in
     both (is_plain_node built) (siblings_differ children && (is_plain_forest children && is_plain_forest (built_forest inherited parent rest)))
     (plain_built_node inherited (Some name) node above p.first.node)
     (both (siblings_differ children) (is_plain_forest children && is_plain_forest (built_forest inherited parent rest)) c.differ
@@ -274,8 +301,10 @@ pub plain_built_under : (bin_name : Option (List ℕ)) (tree : Tree) → IsTrue 
 plain_built_under bin_name tree named h =
     let p = plain_tree tree h in
     let name : List ℕ = full_name (record tree.node { bin_name = bin_name }) in
-    let children : Forest = join (built_forest [] name tree.children) (help_child name tree.node tree.children) in
-    let c = with_help [] name tree.node tree.children p.below.differ p.below.children (plain_built_forest [] name tree.children refl p.below.children) in
+    let children_inherit : List Arg = propagated [] tree.node in
+    let children : Forest = join (built_forest children_inherit name tree.children) (help_child name tree.node tree.children) in
+    let c = with_help children_inherit name tree.node tree.children p.below.differ p.below.children
+    (plain_built_forest children_inherit name tree.children (plain_propagated [] tree.node refl p.below.node) p.below.children) in
     both (passes_if_some is_plain_name bin_name) (is_plain_node (built_node [] bin_name tree.node) && (siblings_differ children && is_plain_forest children)) named
     (both (is_plain_node (built_node [] bin_name tree.node)) (siblings_differ children && is_plain_forest children)
     (plain_built_node [] bin_name tree.node refl p.below.node)

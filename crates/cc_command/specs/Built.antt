@@ -1,5 +1,5 @@
 -- The tree that building makes.
-use Rattle.std.specs.Prelude.{ℕ, suc, List, [], ◌∷◌, ◌++◌, Bool, true, not, if◌then◌else◌, ◌&&◌, Option, Some, is_some, map}
+use Rattle.std.specs.Prelude.{ℕ, suc, List, [], ◌∷◌, ◌++◌, Bool, true, not, if◌then◌else◌, ◌&&◌, Option, Some, is_some, map, filter}
 use Rattle.cc_arg.specs.declared.arg.Arg.{Arg}
 use Rattle.cc_arg.specs.Arguments.{filled, is_positional}
 use Rattle.cc_command.specs.declared.node.Node.{Node}
@@ -30,38 +30,57 @@ abbrev pub indexed : ℕ → List Arg → List Arg
 indexed number [] = []
 indexed number (argument ∷ arguments) = with_index number argument ∷ indexed (next_index number argument) arguments
 
--- what a node inherits: nothing, where building made it. Every list that is passed on is empty so far,
--- since there are no global arguments.
+-- what a node inherits: nothing, where building made it
 abbrev pub inherited_by : Node → List Arg → List Arg
 inherited_by node inherited = if node.generated then [] else inherited
 
--- a node's arguments: its own, then those that it inherits, then `help`, then `version`, each with
--- its range, its action and its index
+-- a node's arguments before building adds its own: its own, then those that it inherits
+abbrev pub given_arguments : List Arg → Node → List Arg
+given_arguments inherited node = with_missing node.arguments (inherited_by node inherited)
+
+-- the arguments that are global, in order
+abbrev pub globals : List Arg → List Arg
+globals arguments = filter (λ argument. argument.global) arguments
+
+-- what the children of a node inherit: the global ones of its own and of those that it inherits
+abbrev pub propagated : List Arg → Node → List Arg
+propagated inherited node = globals (given_arguments inherited node)
+
+-- the arguments that a node was given, then `help`, then `version`, each with its range, its action
+-- and its index
+abbrev pub finished : Node → List Arg → List Arg
+finished node given = indexed 1 (map filled (with_missing given (generated_arguments node)))
+
+-- a node's arguments as building leaves them
 abbrev pub built_arguments : List Arg → Node → List Arg
-built_arguments inherited node =
-    indexed 1 (map filled (with_missing node.arguments (inherited_by node inherited ++ generated_arguments node)))
+built_arguments inherited node = finished node (given_arguments inherited node)
 
 -- a node as building leaves it, under this bin name
 abbrev pub built_node : List Arg → Option (List ℕ) → Node → Node
 built_node inherited bin_name node =
     record node { bin_name = bin_name; arguments = built_arguments inherited node; built = true }
 
--- siblings as building leaves them, under a parent of this full name: each is named after it, and
--- its children are its own, then the generated `help`
+-- siblings as building leaves them, under a parent of this full name that propagates these
+-- arguments: each is named after it, and its children are its own, then the generated `help`
 abbrev pub built_forest : List Arg → List ℕ → Forest → Forest
 built_forest inherited parent none = none
 built_forest inherited parent (more node below rest) =
     more (built_node inherited (Some (joined_name parent node.name)) node)
-    (join (built_forest inherited (joined_name parent node.name) below) (help_child (joined_name parent node.name) node below))
+    (join (built_forest (propagated inherited node) (joined_name parent node.name) below) (help_child (joined_name parent node.name) node below))
     (built_forest inherited parent rest)
+
+-- a tree as building leaves it, under this bin name, where there is one, and under a parent that
+-- propagates these arguments
+abbrev pub built_below : List Arg → Option (List ℕ) → Tree → Tree
+built_below inherited bin_name tree = record {
+  node = built_node inherited bin_name tree.node;
+  children = join (built_forest (propagated inherited tree.node) (full_name (record tree.node { bin_name = bin_name })) tree.children)
+      (help_child (full_name (record tree.node { bin_name = bin_name })) tree.node tree.children);
+}
 
 -- a tree as building leaves it, under this bin name, where there is one
 abbrev pub built_under : Option (List ℕ) → Tree → Tree
-built_under bin_name tree = record {
-  node = built_node [] bin_name tree.node;
-  children = join (built_forest [] (full_name (record tree.node { bin_name = bin_name })) tree.children)
-      (help_child (full_name (record tree.node { bin_name = bin_name })) tree.node tree.children);
-}
+built_under bin_name tree = built_below [] bin_name tree
 
 -- a tree as building leaves it; its root keeps its bin name
 abbrev pub built_tree : Tree → Tree

@@ -5,7 +5,8 @@ ghost use Rattle.std.specs.Option.{option_copied};
 ghost use Rattle.cc_command.specs.Names.{has_name, contains_name, visible_names};
 ghost use Rattle.cc_command.specs.ArgumentLists.{flags, options, positionals};
 ghost use Rattle.cc_command.specs.Marked.{StaysIfMarked};
-ghost use Rattle.cc_command.specs.Iterators.{flags_left, names_left, options_left, positionals_left};
+ghost use Rattle.cc_command.specs.Iterators.{flags_left, names_left, options_left};
+ghost use Rattle.cc_command.specs.Iterators.{positionals_left};
 
 use crate::command::{Command, Flags, NameAndVisibleAliases, Options, Positionals};
 use cc_arg::Arg;

@@ -7,7 +7,9 @@ ghost use Rattle.std.specs.Char.{is_ascii_alphanumeric};
 ghost use Rattle.cc_command.specs.Tree.{forest_of};
 ghost use Rattle.cc_command.specs.Names.{contains_name, has_child};
 ghost use Rattle.cc_command.specs.PlainName.{dash, is_plain_name, underscore};
-ghost use Rattle.cc_command.specs.Plain.{all_differ, has_no_quote, is_plain_argument, is_plain_forest, is_plain_node, is_plain_tree, names_of, passes_if_some, siblings_differ};
+ghost use Rattle.cc_command.specs.Plain.{all_differ, has_no_quote, is_plain_argument};
+ghost use Rattle.cc_command.specs.Plain.{is_plain_forest, is_plain_node, is_plain_tree};
+ghost use Rattle.cc_command.specs.Plain.{names_of, passes_if_some, siblings_differ};
 
 use crate::command::Command;
 use crate::command::children::has_child;
@@ -88,7 +90,8 @@ fn siblings_differ(siblings: &[Command]) -> bool
 }
 
 fn none_has_name(siblings: &[Command], names: &[Text]) -> bool
-    ensures { result ≡ list_all (λ name. not (has_child (forest_of siblings.now) name)) names.now }
+    ensures { result
+        ≡ list_all (λ name. not (has_child (forest_of siblings.now) name)) names.now }
 {
     names.iter().all(|name| !has_child(siblings, name.as_str()))
 }

@@ -1,11 +1,13 @@
-//! The arguments of a built command: what it was given, then `help` and `version` where they are
-//! missing, each filled in.
+//! The arguments of a built command: what it was given, what it inherits, then `help` and
+//! `version`, each where it is missing and filled in.
 
-ghost use Rattle.std.specs.Prelude.{◌≡◌, ◌∷◌, [], Some, map, IfOk, OnOk};
+ghost use Rattle.std.specs.Prelude.{◌≡◌, ◌∷◌, [], Some, map, true, IfOk, OnOk};
 ghost use Rattle.cc_arg.specs.Arguments.{filled};
 ghost use Rattle.cc_command.specs.Names.{has_id};
-ghost use Rattle.cc_command.specs.Generated.{generated_help, generated_version, help_argument, version_argument};
-ghost use Rattle.cc_command.specs.Built.{built_arguments, built_node, indexed, lacks_index, with_missing};
+ghost use Rattle.cc_command.specs.Generated.{generated_help, generated_version};
+ghost use Rattle.cc_command.specs.Generated.{help_argument, version_argument};
+ghost use Rattle.cc_command.specs.Built.{finished, given_arguments, globals, indexed};
+ghost use Rattle.cc_command.specs.Built.{lacks_index, with_missing};
 
 use crate::command::build::texts::{help_help, help_name, version_help, version_name};
 use crate::node::Node;
@@ -13,12 +15,18 @@ use cc_arg::{Arg, ArgAction, fill, fill_display_order, fill_index};
 use cc_base::{Items, Text};
 use std::alloc::{AllocError, Global};
 
+// `given` are the arguments before building adds its own.
 pub(super) fn built_node(
     node: &Node,
     alloc: Global,
+    given: Vec<Arg>,
     bin_name: Option<Text>,
 ) -> Result<Node, AllocError>
-    ensures ok { IfOk result (λ built. built ≡ built_node [] bin_name node.now) }
+    ensures ok { IfOk result (λ built. built ≡ record node.now {
+      bin_name = bin_name;
+      arguments = finished node.now given.items;
+      built = true;
+    }) }
 {
     Ok(Node {
         name: node.name.try_clone(alloc)?,
@@ -30,7 +38,7 @@ pub(super) fn built_node(
         subcommand_help_heading: copy_of_some(alloc, &node.subcommand_help_heading)?,
         display_order: node.display_order,
         next_order: node.next_order,
-        arguments: built_arguments(node, alloc)?,
+        arguments: finished(node, alloc, given)?,
         hide: node.hide,
         disable_help_flag: node.disable_help_flag,
         disable_version_flag: node.disable_version_flag,
@@ -50,13 +58,52 @@ fn copy_of_some(alloc: Global, text: &Option<Text>) -> Result<Option<Text>, Allo
     }
 }
 
-fn built_arguments(node: &Node, alloc: Global) -> Result<Items<Arg>, AllocError>
-    ensures ok { IfOk result (λ arguments. arguments ≡ built_arguments [] node.now) }
+fn finished(node: &Node, alloc: Global, given: Vec<Arg>) -> Result<Items<Arg>, AllocError>
+    ensures ok { IfOk result (λ arguments. arguments ≡ finished node.now given.items) }
 {
-    let mut arguments = copies_of(alloc, node.arguments.as_slice())?;
+    let mut arguments = given;
     push_help(&mut arguments, alloc, node)?;
     push_version(&mut arguments, alloc, node)?;
     Ok(Items::from(filled_in(alloc, arguments)?))
+}
+
+// A node's own arguments, then those that it inherits.
+pub(super) fn given_arguments(
+    node: &Node,
+    alloc: Global,
+    inherited: &[Arg],
+) -> Result<Vec<Arg>, AllocError>
+    ensures ok { IfOk result (λ given. given.items ≡ given_arguments inherited.now node.now) }
+{
+    let own = copies_of(alloc, node.arguments.as_slice())?;
+    if node.generated {
+        return Ok(own);
+    }
+    with_missing(own, alloc, inherited)
+}
+
+fn with_missing(arguments: Vec<Arg>, alloc: Global, others: &[Arg]) -> Result<Vec<Arg>, AllocError>
+    ensures ok { IfOk result (λ whole. whole.items ≡ with_missing arguments.items others.now) }
+{
+    let mut whole = arguments;
+    for other in others {
+        push_copy_if_missing(&mut whole, alloc, other)?;
+    }
+    Ok(whole)
+}
+
+// Copies of those of the arguments that are global.
+pub(super) fn globals(alloc: Global, arguments: &[Arg]) -> Result<Vec<Arg>, AllocError>
+    ensures ok { IfOk result (λ kept. kept.items ≡ globals arguments.now) }
+{
+    let mut kept = Vec::new(alloc);
+    for argument in arguments {
+        if !argument.is_global_set() {
+            continue;
+        }
+        kept.push(copy_of(alloc, argument)?)?;
+    }
+    Ok(kept)
 }
 
 // Adds the flag that shows the help, unless it is disabled or there.
@@ -86,13 +133,19 @@ fn copies_of(alloc: Global, arguments: &[Arg]) -> Result<Vec<Arg>, AllocError>
 {
     let mut copies = Vec::new(alloc);
     for argument in arguments {
-        // A copy fails where an allocation fails, and nowhere else.
-        let Ok(copy) = argument.try_clone(alloc) else {
-            return Err(AllocError);
-        };
-        copies.push(copy)?;
+        copies.push(copy_of(alloc, argument)?)?;
     }
     Ok(copies)
+}
+
+// A copy fails where an allocation fails, and nowhere else.
+fn copy_of(alloc: Global, argument: &Arg) -> Result<Arg, AllocError>
+    ensures ok { IfOk result (λ copy. copy ≡ argument.now) }
+{
+    match argument.try_clone(alloc) {
+        Ok(copy) => Ok(copy),
+        Err(_) => Err(AllocError),
+    }
 }
 
 fn push_if_missing(arguments: &mut Vec<Arg>, argument: Arg) -> Result<(), AllocError>
@@ -102,6 +155,21 @@ fn push_if_missing(arguments: &mut Vec<Arg>, argument: Arg) -> Result<(), AllocE
     if !has_id(arguments, argument.get_id()) {
         arguments.push(argument)?;
     }
+    Ok(())
+}
+
+fn push_copy_if_missing(
+    arguments: &mut Vec<Arg>,
+    alloc: Global,
+    other: &Arg,
+) -> Result<(), AllocError>
+    ensures ok { OnOk result
+        (arguments.new.items ≡ with_missing arguments.old.items (other.now ∷ [])) }
+{
+    if has_id(arguments, other.get_id()) {
+        return Ok(());
+    }
+    arguments.push(copy_of(alloc, other)?)?;
     Ok(())
 }
 

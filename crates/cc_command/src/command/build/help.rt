@@ -6,7 +6,8 @@ ghost use Rattle.cc_command.specs.Tree.{forest_of, none, join};
 ghost use Rattle.cc_command.specs.Built.{built_forest};
 ghost use Rattle.cc_command.specs.Names.{joined_name};
 ghost use Rattle.cc_command.specs.Texts.{help_name};
-ghost use Rattle.cc_command.specs.Generated.{copies, generated_node, help_command, needs_help_child};
+ghost use Rattle.cc_command.specs.Generated.{copies, generated_node, help_command};
+ghost use Rattle.cc_command.specs.Generated.{needs_help_child};
 
 use crate::command::Command;
 use crate::command::build::joined_name;
