@@ -1,5 +1,6 @@
 -- How writing the script of a tree file ends, outcome by outcome.
-use Rattle.std.proofs.Common.{◌≡◌, inl, inr, refl, subst, ℕ, List, Option, None, Some, Result, Ok, Err, Bool, true, false, codes}
+use Rattle.std.proofs.Common.{◌≡◌, inl, inr, refl, subst, ℕ, List, Option, None, Some, Result, Ok}
+use Rattle.std.proofs.Common.{Err, Bool, true, false, codes}
 use Rattle.std.specs.Str.{bytes_eq}
 use Rattle.std.proofs.lemmas.Slice.Eq.{bytes_eq-Decides}
 use Rattle.clap_complete.specs.Built.{built_under}
@@ -11,7 +12,9 @@ use Rattle.clap_complete.specs.Tree.{Tree}
 use Rattle.cc_tree_file.specs.TreeFile.{HoldsTree}
 use Rattle.cc_tree_file.specs.declared.error.TreeError.TheVariants.{BadForm, Memory, NotJson}
 use Rattle.clap_complete.specs.Writes.{CountsWrite, IsMemoryOrWrite}
-use Rattle.complgen.specs.Ends.{Finishes, ReportsFile, Untouched, Writer, writer_for, unreadable, not_json, bad_form, label_clash, write_failed, out_of_memory, out_of_memory_in_script, script_written}
+use Rattle.complgen.specs.Ends.{Finishes, ReportsFile, Untouched, Writer, writer_for, unreadable}
+use Rattle.complgen.specs.Ends.{not_json, bad_form, label_clash, write_failed, out_of_memory}
+use Rattle.complgen.specs.Ends.{out_of_memory_in_script, script_written}
 use Rattle.complgen.specs.Refusals.{IsOutOfMemory, Reports}
 use Rattle.complgen.specs.declared.types.Refusal.{Refusal}
 

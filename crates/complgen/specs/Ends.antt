@@ -15,7 +15,8 @@ use Rattle.clap_complete.specs.Sink.{raised}
 use Rattle.clap_complete.specs.Tree.{Tree}
 use Rattle.cc_tree_file.specs.TreeFile.{Describes, HoldsTree, ReadsTree, SpellsNone}
 use Rattle.cc_tree_file.specs.declared.error.TreeError.{TreeError}
-use Rattle.complgen.specs.Refusals.{IsMade, IsOutOfMemory, IsRefusal, ReportsTree, bad_form_line, error_line}
+use Rattle.complgen.specs.Refusals.{IsMade, IsOutOfMemory, IsRefusal, ReportsTree, bad_form_line}
+use Rattle.complgen.specs.Refusals.{error_line}
 use Rattle.complgen.specs.Refusals.{invalid_variant_line, not_json_line, unreadable_line}
 use Rattle.complgen.specs.declared.types.Plan.{Plan}
 use Rattle.complgen.specs.declared.types.Plan.TheVariants.{Script}
@@ -40,15 +41,18 @@ writer_for shell =
     else None
 
 -- nothing is taken, and no write failed
-pub record Untouched {S : Type 0} (taken : S → List ℕ) (failed : S → Failures) (old new : S) : Type 0 where
+pub record Untouched {S : Type 0} (taken : S → List ℕ) (failed : S → Failures) (old new : S)
+    : Type 0 where
   pub taken_same : taken new ≡ taken old
   pub failed_same : failed new ≡ failed old
 
 -- How writing the script of a tree file ends: the file can't be read (None), spells no JSON, or
--- describes no command; two commands would share a label; a write failed; memory ran out; or all went
--- well. The script is that of the very command that the file describes, built under the bin name; it
--- is begun only where no two nodes of that command share a label.
-pub data Finishes {S : Type 0} (taken : S → List ℕ) (failed : S → Failures) (writer : Writer) (bin : List ℕ) (old new : S) : Option (List ℕ) → Result (Unit {0}) Refusal → Type 0 where
+-- describes no command; two commands would share a label; a write failed; memory ran out; or all
+-- went well. The script is that of the very command that the file describes, built under the bin
+-- name; it is begun only where no two nodes of that command share a label.
+pub data Finishes {S : Type 0} (taken : S → List ℕ) (failed : S → Failures) (writer : Writer)
+    (bin : List ℕ) (old new : S)
+    : Option (List ℕ) → Result (Unit {0}) Refusal → Type 0 where
   -- the file can't be read
   unreadable : (refusal : Refusal) → IsRefusal unreadable_line refusal
       → Untouched taken failed old new → Finishes taken failed writer bin old new None (Err refusal)
@@ -61,7 +65,8 @@ pub data Finishes {S : Type 0} (taken : S → List ℕ) (failed : S → Failures
       → IsRefusal bad_form_line refusal → Untouched taken failed old new
       → Finishes taken failed writer bin old new (Some bytes) (Err refusal)
   -- two nodes of the command would share this label, and nothing is written
-  label_clash : (bytes label : List ℕ) (tree : Tree) (refusal : Refusal) → Describes bytes (Some tree)
+  label_clash : (bytes label : List ℕ) (tree : Tree) (refusal : Refusal)
+      → Describes bytes (Some tree)
       → writer.clash (built_under (Some bin) tree) ≡ Some label
       → IsMade (error_line (LabelClash label)) refusal → Untouched taken failed old new
       → Finishes taken failed writer bin old new (Some bytes) (Err refusal)
@@ -74,7 +79,8 @@ pub data Finishes {S : Type 0} (taken : S → List ℕ) (failed : S → Failures
   out_of_memory : (bytes : List ℕ) (refusal : Refusal) → IsOutOfMemory refusal
       → Untouched taken failed old new
       → Finishes taken failed writer bin old new (Some bytes) (Err refusal)
-  -- out of memory once the script of the command may have been begun; how much of it is written is left open
+  -- out of memory once the script of the command may have been begun; how much of it is written is
+  -- left open
   out_of_memory_in_script : (bytes : List ℕ) (tree : Tree) (refusal : Refusal)
       → Describes bytes (Some tree) → writer.clash (built_under (Some bin) tree) ≡ None
       → IsOutOfMemory refusal → failed new ≡ failed old
@@ -96,9 +102,11 @@ abbrev pub ReadsFile : Option (List ℕ) → Result Tree Refusal → Type 0
 ReadsFile file (Ok command) = HoldsTree file command
 ReadsFile file (Err refusal) = ReportsFile file refusal
 
--- how writing a script for the shell of this name ends; a name that no shell has is reported before the
--- file is looked at
-pub data EndsScript {S : Type 0} (taken : S → List ℕ) (failed : S → Failures) (shell bin : List ℕ) (file : Option (List ℕ)) (old new : S) : Result (Unit {0}) Refusal → Type 0 where
+-- how writing a script for the shell of this name ends; a name that no shell has is reported before
+-- the file is looked at
+pub data EndsScript {S : Type 0} (taken : S → List ℕ) (failed : S → Failures) (shell bin : List ℕ)
+    (file : Option (List ℕ)) (old new : S)
+    : Result (Unit {0}) Refusal → Type 0 where
   unknown_shell : (refusal : Refusal) → writer_for shell ≡ None
       → IsMade (invalid_variant_line shell) refusal → Untouched taken failed old new
       → EndsScript taken failed shell bin file old new (Err refusal)
@@ -107,6 +115,7 @@ pub data EndsScript {S : Type 0} (taken : S → List ℕ) (failed : S → Failur
       → EndsScript taken failed shell bin file old new result
 
 -- how carrying out a plan ends
-abbrev pub Ends : {S : Type 0} → (S → List ℕ) → (S → Failures) → Plan → Option (List ℕ) → S → S → Result (Unit {0}) Refusal → Type 0
+abbrev pub Ends : {S : Type 0} → (S → List ℕ) → (S → Failures) → Plan → Option (List ℕ) → S → S
+    → Result (Unit {0}) Refusal → Type 0
 Ends taken failed (Script shell bin tree) file old new result =
     EndsScript taken failed (string_bytes shell) (string_bytes bin) file old new result

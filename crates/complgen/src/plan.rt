@@ -1,6 +1,7 @@
 //! What the words of the command line ask for.
 
-ghost use Rattle.std.specs.Prelude.{◌≡◌, [], IfOk, IfErr, IsSome, Some, codes, map, string_bytes, true};
+ghost use Rattle.std.specs.Prelude.{◌≡◌, [], IfOk, IfErr, IsSome, Some, codes, map, string_bytes};
+ghost use Rattle.std.specs.Prelude.{true};
 ghost use Rattle.clap.specs.Words.{fault_of, first_of, found_of, kind_of, rows_of, subcommand_of};
 ghost use Rattle.clap.specs.Words.{subcommand_rows_of, takes};
 ghost use Rattle.complgen.specs.CommandLine.{AsksFor, EntersSomeScript, HasScriptValues};
@@ -15,8 +16,8 @@ use std::alloc::{AllocError, Global};
 use std::borrow::CowStr;
 
 /// Returns what the words ask for; the first is the program's name. Fails with status 2 where the
-/// command line doesn't take the words, with status 0 and the help text where they ask for help, and
-/// with status 1 where it is out of memory.
+/// command line doesn't take the words, with status 0 and the help text where they ask for help,
+/// and with status 1 where it is out of memory.
 pub fn plan(alloc: Global, words: &[String]) -> Result<Plan, Refusal>
     ensures ok { IfOk result (AsksFor (subcommand_of program_line (map string_bytes words.now))) }
     ensures fits { IfOk result (λ _. fault_of program_line (map string_bytes words.now) ≡ []) }

@@ -2,7 +2,8 @@
 
 ghost use Rattle.std.specs.Prelude.{◌≡◌, Some, option_copied};
 ghost use Rattle.complgen.specs.Ends.{Ends, EndsScript, Finishes, ReadsFile};
-ghost use Rattle.complgen.specs.Refusals.{HasText, IsMade, Reports, ReportsTree, invalid_variant_line};
+ghost use Rattle.complgen.specs.Refusals.{HasText, IsMade, Reports, ReportsTree};
+ghost use Rattle.complgen.specs.Refusals.{invalid_variant_line};
 
 use crate::types::{Plan, Refusal, WRITE_FAILED};
 use cc_tree_file::{TreeError, read_tree};
@@ -138,7 +139,7 @@ fn with_text(text: Result<String, AllocError>) -> Refusal
 
 #[cfg(test)]
 mod tests {
-    use super::run;
+    use super::{run, script};
     use crate::types::{Plan, Refusal};
     use clap_complete::aot::Collected;
     use std::alloc::Global;
@@ -182,6 +183,21 @@ mod tests {
         }
     }
 
+    // In the gate there is memory enough. With `rt try --test --fail-alloc 1` the first allocation
+    // fails, before anything is written.
+    #[test]
+    fn writes_nothing_without_memory(rt: HostRuntime) {
+        let mut out = Collected::new(rt.alloc());
+        let file = Some(PARENT.as_bytes());
+        match script(rt.alloc(), "elvish", "app", file, &mut out) {
+            Ok(()) => assert!(rt; !out.as_slice().is_empty()),
+            Err(refusal) => {
+                assert_eq!(rt; refusal.text.as_str(), "out of memory\n");
+                assert!(rt; out.as_slice().is_empty());
+            }
+        }
+    }
+
     #[test]
     fn writes_the_keys_of_a_child(rt: HostRuntime) -> Result<(), Fail> {
         let script = script_of(rt.alloc(), "elvish", PARENT.as_bytes())?;
@@ -214,7 +230,8 @@ mod tests {
         Ok(())
     }
 
-    // A brace left open, an empty file, bytes that are not UTF-8, and a number too large for a float.
+    // A brace left open, an empty file, bytes that are not UTF-8, and a number too large for a
+    // float.
     const NOT_JSON: [&[u8]; 4] = [b"{", b"", b"{\"name\":\"\xff\"}", b"{\"name\":1e999}"];
 
     #[test]

@@ -2,7 +2,8 @@ use Rattle.std.proofs.Common.{◌∙◌, ◌≡◌, [], ap, map, string_bytes, s
 use Rattle.clap.specs.Kinds.{HasKind}
 use Rattle.clap.specs.Words.{App, fault_of, is_simple, is_simple_and_free, subcommand_of, takes}
 use Rattle.complgen.specs.CommandLine.{EntersSomeScript, program_line}
-use Rattle.complgen.proofs.CommandLineLemmas.{enters_script, program_line_is_free, program_line_is_simple, reports_memory, reports_words}
+use Rattle.complgen.proofs.CommandLineLemmas.{enters_script, program_line_is_free}
+use Rattle.complgen.proofs.CommandLineLemmas.{program_line_is_simple, reports_memory, reports_words}
 use Rattle.complgen.proofs.plan.plan.Goals as goal
 
 pub planned-requires : goal.planned-requires
