@@ -18,3 +18,5 @@ pub mod PowershellWords
 pub mod Runs
 pub mod WithinQuotes
 pub mod WordReading
+mod ZshExamples
+pub mod ZshWords

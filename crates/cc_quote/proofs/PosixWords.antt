@@ -207,7 +207,7 @@ escaped_text (byte ∷ text) rest word =
     ∙ escaped_text text rest (word ++ byte ∷ [])
     ∙ ap (λ w. posix_word_from InSingle w (map sign rest)) (append_assoc word (byte ∷ []) text)
 
-quoted_reads : (text : List ℕ) → posix_word_of (codes "'" ++ posix_escaped text ++ codes "'") ≡ Some (text, [])
+pub quoted_reads : (text : List ℕ) → posix_word_of (codes "'" ++ posix_escaped text ++ codes "'") ≡ Some (text, [])
 unfolding posix_word_of posix_word_from next_place word_after ended sign
 quoted_reads text = escaped_text text (39 ∷ []) []
 

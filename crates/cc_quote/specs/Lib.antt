@@ -12,3 +12,4 @@ pub mod PowershellTokens
 pub mod QuotedWord
 pub mod Signs
 pub mod Tokens
+pub mod ZshQuote

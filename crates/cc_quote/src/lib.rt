@@ -9,6 +9,7 @@ mod fish;
 mod posix;
 mod powershell;
 mod word;
+mod zsh;
 
 pub use crate::elvish::{ElvishEscape, elvish_escape, elvish_word};
 pub use crate::escape::{Escape, push_escaped, put_escaped};
@@ -18,3 +19,6 @@ pub use crate::fish::{
 };
 pub use crate::posix::{posix_quote, posix_word};
 pub use crate::powershell::{PowershellEscape, powershell_escape, powershell_word};
+pub use crate::zsh::{
+    ZshHelpEscape, ZshValueEscape, zsh_escape_help, zsh_escape_value, zsh_unescape,
+};

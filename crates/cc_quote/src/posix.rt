@@ -127,7 +127,7 @@ fn read_word(alloc: Global, text: &str) -> Result<Option<(String, &str)>, AllocE
 }
 
 // The first character of a text, and what follows it.
-fn split_first(text: &str) -> Option<(char, &str)>
+pub(crate) fn split_first(text: &str) -> Option<(char, &str)>
     ensures { MatchOption result (text.now ≡ [])
         (λ cut. text.now ≡ encode_utf8 cut.0 ++ cut.1.now) }
 {

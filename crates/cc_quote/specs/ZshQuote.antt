@@ -1,0 +1,93 @@
+-- How a text is escaped between `'` for the lists of zsh's completion, and how the backslashes are taken
+-- off again.
+use Rattle.std.specs.Prelude.{◌≡◌, ℕ, Bool, true, false, List, [], ◌∷◌, ◌++◌, Option, Some, None, option_map, codes, ◌==◌, ◌||◌, if◌then◌else◌}
+use Rattle.std.specs.List.{flat_map}
+use Rattle.cc_quote.specs.Bytes.{backslash, backtick, dollar, line_feed, single_quote, space}
+use Rattle.cc_quote.specs.PosixQuote.{posix_escaped, posix_word_of}
+use Rattle.cc_quote.specs.QuotedWord.{space_for_line_feed, line_feeds_as_spaces}
+
+-- ---- how backslashes are read
+
+-- a byte that stands for itself, one that a backslash escapes, or a backslash that is last
+pub data Mark : Type 0 where
+  kept : ℕ → Mark
+  escaped : ℕ → Mark
+  unended : Mark
+
+-- The marks of a text, after a backslash that escapes or after none. A backslash escapes the next byte,
+-- whatever it is.
+unfoldable pub marks_from : Bool → List ℕ → List Mark
+marks_from false [] = []
+marks_from true [] = unended ∷ []
+marks_from true (byte ∷ bytes) = escaped byte ∷ marks_from false bytes
+marks_from false (byte ∷ bytes) = elim (byte == backslash) [
+  | true ↦ marks_from true bytes
+  | false ↦ kept byte ∷ marks_from false bytes
+]
+
+-- the marks of a text
+unfoldable pub marks : List ℕ → List Mark
+marks text = marks_from false text
+
+-- the bytes that stand there; none where a backslash is last
+unfoldable pub unmarked : List Mark → Option (List ℕ)
+unmarked [] = Some []
+unmarked (unended ∷ rest) = None
+unmarked (kept byte ∷ rest) = option_map (λ bytes. byte ∷ bytes) (unmarked rest)
+unmarked (escaped byte ∷ rest) = option_map (λ bytes. byte ∷ bytes) (unmarked rest)
+
+-- the text without the backslashes that escape; none where one is last
+unfoldable pub zsh_unescaped : List ℕ → Option (List ℕ)
+zsh_unescaped text = unmarked (marks text)
+
+-- ---- how a text is escaped
+
+-- `\ [ ] : $` and a backtick, which stand after a backslash in a description
+abbrev pub is_help_marked : ℕ → Bool
+is_help_marked byte =
+    byte == backslash || byte == 91 || byte == 93 || byte == 58 || byte == dollar || byte == backtick
+
+-- these, `(`, `)` and a space, which stand after one in a value
+abbrev pub is_value_marked : ℕ → Bool
+is_value_marked byte = is_help_marked byte || byte == 40 || byte == 41 || byte == space
+
+-- a byte, after a backslash where the test holds
+abbrev pub marked_byte : (ℕ → Bool) → ℕ → List ℕ
+marked_byte is_marked byte = if is_marked byte then backslash ∷ byte ∷ [] else byte ∷ []
+
+-- a text with a backslash before each byte for which the test holds
+abbrev pub marked : (ℕ → Bool) → List ℕ → List ℕ
+marked is_marked text = flat_map (marked_byte is_marked) text
+
+-- a description between `'`, with line feeds as spaces
+unfoldable pub zsh_escaped_help : List ℕ → List ℕ
+zsh_escaped_help text = posix_escaped (marked is_help_marked (line_feeds_as_spaces text))
+
+-- a value between `'`
+unfoldable pub zsh_escaped_value : List ℕ → List ℕ
+zsh_escaped_value text = posix_escaped (marked is_value_marked text)
+
+-- what stands between two `'` is read as the text that it spells, and without the backslashes that is
+-- the other text
+pub record ReadsUnescaped (quoted text : List ℕ) : Type 0 where
+  pub between : List ℕ
+  pub word : posix_word_of (codes "'" ++ quoted ++ codes "'") ≡ Some (between, [])
+  pub unescaped : zsh_unescaped between ≡ Some text
+
+-- ---- byte by byte
+
+-- what stands for a byte of a description
+abbrev pub zsh_help_byte : ℕ → List ℕ
+zsh_help_byte byte = posix_escaped (marked_byte is_help_marked (space_for_line_feed byte))
+
+-- what stands for a byte of a value
+abbrev pub zsh_value_byte : ℕ → List ℕ
+zsh_value_byte byte = posix_escaped (marked_byte is_value_marked byte)
+
+-- whether something else stands for a byte of a value: for one that is marked, and for `'`
+abbrev pub is_value_escaped : ℕ → Bool
+is_value_escaped byte = is_value_marked byte || byte == single_quote
+
+-- the same of a description, where it does for a line feed too
+abbrev pub is_help_escaped : ℕ → Bool
+is_help_escaped byte = is_help_marked byte || byte == single_quote || byte == line_feed
