@@ -1,15 +1,14 @@
 -- What zsh's escapes are read as.
-use Rattle.std.proofs.Common.{◌≡◌, ◌≢◌, ◌==◌, ℕ, ◌<◌, ◌≤◌, Bool, true, false, cond, suc, get_or, length, List, [], ◌∷◌, ◌++◌, map, flat_map, Option, Some, None, option_map, codes, refl, sym, ◌∙◌, ap, ap₂, arith, append_assoc, append-nil}
+use Rattle.std.proofs.Common.{◌≡◌, ◌≢◌, ◌==◌, ℕ, ◌<◌, Bool, true, false, cond, suc, get_or, length, List, [], ◌∷◌, ◌++◌, map, flat_map, Option, Some, None, option_map, refl, sym, ◌∙◌, ap, arith, append_assoc, append-nil}
 use Rattle.std.proofs.lemmas.Bool.Decides.{Decides-eqb, nat_tests}
-use Rattle.std.proofs.lemmas.List.Folds.{flat_map-map}
 use Rattle.std.proofs.lemmas.List.Concat.{flat_map-append}
 use Rattle.std.specs.Char.{encode_utf8}
 use Rattle.std.specs.List.{AllByRecursion}
 use Rattle.cc_quote.specs.Bytes.{backslash}
-use Rattle.cc_quote.specs.PosixQuote.{posix_escaped, posix_escaped_byte}
+use Rattle.cc_quote.specs.PosixQuote.{posix_escaped_byte}
 use Rattle.cc_quote.specs.QuotedWord.{space_for_line_feed, line_feeds_as_spaces}
 use Rattle.cc_quote.specs.ZshQuote.{Mark, marks_from, marks, unmarked, zsh_unescaped, is_help_marked, is_value_marked, marked_byte, marked, zsh_escaped_help, zsh_escaped_value, ReadsUnescaped, zsh_help_byte, zsh_value_byte, is_help_escaped, is_value_escaped}
-use Rattle.cc_quote.specs.ZshQuote.Mark.{kept, escaped, unended}
+use Rattle.cc_quote.specs.ZshQuote.Mark.{kept, escaped}
 use Rattle.cc_quote.proofs.Characters.{AreHigh, IsCharacter, character}
 use Rattle.cc_quote.proofs.Characters.IsCharacter.{low, high}
 use Rattle.cc_quote.proofs.PosixWords.{quoted_reads}

@@ -22,6 +22,7 @@ pub use Rattle.cc_quote.specs.PowershellQuote
 pub use Rattle.cc_quote.specs.PowershellTokens
 pub use Rattle.cc_quote.specs.QuotedWord
 pub use Rattle.cc_quote.specs.Tokens
+pub use Rattle.cc_quote.specs.ZshQuote
 -- the command tree
 pub use Rattle.cc_arg.specs.Action
 pub use Rattle.cc_arg.specs.Aliases

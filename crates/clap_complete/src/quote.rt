@@ -2,5 +2,6 @@
 
 pub use cc_quote::{
     elvish_escape, elvish_word, fish_escape, fish_help_for_eval, fish_quote, fish_quote_for_eval,
-    posix_quote, posix_word, powershell_escape, powershell_word,
+    posix_quote, posix_word, powershell_escape, powershell_word, zsh_escape_help, zsh_escape_value,
+    zsh_unescape,
 };

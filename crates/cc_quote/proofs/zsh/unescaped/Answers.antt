@@ -1,6 +1,5 @@
-use Rattle.std.proofs.Common.{◌≡◌, ◌∙◌, ◌++◌, ◌∷◌, [], List, ℕ, Option, Some, None, option_map, encode_utf8, length, length-append, refl, sym, ap, rules, arith, string_bytes}
+use Rattle.std.proofs.Common.{◌≡◌, ◌∙◌, ◌++◌, [], List, ℕ, Option, Some, None, option_map, encode_utf8, refl, sym, ap, rules, arith, string_bytes}
 use Rattle.std.proofs.lemmas.Str.Pattern.{split_parts}
-use Rattle.std.proofs.lemmas.Str.{length-encode, len_utf8_bounds, IsUtf8-past_char}
 use Rattle.cc_quote.specs.ZshQuote.{zsh_unescaped}
 use Rattle.cc_quote.proofs.ZshWords.{unescaped_after, goes_on, ends_open, ends_kept}
 use Rattle.cc_quote.proofs.zsh.unescaped.Goals as goal
