@@ -91,7 +91,7 @@ adds_flat_map P text words each (x ∷ xs) (h, hs) = adds_append (text x) (flat_
 
 -- a command is read up to its line feed
 pub command_read : (first word text : List ℕ) (words : List (List ℕ)) (rest : List ℕ) → Spells first word → Adds text words
-    → commands_from (between []) (first ++ (text ++ ascii.line_feed ∷ rest)) ≡ (word ∷ words) ∷ commands_from (between []) rest
+    → commands_from (between []) (first ++ (text ++ ascii.line_feed ∷ rest)) ≡ Some (word ∷ words) ∷ commands_from (between []) rest
 unfolding fish_sign
 command_read first word text words rest is adds =
     word_read first word [] (text ++ ascii.line_feed ∷ rest) is

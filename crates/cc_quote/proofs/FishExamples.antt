@@ -71,6 +71,12 @@ between_doubles_row : fish_double_of (codes "\"it's \\$x\"more") ≡ Some (codes
 unfolding fish_sign
 between_doubles_row = refl
 
-commands_row : fish_commands (codes "# a comment" ++ 10 ∷ codes "complete -c 'a b' # more" ++ 10 ∷ codes "  end;" ++ 10 ∷ []) ≡ [] ∷ (codes "complete" ∷ codes "-c" ∷ codes "a b" ∷ []) ∷ (codes "end;" ∷ []) ∷ [] ∷ []
+commands_row : fish_commands (codes "# a comment" ++ 10 ∷ codes "complete -c 'a b' # more" ++ 10 ∷ codes "  end;" ++ 10 ∷ [])
+    ≡ Some [] ∷ Some (codes "complete" ∷ codes "-c" ∷ codes "a b" ∷ []) ∷ Some (codes "end;" ∷ []) ∷ Some [] ∷ []
 unfolding fish_sign fish_commands
 commands_row = refl
+
+-- a quote that is open at the end
+open_command_row : fish_commands (codes "end" ++ 10 ∷ codes "complete -d 'open") ≡ Some (codes "end" ∷ []) ∷ None ∷ []
+unfolding fish_sign fish_commands
+open_command_row = refl

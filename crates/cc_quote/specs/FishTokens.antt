@@ -1,4 +1,5 @@
--- How a fish script is cut into commands, each a list of the words that it spells.
+-- How a fish script is cut into commands, each a list of the words that it spells; none for a last one
+-- in which a quote or an escape is open at the end.
 use Rattle.std.specs.Prelude.{ℕ, List, [], ◌∷◌, ◌++◌, Option, Some, None}
 use Rattle.cc_quote.specs.FishQuote.{FishSign, fish_sign, FishPlace, next_place, spelled}
 use Rattle.cc_quote.specs.FishQuote.FishSign.{blank, line_feed, hash}
@@ -11,34 +12,33 @@ pub data CommandPlace : Type 0 where
   comment : List (List ℕ) → CommandPlace
   in_word : List (List ℕ) → FishPlace → CommandPlace
 
--- The commands from a place on. A line feed outside quotes ends a command. A quote or an escape that is
--- open at the end makes none of the last one.
-abbrev pub commands_from : CommandPlace → List ℕ → List (List (List ℕ))
-commands_from (between words) [] = words ∷ []
-commands_from (comment words) [] = words ∷ []
-commands_from (in_word words (bare word)) [] = (words ++ word ∷ []) ∷ []
-commands_from (in_word words _) [] = []
+-- the commands from a place on; a line feed outside quotes ends a command
+abbrev pub commands_from : CommandPlace → List ℕ → List (Option (List (List ℕ)))
+commands_from (between words) [] = Some words ∷ []
+commands_from (comment words) [] = Some words ∷ []
+commands_from (in_word words (bare word)) [] = Some (words ++ word ∷ []) ∷ []
+commands_from (in_word words _) [] = None ∷ []
 commands_from (between words) (byte ∷ bytes) = elim (fish_sign byte) [
   | blank ↦ commands_from (between words) bytes
-  | line_feed ↦ words ∷ commands_from (between []) bytes
+  | line_feed ↦ Some words ∷ commands_from (between []) bytes
   | hash ↦ commands_from (comment words) bytes
   | _ ↦ elim (next_place (bare []) byte) [
     | Some place ↦ commands_from (in_word words place) bytes
-    | None ↦ []
+    | None ↦ None ∷ []
   ]
 ]
 commands_from (comment words) (byte ∷ bytes) = elim (fish_sign byte) [
-  | line_feed ↦ words ∷ commands_from (between []) bytes
+  | line_feed ↦ Some words ∷ commands_from (between []) bytes
   | _ ↦ commands_from (comment words) bytes
 ]
 commands_from (in_word words place) (byte ∷ bytes) = elim (next_place place byte) [
   | Some next ↦ commands_from (in_word words next) bytes
   | None ↦ elim (fish_sign byte) [
-    | line_feed ↦ (words ++ spelled place ∷ []) ∷ commands_from (between []) bytes
+    | line_feed ↦ Some (words ++ spelled place ∷ []) ∷ commands_from (between []) bytes
     | _ ↦ commands_from (between (words ++ spelled place ∷ [])) bytes
   ]
 ]
 
 -- the commands of a script
-unfoldable pub fish_commands : List ℕ → List (List (List ℕ))
+unfoldable pub fish_commands : List ℕ → List (Option (List (List ℕ)))
 fish_commands script = commands_from (between []) script
