@@ -1,7 +1,7 @@
 -- The condition of a path is read back.
-use Rattle.std.proofs.Common.{◌≡◌, ℕ, Bool, true, false, List, [], ◌∷◌, ◌++◌, eqb, refl, ap, ◌∙◌, sym, append_assoc, append-nil, inl, inr, ◌⊎◌, Option, Some, None, map, cond, codes, reverse, flat_map}
+use Rattle.std.proofs.Common.{◌≡◌, ℕ, Bool, true, false, List, [], ◌∷◌, ◌++◌, eqb, refl, ap, ◌∙◌, sym, append_assoc, append-nil, inl, inr, ◌⊎◌, Option, Some, None, map, codes, reverse, flat_map, option_map}
 use Rattle.std.proofs.lemmas.Bool.Decides.{eqb_tells}
-use Rattle.std.proofs.lemmas.List.{reverse-append}
+use Rattle.std.proofs.lemmas.List.{reverse-append, reverse-reverse}
 use Rattle.std.proofs.lemmas.List.Folds.{list_all-append}
 use Rattle.std.specs.List.{list_all, AllByRecursion}
 use Rattle.cc_command.specs.declared.node.Node.{Node}
@@ -10,9 +10,9 @@ use Rattle.cc_command.specs.Tree.{Forest, none, more}
 use Rattle.cc_quote.specs.Bytes as ascii
 use Rattle.cc_quote.specs.FishQuote.{is_fish_safe}
 use Rattle.cc_quote.proofs.FishWords.{IsSafe, safe_is_not, safe_bytes}
-use Rattle.cc_fish.specs.FishScript.{function_name, seen_text, spaced_name, not_seen, excluded_text}
-use Rattle.cc_fish.specs.FishTable.{child_names, condition_at}
-use Rattle.cc_fish.specs.RecordReader.{semicolon, pieces_from, without_semicolon, begins_with, ends_with, seen_function, a_name, condition_from, condition_of_pieces, condition_of}
+use Rattle.cc_fish.specs.FishScript.{seen_text, spaced_name, not_seen, excluded_text}
+use Rattle.cc_fish.specs.FishTable.{child_names, function_name, function_begin, condition_at}
+use Rattle.cc_fish.specs.RecordReader.{semicolon, pieces_from, without_semicolon, after_beginning, seen_function, a_name, nothing, asked, condition_from, condition_of_pieces, condition_of}
 use Rattle.cc_fish.specs.Records.{Condition}
 use Rattle.cc_fish.proofs.RecordWords.{is_kept, IsKept}
 
@@ -67,25 +67,29 @@ seen_pieces (name ∷ names) (k, ks) =
     ap (λ pieces. seen_function ∷ map without_semicolon pieces) (pieces_safe name [] (flat_map spaced_name names) k)
     ∙ ap (λ pieces. seen_function ∷ pieces) (names_pieces names name k ks)
 
-excluded_read : (children : Forest) (path : List (List ℕ)) (name : List ℕ) → IsSafe name → AllByRecursion IsSafe (child_names children)
-    → condition_from a_name path (cut_pieces name (excluded_text children)) ≡ Some (record { path = path ++ name ∷ []; excluded = child_names children })
-unfolding not_seen
-excluded_read none path name h hs = ap (λ t. condition_from a_name path (t ∷ [])) (safe_stays name h)
-excluded_read (more node below rest) path name h hs =
-    let names : List (List ℕ) = child_names (more node below rest) in
-    ap (λ t. condition_from a_name path (t ∷ codes "and" ∷ codes "not" ∷ cut_pieces seen_function (flat_map spaced_name names))) (semicolon_off name)
-    ∙ ap (λ pieces. condition_from a_name path (name ∷ codes "and" ∷ codes "not" ∷ pieces)) (seen_pieces names hs)
+-- a condition of which the function and a path were read, and the names that are excluded
+abbrev read_so : List ℕ → List (List ℕ) → List (List ℕ) → Condition
+read_so function path excluded = record { function = function; path = path; excluded = excluded }
 
-names_read : (names : List (List ℕ)) (children : Forest) (path : List (List ℕ)) (name : List ℕ) → IsSafe name → AllByRecursion IsSafe names → AllByRecursion IsSafe (child_names children)
-    → condition_from a_name path (cut_pieces name (flat_map seen_text names ++ excluded_text children)) ≡ Some (record { path = path ++ name ∷ names; excluded = child_names children })
-names_read [] children path name h ks hs = excluded_read children path name h hs
-names_read (next ∷ names) children path name h (k, ks) hs =
+excluded_read : (function : List ℕ) (children : Forest) (path : List (List ℕ)) (name : List ℕ) → IsSafe name → AllByRecursion IsSafe (child_names children)
+    → condition_from a_name (read_so function path []) (cut_pieces name (excluded_text children)) ≡ Some (read_so function (path ++ name ∷ []) (child_names children))
+unfolding not_seen
+excluded_read function none path name h hs = ap (λ t. condition_from a_name (read_so function path []) (t ∷ [])) (safe_stays name h)
+excluded_read function (more node below rest) path name h hs =
+    let names : List (List ℕ) = child_names (more node below rest) in
+    ap (λ t. condition_from a_name (read_so function path []) (t ∷ codes "and" ∷ codes "not" ∷ cut_pieces seen_function (flat_map spaced_name names))) (semicolon_off name)
+    ∙ ap (λ pieces. condition_from a_name (read_so function path []) (name ∷ codes "and" ∷ codes "not" ∷ pieces)) (seen_pieces names hs)
+
+names_read : (function : List ℕ) (names : List (List ℕ)) (children : Forest) (path : List (List ℕ)) (name : List ℕ) → IsSafe name → AllByRecursion IsSafe names → AllByRecursion IsSafe (child_names children)
+    → condition_from a_name (read_so function path []) (cut_pieces name (flat_map seen_text names ++ excluded_text children)) ≡ Some (read_so function (path ++ name ∷ names) (child_names children))
+names_read function [] children path name h ks hs = excluded_read function children path name h hs
+names_read function (next ∷ names) children path name h (k, ks) hs =
     let tail : List ℕ = flat_map seen_text names ++ excluded_text children in
-    ap (λ t. condition_from a_name path (cut_pieces name t)) (append_assoc (seen_text next) (flat_map seen_text names) (excluded_text children))
-    ∙ ap (λ t. condition_from a_name path (t ∷ codes "and" ∷ seen_function ∷ cut_pieces [] (next ++ tail))) (semicolon_off name)
-    ∙ ap (λ pieces. condition_from a_name (path ++ name ∷ []) (map without_semicolon pieces)) (pieces_safe next [] tail k)
-    ∙ names_read names children (path ++ name ∷ []) next k ks hs
-    ∙ ap (λ names. Some (record { path = names; excluded = child_names children })) (append_assoc path (name ∷ []) (next ∷ names))
+    ap (λ t. condition_from a_name (read_so function path []) (cut_pieces name t)) (append_assoc (seen_text next) (flat_map seen_text names) (excluded_text children))
+    ∙ ap (λ t. condition_from a_name (read_so function path []) (t ∷ codes "and" ∷ seen_function ∷ cut_pieces [] (next ++ tail))) (semicolon_off name)
+    ∙ ap (λ pieces. condition_from a_name (read_so function (path ++ name ∷ []) []) (map without_semicolon pieces)) (pieces_safe next [] tail k)
+    ∙ names_read function names children (path ++ name ∷ []) next k ks hs
+    ∙ ap (λ names. Some (read_so function names (child_names children))) (append_assoc path (name ∷ []) (next ∷ names))
 
 -- ---- the first piece
 
@@ -114,21 +118,33 @@ function_reversed bin_name ending =
 
 -- what the ending of the first piece tells, from the piece backwards
 abbrev chosen : List ℕ → List (List ℕ) → Option Condition
-chosen backwards pieces =
-    cond (begins_with (reverse (codes "_needs_command")) backwards) (Some (record { path = []; excluded = [] }))
-    (cond (begins_with (reverse (codes "_using_subcommand")) backwards) (condition_from a_name [] pieces) None)
+chosen backwards pieces = elim (option_map reverse (after_beginning (reverse (codes "_using_subcommand")) backwards)) as (λ x. Option Condition) [
+  | Some function ↦ condition_from a_name (asked function) pieces
+  | None ↦ elim (option_map reverse (after_beginning (reverse (codes "_needs_command")) backwards)) as (λ x. Option Condition) [
+    | Some function ↦ condition_from nothing (asked function) pieces
+    | None ↦ None
+  ]
+]
 
-needs_read : (bin_name : List ℕ) → condition_of_pieces (function_of bin_name (codes "_needs_command") ∷ []) ≡ Some (record { path = []; excluded = [] })
-needs_read bin_name = ap (λ t. chosen t []) (function_reversed bin_name (codes "_needs_command"))
+-- the name of a function begins so
+function_found : (bin_name : List ℕ) → reverse (reverse (function_name bin_name) ++ reverse (codes "__fish_")) ≡ function_begin bin_name
+function_found bin_name =
+    reverse-append (reverse (function_name bin_name)) (reverse (codes "__fish_")) ∙ ap (λ t. codes "__fish_" ++ t) (reverse-reverse (function_name bin_name))
 
-using_read : (bin_name : List ℕ) (pieces : List (List ℕ)) → condition_of_pieces (function_of bin_name (codes "_using_subcommand") ∷ pieces) ≡ condition_from a_name [] pieces
-using_read bin_name pieces = ap (λ t. chosen t pieces) (function_reversed bin_name (codes "_using_subcommand"))
+needs_read : (bin_name : List ℕ) → condition_of_pieces (function_of bin_name (codes "_needs_command") ∷ []) ≡ Some (asked (function_begin bin_name))
+needs_read bin_name =
+    ap (λ t. chosen t []) (function_reversed bin_name (codes "_needs_command")) ∙ ap (λ function. Some (asked function)) (function_found bin_name)
+
+using_read : (bin_name : List ℕ) (pieces : List (List ℕ)) → condition_of_pieces (function_of bin_name (codes "_using_subcommand") ∷ pieces)
+    ≡ condition_from a_name (asked (function_begin bin_name)) pieces
+using_read bin_name pieces =
+    ap (λ t. chosen t pieces) (function_reversed bin_name (codes "_using_subcommand")) ∙ ap (λ function. condition_from a_name (asked function) pieces) (function_found bin_name)
 
 -- ---- the whole
 
 -- the condition says the path and the names that are excluded
 pub condition_read : (bin_name : List ℕ) (path : List (List ℕ)) (children : Forest) (text : List ℕ) → IsSafe bin_name → AllByRecursion IsSafe path → AllByRecursion IsSafe (child_names children)
-    → path_condition bin_name path children ≡ Some text → condition_of text ≡ Some (condition_at path children)
+    → path_condition bin_name path children ≡ Some text → condition_of text ≡ condition_at bin_name path children
 unfolding is_fish_safe
 condition_read bin_name [] none text b p hs e = absurd (cc)
 condition_read bin_name [] (more node below rest) text b p hs e =
@@ -148,8 +164,8 @@ condition_read bin_name (first ∷ names) children text b (h, ks) hs e =
     ∙ ap (λ pieces. condition_of_pieces (map without_semicolon pieces)) (pieces_safe function [] (ascii.space ∷ (first ++ tail)) is)
     ∙ ap (λ t. condition_of_pieces (t ∷ cut_pieces [] (first ++ tail))) (safe_stays function is)
     ∙ using_read bin_name (cut_pieces [] (first ++ tail))
-    ∙ ap (λ pieces. condition_from a_name [] (map without_semicolon pieces)) (pieces_safe first [] tail h)
-    ∙ names_read names children [] first h ks hs
+    ∙ ap (λ pieces. condition_from a_name (asked (function_begin bin_name)) (map without_semicolon pieces)) (pieces_safe first [] tail h)
+    ∙ names_read (function_begin bin_name) names children [] first h ks hs
   where
     regrouped : (function t : List ℕ) → codes "__fish_" ++ (function ++ (codes "_using_subcommand " ++ t)) ≡ (codes "__fish_" ++ (function ++ codes "_using_subcommand")) ++ ascii.space ∷ t
     regrouped function t = ap (λ x. codes "__fish_" ++ x) (sym (append_assoc function (codes "_using_subcommand") (ascii.space ∷ t)))

@@ -14,7 +14,8 @@ use Rattle.cc_quote.specs.FishQuote.FishPlace.{bare}
 use Rattle.cc_quote.specs.FishTokens.{between, in_word, commands_from, fish_commands}
 use Rattle.cc_quote.proofs.FishWords.{IsSafe}
 use Rattle.cc_quote.proofs.FishCutting.{Adds, adds_word, adds_flat_map, safe_goes_on, word_ends}
-use Rattle.cc_fish.specs.FishScript.{function_name, slash_text, first_short, first_long, spec_word, spec_text, specs_text, head_1, head_2, head_3, head_4, head_5, head_6, head_7, head_end, head_back, head_front, head_around, head_text}
+use Rattle.cc_fish.specs.FishScript.{slash_text, first_short, first_long, spec_word, spec_text, specs_text, head_1, head_2, head_3, head_4, head_5, head_6, head_7, head_end, head_back, head_front, head_around, head_text}
+use Rattle.cc_fish.specs.FishTable.{function_name}
 use Rattle.cc_fish.specs.RecordReader.{records_of, records}
 use Rattle.cc_fish.specs.Records.{Record}
 use Rattle.cc_fish.proofs.FishNames.{IsName, name_safe, name_spelled, IsShortName, plain_shorts, plain_longs}

@@ -1,4 +1,5 @@
 pub mod Conditions
+pub mod Examples
 pub mod FishNames
 pub mod HeadRead
 pub mod RecordWords

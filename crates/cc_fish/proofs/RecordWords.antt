@@ -1,5 +1,5 @@
 -- The words that the text of a record spells.
-use Rattle.std.proofs.Common.{◌≡◌, ℕ, Bool, true, false, List, [], ◌∷◌, ◌++◌, eqb, refl, ap, ◌∙◌, sym, append_assoc, append-nil, inl, inr, ◌⊎◌, Option, Some, None, map, cond, codes, encode_utf8, not, ◌&&◌, unwrap_or, flat_map, filter, IsTrue, arith}
+use Rattle.std.proofs.Common.{◌≡◌, ℕ, Bool, true, false, List, [], ◌∷◌, ◌++◌, eqb, refl, ap, ◌∙◌, sym, append_assoc, append-nil, inl, inr, ◌⊎◌, Option, Some, None, map, cond, codes, encode_utf8, not, ◌&&◌, unwrap_or, flat_map, filter, option_map, IsTrue, arith}
 use Rattle.std.proofs.lemmas.Bool.{cases_Bool, and_parts}
 use Rattle.std.proofs.lemmas.Bool.Decides.{nat_tests}
 use Rattle.std.proofs.lemmas.List.Folds.{list_all-append}
@@ -21,7 +21,7 @@ use Rattle.cc_quote.proofs.FishWords.{IsSafe, safe_sign, safe_bytes, safe_in_dou
 use Rattle.cc_quote.proofs.FishCutting.{Spells, word_read, word_ends, Adds, adds_none, adds_word, adds_append, adds_flat_map, command_read}
 use Rattle.cc_fish.specs.FishScript.{condition_text, short_text, long_text, help_text, value_text, separated, value_lines, list_begin, listed_text, hint_text, value_part, values_text, names_text, front_text}
 use Rattle.cc_fish.specs.FishTable.{value_word}
-use Rattle.cc_fish.specs.RecordReader.{offered_of}
+use Rattle.cc_fish.specs.RecordReader.{joined_words, offered_of}
 use Rattle.cc_fish.proofs.FishNames.{IsName, name_safe, name_spelled, IsShortName, plain_shorts, plain_longs}
 
 -- ---- words in `"`
@@ -207,25 +207,21 @@ value_spelled value =
           ∙ ap (λ t. Some (bare t)) (append_assoc value.name (ascii.tab ∷ []) help);
     }
 
--- the words of some commands
-abbrev words_from : List (List (List ℕ)) → List (List ℕ)
-words_from commands = flat_map (λ words. words) commands
-
 further_twice : (values : List PossibleValue) (word : List ℕ)
-    → words_from (commands_from (in_word [] (bare word)) (separated (ascii.line_feed ∷ []) (map value_inner values))) ≡ word ∷ map value_word values
+    → joined_words (commands_from (in_word [] (bare word)) (separated (ascii.line_feed ∷ []) (map value_inner values))) ≡ Some (word ∷ map value_word values)
 unfolding fish_sign
 further_twice [] word = refl
 further_twice (value ∷ values) word =
     let further : List ℕ = separated (ascii.line_feed ∷ []) (map value_inner values) in
-    ap (λ commands. word ∷ words_from commands) (word_read (value_inner value) (value_word value) [] further (value_spelled value))
-    ∙ ap (λ words. word ∷ words) (further_twice values (value_word value))
+    ap (λ commands. option_map (λ later. word ∷ later) (joined_words commands)) (word_read (value_inner value) (value_word value) [] further (value_spelled value))
+    ∙ ap (option_map (λ later. word ∷ later)) (further_twice values (value_word value))
 
 -- the second reading of listed values
-pub values_twice : (values : List PossibleValue) → offered_of (separated [] (map value_inner values)) ≡ map value_word values
+pub values_twice : (values : List PossibleValue) → offered_of (separated [] (map value_inner values)) ≡ Some (map value_word values)
 unfolding fish_commands
 values_twice [] = refl
 values_twice (value ∷ values) =
-    ap words_from (word_read (value_inner value) (value_word value) [] (separated (ascii.line_feed ∷ []) (map value_inner values)) (value_spelled value))
+    ap joined_words (word_read (value_inner value) (value_word value) [] (separated (ascii.line_feed ∷ []) (map value_inner values)) (value_spelled value))
     ∙ further_twice values (value_word value)
 
 -- ---- what an option's value may be
@@ -317,7 +313,7 @@ complete = record { begins = refl; spells = refl }
 
 -- a record's text is one command
 pub record_read : (bin_name : List ℕ) (when : Option (List ℕ)) (text : List ℕ) (words : List (List ℕ)) (rest : List ℕ) → IsName bin_name → IsKept when → Adds text words
-    → commands_from (between []) (front_text bin_name when ++ (text ++ ascii.line_feed ∷ rest)) ≡ (codes "complete" ∷ (front_words bin_name when ++ words)) ∷ commands_from (between []) rest
+    → commands_from (between []) (front_text bin_name when ++ (text ++ ascii.line_feed ∷ rest)) ≡ Some (codes "complete" ∷ (front_words bin_name when ++ words)) ∷ commands_from (between []) rest
 unfolding front_text
 record_read bin_name when text words rest name is adds =
     let end : List ℕ = ascii.line_feed ∷ rest in

@@ -1,5 +1,5 @@
 -- The words of a record are read back to the record.
-use Rattle.std.proofs.Common.{◌≡◌, ℕ, Bool, true, false, List, [], ◌∷◌, ◌++◌, refl, ap, ◌∙◌, sym, subst, append_assoc, append-nil, inl, inr, ◌⊎◌, Option, Some, None, IsTrue, map, cond, codes, encode_utf8, option_map, not, flat_map}
+use Rattle.std.proofs.Common.{◌≡◌, ℕ, Bool, true, false, List, [], ◌∷◌, ◌++◌, refl, ap, ◌∙◌, sym, subst, append_assoc, append-nil, inl, inr, ◌⊎◌, Option, Some, None, IsTrue, map, cond, codes, encode_utf8, is_some, option_map, not, flat_map}
 use Rattle.std.specs.List.{AllByRecursion}
 use Rattle.cc_arg.specs.declared.arg.Arg.{Arg}
 use Rattle.cc_arg.specs.declared.possible_value.PossibleValue.{PossibleValue}
@@ -21,7 +21,7 @@ use Rattle.cc_quote.proofs.FishWords.{IsSafe}
 use Rattle.cc_quote.proofs.FishCutting.{word_read, Adds, adds_none, adds_append, adds_word}
 use Rattle.cc_fish.specs.FishScript.{names_text, values_text, help_text, front_text, option_text, flag_text, child_text, children_text, node_text, options_text, flags_text, below_text}
 use Rattle.cc_fish.specs.FishTable.{condition_at, child_names, has_positionals, value_word, hint_marks, hint_offers, value_marks, value_offers, short_names, flag_record, option_record, child_record, child_records, node_records}
-use Rattle.cc_fish.specs.RecordReader.{offered_of, condition, condition_of, with_operand, record_from, an_option, the_operand, no_record, records_of, records}
+use Rattle.cc_fish.specs.RecordReader.{joined_words, offered_of, condition, condition_of, told_once, record_from, an_option, the_operand, no_record, records_of, records}
 use Rattle.cc_fish.specs.Records.{Condition, Record}
 use Rattle.cc_fish.proofs.FishNames.{IsName, name_safe, name_spelled, plain_name}
 use Rattle.cc_fish.proofs.RecordWords.{IsKept, condition_words, front_words, names_words, short_words, long_words, help_words, values_words, value_inner, hint_words, shown_of, part_words, names_adds, values_adds, help_adds, values_twice, record_read, child_offer_adds, no_files_mark_adds}
@@ -29,28 +29,35 @@ use Rattle.cc_fish.proofs.Conditions.{path_condition, condition_read, condition_
 
 -- ---- the words of a record, part by part
 
-condition_operand : (text : List ℕ) (when : Condition) (read : Record) (words : List (List ℕ)) → condition_of text ≡ Some when
-    → record_from (the_operand condition) read (text ∷ words) ≡ record_from an_option (record read { when = when }) words
-condition_operand text when read words h =
-    ap (λ o. elim (option_map (λ when. record read { when = when }) o) as (λ x. Option Record) [ Some next ↦ record_from an_option next words | None ↦ None ]) h
+-- a record of which only the program and the condition were read
+abbrev at : List ℕ → Option Condition → Record
+at bin_name when = record no_record { command = Some bin_name; when = when }
 
--- a record of which only the condition was read
-abbrev at : Condition → Record
-at when = record no_record { when = when }
+condition_operand : (bin_name text : List ℕ) (when : Option Condition) (words : List (List ℕ)) → condition_of text ≡ when → (is_some when) ≡ true
+    → record_from (the_operand condition) (at bin_name None) (text ∷ words) ≡ record_from an_option (at bin_name when) words
+condition_operand bin_name text None words h k = absurd (cc)
+condition_operand bin_name text (Some when) words h k =
+    ap (λ o. elim (option_map (λ when. at bin_name (Some when)) o) as (λ x. Option Record) [ Some next ↦ record_from an_option next words | None ↦ None ]) h
 
-unconditional : (bin_name : List ℕ) (path : List (List ℕ)) (children : Forest) → path_condition bin_name path children ≡ None → no_record.when ≡ condition_at path children
+unconditional : (bin_name : List ℕ) (path : List (List ℕ)) (children : Forest) → path_condition bin_name path children ≡ None → None ≡ condition_at bin_name path children
 unconditional bin_name [] none e = refl
 unconditional bin_name [] (more node below rest) e = absurd (cc)
 unconditional bin_name (name ∷ names) children e = absurd (cc)
 
+conditional : (bin_name : List ℕ) (path : List (List ℕ)) (children : Forest) (text : List ℕ) → path_condition bin_name path children ≡ Some text → is_some (condition_at bin_name path children) ≡ true
+conditional bin_name [] none text e = absurd (cc)
+conditional bin_name [] (more node below rest) text e = refl
+conditional bin_name (name ∷ names) children text e = refl
+
 front_read : (bin_name : List ℕ) (path : List (List ℕ)) (children : Forest) (words : List (List ℕ)) → IsSafe bin_name → AllByRecursion IsSafe path → AllByRecursion IsSafe (child_names children)
-    → record_from an_option no_record (front_words bin_name (path_condition bin_name path children) ++ words) ≡ record_from an_option (at (condition_at path children)) words
+    → record_from an_option no_record (front_words bin_name (path_condition bin_name path children) ++ words) ≡ record_from an_option (at bin_name (condition_at bin_name path children)) words
 front_read bin_name path children words b p hs = by (path_condition bin_name path children) refl
   where
     by : (when : Option (List ℕ)) → path_condition bin_name path children ≡ when
-        → record_from an_option no_record (front_words bin_name when ++ words) ≡ record_from an_option (at (condition_at path children)) words
-    by (Some text) e = condition_operand text (condition_at path children) no_record words (condition_read bin_name path children text b p hs e)
-    by None e = ap (λ when. record_from an_option (at when) words) (unconditional bin_name path children e)
+        → record_from an_option no_record (front_words bin_name when ++ words) ≡ record_from an_option (at bin_name (condition_at bin_name path children)) words
+    by (Some text) e =
+        condition_operand bin_name text (condition_at bin_name path children) words (condition_read bin_name path children text b p hs e) (conditional bin_name path children text e)
+    by None e = ap (λ when. record_from an_option (at bin_name when) words) (unconditional bin_name path children e)
 
 shorts_read : (shorts : List ℕ) (read : Record) (words : List (List ℕ))
     → record_from an_option read (flat_map short_words shorts ++ words) ≡ record_from an_option (record read { shorts = read.shorts ++ map encode_utf8 shorts }) words
@@ -69,59 +76,67 @@ longs_read (long ∷ longs) read words =
 help_read : (help : Option (List ℕ)) (read : Record) (words : List (List ℕ)) → read.description ≡ None
     → record_from an_option read (help_words help ++ words) ≡ record_from an_option (record read { description = option_map line_feeds_as_spaces help }) words
 help_read None read words e = ap (λ text. record_from an_option (record read { description = text }) words) e
-help_read (Some help) read words e = refl
+help_read (Some help) read words e =
+    ap (λ before. elim (told_once before (Some (record read { description = Some (line_feeds_as_spaces help) }))) as (λ x. Option Record) [ Some next ↦ record_from an_option next words | None ↦ None ]) e
 
-names_read : (argument : Arg) (when : Condition) (words : List (List ℕ)) → record_from an_option (at when) (names_words argument ++ words) ≡ record_from an_option (flag_record when argument) words
-names_read argument when words =
+names_read : (bin_name : List ℕ) (argument : Arg) (when : Option Condition) (words : List (List ℕ))
+    → record_from an_option (at bin_name when) (names_words argument ++ words) ≡ record_from an_option (flag_record bin_name when argument) words
+names_read bin_name argument when words =
+    let front : Record = at bin_name when in
     let longs : List (List ℕ) = flat_map long_words (shown_longs argument) in
     let help : List (List ℕ) = help_words argument.help in
-    ap (record_from an_option (at when)) (append_assoc (flat_map short_words (shown_shorts argument)) (longs ++ help) words)
-    ∙ shorts_read (shown_shorts argument) (at when) ((longs ++ help) ++ words)
-    ∙ ap (record_from an_option (record (at when) { shorts = short_names argument })) (append_assoc longs help words)
-    ∙ longs_read (shown_longs argument) (record (at when) { shorts = short_names argument }) (help ++ words)
-    ∙ help_read argument.help (record (at when) { shorts = short_names argument; longs = shown_longs argument }) words refl
+    ap (record_from an_option front) (append_assoc (flat_map short_words (shown_shorts argument)) (longs ++ help) words)
+    ∙ shorts_read (shown_shorts argument) front ((longs ++ help) ++ words)
+    ∙ ap (record_from an_option (record front { shorts = short_names argument })) (append_assoc longs help words)
+    ∙ longs_read (shown_longs argument) (record front { shorts = short_names argument }) (help ++ words)
+    ∙ help_read argument.help (record front { shorts = short_names argument; longs = shown_longs argument }) words refl
 
-hint_read : (hint : ValueHint) (when : Condition) (argument : Arg)
-    → record_from an_option (flag_record when argument) (hint_words hint) ≡ Some (record (flag_record when argument) { marks = hint_marks hint; offered = hint_offers hint })
+hint_read : (hint : ValueHint) (bin_name : List ℕ) (when : Option Condition) (argument : Arg)
+    → record_from an_option (flag_record bin_name when argument) (hint_words hint) ≡ Some (record (flag_record bin_name when argument) { marks = hint_marks hint; offered = hint_offers hint })
 unfolding fish_sign fish_commands
-hint_read Unknown when argument = refl
-hint_read Other when argument = refl
-hint_read AnyPath when argument = refl
-hint_read FilePath when argument = refl
-hint_read DirPath when argument = refl
-hint_read ExecutablePath when argument = refl
-hint_read CommandName when argument = refl
-hint_read CommandString when argument = refl
-hint_read CommandWithArguments when argument = refl
-hint_read Username when argument = refl
-hint_read Hostname when argument = refl
-hint_read Url when argument = refl
-hint_read EmailAddress when argument = refl
+hint_read Unknown bin_name when argument = refl
+hint_read Other bin_name when argument = refl
+hint_read AnyPath bin_name when argument = refl
+hint_read FilePath bin_name when argument = refl
+hint_read DirPath bin_name when argument = refl
+hint_read ExecutablePath bin_name when argument = refl
+hint_read CommandName bin_name when argument = refl
+hint_read CommandString bin_name when argument = refl
+hint_read CommandWithArguments bin_name when argument = refl
+hint_read Username bin_name when argument = refl
+hint_read Hostname bin_name when argument = refl
+hint_read Url bin_name when argument = refl
+hint_read EmailAddress bin_name when argument = refl
 
-values_read : (argument : Arg) (when : Condition) → record_from an_option (flag_record when argument) (values_words argument) ≡ Some (option_record when argument)
-values_read argument when = by (possible_values argument)
+-- a record with what is offered, where that was read
+abbrev offering : Record → List (List ℕ) → Option (List (List ℕ)) → Option Record
+offering read words offered =
+    elim (option_map (λ offers. record read { offered = Some offers }) offered) as (λ x. Option Record) [ Some next ↦ record_from an_option next words | None ↦ None ]
+
+values_read : (bin_name : List ℕ) (argument : Arg) (when : Option Condition)
+    → record_from an_option (flag_record bin_name when argument) (values_words argument) ≡ Some (option_record bin_name when argument)
+values_read bin_name argument when = by (possible_values argument)
   where
-    by : (values : Option (List PossibleValue)) → record_from an_option (flag_record when argument) (part_words values argument.value_hint)
-        ≡ Some (record (flag_record when argument) { marks = value_marks (option_map shown_of values) argument.value_hint; offered = value_offers (option_map shown_of values) argument.value_hint })
-    by (Some values) = ap (λ words. Some (record (flag_record when argument) { marks = record { required = true; no_files = true; files = false }; offered = Some words })) (values_twice (shown_of values))
-    by None = hint_read argument.value_hint when argument
+    by : (values : Option (List PossibleValue)) → record_from an_option (flag_record bin_name when argument) (part_words values argument.value_hint)
+        ≡ Some (record (flag_record bin_name when argument) { marks = value_marks (option_map shown_of values) argument.value_hint; offered = value_offers (option_map shown_of values) argument.value_hint })
+    by (Some values) = ap (offering (record (flag_record bin_name when argument) { marks = record { required = true; no_files = true; files = false } }) []) (values_twice (shown_of values))
+    by None = hint_read argument.value_hint bin_name when argument
 
-name_offered : (name : List ℕ) → IsName name → offered_of name ≡ name ∷ []
+name_offered : (name : List ℕ) → IsName name → offered_of name ≡ Some (name ∷ [])
 unfolding fish_commands
-name_offered name h = ap (λ t. flat_map (λ words. words) (commands_from (between []) t)) (sym (append-nil name)) ∙ ap (flat_map (λ words. words)) (word_read name name [] [] (name_spelled name h))
+name_offered name h = ap (λ t. joined_words (commands_from (between []) t)) (sym (append-nil name)) ∙ ap joined_words (word_read name name [] [] (name_spelled name h))
 
-child_words_read : (no_files : Bool) (about : Option (List ℕ)) (name : List ℕ) (when : Condition) → IsName name
-    → record_from an_option (at when) (cond no_files (codes "-f" ∷ []) [] ++ (codes "-a" ∷ name ∷ help_words about)) ≡ Some (child_record when no_files about name)
-child_words_read true about name when h =
-    let read : Record = record (at when) { marks = record { required = false; no_files = true; files = false }; offered = Some (offered_of name) } in
-    ap (record_from an_option read) (sym (append-nil (help_words about)))
-    ∙ help_read about read [] refl
-    ∙ ap (λ words. Some (record (child_record when true about name) { offered = Some words })) (name_offered name h)
-child_words_read false about name when h =
-    let read : Record = record (at when) { offered = Some (offered_of name) } in
-    ap (record_from an_option read) (sym (append-nil (help_words about)))
-    ∙ help_read about read [] refl
-    ∙ ap (λ words. Some (record (child_record when false about name) { offered = Some words })) (name_offered name h)
+child_words_read : (bin_name : List ℕ) (no_files : Bool) (about : Option (List ℕ)) (name : List ℕ) (when : Option Condition) → IsName name
+    → record_from an_option (at bin_name when) (cond no_files (codes "-f" ∷ []) [] ++ (codes "-a" ∷ name ∷ help_words about)) ≡ Some (child_record bin_name when no_files about name)
+child_words_read bin_name true about name when h =
+    let read : Record = record (at bin_name when) { marks = record { required = false; no_files = true; files = false } } in
+    ap (offering read (help_words about)) (name_offered name h)
+    ∙ ap (record_from an_option (record read { offered = Some (name ∷ []) })) (sym (append-nil (help_words about)))
+    ∙ help_read about (record read { offered = Some (name ∷ []) }) [] refl
+child_words_read bin_name false about name when h =
+    ap (offering (at bin_name when) (help_words about)) (name_offered name h)
+    ∙ ap (record_from an_option (record (at bin_name when) { offered = Some (name ∷ []) })) (sym (append-nil (help_words about)))
+    ∙ help_read about (record (at bin_name when) { offered = Some (name ∷ []) }) [] refl
 
 -- ---- texts that are read to records
 
@@ -168,7 +183,7 @@ abbrev pub path_front : List ℕ → List (List ℕ) → Forest → List ℕ
 path_front bin_name path children = front_text bin_name (path_condition bin_name path children)
 
 record_yields : (bin_name : List ℕ) (path : List (List ℕ)) (children : Forest) (text : List ℕ) (words : List (List ℕ)) (read : Record) → IsAt bin_name path children → Adds text words
-    → record_from an_option (at (condition_at path children)) words ≡ Some read → Yields (path_front bin_name path children ++ (text ++ line_feed ∷ [])) (read ∷ [])
+    → record_from an_option (at bin_name (condition_at bin_name path children)) words ≡ Some read → Yields (path_front bin_name path children ++ (text ++ line_feed ∷ [])) (read ∷ [])
 unfolding fish_commands
 record_yields bin_name path children text words read is adds h =
     let front : List ℕ = path_front bin_name path children in
@@ -181,59 +196,59 @@ record_yields bin_name path children text words read is adds h =
     }
 
 flag_yields : (bin_name : List ℕ) (path : List (List ℕ)) (children : Forest) → IsAt bin_name path children → (argument : Arg) → IsPlainArgument argument
-    → Yields (flag_text (path_front bin_name path children) argument) (flag_record (condition_at path children) argument ∷ [])
+    → Yields (flag_text (path_front bin_name path children) argument) (flag_record bin_name (condition_at bin_name path children) argument ∷ [])
 unfolding flag_text
 flag_yields bin_name path children is argument plain =
     record_yields bin_name path children (names_text argument) (names_words argument) _ is (names_adds argument plain)
-    (ap (record_from an_option (at (condition_at path children))) (sym (append-nil (names_words argument))) ∙ names_read argument (condition_at path children) [])
+    (ap (record_from an_option (at bin_name (condition_at bin_name path children))) (sym (append-nil (names_words argument))) ∙ names_read bin_name argument (condition_at bin_name path children) [])
 
 option_yields : (bin_name : List ℕ) (path : List (List ℕ)) (children : Forest) → IsAt bin_name path children → (argument : Arg) → IsPlainArgument argument
-    → Yields (option_text (path_front bin_name path children) argument) (option_record (condition_at path children) argument ∷ [])
+    → Yields (option_text (path_front bin_name path children) argument) (option_record bin_name (condition_at bin_name path children) argument ∷ [])
 unfolding option_text
 option_yields bin_name path children is argument plain =
     let front : List ℕ = path_front bin_name path children in
-    let one : Yields (front ++ ((names_text argument ++ values_text argument) ++ line_feed ∷ [])) (option_record (condition_at path children) argument ∷ []) =
-    record_yields bin_name path children (names_text argument ++ values_text argument) (names_words argument ++ values_words argument) (option_record (condition_at path children) argument) is
+    let one : Yields (front ++ ((names_text argument ++ values_text argument) ++ line_feed ∷ [])) (option_record bin_name (condition_at bin_name path children) argument ∷ []) =
+    record_yields bin_name path children (names_text argument ++ values_text argument) (names_words argument ++ values_words argument) (option_record bin_name (condition_at bin_name path children) argument) is
     (adds_append (names_text argument) (values_text argument) (names_words argument) (values_words argument) (names_adds argument plain) (values_adds argument))
-    (names_read argument (condition_at path children) (values_words argument) ∙ values_read argument (condition_at path children)) in
+    (names_read bin_name argument (condition_at bin_name path children) (values_words argument) ∙ values_read bin_name argument (condition_at bin_name path children)) in
     rw (← append_assoc (names_text argument) (values_text argument) (line_feed ∷ [])) one
 
 child_yields : (bin_name : List ℕ) (path : List (List ℕ)) (children : Forest) → IsAt bin_name path children → (no_files : Bool) (about : Option (List ℕ)) (name : List ℕ) → IsPlainName name
-    → Yields (child_text (path_front bin_name path children) no_files about name) (child_record (condition_at path children) no_files about name ∷ [])
+    → Yields (child_text (path_front bin_name path children) no_files about name) (child_record bin_name (condition_at bin_name path children) no_files about name ∷ [])
 unfolding child_text
 child_yields bin_name path children is no_files about name plain =
     let front : List ℕ = path_front bin_name path children in
     let mark : List ℕ = cond no_files (codes " -f") [] in
     let offer : List ℕ = codes " -a \"" ++ (name ++ codes "\"") in
     let named : IsName name = plain_name name plain in
-    let one : Yields (front ++ ((mark ++ (offer ++ help_text about)) ++ line_feed ∷ [])) (child_record (condition_at path children) no_files about name ∷ []) =
+    let one : Yields (front ++ ((mark ++ (offer ++ help_text about)) ++ line_feed ∷ [])) (child_record bin_name (condition_at bin_name path children) no_files about name ∷ []) =
     record_yields bin_name path children (mark ++ (offer ++ help_text about)) (cond no_files (codes "-f" ∷ []) [] ++ (codes "-a" ∷ name ∷ help_words about)) _ is
     (adds_append _ _ _ _ (no_files_mark_adds no_files) (adds_append _ _ _ _ (child_offer_adds name named) (help_adds about)))
-    (child_words_read no_files about name (condition_at path children) named) in
-    subst (λ t. Yields (front ++ t) (child_record (condition_at path children) no_files about name ∷ [])) (regrouped mark name (help_text about)) one
+    (child_words_read bin_name no_files about name (condition_at bin_name path children) named) in
+    subst (λ t. Yields (front ++ t) (child_record bin_name (condition_at bin_name path children) no_files about name ∷ [])) (regrouped mark name (help_text about)) one
   where
     regrouped : (mark name help : List ℕ) → (mark ++ ((codes " -a \"" ++ (name ++ codes "\"")) ++ help)) ++ line_feed ∷ [] ≡ mark ++ (codes " -a \"" ++ (name ++ (codes "\"" ++ (help ++ line_feed ∷ []))))
     regrouped mark name help = simp append_assoc
 
 children_yield : (bin_name : List ℕ) (path : List (List ℕ)) (children : Forest) → IsAt bin_name path children → (no_files : Bool) (siblings : Forest) → IsTrue (is_plain_forest siblings)
-    → Yields (children_text (path_front bin_name path children) no_files siblings) (child_records (condition_at path children) no_files siblings)
+    → Yields (children_text (path_front bin_name path children) no_files siblings) (child_records bin_name (condition_at bin_name path children) no_files siblings)
 children_yield bin_name path children is no_files none h = yields_none
 children_yield bin_name path children is no_files (more node below rest) h =
     let plain = plain_more node below rest h in
     yields_append _ _ _ _
-    (yields_map IsPlainName (child_text (path_front bin_name path children) no_files node.about) (child_record (condition_at path children) no_files node.about) (child_yields bin_name path children is no_files node.about) (visible_names node) (plain_node node plain.first.node).names)
+    (yields_map IsPlainName (child_text (path_front bin_name path children) no_files node.about) (child_record bin_name (condition_at bin_name path children) no_files node.about) (child_yields bin_name path children is no_files node.about) (visible_names node) (plain_node node plain.first.node).names)
     (children_yield bin_name path children is no_files rest plain.later)
 
 -- the records of the node at a path
 pub node_yields : (bin_name : List ℕ) (path : List (List ℕ)) (tree : Tree) → IsAt bin_name path tree.children → IsPlainBelow tree
-    → Yields (node_text (path_front bin_name path tree.children) tree) (node_records (condition_at path tree.children) tree)
+    → Yields (node_text (path_front bin_name path tree.children) tree) (node_records bin_name (condition_at bin_name path tree.children) tree)
 unfolding node_text options_text flags_text below_text
 node_yields bin_name path tree is plain =
     let front : List ℕ = path_front bin_name path tree.children in
-    let when : Condition = condition_at path tree.children in
+    let when : Option Condition = condition_at bin_name path tree.children in
     let node = plain_node tree.node plain.node in
     yields_append _ _ _ _
-    (yields_map IsPlainArgument (option_text front) (option_record when) (option_yields bin_name path tree.children is) (options tree.node) node.options)
+    (yields_map IsPlainArgument (option_text front) (option_record bin_name when) (option_yields bin_name path tree.children is) (options tree.node) node.options)
     (yields_append _ _ _ _
-    (yields_map IsPlainArgument (flag_text front) (flag_record when) (flag_yields bin_name path tree.children is) (flags tree.node) node.flags)
+    (yields_map IsPlainArgument (flag_text front) (flag_record bin_name when) (flag_yields bin_name path tree.children is) (flags tree.node) node.flags)
     (children_yield bin_name path tree.children is (not (has_positionals tree.node)) tree.children plain.children))

@@ -1,7 +1,10 @@
 -- The whole script of a plain tree is read back.
-use Rattle.std.proofs.Common.{◌≡◌, ℕ, Bool, true, false, List, [], ◌∷◌, ◌++◌, IsTrue, refl, ap, ◌∙◌, sym, append_assoc, append-nil, Option, Some, None, map, flat_map, codes, not}
+use Rattle.std.proofs.Common.{◌≡◌, ℕ, Bool, true, false, List, [], ◌∷◌, ◌++◌, IsTrue, refl, ap, ◌∙◌, sym, subst, append_assoc, append-nil, Option, Some, None, Result, Ok, Err, map, flat_map, codes, not}
 use Rattle.std.proofs.lemmas.List.Concat.{flat_map-append}
 use Rattle.std.specs.List.{AllByRecursion}
+use Rattle.cc_base.specs.declared.error.Error.{Error}
+use Rattle.cc_base.specs.declared.failures.Failures.{Failures}
+use Rattle.cc_base.specs.Writes.{Writes}
 use Rattle.cc_base.proofs.Members.{AllByRecursion-weaker}
 use Rattle.cc_arg.specs.declared.arg.Arg.{Arg}
 use Rattle.cc_command.specs.declared.node.Node.{Node}
@@ -10,6 +13,7 @@ use Rattle.cc_command.specs.Names.{full_name, visible_names}
 use Rattle.cc_command.specs.Plain.{is_plain_tree}
 use Rattle.cc_command.specs.Tree.{Forest, none, more, Tree}
 use Rattle.cc_command.proofs.PlainParts.{plain_node, plain_tree, plain_full_name}
+use Rattle.cc_lists.specs.Generators.{Generates}
 use Rattle.cc_quote.specs.FishTokens.{fish_commands}
 use Rattle.cc_visits.specs.Visits.{Keyed, keyed, path_visits, path_steps, longer_path, rekeyed, where_entered}
 use Rattle.cc_visits.proofs.Entered.{entered_visits}
@@ -17,10 +21,10 @@ use Rattle.cc_visits.proofs.PlainVisits.{IsPlainVisit, plain_visits}
 use Rattle.cc_visits.proofs.SameVisits.{rekeyed-path_visits}
 use Rattle.cc_visits.proofs.VisitedPaths.{paths_cover}
 use Rattle.cc_fish.specs.FishReads.{FishReads}
-use Rattle.cc_fish.specs.FishScript.{function_name, seen_text, excluded_text, fish_key, key_condition, front_text, node_text, visit_text, head_text, body_text, script_text, fish_script}
-use Rattle.cc_fish.specs.FishTable.{condition_at, has_positionals, option_record, flag_record, child_record, child_records, node_records, table, tables}
+use Rattle.cc_fish.specs.FishScript.{seen_text, excluded_text, fish_key, key_condition, front_text, node_text, visit_text, head_text, body_text, script_text, fish_script}
+use Rattle.cc_fish.specs.FishTable.{function_name, condition_at, has_positionals, option_record, flag_record, child_record, child_records, node_records, table, tables}
 use Rattle.cc_fish.specs.RecordReader.{records}
-use Rattle.cc_fish.specs.Records.{Condition, Record}
+use Rattle.cc_fish.specs.Records.{Condition, Record, condition_path, record_path}
 use Rattle.cc_fish.proofs.FishNames.{IsName, plain_name, path_safe, children_safe}
 use Rattle.cc_fish.proofs.Conditions.{path_condition}
 use Rattle.cc_fish.proofs.RecordsRead.{Yields, yields_append, yields_flat_map, path_front, node_yields}
@@ -71,7 +75,7 @@ by_paths bin_name root =
 
 -- ---- what is read
 
-visit_yields : (bin_name : List ℕ) → IsName bin_name → (visit : Keyed (List (List ℕ))) → IsPlainVisit visit → Yields (path_text bin_name visit) (table visit)
+visit_yields : (bin_name : List ℕ) → IsName bin_name → (visit : Keyed (List (List ℕ))) → IsPlainVisit visit → Yields (path_text bin_name visit) (table bin_name visit)
 visit_yields bin_name named visit is =
     node_yields bin_name visit.key visit.tree (record { command = named; names = path_safe visit.key is.names; excluded = children_safe visit.tree.children is.tree.children }) is.tree
 
@@ -86,44 +90,64 @@ records_read root h =
     let text : List ℕ = head ++ flat_map (path_text bin_name) visits in
     let whole : Yields text (tables root) =
     yields_append head (flat_map (path_text bin_name) visits) [] (tables root) (head_yields bin_name root named (plain_node root.node plain.node))
-    (yields_flat_map IsPlainVisit (path_text bin_name) table (visit_yields bin_name named) visits (plain_visits root visits h (paths_cover root h))) in
+    (yields_flat_map IsPlainVisit (path_text bin_name) (table bin_name) (visit_yields bin_name named) visits (plain_visits root visits h (paths_cover root h))) in
     ap (λ body. records (head ++ body)) (by_paths bin_name root) ∙ ap records (sym (append-nil text)) ∙ whole.read [] ∙ ap Some (append-nil (tables root))
 
--- ---- each record of a table names its path
+-- ---- each record of a table holds at its path
 
-abbrev HoldAt : Condition → List Record → Type 0
-HoldAt when reads = AllByRecursion (λ read. read.when ≡ when) reads
+abbrev HoldAt : List (List ℕ) → List Record → Type 0
+HoldAt path reads = AllByRecursion (λ read. record_path read ≡ path) reads
 
-hold_append : (when : Condition) (us vs : List Record) → HoldAt when us → HoldAt when vs → HoldAt when (us ++ vs)
-hold_append when [] vs h k = k
-hold_append when (u ∷ us) vs h k = (h.0, hold_append when us vs h.1 k)
+hold_append : (path : List (List ℕ)) (us vs : List Record) → HoldAt path us → HoldAt path vs → HoldAt path (us ++ vs)
+hold_append path [] vs h k = k
+hold_append path (u ∷ us) vs h k = (h.0, hold_append path us vs h.1 k)
 
-hold_map : {X : Type 0} (when : Condition) (read : X → Record) → ((x : X) → (read x).when ≡ when) → (xs : List X) → HoldAt when (map read xs)
-hold_map when read each [] = tt
-hold_map when read each (x ∷ xs) = (each x, hold_map when read each xs)
+hold_map : {X : Type 0} (path : List (List ℕ)) (read : X → Record) → ((x : X) → record_path (read x) ≡ path) → (xs : List X) → HoldAt path (map read xs)
+hold_map path read each [] = tt
+hold_map path read each (x ∷ xs) = (each x, hold_map path read each xs)
 
-hold_children : (when : Condition) (no_files : Bool) (children : Forest) → HoldAt when (child_records when no_files children)
-hold_children when no_files none = tt
-hold_children when no_files (more node below rest) =
-    hold_append when (map (child_record when no_files node.about) (visible_names node)) (child_records when no_files rest)
-    (hold_map when (child_record when no_files node.about) (λ name. refl) (visible_names node)) (hold_children when no_files rest)
+hold_children : (bin_name : List ℕ) (when : Option Condition) (no_files : Bool) (children : Forest) → HoldAt (condition_path when) (child_records bin_name when no_files children)
+hold_children bin_name when no_files none = tt
+hold_children bin_name when no_files (more node below rest) =
+    hold_append (condition_path when) (map (child_record bin_name when no_files node.about) (visible_names node)) (child_records bin_name when no_files rest)
+    (hold_map (condition_path when) (child_record bin_name when no_files node.about) (λ name. refl) (visible_names node)) (hold_children bin_name when no_files rest)
 
-hold_table : (visit : Keyed (List (List ℕ))) → HoldAt (condition_at visit.key visit.tree.children) (table visit)
-hold_table visit =
-    let when : Condition = condition_at visit.key visit.tree.children in
-    let of_options : List Record = map (option_record when) (options visit.tree.node) in
-    let of_flags : List Record = map (flag_record when) (flags visit.tree.node) in
-    let of_children : List Record = child_records when (not (has_positionals visit.tree.node)) visit.tree.children in
-    hold_append when of_options (of_flags ++ of_children) (hold_map when (option_record when) (λ argument. refl) (options visit.tree.node))
-    (hold_append when of_flags of_children (hold_map when (flag_record when) (λ argument. refl) (flags visit.tree.node)) (hold_children when (not (has_positionals visit.tree.node)) visit.tree.children))
+hold_node : (bin_name : List ℕ) (when : Option Condition) (tree : Tree) → HoldAt (condition_path when) (node_records bin_name when tree)
+hold_node bin_name when tree =
+    let path : List (List ℕ) = condition_path when in
+    let of_options : List Record = map (option_record bin_name when) (options tree.node) in
+    let of_flags : List Record = map (flag_record bin_name when) (flags tree.node) in
+    let of_children : List Record = child_records bin_name when (not (has_positionals tree.node)) tree.children in
+    hold_append path of_options (of_flags ++ of_children) (hold_map path (option_record bin_name when) (λ argument. refl) (options tree.node))
+    (hold_append path of_flags of_children (hold_map path (flag_record bin_name when) (λ argument. refl) (flags tree.node)) (hold_children bin_name when (not (has_positionals tree.node)) tree.children))
+
+-- a condition is that of its path
+condition_at-path : (bin_name : List ℕ) (path : List (List ℕ)) (children : Forest) → condition_path (condition_at bin_name path children) ≡ path
+condition_at-path bin_name [] none = refl
+condition_at-path bin_name [] (more node below rest) = refl
+condition_at-path bin_name (name ∷ names) children = refl
+
+hold_table : (bin_name : List ℕ) (visit : Keyed (List (List ℕ))) → HoldAt visit.key (table bin_name visit)
+hold_table bin_name visit =
+    subst (λ path. HoldAt path (table bin_name visit)) (condition_at-path bin_name visit.key visit.tree.children)
+    (hold_node bin_name (condition_at bin_name visit.key visit.tree.children) visit.tree)
 
 -- ---- for the code
 
 -- the script of a plain tree reads to its tables
 pub reads_back : (root : Tree) → IsTrue (is_plain_tree root) → FishReads root
-reads_back root h = record { tables = records_read root h; covers = paths_cover root h; places = hold_table }
+reads_back root h = record { tables = records_read root h; covers = paths_cover root h; places = hold_table (full_name root.node) }
 
 -- where nodes are entered, their records
 pub entered_texts : (bin_name function : List ℕ) (root : Tree) → flat_map (where_entered (visit_text bin_name function)) (path_steps fish_key [] root) ≡ body_text bin_name function root
 unfolding body_text
 entered_texts bin_name function root = entered_visits fish_key (visit_text bin_name function) [] root
+
+-- what is taken where the script of the tree is written
+pub generated : {S : Type 0} (taken : S → List ℕ) (failed : S → Failures) (root at : Tree) (result : Result (Unit {0}) Error) (old new : S) → at ≡ root
+    → Writes taken failed result old new (fish_script at) → Generates taken failed fish_script (λ _. None) FishReads root result old new
+generated taken failed root at result old new is writes = of result (subst (λ tree. Writes taken failed result old new (fish_script tree)) is writes)
+  where
+    of : (r : Result (Unit {0}) Error) → Writes taken failed r old new (fish_script root) → Generates taken failed fish_script (λ _. None) FishReads root r old new
+    of (Ok u) w = record { ok = w.ok; reads = reads_back root; clashes = tt; failures = w.failures }
+    of (Err error) w = record { ok = tt; reads = tt; clashes = w.kinds; failures = w.failures }

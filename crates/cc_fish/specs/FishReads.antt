@@ -1,16 +1,19 @@
 -- What the fish script of a tree reads to.
 use Rattle.std.specs.Prelude.{◌≡◌, ℕ, List, [], Some}
 use Rattle.std.specs.List.{AllByRecursion}
+use Rattle.cc_command.specs.Names.{full_name}
 use Rattle.cc_command.specs.Tree.{Tree}
 use Rattle.cc_visits.specs.Paths.{CoversPaths}
 use Rattle.cc_visits.specs.Visits.{Keyed, path_visits, longer_path}
 use Rattle.cc_fish.specs.FishScript.{fish_script}
-use Rattle.cc_fish.specs.FishTable.{condition_at, table, tables}
+use Rattle.cc_fish.specs.FishTable.{table, tables}
 use Rattle.cc_fish.specs.RecordReader.{records}
+use Rattle.cc_fish.specs.Records.{record_path}
 
--- The script reads to the tables of the visits, one after another. The visits are exactly the visible
--- paths, each once, with the nodes that they lead to, and each record of a table names its path.
+-- The script reads to the tables of the visits, one after another, and to nothing else. The visits are
+-- exactly the visible paths, each once, with the nodes that they lead to, and each record of a table
+-- holds at its visit's path.
 pub record FishReads (root : Tree) : Type 0 where
   pub tables : records (fish_script root) ≡ Some (tables root)
   pub covers : CoversPaths root (path_visits longer_path [] root)
-  pub places : (visit : Keyed (List (List ℕ))) → AllByRecursion (λ read. read.when ≡ condition_at visit.key visit.tree.children) (table visit)
+  pub places : (visit : Keyed (List (List ℕ))) → AllByRecursion (λ read. record_path read ≡ visit.key) (table (full_name root.node) visit)

@@ -1,5 +1,5 @@
 -- The text of a fish script.
-use Rattle.std.specs.Prelude.{ℕ, List, [], ◌∷◌, ◌++◌, ◌==◌, if◌then◌else◌, Bool, not, Option, Some, None, codes, encode_utf8, filter, flat_map, map, unwrap_or}
+use Rattle.std.specs.Prelude.{ℕ, List, [], ◌∷◌, ◌++◌, if◌then◌else◌, Bool, not, Option, Some, None, codes, encode_utf8, filter, flat_map, map, unwrap_or}
 use Rattle.cc_arg.specs.declared.arg.Arg.{Arg}
 use Rattle.cc_arg.specs.declared.possible_value.PossibleValue.{PossibleValue}
 use Rattle.cc_arg.specs.declared.value_hint.ValueHint.{ValueHint}
@@ -9,18 +9,13 @@ use Rattle.cc_arg.specs.ShownNames.{shown_shorts, shown_longs}
 use Rattle.cc_command.specs.declared.node.Node.{Node}
 use Rattle.cc_command.specs.ArgumentLists.{options, flags}
 use Rattle.cc_command.specs.Names.{full_name, visible_names}
-use Rattle.cc_command.specs.PlainName.{dash, underscore}
 use Rattle.cc_command.specs.Tree.{Forest, none, more, Tree, has_nodes}
 use Rattle.cc_quote.specs.Bytes.{space, line_feed}
 use Rattle.cc_quote.specs.FishQuote.{fish_escaped, fish_quoted_for_eval, fish_help_for_eval_of}
 use Rattle.cc_visits.specs.Visits.{Keyed, path_visits}
-use Rattle.cc_fish.specs.FishTable.{child_names, has_positionals}
+use Rattle.cc_fish.specs.FishTable.{child_names, function_name, has_positionals}
 
 -- ---- when the records of a node hold
-
--- the bin name in names of functions: `-` as `_`
-abbrev pub function_name : List ℕ → List ℕ
-function_name bin_name = map (λ byte. if byte == dash then underscore else byte) bin_name
 
 -- one more name of a path
 abbrev pub seen_text : List ℕ → List ℕ
@@ -98,10 +93,10 @@ unfoldable pub hint_text : ValueHint → List ℕ
 hint_text Unknown = codes " -r"
 hint_text AnyPath = codes " -r -F"
 hint_text FilePath = codes " -r -F"
-hint_text ExecutablePath = codes " -r -F"
 hint_text DirPath = codes " -r -f -a \"(__fish_complete_directories)\""
-hint_text CommandString = codes " -r -f -a \"(__fish_complete_command)\""
+hint_text ExecutablePath = codes " -r -F"
 hint_text CommandName = codes " -r -f -a \"(__fish_complete_command)\""
+hint_text CommandString = codes " -r -f -a \"(__fish_complete_command)\""
 hint_text Username = codes " -r -f -a \"(__fish_complete_users)\""
 hint_text Hostname = codes " -r -f -a \"(__fish_print_hostnames)\""
 hint_text _ = codes " -r -f"

@@ -1,5 +1,5 @@
 -- What fish is told of a command tree: the records of each visible path.
-use Rattle.std.specs.Prelude.{ℕ, List, [], ◌∷◌, ◌++◌, Bool, true, false, not, Option, Some, None, codes, encode_utf8, filter, flat_map, map, option_map, unwrap_or}
+use Rattle.std.specs.Prelude.{ℕ, List, [], ◌∷◌, ◌++◌, ◌==◌, if◌then◌else◌, Bool, true, false, not, Option, Some, None, codes, encode_utf8, filter, flat_map, map, option_map, unwrap_or}
 use Rattle.std.specs.List.{list_any}
 use Rattle.cc_arg.specs.declared.arg.Arg.{Arg}
 use Rattle.cc_arg.specs.declared.possible_value.PossibleValue.{PossibleValue}
@@ -9,7 +9,8 @@ use Rattle.cc_arg.specs.Arguments.{is_positional, possible_values}
 use Rattle.cc_arg.specs.ShownNames.{shown_shorts, shown_longs}
 use Rattle.cc_command.specs.declared.node.Node.{Node}
 use Rattle.cc_command.specs.ArgumentLists.{options, flags}
-use Rattle.cc_command.specs.Names.{visible_names}
+use Rattle.cc_command.specs.Names.{full_name, visible_names}
+use Rattle.cc_command.specs.PlainName.{dash, underscore}
 use Rattle.cc_command.specs.Tree.{Forest, none, more, Tree}
 use Rattle.cc_quote.specs.Bytes.{tab}
 use Rattle.cc_quote.specs.QuotedWord.{line_feeds_as_spaces}
@@ -28,9 +29,22 @@ abbrev pub excluded_names : List (List ℕ) → Forest → List (List ℕ)
 excluded_names [] children = []
 excluded_names (name ∷ names) children = child_names children
 
--- where the records of the node at a path hold
-abbrev pub condition_at : List (List ℕ) → Forest → Condition
-condition_at path children = record { path = path; excluded = excluded_names path children }
+-- the bin name in names of functions: `-` as `_`
+abbrev pub function_name : List ℕ → List ℕ
+function_name bin_name = map (λ byte. if byte == dash then underscore else byte) bin_name
+
+-- what the names of a program's functions begin with
+abbrev pub function_begin : List ℕ → List ℕ
+function_begin bin_name = codes "__fish_" ++ function_name bin_name
+
+-- where the records of the node at a path hold; without a condition at a root that has no children
+abbrev pub condition_at : List ℕ → List (List ℕ) → Forest → Option Condition
+condition_at bin_name [] none = None
+condition_at bin_name path children = Some (record {
+  function = function_begin bin_name;
+  path = path;
+  excluded = excluded_names path children;
+})
 
 -- ---- what an option's value may be
 
@@ -87,8 +101,9 @@ abbrev pub short_names : Arg → List (List ℕ)
 short_names argument = map encode_utf8 (shown_shorts argument)
 
 -- the record of a flag: its names and its help
-abbrev pub flag_record : Condition → Arg → Record
-flag_record when argument = record {
+abbrev pub flag_record : List ℕ → Option Condition → Arg → Record
+flag_record bin_name when argument = record {
+  command = Some bin_name;
   when = when;
   shorts = short_names argument;
   longs = shown_longs argument;
@@ -98,8 +113,8 @@ flag_record when argument = record {
 }
 
 -- the record of an option: also what its value may be
-abbrev pub option_record : Condition → Arg → Record
-option_record when argument = record (flag_record when argument) {
+abbrev pub option_record : List ℕ → Option Condition → Arg → Record
+option_record bin_name when argument = record (flag_record bin_name when argument) {
   marks = value_marks (shown_values argument) argument.value_hint;
   offered = value_offers (shown_values argument) argument.value_hint;
 }
@@ -109,8 +124,9 @@ abbrev pub has_positionals : Node → Bool
 has_positionals node = list_any is_positional node.arguments
 
 -- the record of a child's name, which marks no files where the node has no positional
-abbrev pub child_record : Condition → Bool → Option (List ℕ) → List ℕ → Record
-child_record when no_files about name = record {
+abbrev pub child_record : List ℕ → Option Condition → Bool → Option (List ℕ) → List ℕ → Record
+child_record bin_name when no_files about name = record {
+  command = Some bin_name;
   when = when;
   shorts = [];
   longs = [];
@@ -120,21 +136,21 @@ child_record when no_files about name = record {
 }
 
 -- the records of some siblings' visible names
-abbrev pub child_records : Condition → Bool → Forest → List Record
-child_records when no_files none = []
-child_records when no_files (more node below rest) =
-    map (child_record when no_files node.about) (visible_names node) ++ child_records when no_files rest
+abbrev pub child_records : List ℕ → Option Condition → Bool → Forest → List Record
+child_records bin_name when no_files none = []
+child_records bin_name when no_files (more node below rest) =
+    map (child_record bin_name when no_files node.about) (visible_names node) ++ child_records bin_name when no_files rest
 
 -- the records of a node: its options, its flags, its children's visible names
-abbrev pub node_records : Condition → Tree → List Record
-node_records when tree =
-    map (option_record when) (options tree.node) ++
-    (map (flag_record when) (flags tree.node) ++ child_records when (not (has_positionals tree.node)) tree.children)
+abbrev pub node_records : List ℕ → Option Condition → Tree → List Record
+node_records bin_name when tree =
+    map (option_record bin_name when) (options tree.node) ++
+    (map (flag_record bin_name when) (flags tree.node) ++ child_records bin_name when (not (has_positionals tree.node)) tree.children)
 
--- the records at a visible path
-abbrev pub table : Keyed (List (List ℕ)) → List Record
-table visit = node_records (condition_at visit.key visit.tree.children) visit.tree
+-- the records at a visible path of a program
+abbrev pub table : List ℕ → Keyed (List (List ℕ)) → List Record
+table bin_name visit = node_records bin_name (condition_at bin_name visit.key visit.tree.children) visit.tree
 
 -- the records at all visible paths, path by path
 abbrev pub tables : Tree → List Record
-tables tree = flat_map table (path_visits longer_path [] tree)
+tables tree = flat_map (table (full_name tree.node)) (path_visits longer_path [] tree)

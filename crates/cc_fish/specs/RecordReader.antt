@@ -1,5 +1,5 @@
 -- How a fish script is read: each command whose first word is `complete` is a record.
-use Rattle.std.specs.Prelude.{ℕ, List, [], ◌∷◌, ◌++◌, ◌==◌, ◌&&◌, Bool, true, false, Option, Some, None, if◌then◌else◌, codes, bytes_eq, map, reverse, flat_map, option_map}
+use Rattle.std.specs.Prelude.{ℕ, List, [], ◌∷◌, ◌++◌, ◌==◌, Bool, true, false, Option, Some, None, if◌then◌else◌, codes, bytes_eq, map, reverse, option_map}
 use Rattle.cc_quote.specs.Bytes.{space}
 use Rattle.cc_quote.specs.FishTokens.{fish_commands}
 use Rattle.cc_fish.specs.Records.{Condition, Record}
@@ -26,15 +26,18 @@ without_semicolon (byte ∷ bytes) = elim bytes [
   | _ ∷ _ ↦ byte ∷ without_semicolon bytes
 ]
 
--- whether a text begins with another
-abbrev pub begins_with : List ℕ → List ℕ → Bool
-begins_with [] text = true
-begins_with (byte ∷ bytes) [] = false
-begins_with (byte ∷ bytes) (first ∷ text) = (byte == first) && begins_with bytes text
+-- what follows a beginning of a text; none where the text begins otherwise
+abbrev pub after_beginning : List ℕ → List ℕ → Option (List ℕ)
+after_beginning [] text = Some text
+after_beginning (byte ∷ bytes) [] = None
+after_beginning (byte ∷ bytes) (first ∷ text) = elim (byte == first) [
+  | true ↦ after_beginning bytes text
+  | false ↦ None
+]
 
--- whether a text ends with another
-abbrev pub ends_with : List ℕ → List ℕ → Bool
-ends_with ending text = begins_with (reverse ending) (reverse text)
+-- what stands before an ending of a text; none where the text ends otherwise
+abbrev pub before_ending : List ℕ → List ℕ → Option (List ℕ)
+before_ending ending text = option_map reverse (after_beginning (reverse ending) (reverse text))
 
 -- the function that tells whether a name was seen
 abbrev pub seen_function : List ℕ
@@ -52,39 +55,53 @@ piece_sign piece =
     if bytes_eq piece (codes "and") then is_and else if bytes_eq piece (codes "not") then is_not
     else if bytes_eq piece seen_function then is_seen else is_other
 
--- what is expected next: a name of the path; `and`; after it `not` or the function; after `not` the function
+-- what is expected next: a name of the path; `and`; after it `not` or the function; after `not` the
+-- function; or nothing
 pub data Expected : Type 0 where
   a_name : Expected
   an_and : Expected
   not_or_seen : Expected
   a_seen : Expected
+  nothing : Expected
 
--- the condition that the pieces give, with the path so far; all names after `and not` and the function
--- are excluded
-abbrev pub condition_from : Expected → List (List ℕ) → List (List ℕ) → Option Condition
-condition_from an_and path [] = Some (record { path = path; excluded = [] })
-condition_from _ path [] = None
-condition_from a_name path (piece ∷ pieces) = condition_from an_and (path ++ piece ∷ []) pieces
-condition_from an_and path (piece ∷ pieces) = elim (piece_sign piece) [
-  | is_and ↦ condition_from not_or_seen path pieces
+-- The condition that the pieces give, after what was read of it so far: each name that follows the
+-- function is the next of the path, and all names after `and not` and the function are excluded. None
+-- where a piece is not what is expected.
+abbrev pub condition_from : Expected → Condition → List (List ℕ) → Option Condition
+condition_from an_and when [] = Some when
+condition_from nothing when [] = Some when
+condition_from _ when [] = None
+condition_from a_name when (piece ∷ pieces) = condition_from an_and (record when { path = when.path ++ piece ∷ [] }) pieces
+condition_from an_and when (piece ∷ pieces) = elim (piece_sign piece) [
+  | is_and ↦ condition_from not_or_seen when pieces
   | _ ↦ None
 ]
-condition_from not_or_seen path (piece ∷ pieces) = elim (piece_sign piece) [
-  | is_not ↦ condition_from a_seen path pieces
-  | is_seen ↦ condition_from a_name path pieces
+condition_from not_or_seen when (piece ∷ pieces) = elim (piece_sign piece) [
+  | is_not ↦ condition_from a_seen when pieces
+  | is_seen ↦ condition_from a_name when pieces
   | _ ↦ None
 ]
-condition_from a_seen path (piece ∷ pieces) = elim (piece_sign piece) [
-  | is_seen ↦ Some (record { path = path; excluded = pieces })
+condition_from a_seen when (piece ∷ pieces) = elim (piece_sign piece) [
+  | is_seen ↦ Some (record when { excluded = pieces })
   | _ ↦ None
 ]
+condition_from nothing when (piece ∷ pieces) = None
 
--- the same from the first piece on, whose ending tells the root from a path
+-- a condition that asks a function whose name begins so
+abbrev pub asked : List ℕ → Condition
+asked function = record { function = function; path = []; excluded = [] }
+
+-- the condition from the first piece on: after the function of a path its first name stands, after that
+-- of the root nothing
 abbrev pub condition_of_pieces : List (List ℕ) → Option Condition
 condition_of_pieces [] = None
-condition_of_pieces (piece ∷ pieces) =
-    if ends_with (codes "_needs_command") piece then Some (record { path = []; excluded = [] })
-    else if ends_with (codes "_using_subcommand") piece then condition_from a_name [] pieces else None
+condition_of_pieces (piece ∷ pieces) = elim (before_ending (codes "_using_subcommand") piece) [
+  | Some function ↦ condition_from a_name (asked function) pieces
+  | None ↦ elim (before_ending (codes "_needs_command") piece) [
+    | Some function ↦ condition_from nothing (asked function) pieces
+    | None ↦ None
+  ]
+]
 
 -- what the text of `-n` says
 abbrev pub condition_of : List ℕ → Option Condition
@@ -92,11 +109,18 @@ condition_of text = condition_of_pieces (map without_semicolon (pieces_from [] t
 
 -- ---- the words of a record
 
--- the words that the text of `-a` offers: it is read a second time
-abbrev pub offered_of : List ℕ → List (List ℕ)
-offered_of text = flat_map (λ words. words) (fish_commands text)
+-- the words of some commands, one after another; none where the last one is open at its end
+abbrev pub joined_words : List (Option (List (List ℕ))) → Option (List (List ℕ))
+joined_words [] = Some []
+joined_words (None ∷ commands) = None
+joined_words (Some words ∷ commands) = option_map (λ later. words ++ later) (joined_words commands)
 
--- what the word after an option of `complete` is: the command, the condition, a short, a long, the
+-- the words that the text of `-a` offers: it is read a second time, and a line feed there parts words as
+-- a blank does
+abbrev pub offered_of : List ℕ → Option (List (List ℕ))
+offered_of text = joined_words (fish_commands text)
+
+-- what the word after an option of `complete` is: the program, the condition, a short, a long, the
 -- description, or the text that is offered
 pub data Operand : Type 0 where
   command : Operand
@@ -122,14 +146,20 @@ option_word word =
     else if bytes_eq word (codes "-r") then marks_required else if bytes_eq word (codes "-f") then marks_no_files
     else if bytes_eq word (codes "-F") then marks_files else unknown
 
--- the record with one more operand; none where a condition can't be read
+-- what is told now, where nothing was told before
+abbrev pub told_once : {X Y : Type 0} → Option X → Option Y → Option Y
+told_once None now = now
+told_once (Some before) now = None
+
+-- the record with one more operand; none where the condition or what is offered can't be read, or where
+-- what a record says once is said again
 abbrev pub with_operand : Operand → List ℕ → Record → Option Record
-with_operand command word read = Some read
-with_operand condition word read = option_map (λ when. record read { when = when }) (condition_of word)
+with_operand command word read = told_once read.command (Some (record read { command = Some word }))
+with_operand condition word read = told_once read.when (option_map (λ when. record read { when = Some when }) (condition_of word))
 with_operand short_name word read = Some (record read { shorts = read.shorts ++ word ∷ [] })
 with_operand long_name word read = Some (record read { longs = read.longs ++ word ∷ [] })
-with_operand description word read = Some (record read { description = Some word })
-with_operand offer word read = Some (record read { offered = Some (offered_of word) })
+with_operand description word read = told_once read.description (Some (record read { description = Some word }))
+with_operand offer word read = told_once read.offered (option_map (λ words. record read { offered = Some words }) (offered_of word))
 
 -- the next word is an option or a mark, or an operand
 pub data NextWord : Type 0 where
@@ -153,10 +183,11 @@ record_from (the_operand operand) read (word ∷ words) = elim (with_operand ope
   | None ↦ None
 ]
 
--- a record without words, which holds at the root
+-- a record without words
 abbrev pub no_record : Record
 no_record = record {
-  when = record { path = []; excluded = [] };
+  command = None;
+  when = None;
   shorts = [];
   longs = [];
   description = None;
@@ -166,11 +197,13 @@ no_record = record {
 
 -- ---- a script
 
--- the records of the commands whose first word is `complete`; none where one of them can't be read
-abbrev pub records_of : List (List (List ℕ)) → Option (List Record)
+-- the records of the commands whose first word is `complete`; none where one of them can't be read, or
+-- where a quote or an escape is open at the end
+abbrev pub records_of : List (Option (List (List ℕ))) → Option (List Record)
 records_of [] = Some []
-records_of ([] ∷ commands) = records_of commands
-records_of ((word ∷ words) ∷ commands) = elim (bytes_eq word (codes "complete")) [
+records_of (None ∷ commands) = None
+records_of (Some [] ∷ commands) = records_of commands
+records_of (Some (word ∷ words) ∷ commands) = elim (bytes_eq word (codes "complete")) [
   | true ↦ elim (record_from an_option no_record words) [
     | Some read ↦ option_map (λ reads. read ∷ reads) (records_of commands)
     | None ↦ None

@@ -1,8 +1,10 @@
 -- The records of a fish script, and when they hold.
-use Rattle.std.specs.Prelude.{ℕ, List, Bool, Option}
+use Rattle.std.specs.Prelude.{ℕ, List, [], Bool, Option, Some, None}
 
--- where a record holds: after the names of a path, where none of the excluded names was seen
+-- what is asked before a record holds: the beginning of the name of the function that is asked, the names
+-- of a path, which were seen, and the names that are excluded, of which none was seen
 pub record Condition : Type 0 where
+  pub function : List ℕ
   pub path : List (List ℕ)
   pub excluded : List (List ℕ)
 
@@ -12,11 +14,22 @@ pub record Marks : Type 0 where
   pub no_files : Bool
   pub files : Bool
 
--- what a record says: the shorts and longs, the description, the marks, and the words that are offered
+-- what a record says: the program, the condition where there is one, the shorts and longs, the
+-- description, the marks, and the words that are offered
 pub record Record : Type 0 where
-  pub when : Condition
+  pub command : Option (List ℕ)
+  pub when : Option Condition
   pub shorts : List (List ℕ)
   pub longs : List (List ℕ)
   pub description : Option (List ℕ)
   pub marks : Marks
   pub offered : Option (List (List ℕ))
+
+-- the path of a condition; without one it is that of the root
+abbrev pub condition_path : Option Condition → List (List ℕ)
+condition_path None = []
+condition_path (Some condition) = condition.path
+
+-- the path at which a record holds
+abbrev pub record_path : Record → List (List ℕ)
+record_path read = condition_path read.when

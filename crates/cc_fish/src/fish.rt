@@ -40,7 +40,6 @@ impl Generator for Fish {
         Ok(text)
     }
 
-    #[tactic(auto, using(crate::proofs::ScriptRead::reads_back))]
     fn generate<W: Sink>(
         &self,
         alloc: Global,

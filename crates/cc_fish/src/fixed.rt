@@ -1,7 +1,17 @@
 //! The fixed texts of a script, as the definitions have them.
 
 ghost use Rattle.std.specs.Prelude.{◌≡◌};
-ghost use Rattle.cc_fish.specs.FishScript.{head_1, head_2, head_3, head_4, head_5, head_6, head_7, list_begin, not_seen};
+ghost use Rattle.cc_fish.specs.FishScript.{
+  head_1,
+  head_2,
+  head_3,
+  head_4,
+  head_5,
+  head_6,
+  head_7,
+  list_begin,
+  not_seen,
+};
 
 #[tactic(auto, unfolding(crate::specs::FishScript::head_1))]
 pub(crate) fn head_1() -> &'static str

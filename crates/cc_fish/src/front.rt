@@ -4,7 +4,13 @@ ghost use Rattle.std.specs.Prelude.{◌≡◌, ◌++◌, [], flat_map, IfOk, OnO
 ghost use Rattle.std.specs.String.{string_bytes};
 ghost use Rattle.cc_command.specs.Names.{visible_names};
 ghost use Rattle.cc_command.specs.Tree.{forest_of};
-ghost use Rattle.cc_fish.specs.FishScript.{condition_text, excluded_text, front_text, key_condition, spaced_name};
+ghost use Rattle.cc_fish.specs.FishScript.{
+  condition_text,
+  excluded_text,
+  front_text,
+  key_condition,
+  spaced_name,
+};
 ghost use Rattle.cc_fish.specs.FishTable.{child_names};
 
 use crate::fixed::not_seen;

@@ -2,7 +2,7 @@
 
 ghost use Rattle.std.specs.Prelude.{◌≡◌, IfOk};
 ghost use Rattle.std.specs.String.{string_bytes};
-ghost use Rattle.cc_fish.specs.FishScript.{function_name};
+ghost use Rattle.cc_fish.specs.FishTable.{function_name};
 
 use cc_quote::{Escape, push_escaped};
 use memchr::memchr;

@@ -4,7 +4,17 @@ ghost use Rattle.std.specs.Prelude.{◌≡◌, ◌++◌, filter, flat_map, not, 
 ghost use Rattle.cc_arg.specs.Arguments.{is_positional, takes_values};
 ghost use Rattle.cc_arg.specs.ShownNames.{shown_longs, shown_shorts};
 ghost use Rattle.cc_base.specs.Writes.{Writes};
-ghost use Rattle.cc_fish.specs.FishScript.{first_long, first_short, head_back, head_end, head_front, head_text, slash_text, spec_text, specs_text};
+ghost use Rattle.cc_fish.specs.FishScript.{
+  first_long,
+  first_short,
+  head_back,
+  head_end,
+  head_front,
+  head_text,
+  slash_text,
+  spec_text,
+  specs_text,
+};
 
 use crate::fixed::{head_1, head_2, head_3, head_4, head_5, head_6, head_7};
 use cc_arg::Arg;
@@ -18,7 +28,8 @@ pub(crate) fn write_head<W: Sink>(
     command: &Command,
     sink: &mut W,
 ) -> Result<(), Error>
-    ensures { Writes W.taken W.failed result sink.old sink.new (head_text function.now command.now) }
+    ensures { Writes W.taken W.failed result sink.old sink.new
+        (head_text function.now command.now) }
 {
     if !command.has_subcommands() {
         return Ok(());
@@ -102,7 +113,8 @@ fn write_first_short<W: Sink>(argument: &Arg, sink: &mut W) -> Result<(), Error>
 
 // Writes the long.
 fn write_first_long<W: Sink>(argument: &Arg, sink: &mut W) -> Result<(), Error>
-    ensures { Writes W.taken W.failed result sink.old sink.new (first_long (shown_longs argument.now)) }
+    ensures { Writes W.taken W.failed result sink.old sink.new
+        (first_long (shown_longs argument.now)) }
 {
     let Some(long) = argument.get_long() else {
         return Ok(());

@@ -1,6 +1,16 @@
 //! The records of a node, each a line.
 
-ghost use Rattle.std.specs.Prelude.{◌≡◌, ◌++◌, ◌∷◌, [], flat_map, not, codes, encode_utf8, if◌then◌else◌};
+ghost use Rattle.std.specs.Prelude.{
+  ◌≡◌,
+  ◌++◌,
+  ◌∷◌,
+  [],
+  flat_map,
+  not,
+  codes,
+  encode_utf8,
+  if◌then◌else◌,
+};
 ghost use Rattle.std.specs.List.{list_any};
 ghost use Rattle.std.specs.Option.{option_copied};
 ghost use Rattle.cc_arg.specs.Arguments.{is_positional};
@@ -10,7 +20,21 @@ ghost use Rattle.cc_command.specs.ArgumentLists.{flags, options};
 ghost use Rattle.cc_command.specs.Names.{visible_names};
 ghost use Rattle.cc_command.specs.Tree.{forest_of};
 ghost use Rattle.cc_visits.specs.Meaning.{visit_of};
-ghost use Rattle.cc_fish.specs.FishScript.{below_text, child_text, children_text, flag_text, flags_text, help_text, long_text, names_text, node_text, option_text, options_text, short_text, visit_text};
+ghost use Rattle.cc_fish.specs.FishScript.{
+  below_text,
+  child_text,
+  children_text,
+  flag_text,
+  flags_text,
+  help_text,
+  long_text,
+  names_text,
+  node_text,
+  option_text,
+  options_text,
+  short_text,
+  visit_text,
+};
 ghost use Rattle.cc_fish.specs.FishTable.{has_positionals};
 
 use crate::front::front;
@@ -72,7 +96,8 @@ fn write_flags<W: Sink>(front: &str, command: &Command, sink: &mut W) -> Result<
 
 #[tactic(auto, unfolding(crate::specs::FishScript::option_text))]
 fn write_option<W: Sink>(front: &str, argument: &Arg, sink: &mut W) -> Result<(), Error>
-    ensures { Writes W.taken W.failed result sink.old sink.new (option_text front.now argument.now) }
+    ensures { Writes W.taken W.failed result sink.old sink.new
+        (option_text front.now argument.now) }
 {
     put_all(sink, front.as_bytes())?;
     write_names(argument, sink)?;
@@ -136,7 +161,8 @@ fn write_long<W: Sink>(long: &str, sink: &mut W) -> Result<(), Error>
 
 // Writes a help or an about, where there is one.
 fn write_help<W: Sink>(help: Option<&str>, sink: &mut W) -> Result<(), Error>
-    ensures { Writes W.taken W.failed result sink.old sink.new (help_text (option_copied help.entry)) }
+    ensures { Writes W.taken W.failed result sink.old sink.new
+        (help_text (option_copied help.entry)) }
 {
     let Some(help) = help else {
         return Ok(());
@@ -196,7 +222,8 @@ fn write_child<W: Sink>(
     sink: &mut W,
 ) -> Result<(), Error>
     ensures { Writes W.taken W.failed result sink.old sink.new
-        (flat_map (child_text front.now no_files child.now.node.about) (visible_names child.now.node)) }
+        (flat_map (child_text front.now no_files child.now.node.about)
+        (visible_names child.now.node)) }
 {
     for name in child.get_name_and_visible_aliases() {
         write_name(front, no_files, child.get_about(), name, sink)?;

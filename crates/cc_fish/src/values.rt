@@ -3,7 +3,14 @@
 ghost use Rattle.std.specs.Prelude.{◌≡◌, ◌++◌, ◌∷◌, [], filter, map, not, unwrap_or, Some};
 ghost use Rattle.std.specs.Option.{option_copied};
 ghost use Rattle.cc_base.specs.Writes.{Writes};
-ghost use Rattle.cc_fish.specs.FishScript.{hint_text, listed_text, separated, value_lines, value_text, values_text};
+ghost use Rattle.cc_fish.specs.FishScript.{
+  hint_text,
+  listed_text,
+  separated,
+  value_lines,
+  value_text,
+  values_text,
+};
 
 use crate::fixed::list_begin;
 use cc_arg::{Arg, PossibleValue, ValueHint, possible_values};
@@ -17,7 +24,7 @@ pub(crate) fn write_values<W: Sink>(argument: &Arg, sink: &mut W) -> Result<(), 
 {
     match possible_values(argument) {
         Some(values) => write_listed(values, sink),
-        None => put_all(sink, hint(argument.get_value_hint()).as_bytes()),
+        None => put_all(sink, hint_marks(argument.get_value_hint()).as_bytes()),
     }
 }
 
@@ -47,7 +54,7 @@ fn write_shown<W: Sink>(values: &[PossibleValue], sink: &mut W) -> Result<(), Er
 {
     let mut separator = "";
     for value in values {
-        if value.is_hide_set() {
+        if !is_shown(value) {
             continue;
         }
         write_value(separator, value, sink)?;
@@ -56,10 +63,18 @@ fn write_shown<W: Sink>(values: &[PossibleValue], sink: &mut W) -> Result<(), Er
     Ok(())
 }
 
+// Whether a value is offered.
+fn is_shown(value: &PossibleValue) -> bool
+    ensures { result ≡ not value.now.hide }
+{
+    !value.is_hide_set()
+}
+
 // Writes a value after a separator.
 #[tactic(auto, unfolding(crate::specs::FishScript::value_text))]
 fn write_value<W: Sink>(separator: &str, value: &PossibleValue, sink: &mut W) -> Result<(), Error>
-    ensures { Writes W.taken W.failed result sink.old sink.new (separator.now ++ value_text value.now) }
+    ensures { Writes W.taken W.failed result sink.old sink.new
+        (separator.now ++ value_text value.now) }
 {
     put_all(sink, separator.as_bytes())?;
     put_fish_quoted_for_eval(value.get_name(), sink)?;
@@ -67,20 +82,42 @@ fn write_value<W: Sink>(separator: &str, value: &PossibleValue, sink: &mut W) ->
     put_fish_help_for_eval(value.get_help().unwrap_or(""), sink)
 }
 
+// A value follows, and fish offers what it does by default.
+const BY_DEFAULT: &str = " -r";
+
+// A value follows, and files are offered.
+const FILES: &str = " -r -F";
+
+// A value follows, and nothing is offered.
+const NOTHING: &str = " -r -f";
+
+// A value follows, and one of fish's functions offers such values.
+const DIRECTORIES: &str = " -r -f -a \"(__fish_complete_directories)\"";
+
+const COMMANDS: &str = " -r -f -a \"(__fish_complete_command)\"";
+
+const USERS: &str = " -r -f -a \"(__fish_complete_users)\"";
+
+const HOSTS: &str = " -r -f -a \"(__fish_print_hostnames)\"";
+
 // What a hint alone tells.
 #[tactic(auto, unfolding(crate::specs::FishScript::hint_text))]
-fn hint(hint: ValueHint) -> &'static str
+fn hint_marks(hint: ValueHint) -> &'static str
     ensures { result.now ≡ hint_text hint }
 {
     match hint {
-        ValueHint::Unknown => " -r",
-        ValueHint::AnyPath | ValueHint::FilePath | ValueHint::ExecutablePath => " -r -F",
-        ValueHint::DirPath => " -r -f -a \"(__fish_complete_directories)\"",
-        ValueHint::CommandString | ValueHint::CommandName => {
-            " -r -f -a \"(__fish_complete_command)\""
-        }
-        ValueHint::Username => " -r -f -a \"(__fish_complete_users)\"",
-        ValueHint::Hostname => " -r -f -a \"(__fish_print_hostnames)\"",
-        _ => " -r -f",
+        ValueHint::Unknown => BY_DEFAULT,
+        ValueHint::Other => NOTHING,
+        ValueHint::AnyPath => FILES,
+        ValueHint::FilePath => FILES,
+        ValueHint::DirPath => DIRECTORIES,
+        ValueHint::ExecutablePath => FILES,
+        ValueHint::CommandName => COMMANDS,
+        ValueHint::CommandString => COMMANDS,
+        ValueHint::CommandWithArguments => NOTHING,
+        ValueHint::Username => USERS,
+        ValueHint::Hostname => HOSTS,
+        ValueHint::Url => NOTHING,
+        ValueHint::EmailAddress => NOTHING,
     }
 }

@@ -9,9 +9,9 @@ abbrev lines : List ℕ → List PossibleValue → List ℕ
 lines separator values = separated separator (map value_text (filter (λ value. not value.hide) values))
 
 -- the first value is shown
-first : (separator : List ℕ) (value : PossibleValue) (values : List PossibleValue) → value.hide ≡ false → lines separator (value ∷ values) ≡ (separator ++ value_text value) ++ lines (10 ∷ []) values
+first : (separator : List ℕ) (value : PossibleValue) (values : List PossibleValue) → not value.hide ≡ true → lines separator (value ∷ values) ≡ (separator ++ value_text value) ++ lines (10 ∷ []) values
 first separator value values h =
-    ap (λ hidden. separated separator (map value_text (cond (not hidden) (value ∷ filter (λ v. not v.hide) values) (filter (λ v. not v.hide) values)))) h
+    ap (λ shown. separated separator (map value_text (cond shown (value ∷ filter (λ v. not v.hide) values) (filter (λ v. not v.hide) values)))) h
     ∙ sym (append_assoc separator (value_text value) (lines (10 ∷ []) values))
 
 pub loop-value-preserved : goal.loop-value-preserved
@@ -29,7 +29,7 @@ loop-value-preserved g c = record {
       ap (lines separator) (drop_more values at value within ∙ ap (λ v. v ∷ rest) (sym c.value-item.is)) in
       ap (λ text. text ++ lines (10 ∷ []) rest) c.in_ok-write_value.ensures.ok
       ∙ append_assoc taken (separator ++ value_text value) (lines (10 ∷ []) rest)
-      ∙ ap (λ text. taken ++ text) (sym (opened ∙ first separator value rest (sym c.is_hide_set.ensures ∙ c.if-is_hide_set.false)))
+      ∙ ap (λ text. taken ++ text) (sym (opened ∙ first separator value rest (sym c.is_shown.ensures ∙ c.if-not-is_shown.false)))
       ∙ c.loop-value.invariant.whole;
   failures = search rules;
 }
