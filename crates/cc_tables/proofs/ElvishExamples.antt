@@ -10,10 +10,13 @@ use Rattle.cc_quote.specs.Tokens.{cut, is_word, strip_words, after_words}
 use Rattle.cc_quote.specs.ElvishTokens.{elvish_tokens}
 use Rattle.cc_visits.specs.Visits.{tables_below}
 use Rattle.cc_tables.specs.ElvishReader.{part, step, spelling, tables_begin, elvish_tables}
-use Rattle.cc_tables.specs.ElvishScript.{Row, offer_row, head, functions, completions, head_text, tail, row_begin, text_begin, row_end, row_text, table_begin, key_end, key_text, table_end, table_text, script_text}
+use Rattle.cc_tables.specs.ElvishScript.{Row, offer_row, head, functions, completions, head_text}
+use Rattle.cc_tables.specs.ElvishScript.{tail, row_begin, text_begin, row_end, row_text}
+use Rattle.cc_tables.specs.ElvishScript.{table_begin, key_end, key_text, table_end, table_text}
+use Rattle.cc_tables.specs.ElvishScript.{script_text}
 use Rattle.cc_tables.specs.Offers.{node_offers}
 use Rattle.cc_tables.specs.TableReader.{after_step, next, tables_of, read}
-use Rattle.cc_tables.specs.Tables.{Table, tree_tables}
+use Rattle.cc_tables.specs.Tables.{Table, path_tables, tree_tables}
 
 -- a row
 row : row_text (record { word = codes "c"; text = codes "it's\n[x]:\\" }) ≡ codes "\n            cand c 'it''s [x]:\\'"
@@ -67,7 +70,7 @@ nested = record {
 -- its tables stand under each visible path
 nested_keys : map (λ table. table.key) (tree_tables offer_row nested)
     ≡ codes "app" ∷ codes "app;run" ∷ codes "app;r" ∷ codes "app;run;job" ∷ codes "app;r;job" ∷ []
-unfolding tables_below tree_tables
+unfolding tables_below path_tables
 nested_keys = refl
 
 -- two tables as a program's help gives them

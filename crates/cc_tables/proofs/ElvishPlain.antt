@@ -1,5 +1,6 @@
 -- The Elvish script of a plain tree reads to the tree's tables.
-use Rattle.std.proofs.Common.{◌≡◌, ◌≢◌, ◌==◌, ◌||◌, not, ℕ, Bool, true, false, cond, IsTrue, refl, arith}
+use Rattle.std.proofs.Common.{◌≡◌, ◌≢◌, ◌==◌, ◌||◌, not, ℕ, Bool, true, false, cond, IsTrue, refl}
+use Rattle.std.proofs.Common.{arith}
 use Rattle.std.specs.Char.{is_ascii_alphanumeric}
 use Rattle.std.proofs.lemmas.Bool.Decides.{nat_tests}
 use Rattle.cc_base.proofs.Members.{AllByRecursion-weaker}
@@ -17,7 +18,7 @@ use Rattle.cc_tables.specs.Tables.{tree_tables}
 use Rattle.cc_tables.specs.declared.offers.Offer.{Offer}
 use Rattle.cc_tables.proofs.ElvishReadsBack.{spaced_row, elvish_reads_back}
 use Rattle.cc_tables.proofs.PlainOffers.{IsPlainOffer}
-use Rattle.cc_tables.proofs.PlainTables.{of_plain_name, reads_tables}
+use Rattle.cc_tables.proofs.PlainTables.{of_plain_name, reads_offers}
 
 -- a byte that may stand in a plain name is bare
 bare_byte : (byte : ℕ) → name_byte byte ≢ foreign → IsTrue (is_bare byte)
@@ -42,6 +43,6 @@ word_bare offer h = (h.is_some, AllByRecursion-weaker (λ byte. name_byte byte �
 pub elvish_plain_reads : (tree : Tree) → IsTrue (is_plain_tree tree) → ElvishReads tree
 elvish_plain_reads tree h =
     let bin_name = full_name tree.node in
-    reads_tables offer_row spaced_row (λ byte. IsTrue (not (byte == single_quote))) (λ row. IsBareWord row.word) no_quote_byte refl word_bare
+    reads_offers offer_row spaced_row (λ byte. IsTrue (not (byte == single_quote))) (λ row. IsBareWord row.word) no_quote_byte refl word_bare
     (λ tables. elvish_tables (script_text bin_name tables)) tree h
     (elvish_reads_back bin_name (tree_tables offer_row tree) (of_plain_name (λ byte. IsTrue (is_bare byte)) bare_byte bin_name (plain_full_name tree h)))

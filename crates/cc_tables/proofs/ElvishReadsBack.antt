@@ -1,5 +1,6 @@
 -- An Elvish script reads back to the tables that it was written from.
-use Rattle.std.proofs.Common.{◌≡◌, ◌==◌, not, IsTrue, ℕ, List, [], ◌∷◌, ◌++◌, map, flat_map, Option, Some, codes, refl, ap, ◌∙◌, append_assoc}
+use Rattle.std.proofs.Common.{◌≡◌, ◌==◌, not, IsTrue, ℕ, List, [], ◌∷◌, ◌++◌, map, flat_map, Option}
+use Rattle.std.proofs.Common.{Some, codes, refl, ap, ◌∙◌, append_assoc}
 use Rattle.std.specs.List.{AllByRecursion}
 use Rattle.cc_base.proofs.Lines.{IsLine, regroup_six}
 use Rattle.cc_base.proofs.Lines.IsLine.{line}
@@ -11,11 +12,16 @@ use Rattle.cc_quote.specs.Signs.{sign, HasNoQuote}
 use Rattle.cc_quote.specs.ElvishQuote.{elvish_escaped}
 use Rattle.cc_quote.specs.ElvishTokens.{elvish_tokens, IsBare, IsBareWord}
 use Rattle.cc_quote.specs.QuotedWord.{line_feeds_as_spaces}
-use Rattle.cc_quote.proofs.ElvishCutting.{bare_run, bare_word, quoted_text, escaped_text, HasNoQuote-IsBare}
-use Rattle.cc_tables.specs.ElvishReader.{part, between_rows, after_cand, after_word, step, spelling, tables_begin, elvish_tables}
+use Rattle.cc_quote.proofs.ElvishCutting.{bare_run, bare_word, quoted_text, escaped_text}
+use Rattle.cc_quote.proofs.ElvishCutting.{HasNoQuote-IsBare}
+use Rattle.cc_tables.specs.ElvishReader.{part, between_rows, after_cand, after_word, step, spelling}
+use Rattle.cc_tables.specs.ElvishReader.{tables_begin, elvish_tables}
 use Rattle.cc_tables.specs.ElvishReader.{Place as RowPlace}
-use Rattle.cc_tables.specs.ElvishScript.{Row, head, functions, completions, head_text, tail, row_begin, text_begin, row_end, row_text, table_begin, key_end, key_text, table_end, table_text, script_text}
-use Rattle.cc_tables.specs.TableReader.{State, between_tables, after_key, in_table, after_step, next, tables_of, read}
+use Rattle.cc_tables.specs.ElvishScript.{Row, head, functions, completions, head_text, tail}
+use Rattle.cc_tables.specs.ElvishScript.{row_begin, text_begin, row_end, row_text, table_begin}
+use Rattle.cc_tables.specs.ElvishScript.{key_end, key_text, table_end, table_text, script_text}
+use Rattle.cc_tables.specs.TableReader.{State, between_tables, after_key, in_table, after_step}
+use Rattle.cc_tables.specs.TableReader.{next, tables_of, read}
 use Rattle.cc_tables.specs.Tables.{Table}
 use Rattle.cc_tables.proofs.PlainTables.{IsReadable, table_read}
 use Rattle.cc_tables.proofs.ItemsRead.{regroup_four, items_line, items_read}

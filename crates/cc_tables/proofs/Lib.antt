@@ -3,6 +3,10 @@ pub mod ElvishPlain
 pub mod ElvishReadsBack
 pub mod ElvishTexts
 pub mod ItemsRead
+pub mod NushellExamples
+pub mod NushellPlain
+pub mod NushellReadsBack
+pub mod NushellTexts
 pub mod PlainOffers
 pub mod PlainTables
 pub mod PowershellExamples

@@ -1,13 +1,17 @@
 -- What is offered at a plain node: words of the bytes that plain names have.
-use Rattle.std.proofs.Common.{◌≡◌, ◌≢◌, ◌==◌, ◌||◌, ℕ, Bool, true, false, cond, IsTrue, List, [], ◌∷◌, ◌++◌, map, flat_map, encode_utf8, Option, Some, None, subst, sym, arith}
+use Rattle.std.proofs.Common.{◌≡◌, ◌≢◌, ◌==◌, ◌||◌, ℕ, Bool, true, false, cond, IsTrue, List, []}
+use Rattle.std.proofs.Common.{◌∷◌, ◌++◌, map, flat_map, encode_utf8, Option, Some, None, subst, sym}
+use Rattle.std.proofs.Common.{arith}
 use Rattle.std.specs.Char.{is_ascii_alphanumeric}
 use Rattle.std.specs.List.{AllByRecursion}
 use Rattle.std.proofs.lemmas.Bool.Decides.{nat_tests}
 use Rattle.std.proofs.lemmas.Str.{encode_ascii}
-use Rattle.cc_base.proofs.Members.{AllByRecursion-weaker, AllByRecursion-append, AllByRecursion-map, AllByRecursion-flat_map}
+use Rattle.cc_base.proofs.Members.{AllByRecursion-weaker, AllByRecursion-append, AllByRecursion-map}
+use Rattle.cc_base.proofs.Members.{AllByRecursion-flat_map}
 use Rattle.cc_arg.specs.declared.arg.Arg.{Arg}
 use Rattle.cc_arg.specs.ShownNames.{with_aliases, shown_names, shown_shorts, shown_longs}
-use Rattle.cc_arg.specs.declared.names.ShownName.TheVariants.{Short as ShownShort, Long as ShownLong}
+use Rattle.cc_arg.specs.declared.names.ShownName.TheVariants.{Short as ShownShort}
+use Rattle.cc_arg.specs.declared.names.ShownName.TheVariants.{Long as ShownLong}
 use Rattle.cc_command.specs.declared.node.Node.{Node}
 use Rattle.cc_command.specs.Tree.{Forest, none, more, Tree}
 use Rattle.cc_command.specs.ArgumentLists.{options, flags}
@@ -15,8 +19,10 @@ use Rattle.cc_command.specs.Names.{visible_names}
 use Rattle.cc_command.specs.Plain.{is_plain_forest, passes_if_some}
 use Rattle.cc_command.specs.PlainName.{name_byte, foreign, joiner, letter, is_plain_name, is_joined}
 use Rattle.cc_command.proofs.NameBytes.{plain_bytes}
-use Rattle.cc_command.proofs.PlainParts.{IsPlainName, IsPlainShort, IsPlainArgument, IsPlainBelow, plain_node, plain_more}
-use Rattle.cc_tables.specs.Offers.{word, short_offer, long_offer, argument_offer, argument_offers, child_offer, child_offers, children_offers, node_offers}
+use Rattle.cc_command.proofs.PlainParts.{IsPlainName, IsPlainShort, IsPlainArgument, IsPlainBelow}
+use Rattle.cc_command.proofs.PlainParts.{plain_node, plain_more}
+use Rattle.cc_tables.specs.Offers.{word, short_offer, long_offer, argument_offer, argument_offers}
+use Rattle.cc_tables.specs.Offers.{child_offer, child_offers, children_offers, node_offers}
 use Rattle.cc_tables.specs.declared.offers.Offer.{Offer}
 
 -- every byte may stand in a plain name
@@ -28,7 +34,7 @@ pub record IsPlainOffer (offer : Offer) : Type 0 where
   pub is_some : word offer ≢ []
   pub bytes : AreNameBytes (word offer)
 
-abbrev ArePlainOffers : List Offer → Type 0
+abbrev pub ArePlainOffers : List Offer → Type 0
 ArePlainOffers offers = AllByRecursion IsPlainOffer offers
 
 -- a dash may
@@ -80,7 +86,7 @@ argument_plain argument h =
     (AllByRecursion-weaker IsPlainName (λ name. IsPlainOffer (long_offer argument name)) (long_plain argument) (shown_longs argument) longs)))
 
 -- the offers of plain arguments
-arguments_plain : (arguments : List Arg) → AllByRecursion IsPlainArgument arguments → ArePlainOffers (flat_map argument_offers arguments)
+pub arguments_plain : (arguments : List Arg) → AllByRecursion IsPlainArgument arguments → ArePlainOffers (flat_map argument_offers arguments)
 arguments_plain arguments h =
     AllByRecursion-flat_map IsPlainOffer argument_offers arguments
     (AllByRecursion-weaker IsPlainArgument (λ argument. ArePlainOffers (argument_offers argument)) argument_plain arguments h)

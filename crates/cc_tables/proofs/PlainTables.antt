@@ -1,5 +1,6 @@
 -- The tables of a plain tree can be read, by a reader to which the bytes of plain names mean nothing else.
-use Rattle.std.proofs.Common.{◌≡◌, ◌≢◌, ℕ, IsTrue, List, [], ◌∷◌, ◌++◌, map, flat_map, Option, Some, codes, refl, ap, ◌∙◌}
+use Rattle.std.proofs.Common.{◌≡◌, ◌≢◌, ℕ, IsTrue, List, [], ◌∷◌, ◌++◌, map, flat_map, Option, Some}
+use Rattle.std.proofs.Common.{refl, ap, ap₂, ◌∙◌}
 use Rattle.std.specs.List.{AllByRecursion}
 use Rattle.std.proofs.lemmas.Simd.{map-map}
 use Rattle.cc_base.specs.Differ.{AllDifferBy}
@@ -10,19 +11,20 @@ use Rattle.cc_command.specs.Plain.{is_plain_tree}
 use Rattle.cc_command.specs.PlainName.{name_byte, foreign}
 use Rattle.cc_command.specs.Tree.{Tree}
 use Rattle.cc_command.proofs.NameBytes.{plain_bytes}
-use Rattle.cc_command.proofs.PlainParts.{IsPlainName, plain_full_name}
-use Rattle.cc_visits.specs.Visits.{Keyed, longer_path, table_visits}
+use Rattle.cc_command.proofs.PlainParts.{IsPlainBelow, IsPlainName, plain_full_name}
+use Rattle.cc_visits.specs.Visits.{Keyed, joined_path, longer_path, table_visits}
 use Rattle.cc_visits.proofs.DifferentKeys.{joined_keys_differ}
 use Rattle.cc_visits.proofs.PlainVisits.{IsPlainVisit, plain_visits}
 use Rattle.cc_visits.proofs.VisitedTables.{tables_cover}
 use Rattle.cc_tables.specs.Offers.{node_offers}
 use Rattle.cc_tables.specs.TableReader.{ReadsTables}
-use Rattle.cc_tables.specs.Tables.{Table, table_of, path_key, tree_tables}
+use Rattle.cc_tables.specs.Tables.{Table, offered, path_tables, table_of, tree_tables}
 use Rattle.cc_tables.specs.declared.offers.Offer.{Offer}
 use Rattle.cc_tables.proofs.PlainOffers.{IsPlainOffer, node_plain}
 
 -- what has to be so of a table: of each byte of its key, and of each row
-pub record IsReadable {Row : Type 0} (IsKeyByte : ℕ → Type 0) (IsReadableRow : Row → Type 0) (table : Table Row) : Type 0 where
+pub record IsReadable {Row : Type 0} (IsKeyByte : ℕ → Type 0) (IsReadableRow : Row → Type 0)
+    (table : Table Row) : Type 0 where
   pub key : AllByRecursion IsKeyByte table.key
   pub rows : AllByRecursion IsReadableRow table.rows
 
@@ -31,72 +33,139 @@ abbrev pub table_read : {Row : Type 0} → (Row → Row) → Table Row → Table
 table_read as_read table = record table { rows = map as_read table.rows }
 
 -- what is so of the bytes of plain names is so of a plain name
-pub of_plain_name : (IsByte : ℕ → Type 0) → ((byte : ℕ) → name_byte byte ≢ foreign → IsByte byte) → (name : List ℕ) → IsPlainName name → AllByRecursion IsByte name
-of_plain_name IsByte of_byte name h = AllByRecursion-weaker (λ byte. name_byte byte ≢ foreign) IsByte of_byte name (plain_bytes name h)
+pub of_plain_name : (IsByte : ℕ → Type 0) → ((byte : ℕ) → name_byte byte ≢ foreign → IsByte byte)
+    → (name : List ℕ) → IsPlainName name → AllByRecursion IsByte name
+of_plain_name IsByte of_byte name h =
+    AllByRecursion-weaker (λ byte. name_byte byte ≢ foreign) IsByte of_byte name
+    (plain_bytes name h)
 
-semicolon_foreign : name_byte 59 ≡ foreign
+-- `;` and the space stand in no plain name
+pub semicolon_foreign : name_byte 59 ≡ foreign
 unfolding name_byte
 semicolon_foreign = refl
 
--- no two tables of a plain tree have the same key
-keys_differ : {Row : Type 0} (row : Offer → Row) (tree : Tree) → IsTrue (is_plain_tree tree) → AllDifferBy (λ table. table.key) (tree_tables row tree)
-unfolding tree_tables
-keys_differ {Row} row tree h =
-    let visits : List (Keyed (List (List ℕ))) = table_visits longer_path [] tree in
-    let visit_table : Keyed (List (List ℕ)) → Table Row = λ visit. table_of row (path_key (full_name tree.node) visit.key) visit.tree in
-    let key : Table Row → List ℕ = λ table. table.key in
-    AllDifferBy-map key visit_table visits (joined_keys_differ 59 [] semicolon_foreign (full_name tree.node) tree visits h (tables_cover tree h))
+pub space_foreign : name_byte 32 ≡ foreign
+unfolding name_byte
+space_foreign = refl
 
-module _ {Row : Type 0} (row : Offer → Row) (as_read : Row → Row) (IsKeyByte : ℕ → Type 0) (IsReadableRow : Row → Type 0)
-    (of_byte : (byte : ℕ) → name_byte byte ≢ foreign → IsKeyByte byte) (of_separator : IsKeyByte 59)
-    (of_offer : (offer : Offer) → IsPlainOffer offer → IsReadableRow (row offer)) where
-  -- names of a path, each after a `;`
-  names_readable : (names : List (List ℕ)) → AllByRecursion IsPlainName names → AllByRecursion IsKeyByte (flat_map (λ name. codes ";" ++ name) names)
-  names_readable [] h = tt
-  names_readable (name ∷ names) h =
-      (of_separator, AllByRecursion-append IsKeyByte name (flat_map (λ name. codes ";" ++ name) names) (of_plain_name IsKeyByte of_byte name h.0) (names_readable names h.1))
-
-  key_readable : (bin_name : List ℕ) (path : List (List ℕ)) → IsPlainName bin_name → AllByRecursion IsPlainName path → AllByRecursion IsKeyByte (path_key bin_name path)
-  key_readable bin_name path h k =
-      AllByRecursion-append IsKeyByte bin_name (flat_map (λ name. codes ";" ++ name) path) (of_plain_name IsKeyByte of_byte bin_name h) (names_readable path k)
-
+-- the separator of keys is one byte, and each node has these rows
+module _ {Row : Type 0} (separator : ℕ) (is_foreign : name_byte separator ≡ foreign)
+    (rows : Tree → List Row) where
   -- the table of a visit
   abbrev visit_table : List ℕ → Keyed (List (List ℕ)) → Table Row
-  visit_table bin_name visit = table_of row (path_key bin_name visit.key) visit.tree
+  visit_table bin_name visit =
+      table_of rows (joined_path (separator ∷ []) bin_name visit.key) visit.tree
 
-  visit_readable : (bin_name : List ℕ) → IsPlainName bin_name → (visit : Keyed (List (List ℕ))) → IsPlainVisit visit → IsReadable IsKeyByte IsReadableRow (visit_table bin_name visit)
-  visit_readable bin_name h visit plain = record {
-    key = key_readable bin_name visit.key h plain.names;
-    rows = AllByRecursion-map IsReadableRow row (node_offers visit.tree)
-        (AllByRecursion-weaker IsPlainOffer (λ offer. IsReadableRow (row offer)) of_offer (node_offers visit.tree) (node_plain visit.tree plain.tree));
-  }
-
-  -- the tables of a plain tree
-  pub tables_readable : (tree : Tree) → IsTrue (is_plain_tree tree) → AllByRecursion (IsReadable IsKeyByte IsReadableRow) (tree_tables row tree)
-  unfolding tree_tables
-  tables_readable tree h =
+  -- no two tables of a plain tree have the same key
+  pub keys_differ : (tree : Tree) → IsTrue (is_plain_tree tree)
+      → AllDifferBy (λ table. table.key) (path_tables (separator ∷ []) rows tree)
+  unfolding path_tables
+  keys_differ tree h =
       let visits : List (Keyed (List (List ℕ))) = table_visits longer_path [] tree in
-      AllByRecursion-map (IsReadable IsKeyByte IsReadableRow) (visit_table (full_name tree.node)) visits
-      (AllByRecursion-weaker IsPlainVisit (λ visit. IsReadable IsKeyByte IsReadableRow (visit_table (full_name tree.node) visit))
-      (visit_readable (full_name tree.node) (plain_full_name tree h)) visits (plain_visits tree visits h (tables_cover tree h)))
+      let key : Table Row → List ℕ = λ table. table.key in
+      AllDifferBy-map key (visit_table (full_name tree.node)) visits
+      (joined_keys_differ separator [] is_foreign (full_name tree.node) tree visits h
+      (tables_cover tree h))
 
-  -- tables as they are read are those of the offers as they are read
-  as_read_tables : (tree : Tree) → map (table_read as_read) (tree_tables row tree) ≡ tree_tables (λ offer. as_read (row offer)) tree
-  unfolding tree_tables
-  as_read_tables tree = by_visits (table_visits longer_path [] tree)
-    where
-      by_visits : (visits : List (Keyed (List (List ℕ)))) →
-          map (table_read as_read) (map (visit_table (full_name tree.node)) visits) ≡ map (λ visit. table_of (λ offer. as_read (row offer)) (path_key (full_name tree.node) visit.key) visit.tree) visits
-      by_visits [] = refl
-      by_visits (visit ∷ visits) = ap (λ rows. record { key = path_key (full_name tree.node) visit.key; rows = rows } ∷ map (table_read as_read) (map (visit_table (full_name tree.node)) visits)) (map-map as_read row (node_offers visit.tree))
-          ∙ ap (λ tables. table_of (λ offer. as_read (row offer)) (path_key (full_name tree.node) visit.key) visit.tree ∷ tables) (by_visits visits)
+  module _ (IsKeyByte : ℕ → Type 0) (IsReadableRow : Row → Type 0)
+      (of_byte : (byte : ℕ) → name_byte byte ≢ foreign → IsKeyByte byte)
+      (of_separator : IsKeyByte separator)
+      (of_node : (tree : Tree) → IsPlainBelow tree → AllByRecursion IsReadableRow (rows tree)) where
+    -- names of a path, each after the separator
+    names_readable : (names : List (List ℕ)) → AllByRecursion IsPlainName names
+        → AllByRecursion IsKeyByte (flat_map (λ name. (separator ∷ []) ++ name) names)
+    names_readable [] h = tt
+    names_readable (name ∷ names) h = (
+      of_separator,
+      AllByRecursion-append IsKeyByte name
+          (flat_map (λ name. (separator ∷ []) ++ name) names)
+          (of_plain_name IsKeyByte of_byte name h.0) (names_readable names h.1),
+    )
 
-  -- a plain tree's tables are read, where all tables that can be read are
-  pub reads_tables : (tables_of : List (Table Row) → Option (List (Table Row))) (tree : Tree) → IsTrue (is_plain_tree tree)
-      → (AllByRecursion (IsReadable IsKeyByte IsReadableRow) (tree_tables row tree) → tables_of (tree_tables row tree) ≡ Some (map (table_read as_read) (tree_tables row tree)))
-      → ReadsTables (tables_of (tree_tables row tree)) (λ offer. as_read (row offer)) tree
-  reads_tables tables_of tree h reads = record {
-    tables = reads (tables_readable tree h) ∙ ap Some (as_read_tables tree);
-    paths = tables_cover tree h;
-    keys = keys_differ (λ offer. as_read (row offer)) tree h;
-  }
+    visit_readable : (bin_name : List ℕ) → IsPlainName bin_name → (visit : Keyed (List (List ℕ)))
+        → IsPlainVisit visit → IsReadable IsKeyByte IsReadableRow (visit_table bin_name visit)
+    visit_readable bin_name h visit plain = record {
+      key = AllByRecursion-append IsKeyByte bin_name
+          (flat_map (λ name. (separator ∷ []) ++ name) visit.key)
+          (of_plain_name IsKeyByte of_byte bin_name h) (names_readable visit.key plain.names);
+      rows = of_node visit.tree plain.tree;
+    }
+
+    -- the tables of a plain tree
+    pub tables_readable : (tree : Tree) → IsTrue (is_plain_tree tree)
+        → AllByRecursion (IsReadable IsKeyByte IsReadableRow)
+        (path_tables (separator ∷ []) rows tree)
+    unfolding path_tables
+    tables_readable tree h =
+        let visits : List (Keyed (List (List ℕ))) = table_visits longer_path [] tree in
+        AllByRecursion-map (IsReadable IsKeyByte IsReadableRow)
+        (visit_table (full_name tree.node)) visits
+        (AllByRecursion-weaker IsPlainVisit
+        (λ visit. IsReadable IsKeyByte IsReadableRow (visit_table (full_name tree.node) visit))
+        (visit_readable (full_name tree.node) (plain_full_name tree h)) visits
+        (plain_visits tree visits h (tables_cover tree h)))
+
+-- functions that agree give the same list
+map-same : {A B : Type 0} (f g : A → B) → ((a : A) → f a ≡ g a) → (items : List A)
+    → map f items ≡ map g items
+map-same f g same [] = refl
+map-same f g same (item ∷ items) =
+    ap₂ (λ first rest. first ∷ rest) (same item) (map-same f g same items)
+
+-- tables as they are read are those of the rows as they are read
+as_read_tables : {Row : Type 0} (separator : List ℕ) (rows read : Tree → List Row)
+    (as_read : Row → Row) → ((tree : Tree) → map as_read (rows tree) ≡ read tree) →
+    (tree : Tree)
+    → map (table_read as_read) (path_tables separator rows tree) ≡ path_tables separator read tree
+unfolding path_tables
+as_read_tables {Row} separator rows read as_read same tree =
+    let key : Keyed (List (List ℕ))
+    → List ℕ = λ visit. joined_path separator (full_name tree.node) visit.key in
+    map-map (table_read as_read) (λ visit. table_of rows (key visit) visit.tree)
+    (table_visits longer_path [] tree)
+    ∙ map-same (λ visit. record { key = key visit; rows = map as_read (rows visit.tree) })
+    (λ visit. table_of read (key visit) visit.tree)
+    (λ visit. ap (λ rows_read. record { key = key visit; rows = rows_read }) (same visit.tree))
+    (table_visits longer_path [] tree)
+
+-- a plain tree's tables are read, where all tables that can be read are
+pub reads_tables : {Row : Type 0} (separator : ℕ) (is_foreign : name_byte separator ≡ foreign)
+    (rows read : Tree → List Row) (as_read : Row → Row)
+    → ((tree : Tree) → map as_read (rows tree) ≡ read tree)
+    → (tables_of : List (Table Row) → Option (List (Table Row))) (tree : Tree)
+    → IsTrue (is_plain_tree tree)
+    → tables_of (path_tables (separator ∷ []) rows tree)
+    ≡ Some (map (table_read as_read) (path_tables (separator ∷ []) rows tree))
+    → ReadsTables (tables_of (path_tables (separator ∷ []) rows tree))
+    (path_tables (separator ∷ []) read tree) tree
+reads_tables separator is_foreign rows read as_read same tables_of tree h reads = record {
+  tables = reads ∙ ap Some (as_read_tables (separator ∷ []) rows read as_read same tree);
+  paths = tables_cover tree h;
+  keys = keys_differ separator is_foreign read tree h;
+}
+
+module _ {Row : Type 0} (row : Offer → Row) (as_read : Row → Row) (IsKeyByte : ℕ → Type 0)
+    (IsReadableRow : Row → Type 0)
+    (of_byte : (byte : ℕ) → name_byte byte ≢ foreign → IsKeyByte byte) (of_separator : IsKeyByte 59)
+    (of_offer : (offer : Offer) → IsPlainOffer offer → IsReadableRow (row offer)) where
+  -- the rows of the offers at a plain node
+  offers_readable : (tree : Tree) → IsPlainBelow tree
+      → AllByRecursion IsReadableRow (offered row tree)
+  offers_readable tree h =
+      AllByRecursion-map IsReadableRow row (node_offers tree)
+      (AllByRecursion-weaker IsPlainOffer (λ offer. IsReadableRow (row offer)) of_offer
+      (node_offers tree) (node_plain tree h))
+
+  -- the same, where each offer has a row
+  pub reads_offers : (tables_of : List (Table Row) → Option (List (Table Row))) (tree : Tree)
+      → IsTrue (is_plain_tree tree)
+      → (AllByRecursion (IsReadable IsKeyByte IsReadableRow) (tree_tables row tree)
+      → tables_of (tree_tables row tree) ≡ Some (map (table_read as_read) (tree_tables row tree)))
+      → ReadsTables (tables_of (tree_tables row tree))
+      (tree_tables (λ offer. as_read (row offer)) tree) tree
+  reads_offers tables_of tree h reads =
+      reads_tables 59 semicolon_foreign (offered row)
+      (offered (λ offer. as_read (row offer))) as_read
+      (λ tree. map-map as_read row (node_offers tree)) tables_of tree h
+      (reads (tables_readable 59 semicolon_foreign
+      (offered row) IsKeyByte IsReadableRow of_byte of_separator offers_readable tree h))

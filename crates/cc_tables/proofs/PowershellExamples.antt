@@ -1,5 +1,6 @@
 -- Rows, tables and scripts, worked by the definitions, byte by byte.
-use Rattle.std.proofs.Common.{◌≡◌, List, [], ◌∷◌, Some, None, codes, map, flat_map, refl, encode_utf8_all}
+use Rattle.std.proofs.Common.{◌≡◌, List, [], ◌∷◌, Some, None, codes, map, flat_map, refl}
+use Rattle.std.proofs.Common.{encode_utf8_all}
 use Rattle.std.specs.Char.{encode_utf8}
 use Rattle.cc_arg.specs.declared.arg.Arg.{Arg}
 use Rattle.cc_arg.specs.Arguments.{new_arg}
@@ -8,8 +9,13 @@ use Rattle.cc_quote.specs.PowershellTokens.{powershell_tokens}
 use Rattle.cc_quote.specs.Signs.{sign}
 use Rattle.cc_quote.specs.Tokens.{cut, is_word, strip_words, after_words}
 use Rattle.cc_tables.specs.Offers.{argument_offers}
-use Rattle.cc_tables.specs.PowershellReader.{if_quoted, part, kind_of, step, spelling, tables_begin, powershell_tables}
-use Rattle.cc_tables.specs.PowershellScript.{Row, parameter_name, parameter_value, offer_row, head, command, completions, head_text, tail, kind_text, row_begin, list_begin, kind_begin, text_begin, row_end, words_text, details_text, row_text, table_begin, key_end, key_text, table_end, table_text, script_text}
+use Rattle.cc_tables.specs.PowershellReader.{if_quoted, part, kind_of, step, spelling, tables_begin}
+use Rattle.cc_tables.specs.PowershellReader.{powershell_tables}
+use Rattle.cc_tables.specs.PowershellScript.{Row, parameter_name, parameter_value, offer_row, head}
+use Rattle.cc_tables.specs.PowershellScript.{command, completions, head_text, tail, kind_text}
+use Rattle.cc_tables.specs.PowershellScript.{row_begin, list_begin, kind_begin, text_begin, row_end}
+use Rattle.cc_tables.specs.PowershellScript.{words_text, details_text, row_text, table_begin}
+use Rattle.cc_tables.specs.PowershellScript.{key_end, key_text, table_end, table_text, script_text}
 use Rattle.cc_tables.specs.TableReader.{after_step, next, tables_of, read}
 use Rattle.cc_tables.specs.Tables.{Table}
 

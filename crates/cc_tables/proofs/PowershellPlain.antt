@@ -1,5 +1,6 @@
 -- The PowerShell script of a plain tree reads to the tree's tables.
-use Rattle.std.proofs.Common.{◌≡◌, ◌≢◌, ◌==◌, ◌||◌, not, ℕ, Bool, true, false, cond, IsTrue, List, [], ◌∷◌, codes, refl, arith}
+use Rattle.std.proofs.Common.{◌≡◌, ◌≢◌, ◌==◌, ◌||◌, not, ℕ, Bool, true, false, cond, IsTrue, List}
+use Rattle.std.proofs.Common.{[], ◌∷◌, codes, refl, arith}
 use Rattle.std.specs.Char.{is_ascii_alphanumeric, is_ascii_uppercase}
 use Rattle.std.proofs.lemmas.Bool.Decides.{nat_tests}
 use Rattle.cc_base.proofs.Members.{AllByRecursion-weaker, AllByRecursion-append}
@@ -18,7 +19,7 @@ use Rattle.cc_tables.specs.declared.offers.Kind.TheVariants.{Short, Long, Subcom
 use Rattle.cc_tables.specs.declared.offers.Offer.{Offer}
 use Rattle.cc_tables.proofs.PowershellReadsBack.{spaced_row, IsPowershellRow, powershell_reads_back}
 use Rattle.cc_tables.proofs.PlainOffers.{IsPlainOffer}
-use Rattle.cc_tables.proofs.PlainTables.{of_plain_name, reads_tables}
+use Rattle.cc_tables.proofs.PlainTables.{of_plain_name, reads_offers}
 
 -- a byte that may stand in a plain name begins no quote
 unquoted_byte : (byte : ℕ) → name_byte byte ≢ foreign → IsTrue (not (is_quote_first byte))
@@ -61,6 +62,6 @@ row_unquoted offer h =
 pub powershell_plain_reads : (tree : Tree) → IsTrue (is_plain_tree tree) → PowershellReads tree
 powershell_plain_reads tree h =
     let bin_name = full_name tree.node in
-    reads_tables offer_row spaced_row (λ byte. IsTrue (not (is_quote_first byte))) IsPowershellRow unquoted_byte unquoted_separator row_unquoted
+    reads_offers offer_row spaced_row (λ byte. IsTrue (not (is_quote_first byte))) IsPowershellRow unquoted_byte unquoted_separator row_unquoted
     (λ tables. powershell_tables (script_text bin_name tables)) tree h
     (powershell_reads_back bin_name (tree_tables offer_row tree) (of_plain_name (λ byte. IsTrue (not (is_quote_first byte))) unquoted_byte bin_name (plain_full_name tree h)))

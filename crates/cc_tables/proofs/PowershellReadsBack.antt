@@ -1,5 +1,6 @@
 -- A PowerShell script reads back to the tables that it was written from.
-use Rattle.std.proofs.Common.{◌≡◌, not, IsTrue, ℕ, List, [], ◌∷◌, ◌++◌, map, flat_map, Option, Some, codes, refl, ap, ◌∙◌, append_assoc}
+use Rattle.std.proofs.Common.{◌≡◌, not, IsTrue, ℕ, List, [], ◌∷◌, ◌++◌, map, flat_map, Option, Some}
+use Rattle.std.proofs.Common.{codes, refl, ap, ◌∙◌, append_assoc}
 use Rattle.std.specs.List.{AllByRecursion}
 use Rattle.cc_base.proofs.Lines.{IsLine, regroup_six}
 use Rattle.cc_base.proofs.Lines.IsLine.{line}
@@ -11,10 +12,17 @@ use Rattle.cc_quote.specs.PowershellQuote.{sign_before, powershell_signs, powers
 use Rattle.cc_quote.specs.PowershellTokens.{is_quote_first, powershell_tokens, IsUnquoted}
 use Rattle.cc_quote.specs.QuotedWord.{line_feeds_as_spaces}
 use Rattle.cc_quote.proofs.PowershellCutting.{quoted_text, escaped_text}
-use Rattle.cc_tables.specs.PowershellReader.{if_quoted, part, kind_of, between_rows, after_word, after_kind, step, spelling, tables_begin, powershell_tables}
+use Rattle.cc_tables.specs.PowershellReader.{if_quoted, part, kind_of, between_rows, after_word}
+use Rattle.cc_tables.specs.PowershellReader.{after_kind, step, spelling, tables_begin}
+use Rattle.cc_tables.specs.PowershellReader.{powershell_tables}
 use Rattle.cc_tables.specs.PowershellReader.{Place as RowPlace}
-use Rattle.cc_tables.specs.PowershellScript.{ResultKind, parameter_name, parameter_value, Row, head, command, completions, head_text, tail, table_begin, key_end, key_text, table_end, row_begin, list_begin, kind_begin, kind_text, text_begin, row_end, words_text, details_text, row_text, table_text, script_text}
-use Rattle.cc_tables.specs.TableReader.{State, between_tables, in_table, after_step, next, tables_of, read}
+use Rattle.cc_tables.specs.PowershellScript.{ResultKind, parameter_name, parameter_value, Row, head}
+use Rattle.cc_tables.specs.PowershellScript.{command, completions, head_text, tail, table_begin}
+use Rattle.cc_tables.specs.PowershellScript.{key_end, key_text, table_end, row_begin, list_begin}
+use Rattle.cc_tables.specs.PowershellScript.{kind_begin, kind_text, text_begin, row_end, words_text}
+use Rattle.cc_tables.specs.PowershellScript.{details_text, row_text, table_text, script_text}
+use Rattle.cc_tables.specs.TableReader.{State, between_tables, in_table, after_step, next}
+use Rattle.cc_tables.specs.TableReader.{tables_of, read}
 use Rattle.cc_tables.specs.Tables.{Table}
 use Rattle.cc_tables.proofs.PlainTables.{IsReadable, table_read}
 use Rattle.cc_tables.proofs.ItemsRead.{regroup_four, regroup_five, items_line, items_read}

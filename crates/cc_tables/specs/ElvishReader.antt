@@ -12,7 +12,7 @@ use Rattle.cc_tables.specs.TableReader.{Part, ReadsTables, Spelling, Step, read}
 use Rattle.cc_tables.specs.TableReader.Part.{word, argument, key, unknown}
 use Rattle.cc_tables.specs.TableReader.State.{between_tables}
 use Rattle.cc_tables.specs.TableReader.Step.{goes_on, ends_row, ends_table, fails}
-use Rattle.cc_tables.specs.Tables.{Table}
+use Rattle.cc_tables.specs.Tables.{Table, tree_tables}
 use Rattle.cc_tables.specs.declared.offers.Offer.{Offer}
 
 -- one piece is a word or a text, and a key stands between `&` and `=`
@@ -54,4 +54,5 @@ offer_read offer = record (offer_row offer) { text = line_feeds_as_spaces (offer
 
 -- the script of a tree reads to the tree's tables
 abbrev pub ElvishReads : Tree → Type 0
-ElvishReads tree = ReadsTables (elvish_tables (elvish_script tree)) offer_read tree
+ElvishReads tree =
+    ReadsTables (elvish_tables (elvish_script tree)) (tree_tables offer_read tree) tree

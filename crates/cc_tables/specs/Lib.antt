@@ -1,5 +1,7 @@
 pub mod ElvishReader
 pub mod ElvishScript
+pub mod NushellReader
+pub mod NushellScript
 pub mod Offers
 pub mod PowershellReader
 pub mod PowershellScript

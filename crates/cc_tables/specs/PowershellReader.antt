@@ -1,18 +1,20 @@
 -- The tables that a PowerShell script spells: after the bare words `@(switch`, `($command)` and `{` stand
 -- groups of a quoted key, `{`, rows, `break` and `}`, up to the bare word `})`. A row is a call
 -- `[CompletionResult]::new(` with four arguments and `)`. Every quote is a `'`. What follows is not read.
-use Rattle.std.specs.Prelude.{ℕ, List, [], ◌∷◌, ◌&&◌, if◌then◌else◌, Option, Some, None, option_map, unwrap_or, bytes_eq, codes}
+use Rattle.std.specs.Prelude.{ℕ, List, [], ◌∷◌, ◌&&◌, if◌then◌else◌, Option, Some, None, option_map}
+use Rattle.std.specs.Prelude.{unwrap_or, bytes_eq, codes}
 use Rattle.cc_command.specs.Tree.{Tree}
 use Rattle.cc_quote.specs.PowershellTokens.{powershell_tokens}
 use Rattle.cc_quote.specs.QuotedWord.{line_feeds_as_spaces}
 use Rattle.cc_quote.specs.Tokens.{Token, after_words}
 use Rattle.cc_quote.specs.Tokens.Piece.{bare, quoted}
-use Rattle.cc_tables.specs.PowershellScript.{ResultKind, parameter_name, parameter_value, Row, offer_row, powershell_script}
+use Rattle.cc_tables.specs.PowershellScript.{ResultKind, parameter_name, parameter_value, Row}
+use Rattle.cc_tables.specs.PowershellScript.{offer_row, powershell_script}
 use Rattle.cc_tables.specs.TableReader.{Part, ReadsTables, Spelling, Step, read}
 use Rattle.cc_tables.specs.TableReader.Part.{word, argument, key, unknown}
 use Rattle.cc_tables.specs.TableReader.State.{between_tables}
 use Rattle.cc_tables.specs.TableReader.Step.{goes_on, ends_row, ends_table, fails}
-use Rattle.cc_tables.specs.Tables.{Table}
+use Rattle.cc_tables.specs.Tables.{Table, tree_tables}
 use Rattle.cc_tables.specs.declared.offers.Offer.{Offer}
 
 -- a quoted argument of the call: the first, one before others, or the last
@@ -80,4 +82,5 @@ offer_read offer = record (offer_row offer) { text = line_feeds_as_spaces (offer
 
 -- the script of a tree reads to the tree's tables
 abbrev pub PowershellReads : Tree → Type 0
-PowershellReads tree = ReadsTables (powershell_tables (powershell_script tree)) offer_read tree
+PowershellReads tree =
+    ReadsTables (powershell_tables (powershell_script tree)) (tree_tables offer_read tree) tree

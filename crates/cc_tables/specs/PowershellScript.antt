@@ -5,7 +5,7 @@ use Rattle.cc_command.specs.Tree.{Tree}
 use Rattle.cc_command.specs.Names.{full_name}
 use Rattle.cc_quote.specs.PowershellQuote.{powershell_escaped}
 use Rattle.cc_tables.specs.Offers.{word}
-use Rattle.cc_tables.specs.Tables.{Table, table_of, tree_tables}
+use Rattle.cc_tables.specs.Tables.{Table, offered, table_of, tree_tables}
 use Rattle.cc_tables.specs.declared.offers.Kind.{Kind}
 use Rattle.cc_tables.specs.declared.offers.Kind.TheVariants.{Short, Subcommand}
 use Rattle.cc_tables.specs.declared.offers.Offer.{Offer}
@@ -133,7 +133,7 @@ table_text table = key_text table.key ++ flat_map row_text table.rows ++ table_e
 
 -- the table of a node under a key
 unfoldable pub node_text : List ℕ → Tree → List ℕ
-node_text key tree = table_text (table_of offer_row key tree)
+node_text key tree = table_text (table_of (offered offer_row) key tree)
 
 -- the frame, for the program bin, with these tables in it
 unfoldable pub script_text : List ℕ → List (Table Row) → List ℕ

@@ -1,13 +1,13 @@
 -- The reader of the tables that a script spells. It goes over the script's tokens, and a shell says what a
 -- token is to it, how a row is spelled and which word ends the tables.
-use Rattle.std.specs.Prelude.{◌≡◌, ℕ, List, [], ◌∷◌, ◌++◌, if◌then◌else◌, Option, Some, None, bytes_eq, codes}
+use Rattle.std.specs.Prelude.{◌≡◌, ℕ, List, [], ◌∷◌, ◌++◌, if◌then◌else◌, Option, Some, None}
+use Rattle.std.specs.Prelude.{bytes_eq, codes}
 use Rattle.cc_base.specs.Differ.{AllDifferBy}
 use Rattle.cc_command.specs.Tree.{Tree}
 use Rattle.cc_quote.specs.Tokens.{Token}
 use Rattle.cc_visits.specs.Paths.{CoversPaths}
 use Rattle.cc_visits.specs.Visits.{longer_path, table_visits}
-use Rattle.cc_tables.specs.Tables.{Table, tree_tables}
-use Rattle.cc_tables.specs.declared.offers.Offer.{Offer}
+use Rattle.cc_tables.specs.Tables.{Table}
 
 -- what a token is: a bare word, the key of a table, or an argument in a row
 pub data Part (Argument : Type 0) : Type 0 where
@@ -68,9 +68,10 @@ unfoldable pub read : {Argument Place Row : Type 0} → Spelling Argument Place 
 read spelling state [] = tables_of state
 read spelling state (token ∷ tokens) = read spelling (next spelling state (spelling.part token)) tokens
 
--- What is read are the tables of a tree, where each offer has this row: one for each visit of the tree. The
--- visits are exactly its visible paths, each once, and no two tables have the same key.
-pub record ReadsTables {Row : Type 0} (tables_read : Option (List (Table Row))) (row : Offer → Row) (tree : Tree) : Type 0 where
-  pub tables : tables_read ≡ Some (tree_tables row tree)
+-- What is read are these tables of a tree, one for each visit of it. The visits are exactly its
+-- visible paths, each once, and no two tables have the same key.
+pub record ReadsTables {Row : Type 0} (tables_read : Option (List (Table Row)))
+    (tables_are : List (Table Row)) (tree : Tree) : Type 0 where
+  pub tables : tables_read ≡ Some tables_are
   pub paths : CoversPaths tree (table_visits longer_path [] tree)
-  pub keys : AllDifferBy (λ table. table.key) (tree_tables row tree)
+  pub keys : AllDifferBy (λ table. table.key) tables_are

@@ -1,4 +1,4 @@
--- The tables of a script: for each visible path of the tree, what is offered at the node that it leads to.
+-- The tables of a script: for each visible path of the tree, the rows at the node that it leads to.
 use Rattle.std.specs.Prelude.{ℕ, List, [], map, codes}
 use Rattle.cc_command.specs.Tree.{Tree}
 use Rattle.cc_command.specs.Names.{full_name}
@@ -11,15 +11,21 @@ pub record Table (Row : Type 0) : Type 0 where
   pub key : List ℕ
   pub rows : List Row
 
--- the table of a node under a key, where each offer has this row
-abbrev pub table_of : {Row : Type 0} → (Offer → Row) → List ℕ → Tree → Table Row
-table_of row key tree = record { key = key; rows = map row (node_offers tree) }
+-- the table of a node under a key, with the rows that a node has
+abbrev pub table_of : {Row : Type 0} → (Tree → List Row) → List ℕ → Tree → Table Row
+table_of rows key tree = record { key = key; rows = rows tree }
 
--- a path as the key of a table: the name of the program and those of the path, joined by `;`
-abbrev pub path_key : List ℕ → List (List ℕ) → List ℕ
-path_key bin_name path = joined_path (codes ";") bin_name path
+-- the tables of a tree, one for each visit: its key joins the name of the program and those of the
+-- path
+unfoldable pub path_tables : {Row : Type 0} → List ℕ → (Tree → List Row) → Tree → List (Table Row)
+path_tables separator rows tree =
+    map (λ visit. table_of rows (joined_path separator (full_name tree.node) visit.key) visit.tree)
+    (table_visits longer_path [] tree)
 
--- the tables of a tree, where each offer has this row
-unfoldable pub tree_tables : {Row : Type 0} → (Offer → Row) → Tree → List (Table Row)
-tree_tables row tree =
-    map (λ visit. table_of row (path_key (full_name tree.node) visit.key) visit.tree) (table_visits longer_path [] tree)
+-- the rows at a node, where each offer has this row
+abbrev pub offered : {Row : Type 0} → (Offer → Row) → Tree → List Row
+offered row tree = map row (node_offers tree)
+
+-- the tables of a tree under keys joined by `;`, where each offer has this row
+abbrev pub tree_tables : {Row : Type 0} → (Offer → Row) → Tree → List (Table Row)
+tree_tables row tree = path_tables (codes ";") (offered row) tree

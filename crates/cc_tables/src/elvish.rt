@@ -1,11 +1,15 @@
 //! The Elvish script: a frame, and in it a table for each visible path.
 
-ghost use Rattle.std.specs.Prelude.{◌≡◌, ◌++◌, ◌<◌, None, codes, flat_map, length, map, IfOk, IfErr, OnOk};
+ghost use Rattle.std.specs.Prelude.{◌≡◌, ◌++◌, ◌<◌, None, codes, flat_map, length, map, IfOk};
+ghost use Rattle.std.specs.Prelude.{IfErr, OnOk};
 ghost use Rattle.std.specs.Option.{option_copied};
 ghost use Rattle.std.specs.String.{string_bytes};
 ghost use Rattle.cc_base.specs.Writes.{Writes};
 ghost use Rattle.cc_flat.specs.Flat.{tree_at};
-ghost use Rattle.cc_tables.specs.ElvishScript.{completions, elvish_script, functions, head, head_text, key_end, key_text, node_text, offer_row, row_begin, row_end, row_text, table_begin, table_end, table_text, tail, text_begin};
+ghost use Rattle.cc_tables.specs.ElvishScript.{completions, elvish_script, functions, head};
+ghost use Rattle.cc_tables.specs.ElvishScript.{head_text, key_end, key_text, node_text, offer_row};
+ghost use Rattle.cc_tables.specs.ElvishScript.{row_begin, row_end, row_text, table_begin};
+ghost use Rattle.cc_tables.specs.ElvishScript.{table_end, table_text, tail, text_begin};
 ghost use Rattle.cc_tables.specs.Offers.{node_offers};
 
 use crate::offers::{Offer, Rows, full_name, write_rows};
@@ -233,7 +237,7 @@ fn write_key<W: Sink>(key: &str, sink: &mut W) -> Result<(), Error>
 impl Rows for Elvish {
     ghost use Rattle.cc_tables.specs.ElvishScript.{offer_text};
 
-    ghost row_text = { offer_text };
+    ghost row_text = { λ _. offer_text };
 
     #[tactic(auto, unfolding(crate::specs::ElvishScript::offer_text, crate::specs::ElvishScript::row_text))]
     fn write_row<W: Sink>(&self, offer: &Offer<'_>, sink: &mut W) -> Result<(), Error> {

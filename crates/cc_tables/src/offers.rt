@@ -3,7 +3,9 @@
 ghost use Rattle.std.specs.Prelude.{◌≡◌, ◌++◌, List, ℕ, flat_map, codes};
 ghost use Rattle.std.specs.Option.{option_copied};
 ghost use Rattle.cc_base.specs.Writes.{Writes};
-ghost use Rattle.cc_tables.specs.Offers.{argument_offer, argument_offers, child_offer, child_offers, children_offers, dashes, node_offers, short_offer};
+ghost use Rattle.cc_tables.specs.Offers.{argument_offer, argument_offers, child_offer};
+ghost use Rattle.cc_tables.specs.Offers.{child_offers, children_offers, dashes, node_offers};
+ghost use Rattle.cc_tables.specs.Offers.{short_offer};
 ghost use Rattle.cc_command.specs.ArgumentLists.{flags, options};
 ghost use Rattle.cc_command.specs.Names.{full_name, visible_names};
 ghost use Rattle.cc_command.specs.Tree.{forest_of};
@@ -52,34 +54,39 @@ impl Kind {
     }
 }
 
-/// A shell whose tables have a row for each offer.
+/// How the rows of offers are written.
 pub trait Rows {
     ghost use Rattle.std.specs.Prelude.{List, ℕ};
     ghost use Rattle.cc_base.specs.Writes.{Writes};
     ghost use Rattle.cc_tables.specs.declared.offers.Offer.{Offer};
 
     // the text of the row of an offer
-    ghost row_text: { Offer → List ℕ };
+    ghost row_text: { Self → Offer → List ℕ };
 
     /// Writes the row of an offer.
     fn write_row<W: Sink>(&self, offer: &Offer<'_>, sink: &mut W) -> Result<(), Error>
-        ensures { Writes W.taken W.failed result sink.old sink.new (row_text offer.now) };
+        ensures { Writes W.taken W.failed result sink.old sink.new (row_text self.now offer.now) };
 }
 
 /// Writes the rows at a node: of its options, of its flags and of its children.
 #[tactic(auto, unfolding(crate::specs::Offers::node_offers))]
 pub fn write_rows<R: Rows, W: Sink>(rows: &R, command: &Command, sink: &mut W) -> Result<(), Error>
     ensures { Writes W.taken W.failed result sink.old sink.new
-        (flat_map R.row_text (node_offers command.now)) }
+        (flat_map (R.row_text rows.now) (node_offers command.now)) }
 {
     write_options(rows, command, sink)?;
     write_flags(rows, command, sink)?;
     write_children(rows, command.get_subcommands(), sink)
 }
 
-fn write_options<R: Rows, W: Sink>(rows: &R, command: &Command, sink: &mut W) -> Result<(), Error>
+/// Writes the rows of the options.
+pub fn write_options<R: Rows, W: Sink>(
+    rows: &R,
+    command: &Command,
+    sink: &mut W,
+) -> Result<(), Error>
     ensures { Writes W.taken W.failed result sink.old sink.new
-        (flat_map R.row_text (flat_map argument_offers (options command.now.node))) }
+        (flat_map (R.row_text rows.now) (flat_map argument_offers (options command.now.node))) }
 {
     for option in command.get_opts() {
         write_argument(rows, option, sink)?;
@@ -87,9 +94,10 @@ fn write_options<R: Rows, W: Sink>(rows: &R, command: &Command, sink: &mut W) ->
     Ok(())
 }
 
-fn write_flags<R: Rows, W: Sink>(rows: &R, command: &Command, sink: &mut W) -> Result<(), Error>
+/// Writes the rows of the flags.
+pub fn write_flags<R: Rows, W: Sink>(rows: &R, command: &Command, sink: &mut W) -> Result<(), Error>
     ensures { Writes W.taken W.failed result sink.old sink.new
-        (flat_map R.row_text (flat_map argument_offers (flags command.now.node))) }
+        (flat_map (R.row_text rows.now) (flat_map argument_offers (flags command.now.node))) }
 {
     for flag in command.get_flags() {
         write_argument(rows, flag, sink)?;
@@ -100,7 +108,7 @@ fn write_flags<R: Rows, W: Sink>(rows: &R, command: &Command, sink: &mut W) -> R
 // Writes a row for each name of an argument that is shown.
 fn write_argument<R: Rows, W: Sink>(rows: &R, argument: &Arg, sink: &mut W) -> Result<(), Error>
     ensures { Writes W.taken W.failed result sink.old sink.new
-        (flat_map R.row_text (argument_offers argument.now)) }
+        (flat_map (R.row_text rows.now) (argument_offers argument.now)) }
 {
     for name in shown_names(argument) {
         write_name(rows, argument, name, sink)?;
@@ -115,7 +123,7 @@ fn write_name<R: Rows, W: Sink>(
     sink: &mut W,
 ) -> Result<(), Error>
     ensures { Writes W.taken W.failed result sink.old sink.new
-        (R.row_text (argument_offer argument.now name.entry)) }
+        (R.row_text rows.now (argument_offer argument.now name.entry)) }
 {
     match name {
         ShownName::Short(short) => write_short(rows, argument, short, sink),
@@ -140,7 +148,7 @@ fn write_short<R: Rows, W: Sink>(
     sink: &mut W,
 ) -> Result<(), Error>
     ensures { Writes W.taken W.failed result sink.old sink.new
-        (R.row_text (short_offer argument.now short)) }
+        (R.row_text rows.now (short_offer argument.now short)) }
 {
     let mut name = [0; 4];
     let mut fallback = [0; 4];
@@ -169,7 +177,7 @@ fn write_children<R: Rows, W: Sink>(
     sink: &mut W,
 ) -> Result<(), Error>
     ensures { Writes W.taken W.failed result sink.old sink.new
-        (flat_map R.row_text (children_offers (forest_of children.now))) }
+        (flat_map (R.row_text rows.now) (children_offers (forest_of children.now))) }
 {
     for child in children {
         write_child(rows, child, sink)?;
@@ -180,7 +188,7 @@ fn write_children<R: Rows, W: Sink>(
 // Writes a row for each visible name of a child.
 fn write_child<R: Rows, W: Sink>(rows: &R, child: &Command, sink: &mut W) -> Result<(), Error>
     ensures { Writes W.taken W.failed result sink.old sink.new
-        (flat_map R.row_text (child_offers child.now.node)) }
+        (flat_map (R.row_text rows.now) (child_offers child.now.node)) }
 {
     for name in child.get_name_and_visible_aliases() {
         write_child_name(rows, child, name, sink)?;
@@ -195,7 +203,7 @@ fn write_child_name<R: Rows, W: Sink>(
     sink: &mut W,
 ) -> Result<(), Error>
     ensures { Writes W.taken W.failed result sink.old sink.new
-        (R.row_text (child_offer child.now.node name.now)) }
+        (R.row_text rows.now (child_offer child.now.node name.now)) }
 {
     let offer = Offer {
         kind: Kind::Subcommand,

@@ -1,11 +1,18 @@
 //! The PowerShell script: a frame, and in it a table for each visible path.
 
-ghost use Rattle.std.specs.Prelude.{◌≡◌, ◌++◌, ◌<◌, None, codes, flat_map, length, map, IfOk, IfErr, OnOk};
+ghost use Rattle.std.specs.Prelude.{◌≡◌, ◌++◌, ◌<◌, None, codes, flat_map, length, map, IfOk};
+ghost use Rattle.std.specs.Prelude.{IfErr, OnOk};
 ghost use Rattle.std.specs.Option.{option_copied};
 ghost use Rattle.std.specs.String.{string_bytes};
 ghost use Rattle.cc_base.specs.Writes.{Writes};
 ghost use Rattle.cc_flat.specs.Flat.{tree_at};
-ghost use Rattle.cc_tables.specs.PowershellScript.{capital_space, command, completions, details_text, head, head_text, key_end, key_text, kind_begin, kind_text, list_begin, node_text, offer_row, powershell_script, result_kind, row_begin, row_end, row_text, table_begin, table_end, table_text, tail, text_begin, words_text};
+ghost use Rattle.cc_tables.specs.PowershellScript.{capital_space, command, completions};
+ghost use Rattle.cc_tables.specs.PowershellScript.{details_text, head, head_text, key_end};
+ghost use Rattle.cc_tables.specs.PowershellScript.{key_text, kind_begin, kind_text, list_begin};
+ghost use Rattle.cc_tables.specs.PowershellScript.{node_text, offer_row, powershell_script};
+ghost use Rattle.cc_tables.specs.PowershellScript.{result_kind, row_begin, row_end, row_text};
+ghost use Rattle.cc_tables.specs.PowershellScript.{table_begin, table_end, table_text, tail};
+ghost use Rattle.cc_tables.specs.PowershellScript.{text_begin, words_text};
 ghost use Rattle.cc_tables.specs.Offers.{node_offers, word};
 
 use crate::offers::{Kind, Offer, Rows, full_name, write_rows};
@@ -263,7 +270,7 @@ fn write_key<W: Sink>(key: &str, sink: &mut W) -> Result<(), Error>
 impl Rows for PowerShell {
     ghost use Rattle.cc_tables.specs.PowershellScript.{offer_text};
 
-    ghost row_text = { offer_text };
+    ghost row_text = { λ _. offer_text };
 
     #[tactic(auto, unfolding(crate::specs::PowershellScript::offer_text, crate::specs::PowershellScript::row_text))]
     fn write_row<W: Sink>(&self, offer: &Offer<'_>, sink: &mut W) -> Result<(), Error> {

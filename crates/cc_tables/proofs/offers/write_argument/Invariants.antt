@@ -7,7 +7,7 @@ use Rattle.cc_tables.proofs.offers.write_argument.Given as goal
 -- what was taken and the rows that are left make the whole; no put failed
 abbrev pub invariant-loop-name : goal.invariant-loop-name
 invariant-loop-name g l = record {
-  whole : g.W.Sink.taken l.sink ++ flat_map g.R.Rows.row_text (map (argument_offer l.argument) (names_left l.name-iterator))
-      ≡ g.W.Sink.taken l.initial.sink ++ flat_map g.R.Rows.row_text (argument_offers l.argument);
+  whole : g.W.Sink.taken l.sink ++ flat_map (g.R.Rows.row_text l.rows) (map (argument_offer l.argument) (names_left l.name-iterator))
+      ≡ g.W.Sink.taken l.initial.sink ++ flat_map (g.R.Rows.row_text l.rows) (argument_offers l.argument);
   failures : g.W.Sink.failed l.sink ≡ g.W.Sink.failed l.initial.sink;
 }

@@ -7,7 +7,7 @@ use Rattle.cc_tables.proofs.offers.write_child.Given as goal
 -- what was taken and the rows that are left make the whole; no put failed
 abbrev pub invariant-loop-name : goal.invariant-loop-name
 invariant-loop-name g l = record {
-  whole : g.W.Sink.taken l.sink ++ flat_map g.R.Rows.row_text (map (child_offer l.child.node) (names_left l.name-iterator))
-      ≡ g.W.Sink.taken l.initial.sink ++ flat_map g.R.Rows.row_text (child_offers l.child.node);
+  whole : g.W.Sink.taken l.sink ++ flat_map (g.R.Rows.row_text l.rows) (map (child_offer l.child.node) (names_left l.name-iterator))
+      ≡ g.W.Sink.taken l.initial.sink ++ flat_map (g.R.Rows.row_text l.rows) (child_offers l.child.node);
   failures : g.W.Sink.failed l.sink ≡ g.W.Sink.failed l.initial.sink;
 }

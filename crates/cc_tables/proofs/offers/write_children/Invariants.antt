@@ -6,7 +6,7 @@ use Rattle.cc_tables.proofs.offers.write_children.Given as goal
 -- what was taken and the rows that are left make the whole; no put failed
 abbrev pub invariant-loop-child : goal.invariant-loop-child
 invariant-loop-child g l = record {
-  whole : g.W.Sink.taken l.sink ++ flat_map g.R.Rows.row_text (children_offers (forest_of (drop l.child-index l.children)))
-      ≡ g.W.Sink.taken l.initial.sink ++ flat_map g.R.Rows.row_text (children_offers (forest_of l.children));
+  whole : g.W.Sink.taken l.sink ++ flat_map (g.R.Rows.row_text l.rows) (children_offers (forest_of (drop l.child-index l.children)))
+      ≡ g.W.Sink.taken l.initial.sink ++ flat_map (g.R.Rows.row_text l.rows) (children_offers (forest_of l.children));
   failures : g.W.Sink.failed l.sink ≡ g.W.Sink.failed l.initial.sink;
 }

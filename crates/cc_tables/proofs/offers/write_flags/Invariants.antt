@@ -7,7 +7,7 @@ use Rattle.cc_tables.proofs.offers.write_flags.Given as goal
 -- what was taken and the rows that are left make the whole; no put failed
 abbrev pub invariant-loop-flag : goal.invariant-loop-flag
 invariant-loop-flag g l = record {
-  whole : g.W.Sink.taken l.sink ++ flat_map g.R.Rows.row_text (flat_map argument_offers (flags_left l.flag-iterator))
-      ≡ g.W.Sink.taken l.initial.sink ++ flat_map g.R.Rows.row_text (flat_map argument_offers (flags l.command.node));
+  whole : g.W.Sink.taken l.sink ++ flat_map (g.R.Rows.row_text l.rows) (flat_map argument_offers (flags_left l.flag-iterator))
+      ≡ g.W.Sink.taken l.initial.sink ++ flat_map (g.R.Rows.row_text l.rows) (flat_map argument_offers (flags l.command.node));
   failures : g.W.Sink.failed l.sink ≡ g.W.Sink.failed l.initial.sink;
 }

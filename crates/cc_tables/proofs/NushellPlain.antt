@@ -1,0 +1,84 @@
+-- The Nushell script of a plain tree reads to the tree's blocks.
+use Rattle.std.proofs.Common.{◌≡◌, ◌≢◌, ◌==◌, ◌||◌, ℕ, Bool, true, false, IsTrue, List, map}
+use Rattle.std.proofs.Common.{flat_map, codes, refl, ap, ◌∙◌, inl, inr}
+use Rattle.std.specs.List.{AllByRecursion}
+use Rattle.std.proofs.lemmas.Bool.Decides.{eqb_tells}
+use Rattle.cc_base.proofs.Members.{AllByRecursion-weaker, AllByRecursion-append, AllByRecursion-map}
+use Rattle.cc_arg.specs.declared.arg.Arg.{Arg}
+use Rattle.cc_command.specs.ArgumentLists.{options, flags}
+use Rattle.cc_command.specs.Plain.{is_plain_tree}
+use Rattle.cc_command.specs.PlainName.{name_byte, foreign}
+use Rattle.cc_command.specs.Tree.{Tree}
+use Rattle.cc_command.proofs.PlainParts.{IsPlainArgument, IsPlainBelow, plain_node}
+use Rattle.cc_quote.specs.Bytes.{line_feed, space}
+use Rattle.cc_tables.specs.NushellReader.{NushellReads, ends_name, line_read, nushell_blocks}
+use Rattle.cc_tables.specs.NushellScript.{argument_lines, node_lines, offer_line, script_text}
+use Rattle.cc_tables.specs.NushellScript.{tree_blocks}
+use Rattle.cc_tables.specs.Offers.{argument_offers, word}
+use Rattle.cc_tables.specs.declared.offers.Offer.{Offer}
+use Rattle.cc_tables.proofs.NushellReadsBack.{IsReadableLine, nushell_reads_back}
+use Rattle.cc_tables.proofs.PlainOffers.{IsPlainOffer, arguments_plain}
+use Rattle.cc_tables.proofs.PlainTables.{reads_tables, space_foreign, tables_readable}
+
+-- a byte of a plain name is no byte that stands in none
+is_no : (byte stop : ℕ) → name_byte stop ≡ foreign → name_byte byte ≢ foreign
+    → (byte == stop) ≡ false
+is_no byte stop f h =
+    elim (eqb_tells byte stop) [
+      | inl same ↦ absurd (h (ap name_byte same.1 ∙ f))
+      | inr differs ↦ differs.0
+    ]
+
+line_feed_foreign : name_byte line_feed ≡ foreign
+unfolding name_byte
+line_feed_foreign = refl
+
+colon_foreign : name_byte 58 ≡ foreign
+unfolding name_byte
+colon_foreign = refl
+
+no_line_feed : (byte : ℕ) → name_byte byte ≢ foreign → (byte == line_feed) ≡ false
+no_line_feed byte h = is_no byte line_feed line_feed_foreign h
+
+no_end : (byte : ℕ) → name_byte byte ≢ foreign → ends_name byte ≡ false
+no_end byte h =
+    ap (λ test. test || (byte == space)) (is_no byte 58 colon_foreign h)
+    ∙ is_no byte space space_foreign h
+
+-- the line of a plain offer
+line_readable : (takes_value : Bool) (offer : Offer) → IsPlainOffer offer
+    → IsReadableLine (offer_line takes_value offer)
+line_readable takes_value offer h = record {
+  whole = AllByRecursion-weaker (λ byte. name_byte byte ≢ foreign)
+      (λ byte. ends_name byte ≡ false) no_end (word offer) h.bytes;
+  one = AllByRecursion-weaker (λ byte. name_byte byte ≢ foreign)
+      (λ byte. (byte == line_feed) ≡ false) no_line_feed (word offer) h.bytes;
+}
+
+-- the lines of plain arguments
+arguments_readable : (takes_value : Bool) (arguments : List Arg)
+    → AllByRecursion IsPlainArgument arguments
+    → AllByRecursion IsReadableLine (argument_lines takes_value arguments)
+arguments_readable takes_value arguments h =
+    AllByRecursion-map IsReadableLine (offer_line takes_value) (flat_map argument_offers arguments)
+    (AllByRecursion-weaker IsPlainOffer (λ offer. IsReadableLine (offer_line takes_value offer))
+    (line_readable takes_value) (flat_map argument_offers arguments) (arguments_plain arguments h))
+
+-- the lines at a plain node
+node_readable : (tree : Tree) → IsPlainBelow tree → AllByRecursion IsReadableLine (node_lines tree)
+unfolding node_lines
+node_readable tree h =
+    let node = plain_node tree.node h.node in
+    AllByRecursion-append IsReadableLine (argument_lines true (options tree.node))
+    (argument_lines false (flags tree.node))
+    (arguments_readable true (options tree.node) node.options)
+    (arguments_readable false (flags tree.node) node.flags)
+
+-- the script of a plain tree reads to its blocks
+pub nushell_plain_reads : (tree : Tree) → IsTrue (is_plain_tree tree) → NushellReads tree
+nushell_plain_reads tree h =
+    reads_tables 32 space_foreign node_lines (λ tree. map line_read (node_lines tree)) line_read
+    (λ tree. refl) (λ blocks. nushell_blocks (script_text blocks)) tree h
+    (nushell_reads_back (tree_blocks tree)
+    (tables_readable 32 space_foreign node_lines
+    (λ byte. (byte == line_feed) ≡ false) IsReadableLine no_line_feed refl node_readable tree h))

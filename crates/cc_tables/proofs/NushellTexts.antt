@@ -1,0 +1,40 @@
+-- The lines and the blocks of a Nushell script, as they are written.
+use Rattle.std.proofs.Common.{◌≡◌, Bool, true, false, List, ◌++◌, flat_map, codes, ap₂, ◌∙◌}
+use Rattle.std.proofs.lemmas.List.Concat.{flat_map-append}
+use Rattle.std.proofs.lemmas.List.Folds.{flat_map-map}
+use Rattle.cc_arg.specs.declared.arg.Arg.{Arg}
+use Rattle.cc_command.specs.ArgumentLists.{options, flags}
+use Rattle.cc_command.specs.Tree.{Tree}
+use Rattle.cc_command.specs.Names.{full_name}
+use Rattle.cc_visits.specs.Visits.{joined, table_visits}
+use Rattle.cc_tables.specs.NushellScript.{argument_lines, block_text, line_text, node_lines}
+use Rattle.cc_tables.specs.NushellScript.{node_text, offer_line, offer_text, tree_blocks}
+use Rattle.cc_tables.specs.Offers.{argument_offers}
+use Rattle.cc_tables.proofs.VisitedTables.{texts_of_visits}
+
+-- the lines of arguments
+lines_of_arguments : (takes_value : Bool) (arguments : List Arg)
+    → flat_map line_text (argument_lines takes_value arguments)
+    ≡ flat_map (offer_text takes_value) (flat_map argument_offers arguments)
+unfolding offer_text
+lines_of_arguments takes_value arguments =
+    flat_map-map line_text (offer_line takes_value) (flat_map argument_offers arguments)
+
+-- the lines at a node
+pub lines_of_node : (tree : Tree) → flat_map line_text (node_lines tree)
+    ≡ flat_map (offer_text true) (flat_map argument_offers (options tree.node)) ++ flat_map
+    (offer_text false) (flat_map argument_offers (flags tree.node))
+unfolding node_lines
+lines_of_node tree =
+    flat_map-append line_text (argument_lines true (options tree.node))
+    (argument_lines false (flags tree.node))
+    ∙ ap₂ (λ first second. first ++ second) (lines_of_arguments true (options tree.node))
+    (lines_of_arguments false (flags tree.node))
+
+-- the blocks of a tree
+pub blocks_of_visits : (tree : Tree)
+    → flat_map block_text (tree_blocks tree)
+    ≡ flat_map (λ visit. node_text visit.key visit.tree)
+    (table_visits (joined (codes " ")) (full_name tree.node) tree)
+unfolding node_text
+blocks_of_visits tree = texts_of_visits (codes " ") block_text node_lines tree

@@ -1,0 +1,15 @@
+use Rattle.std.proofs.Common.{◌≡◌, ◌++◌, flat_map, length}
+use Rattle.cc_tables.specs.NushellScript.{node_text}
+use Rattle.cc_tables.proofs.nushell.write_blocks.Given as goal
+
+-- what was taken and the blocks that are left make the whole; no put failed
+abbrev pub invariant-loop-visits : goal.invariant-loop-visits
+invariant-loop-visits g l = record {
+  whole : g.W.Sink.taken l.sink ++ flat_map (λ visit. node_text visit.key visit.tree) l.visits
+      ≡ g.W.Sink.taken l.initial.sink ++ flat_map (λ visit. node_text visit.key visit.tree) l.initial.visits;
+  failures : g.W.Sink.failed l.sink ≡ g.W.Sink.failed l.initial.sink;
+}
+
+-- how many are left
+abbrev pub decreases-loop-visits : goal.decreases-loop-visits
+decreases-loop-visits g l = length l.visits

@@ -1,0 +1,131 @@
+-- The blocks that a Nushell script spells, read line by line. A line `  export extern "key" [` opens
+-- a block, and the lines up to one that is `  ]` are its records. Other lines between blocks are not
+-- read.
+use Rattle.std.specs.Prelude.{ℕ, List, [], ◌∷◌, ◌++◌, ◌==◌, ◌||◌, Bool, true, false, Option, Some}
+use Rattle.std.specs.Prelude.{None, if◌then◌else◌, bytes_eq, codes, is_some, map, option_map}
+use Rattle.std.specs.Prelude.{reverse}
+use Rattle.cc_command.specs.Tree.{Tree}
+use Rattle.cc_quote.specs.Bytes.{line_feed, space}
+use Rattle.cc_quote.specs.QuotedWord.{line_feeds_as_spaces}
+use Rattle.cc_tables.specs.NushellScript.{Line, node_lines, nushell_script}
+use Rattle.cc_tables.specs.TableReader.{ReadsTables}
+use Rattle.cc_tables.specs.Tables.{Table, path_tables}
+
+-- the lines of a text, after the one that is begun
+unfoldable pub lines_from : List ℕ → List ℕ → List (List ℕ)
+lines_from begun [] = begun ∷ []
+lines_from begun (byte ∷ bytes) = elim (byte == line_feed) [
+  | true ↦ begun ∷ lines_from [] bytes
+  | false ↦ lines_from (begun ++ byte ∷ []) bytes
+]
+
+-- what stands after this beginning of a text; none where the text begins otherwise
+unfoldable pub after : List ℕ → List ℕ → Option (List ℕ)
+after [] text = Some text
+after (byte ∷ bytes) [] = None
+after (byte ∷ bytes) (first ∷ text) = if byte == first then after bytes text else None
+
+-- what stands before this ending of a text; none where the text ends otherwise
+unfoldable pub before : List ℕ → List ℕ → Option (List ℕ)
+before ending text = option_map (λ rest. reverse rest) (after (reverse ending) (reverse text))
+
+-- what stands after the first place where a text holds another; none where it holds it nowhere
+unfoldable pub after_first : List ℕ → List ℕ → Option (List ℕ)
+after_first found [] = None
+after_first found (byte ∷ bytes) = elim (after found (byte ∷ bytes)) [
+  | Some rest ↦ Some rest
+  | None ↦ after_first found bytes
+]
+
+-- ---- a line
+
+-- `:`
+abbrev pub colon : ℕ
+colon = 58
+
+-- a colon or a space ends a name
+abbrev pub ends_name : ℕ → Bool
+ends_name byte = byte == colon || byte == space
+
+-- the name that a text begins with, and what follows it
+unfoldable pub name_of : List ℕ → List ℕ
+name_of [] = []
+name_of (byte ∷ bytes) = if ends_name byte then [] else byte ∷ name_of bytes
+
+unfoldable pub after_name : List ℕ → List ℕ
+after_name [] = []
+after_name (byte ∷ bytes) = if ends_name byte then byte ∷ bytes else after_name bytes
+
+-- the record of a line, without the spaces before it: its name; whether `: string` follows; and what
+-- stands after the first ` # `
+unfoldable pub record_of : List ℕ → Line
+record_of text = record {
+  name = name_of text;
+  takes_value = is_some (after (codes ": string") (after_name text));
+  help = after_first (codes " # ") text;
+}
+
+-- what a line is: it opens the block of a key, closes a block, is a record, or is none of these
+pub data Sign : Type 0 where
+  opens : List ℕ → Sign
+  closes : Sign
+  holds : Line → Sign
+  other : Sign
+
+-- a line that is not the end of a block is a record, where it begins with four spaces
+unfoldable pub in_block_sign : List ℕ → Sign
+in_block_sign text = elim (after (codes "    ") text) [
+  | Some content ↦ holds (record_of content)
+  | None ↦ other
+]
+
+unfoldable pub key_sign : List ℕ → Sign
+key_sign text = elim (before (codes "\" [") text) [ Some key ↦ opens key | None ↦ other ]
+
+unfoldable pub sign : List ℕ → Sign
+sign text = elim (after (codes "  export extern \"") text) [
+  | Some rest ↦ key_sign rest
+  | None ↦ if bytes_eq text (codes "  ]") then closes else in_block_sign text
+]
+
+-- ---- a script
+
+-- how far the reader is, with the blocks that it has read, and in a block with that one as far as it
+-- is read
+pub data State : Type 0 where
+  between : List (Table Line) → State
+  in_block : List (Table Line) → Table Line → State
+  malformed : State
+
+-- the state after a line; in a block each line is a record or closes it
+unfoldable pub next : State → Sign → State
+next (between blocks) (opens key) = in_block blocks (record { key = key; rows = [] })
+next (between blocks) _ = between blocks
+next (in_block blocks block) (holds line) =
+    in_block blocks (record block { rows = block.rows ++ line ∷ [] })
+next (in_block blocks block) closes = between (blocks ++ block ∷ [])
+next _ _ = malformed
+
+-- the blocks, where each is closed
+unfoldable pub closed : State → Option (List (Table Line))
+closed (between blocks) = Some blocks
+closed _ = None
+
+-- the blocks that are read from a state on
+unfoldable pub read : State → List (List ℕ) → Option (List (Table Line))
+read state [] = closed state
+read state (line ∷ lines) = read (next state (sign line)) lines
+
+-- the blocks of a script; `None` where it spells none
+unfoldable pub nushell_blocks : List ℕ → Option (List (Table Line))
+nushell_blocks script = read (between []) (lines_from [] script)
+
+-- a line as it is read: with a space for each line feed of its help
+abbrev pub line_read : Line → Line
+line_read line = record line { help = option_map line_feeds_as_spaces line.help }
+
+-- the script of a tree reads to the tree's blocks
+abbrev pub NushellReads : Tree → Type 0
+NushellReads tree =
+    ReadsTables (nushell_blocks (nushell_script tree))
+    (path_tables (codes " ") (λ tree. map line_read (node_lines tree)) tree) tree

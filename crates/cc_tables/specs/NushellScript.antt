@@ -1,0 +1,109 @@
+-- The text of a Nushell script.
+use Rattle.std.specs.Prelude.{ℕ, List, [], ◌++◌, Bool, true, false, Option, Some, None}
+use Rattle.std.specs.Prelude.{if◌then◌else◌, codes, flat_map, map}
+use Rattle.cc_arg.specs.declared.arg.Arg.{Arg}
+use Rattle.cc_command.specs.ArgumentLists.{options, flags}
+use Rattle.cc_command.specs.Tree.{Tree}
+use Rattle.cc_quote.specs.QuotedWord.{line_feeds_as_spaces}
+use Rattle.cc_tables.specs.Offers.{argument_offers, word}
+use Rattle.cc_tables.specs.Tables.{Table, path_tables, table_of}
+use Rattle.cc_tables.specs.declared.offers.Offer.{Offer}
+
+-- a name of an option or a flag as it is typed, whether it takes a value, and its help
+pub record Line : Type 0 where
+  pub name : List ℕ
+  pub takes_value : Bool
+  pub help : Option (List ℕ)
+
+-- the line of an offer, of an option or of a flag
+abbrev pub offer_line : Bool → Offer → Line
+offer_line takes_value offer =
+    record { name = word offer; takes_value = takes_value; help = offer.description }
+
+-- the lines of arguments: one for each name that is shown
+abbrev pub argument_lines : Bool → List Arg → List Line
+argument_lines takes_value arguments =
+    map (offer_line takes_value) (flat_map argument_offers arguments)
+
+-- the lines at a node: of its options, then of its flags
+unfoldable pub node_lines : Tree → List Line
+node_lines tree = argument_lines true (options tree.node) ++ argument_lines false (flags tree.node)
+
+-- ---- the frame
+
+unfoldable pub head : List ℕ
+head = codes "module completions {\n\n"
+
+unfoldable pub tail : List ℕ
+tail = codes "}\n\nexport use completions *\n"
+
+-- ---- the blocks
+
+-- before the name of a line
+unfoldable pub line_begin : List ℕ
+line_begin = codes "    "
+
+-- after the name of an option
+unfoldable pub value_text : List ℕ
+value_text = codes ": string"
+
+-- before the help
+unfoldable pub help_begin : List ℕ
+help_begin = codes " # "
+
+-- what stands after a name: an option takes a value
+unfoldable pub type_text : Bool → List ℕ
+type_text takes_value = if takes_value then value_text else []
+
+-- the help, where there is one
+unfoldable pub help_text : Option (List ℕ) → List ℕ
+help_text (Some help) = help_begin ++ line_feeds_as_spaces help
+help_text None = []
+
+-- `name: string # help`, without the line feed at its end
+unfoldable pub content : Line → List ℕ
+content line = line_begin ++ line.name ++ type_text line.takes_value ++ help_text line.help
+
+-- a line
+unfoldable pub line_text : Line → List ℕ
+line_text line = content line ++ codes "\n"
+
+-- the line of an offer
+unfoldable pub offer_text : Bool → Offer → List ℕ
+offer_text takes_value offer = line_text (offer_line takes_value offer)
+
+-- before the key of a block
+unfoldable pub block_begin : List ℕ
+block_begin = codes "  export extern \""
+
+-- after the key
+unfoldable pub key_end : List ℕ
+key_end = codes "\" [\n"
+
+-- `export extern "key" [`
+unfoldable pub key_text : List ℕ → List ℕ
+key_text key = block_begin ++ key ++ key_end
+
+-- after the lines of a block
+unfoldable pub block_end : List ℕ
+block_end = codes "  ]\n\n"
+
+-- the key, the lines, and `]`
+unfoldable pub block_text : Table Line → List ℕ
+block_text block = key_text block.key ++ flat_map line_text block.rows ++ block_end
+
+-- the block of a node under a key
+unfoldable pub node_text : List ℕ → Tree → List ℕ
+node_text key tree = block_text (table_of node_lines key tree)
+
+-- the frame with these blocks in it
+unfoldable pub script_text : List (Table Line) → List ℕ
+script_text blocks = head ++ flat_map block_text blocks ++ tail
+
+-- the blocks of a tree, one for each visible path: its key joins the names by spaces
+abbrev pub tree_blocks : Tree → List (Table Line)
+tree_blocks tree = path_tables (codes " ") node_lines tree
+
+-- the script of a tree
+abbrev pub nushell_script : Tree → List ℕ
+nushell_script tree = script_text (tree_blocks tree)
