@@ -4,6 +4,7 @@ pub mod Characters
 pub mod ElvishCutting
 pub mod ElvishWords
 mod Examples
+pub mod FishCharacters
 pub mod FishCutting
 pub mod FishEscaped
 mod FishExamples
@@ -13,6 +14,7 @@ pub mod PosixCutting
 mod PosixExamples
 pub mod PosixWords
 pub mod PowershellCutting
+pub mod PowershellSearch
 pub mod PowershellSigns
 pub mod PowershellWords
 pub mod Runs

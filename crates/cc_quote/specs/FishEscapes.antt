@@ -18,7 +18,8 @@ help_byte byte = eval_byte (space_for_line_feed byte)
 
 -- whether a byte is escaped there: `\`, `'`, `"` or `$`
 abbrev pub is_eval_byte : ℕ → Bool
-is_eval_byte byte = byte == backslash || byte == single_quote || byte == double_quote || byte == dollar
+is_eval_byte byte =
+    byte == backslash || byte == single_quote || byte == double_quote || byte == dollar
 
 -- or is a line feed
 abbrev pub is_help_byte : ℕ → Bool

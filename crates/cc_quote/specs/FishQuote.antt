@@ -1,5 +1,23 @@
 -- Words as fish spells them, and how a text is quoted for it.
-use Rattle.std.specs.Prelude.{◌≡◌, ℕ, Bool, true, false, List, [], ◌∷◌, ◌++◌, Option, Some, None, map, codes, ◌==◌, ◌||◌, if◌then◌else◌}
+use Rattle.std.specs.Prelude.{
+  ◌≡◌,
+  ℕ,
+  Bool,
+  true,
+  false,
+  List,
+  [],
+  ◌∷◌,
+  ◌++◌,
+  Option,
+  Some,
+  None,
+  map,
+  codes,
+  ◌==◌,
+  ◌||◌,
+  if◌then◌else◌,
+}
 use Rattle.std.specs.Char.{is_ascii_alphanumeric}
 use Rattle.std.specs.List.{flat_map, list_all, list_any}
 use Rattle.cc_quote.specs.Bytes as ascii
@@ -7,7 +25,8 @@ use Rattle.cc_quote.specs.QuotedWord.{line_feeds_as_spaces}
 
 -- ---- how a word is read
 
--- what a byte is to the reader of a word: a space or a tab, a line feed, `'`, `"`, `\`, `$`, `#`, or any other
+-- what a byte is to the reader of a word: a space or a tab, a line feed, `'`, `"`, `\`, `$`, `#`,
+-- or any other
 pub data FishSign : Type 0 where
   blank : FishSign
   line_feed : FishSign
@@ -21,13 +40,14 @@ pub data FishSign : Type 0 where
 -- the sign of a byte
 unfoldable pub fish_sign : ℕ → FishSign
 fish_sign byte =
-    if byte == ascii.space || byte == ascii.tab then blank else if byte == ascii.line_feed then line_feed
+    if byte == ascii.space || byte == ascii.tab then blank
+    else if byte == ascii.line_feed then line_feed
     else if byte == ascii.single_quote then single else if byte == ascii.double_quote then double
     else if byte == ascii.backslash then backslash else if byte == ascii.dollar then dollar
     else if byte == ascii.hash then hash else other
 
--- Where the reader stands in a word that spells this so far: outside quotes, after a backslash there,
--- between `'`, after a backslash there, between `"`, or after a backslash there.
+-- Where the reader stands in a word that spells this so far: outside quotes, after a backslash
+-- there, between `'`, after a backslash there, between `"`, or after a backslash there.
 pub data FishPlace : Type 0 where
   bare : List ℕ → FishPlace
   bare_escape : List ℕ → FishPlace
@@ -36,9 +56,11 @@ pub data FishPlace : Type 0 where
   in_double : List ℕ → FishPlace
   double_escape : List ℕ → FishPlace
 
--- what a byte spells after a backslash outside quotes: `t` (116) a tab, `n` (110) a line feed, any other itself
+-- what a byte spells after a backslash outside quotes: `t` (116) a tab, `n` (110) a line feed, any
+-- other itself
 abbrev pub after_backslash : ℕ → ℕ
-after_backslash byte = if byte == 116 then ascii.tab else if byte == 110 then ascii.line_feed else byte
+after_backslash byte =
+    if byte == 116 then ascii.tab else if byte == 110 then ascii.line_feed else byte
 
 -- the place after one more byte, which has this sign; none where the word ends before it
 abbrev pub place_after : FishPlace → FishSign → ℕ → Option FishPlace
@@ -92,7 +114,8 @@ fish_word_from place (byte ∷ bytes) = elim (next_place place byte) [
   | None ↦ Some (spelled place, byte ∷ bytes)
 ]
 
--- whether a word begins with a byte of this sign: no blank stands before it, and `#` begins a comment
+-- whether a word begins with a byte of this sign: no blank stands before it, and `#` begins a
+-- comment
 abbrev pub begins_word : FishSign → Bool
 begins_word blank = false
 begins_word line_feed = false
@@ -117,16 +140,19 @@ fish_double_from place (byte ∷ bytes) = elim (next_place place byte) [
   | None ↦ None
 ]
 
--- what a text that begins with `"` spells between it and the `"` that closes it, and what follows that
+-- what a text that begins with `"` spells between it and the `"` that closes it, and what follows
+-- that
 abbrev pub fish_double_of : List ℕ → Option (List ℕ × List ℕ)
 fish_double_of [] = None
-fish_double_of (byte ∷ bytes) = if byte == ascii.double_quote then fish_double_from (in_double []) bytes else None
+fish_double_of (byte ∷ bytes) =
+    if byte == ascii.double_quote then fish_double_from (in_double []) bytes else None
 
 -- ---- how a text is quoted
 
 -- ASCII letters, digits and `/ _ - . , + = : @`, which need no quotes
 unfoldable pub is_fish_safe : ℕ → Bool
-is_fish_safe byte = is_ascii_alphanumeric byte || list_any (λ safe. byte == safe) (codes "/_-.,+=:@")
+is_fish_safe byte =
+    is_ascii_alphanumeric byte || list_any (λ safe. byte == safe) (codes "/_-.,+=:@")
 
 -- whether a text that is not empty is made of such bytes
 abbrev pub is_fish_safe_word : List ℕ → Bool
@@ -136,7 +162,8 @@ is_fish_safe_word (byte ∷ bytes) = list_all is_fish_safe (byte ∷ bytes)
 -- a byte between `'`: `\` and `'` stand after a backslash
 abbrev pub single_byte : ℕ → List ℕ
 single_byte byte =
-    if byte == ascii.backslash || byte == ascii.single_quote then ascii.backslash ∷ byte ∷ [] else byte ∷ []
+    if byte == ascii.backslash || byte == ascii.single_quote then ascii.backslash ∷ byte ∷ []
+    else byte ∷ []
 
 -- a text between `'`
 abbrev pub single_escaped : List ℕ → List ℕ
@@ -145,7 +172,9 @@ single_escaped text = flat_map single_byte text
 -- a byte between `"`: `\`, `"` and `$` stand after a backslash
 abbrev pub double_byte : ℕ → List ℕ
 double_byte byte =
-    if byte == ascii.backslash || byte == ascii.double_quote || byte == ascii.dollar then ascii.backslash ∷ byte ∷ [] else byte ∷ []
+    if byte == ascii.backslash || byte == ascii.double_quote || byte == ascii.dollar
+    then ascii.backslash ∷ byte ∷ []
+    else byte ∷ []
 
 -- a text between `"`
 abbrev pub double_escaped : List ℕ → List ℕ

@@ -5,8 +5,8 @@ use Rattle.cc_quote.specs.FishQuote.{FishSign, fish_sign, FishPlace, next_place,
 use Rattle.cc_quote.specs.FishQuote.FishSign.{blank, line_feed, hash}
 use Rattle.cc_quote.specs.FishQuote.FishPlace.{bare}
 
--- where the cutting stands, with the words of the command so far: before a word, in a comment, which goes
--- to the end of its line, or in a word
+-- where the cutting stands, with the words of the command so far: before a word, in a comment,
+-- which goes to the end of its line, or in a word
 pub data CommandPlace : Type 0 where
   between : List (List ℕ) → CommandPlace
   comment : List (List ℕ) → CommandPlace

@@ -1,12 +1,43 @@
 -- Words as a posix shell reads them, and how a text is quoted for it.
-use Rattle.std.specs.Prelude.{ℕ, Bool, false, List, [], ◌∷◌, ◌++◌, Option, Some, None, map, codes, ◌==◌, ◌||◌, if◌then◌else◌}
+use Rattle.std.specs.Prelude.{
+  ℕ,
+  Bool,
+  false,
+  List,
+  [],
+  ◌∷◌,
+  ◌++◌,
+  Option,
+  Some,
+  None,
+  map,
+  codes,
+  ◌==◌,
+  ◌||◌,
+  if◌then◌else◌,
+}
 use Rattle.std.specs.Char.{is_ascii_alphanumeric}
 use Rattle.std.specs.List.{flat_map, list_all, list_any}
 use Rattle.cc_quote.specs.Bytes.{single_quote as single_quote_byte}
 use Rattle.cc_quote.specs.PosixTokens.{Sign, sign, byte_of}
-use Rattle.cc_quote.specs.PosixTokens.Sign.{blank, line_feed, single_quote, double_quote, backslash, special}
+use Rattle.cc_quote.specs.PosixTokens.Sign.{
+  blank,
+  line_feed,
+  single_quote,
+  double_quote,
+  backslash,
+  special,
+}
 use Rattle.cc_quote.specs.declared.posix.Place.{Place}
-use Rattle.cc_quote.specs.declared.posix.Place.TheVariants.{Before, BeforeEscaped, Bare, BareEscaped, InSingle, InDouble, InDoubleEscaped}
+use Rattle.cc_quote.specs.declared.posix.Place.TheVariants.{
+  Before,
+  BeforeEscaped,
+  Bare,
+  BareEscaped,
+  InSingle,
+  InDouble,
+  InDoubleEscaped,
+}
 
 -- ---- how a word is read
 

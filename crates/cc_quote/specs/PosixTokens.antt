@@ -1,7 +1,28 @@
 -- The tokens of a script for a posix shell, as bash or zsh. It is cut at blanks and line feeds
 -- outside quotes; a token keeps its pieces, each with its kind of quote. Nothing is a comment.
-use Rattle.std.specs.Prelude.{ℕ, List, [], ◌∷◌, ◌++◌, ◌==◌, ◌||◌, if◌then◌else◌, map, Bool, bytes_eq}
-use Rattle.cc_quote.specs.Bytes.{tab as tab_byte, line_feed as line_feed_byte, space as space_byte, double_quote as double_quote_byte, dollar as dollar_byte, single_quote as single_quote_byte, backslash as backslash_byte, backtick as backtick_byte}
+use Rattle.std.specs.Prelude.{
+  ℕ,
+  List,
+  [],
+  ◌∷◌,
+  ◌++◌,
+  ◌==◌,
+  ◌||◌,
+  if◌then◌else◌,
+  map,
+  Bool,
+  bytes_eq,
+}
+use Rattle.cc_quote.specs.Bytes.{
+  tab as tab_byte,
+  line_feed as line_feed_byte,
+  space as space_byte,
+  double_quote as double_quote_byte,
+  dollar as dollar_byte,
+  single_quote as single_quote_byte,
+  backslash as backslash_byte,
+  backtick as backtick_byte,
+}
 use Rattle.cc_quote.specs.Tokens.{Piece, Token}
 use Rattle.cc_quote.specs.Tokens.Piece.{bare, quoted, unclosed}
 

@@ -1,6 +1,25 @@
 -- A word that may be quoted, read off the start of a text, where two quotes in a row within quotes
 -- stand for the second.
-use Rattle.std.specs.Prelude.{◌≡◌, ◌≢◌, ◌⊎◌, ℕ, ◌<◌, ◌==◌, if◌then◌else◌, true, List, [], ◌∷◌, ◌++◌, map, flat_map, length, Option, Some, None}
+use Rattle.std.specs.Prelude.{
+  ◌≡◌,
+  ◌≢◌,
+  ◌⊎◌,
+  ℕ,
+  ◌<◌,
+  ◌==◌,
+  if◌then◌else◌,
+  true,
+  List,
+  [],
+  ◌∷◌,
+  ◌++◌,
+  map,
+  flat_map,
+  length,
+  Option,
+  Some,
+  None,
+}
 use Rattle.std.specs.Borrow.{Bor}
 use Rattle.std.specs.Str.{NoCharPasses}
 use Rattle.std.specs.String.{string_bytes}

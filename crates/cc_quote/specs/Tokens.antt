@@ -1,6 +1,20 @@
 -- The tokens of a script. It is cut at blanks and line feeds outside quotes, and two quotes in a
 -- row within quotes stand for the second.
-use Rattle.std.specs.Prelude.{ℕ, Bool, false, List, [], ◌∷◌, ◌++◌, if◌then◌else◌, Option, Some, None, unwrap_or, bytes_eq}
+use Rattle.std.specs.Prelude.{
+  ℕ,
+  Bool,
+  false,
+  List,
+  [],
+  ◌∷◌,
+  ◌++◌,
+  if◌then◌else◌,
+  Option,
+  Some,
+  None,
+  unwrap_or,
+  bytes_eq,
+}
 use Rattle.cc_quote.specs.Signs.{Sign, blank, quote, other}
 
 -- a piece of a token: a run outside quotes; or the opening quote and what the quotes hold;

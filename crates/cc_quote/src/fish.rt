@@ -6,8 +6,26 @@ ghost use Rattle.std.specs.String.{string_bytes};
 ghost use Rattle.cc_base.specs.Writes.{Writes};
 ghost use Rattle.cc_quote.specs.Bytes.{backslash, line_feed, single_quote};
 ghost use Rattle.memchr.specs.Find.{IsFirstByte, is_byte2, is_byte3};
-ghost use Rattle.cc_quote.specs.FishEscapes.{description_byte, eval_byte, help_byte, is_eval_byte, is_help_byte};
-ghost use Rattle.cc_quote.specs.FishQuote.{double_escaped, fish_escaped, fish_help_for_eval_of, fish_quoted, fish_quoted_for_eval, fish_word_of, is_fish_safe, is_fish_safe_word, single_byte, single_escaped, ReadsTwice};
+ghost use Rattle.cc_quote.specs.FishEscapes.{
+  description_byte,
+  eval_byte,
+  help_byte,
+  is_eval_byte,
+  is_help_byte,
+};
+ghost use Rattle.cc_quote.specs.FishQuote.{
+  double_escaped,
+  fish_escaped,
+  fish_help_for_eval_of,
+  fish_quoted,
+  fish_quoted_for_eval,
+  fish_word_of,
+  is_fish_safe,
+  is_fish_safe_word,
+  single_byte,
+  single_escaped,
+  ReadsTwice,
+};
 ghost use Rattle.cc_quote.specs.QuotedWord.{line_feeds_as_spaces};
 
 use crate::escape::{Escape, push_escaped, put_escaped};
@@ -15,8 +33,8 @@ use cc_base::{Error, Sink, put_all};
 use memchr::{memchr2, memchr3};
 use std::alloc::{AllocError, Global};
 
-/// fish's escape of a description between two `'`: `\` as `\\`, `'` as `\'`, and each line feed as a
-/// space.
+/// fish's escape of a description between two `'`: `\` as `\\`, `'` as `\'`, and each line feed as
+/// a space.
 pub struct FishEscape;
 
 impl Escape for FishEscape {

@@ -6,6 +6,7 @@
 mod elvish;
 mod escape;
 mod fish;
+mod fish_reader;
 mod posix;
 mod powershell;
 mod word;
@@ -17,6 +18,7 @@ pub use crate::fish::{
     FishEscape, fish_escape, fish_help_for_eval, fish_quote, fish_quote_for_eval,
     put_fish_help_for_eval, put_fish_quoted_for_eval,
 };
+pub use crate::fish_reader::{fish_double, fish_word};
 pub use crate::posix::{posix_quote, posix_word};
 pub use crate::powershell::{PowershellEscape, powershell_escape, powershell_word};
 pub use crate::zsh::{

@@ -1,13 +1,36 @@
 //! Words as a posix shell quotes and reads them: bare, between `'`, between `"`, and after `\`.
 
-ghost use Rattle.std.specs.Prelude.{◌≡◌, ◌++◌, [], codes, encode_utf8, map, option_map, true, IfOk, IfErr, OnOk, MatchOption, Some};
+ghost use Rattle.std.specs.Prelude.{
+  ◌≡◌,
+  ◌++◌,
+  [],
+  codes,
+  encode_utf8,
+  map,
+  option_map,
+  true,
+  IfOk,
+  IfErr,
+  OnOk,
+  Some,
+};
 ghost use Rattle.std.specs.List.{list_all};
 ghost use Rattle.std.specs.String.{string_bytes};
-ghost use Rattle.cc_quote.specs.PosixQuote.{ended, is_posix_safe, is_posix_safe_word, next_place, posix_escaped, posix_quoted, posix_word_of, word_after};
+ghost use Rattle.cc_quote.specs.PosixQuote.{
+  ended,
+  is_posix_safe,
+  is_posix_safe_word,
+  next_place,
+  posix_escaped,
+  posix_quoted,
+  posix_word_of,
+  word_after,
+};
 ghost use Rattle.cc_quote.specs.PosixTokens.{sign};
 ghost use Rattle.cc_quote.specs.QuotedWord.{contents};
 
 use crate::escape::{Escape, push_escaped};
+use crate::word::split_first;
 use cc_base::Error;
 use memchr::memchr;
 use std::alloc::{AllocError, Global};
@@ -124,18 +147,6 @@ fn read_word(alloc: Global, text: &str) -> Result<Option<(String, &str)>, AllocE
         rest = after;
     }
     Ok(end_word(place, word, rest))
-}
-
-// The first character of a text, and what follows it.
-pub(crate) fn split_first(text: &str) -> Option<(char, &str)>
-    ensures { MatchOption result (text.now ≡ [])
-        (λ cut. text.now ≡ encode_utf8 cut.0 ++ cut.1.now) }
-{
-    let mut characters = text.chars();
-    let Some(first) = characters.next() else {
-        return None;
-    };
-    Some((first, characters.as_str()))
 }
 
 // The place after a character; `None` where the word ends before it.

@@ -1,14 +1,50 @@
 //! Words as PowerShell quotes them: between two quotes, which are `'` and `’` (U+2019), and of two
 //! quotes in a row inside, the second is kept.
 
-ghost use Rattle.std.specs.Prelude.{◌≡◌, ◌<◌, ◌+◌, ◌++◌, [], List, ℕ, codes, true, IfOk, IfErr, MatchOption, Some, drop, length, slice_index};
+ghost use Rattle.std.specs.Prelude.{
+  ◌≡◌,
+  ◌<◌,
+  ◌+◌,
+  ◌++◌,
+  [],
+  List,
+  ℕ,
+  codes,
+  true,
+  IfOk,
+  IfErr,
+  MatchOption,
+  Some,
+  drop,
+  length,
+  slice_index,
+};
 ghost use Rattle.std.specs.String.{string_bytes};
-ghost use Rattle.cc_quote.specs.PowershellQuote.{begins_quote, begins_second, is_escaped, powershell_escaped, powershell_signs, powershell_word_of, IsFirstEscaped, IsFirstQuote};
-ghost use Rattle.cc_quote.specs.QuotedWord.{contents, line_feeds_as_spaces, quoted, word_from, BeginsWithNoQuote, BeginsWithQuote, IsCutAtQuote, IsWithoutQuotes};
+ghost use Rattle.cc_quote.specs.PowershellQuote.{
+  begins_quote,
+  begins_second,
+  is_escaped,
+  powershell_escaped,
+  powershell_signs,
+  powershell_word_of,
+  IsFirstEscaped,
+  IsFirstQuote,
+};
+ghost use Rattle.cc_quote.specs.QuotedWord.{
+  contents,
+  line_feeds_as_spaces,
+  quoted,
+  word_from,
+  BeginsWithNoQuote,
+  BeginsWithQuote,
+  IsCutAtQuote,
+  IsWithoutQuotes,
+};
 
 use crate::escape::{Escape, push_escaped};
 use crate::word::bare_word;
 use cc_base::Error;
+use memchr::memchr3_iter;
 use std::alloc::{AllocError, Global};
 
 // The bytes of U+2019.
@@ -48,7 +84,7 @@ fn find_escaped(text: &[u8]) -> Option<usize>
     ensures { MatchOption result (powershell_escaped text.now ≡ text.now)
         (λ at. IsFirstEscaped text.now at) }
 {
-    for at in 0..text.len() {
+    for at in memchr3_iter(b'\'', b'\n', RIGHT_QUOTE_FIRST, text) {
         if is_escaped_at(text, at) {
             return Some(at);
         }

@@ -1,6 +1,6 @@
 //! What the readers of words share.
 
-ghost use Rattle.std.specs.Prelude.{OnOk, IfOk};
+ghost use Rattle.std.specs.Prelude.{◌≡◌, ◌++◌, [], encode_utf8, IfOk, MatchOption};
 ghost use Rattle.cc_quote.specs.QuotedWord.{contents, IsBareRead, IsCutAtBlank};
 
 use std::alloc::{AllocError, Global};
@@ -23,4 +23,16 @@ fn split_at_blank(text: &str) -> (&str, &str)
 {
     let end = text.find([' ', '\t', '\n']).unwrap_or(text.len());
     text.split_at(end)
+}
+
+/// The first character of a text, and what follows it. `None` where the text is empty.
+pub(crate) fn split_first(text: &str) -> Option<(char, &str)>
+    ensures { MatchOption result (text.now ≡ [])
+        (λ cut. text.now ≡ encode_utf8 cut.0 ++ cut.1.now) }
+{
+    let mut characters = text.chars();
+    let Some(first) = characters.next() else {
+        return None;
+    };
+    Some((first, characters.as_str()))
 }

@@ -8,7 +8,7 @@ ghost use Rattle.cc_quote.specs.ZshQuote.{is_help_escaped, is_value_escaped, zsh
 ghost use Rattle.memchr.specs.Find.{IsFirstByte};
 
 use crate::escape::{Escape, push_escaped};
-use crate::posix::split_first;
+use crate::word::split_first;
 use cc_base::Error;
 use std::alloc::{AllocError, Global};
 

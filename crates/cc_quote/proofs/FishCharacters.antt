@@ -1,0 +1,314 @@
+-- How the readers of fish's words go on by one character.
+use Rattle.std.proofs.Common.{◌≡◌, ◌≢◌, ◌==◌, ℕ, ◌≤◌, Bool, true, false, cond, List, [], ◌∷◌, ◌++◌, Option, Some, None, codes, encode_utf8, refl, sym, ◌∙◌, ap, arith, append_assoc, append-nil}
+use Rattle.std.specs.Prelude.{⊤}
+use Rattle.std.proofs.lemmas.Bool.Decides.{Decides-eqb, nat_tests}
+use Rattle.cc_quote.specs.Bytes as ascii
+use Rattle.cc_quote.specs.FishPlaces.{place_at, ends_word, character_place, character_word, is_bare}
+use Rattle.cc_quote.specs.FishQuote.{FishSign, FishPlace, fish_sign, after_backslash, place_after, advance, spelled, fish_word_from, fish_double_from, fish_double_of}
+use Rattle.cc_quote.specs.FishQuote.FishSign.{blank, line_feed, single, double, backslash, dollar, hash, other}
+use Rattle.cc_quote.specs.FishQuote.FishPlace.{bare, bare_escape, in_double}
+use Rattle.cc_quote.specs.declared.fish_reader.Place.{Place}
+use Rattle.cc_quote.specs.declared.fish_reader.Place.TheVariants.{Bare, BareEscaped, InSingle, InSingleEscaped, InDouble, InDoubleEscaped}
+use Rattle.cc_quote.proofs.Characters.{AreHigh, IsCharacter, character}
+use Rattle.cc_quote.proofs.Characters.IsCharacter.{low, high}
+use Rattle.cc_quote.proofs.FishReaders.{word_after}
+
+-- ---- one byte
+
+-- after a backslash outside quotes
+unescaped_byte : (byte : ℕ) (word : List ℕ) (t n : Bool)
+    → Some (bare (word ++ cond t ascii.tab (cond n ascii.line_feed byte) ∷ [])) ≡ Some (bare (word ++ cond t (ascii.tab ∷ []) (cond n (ascii.line_feed ∷ []) (byte ∷ []))))
+unescaped_byte byte word true n = refl
+unescaped_byte byte word false true = refl
+unescaped_byte byte word false false = refl
+
+-- a byte before which the word does not end
+step : (place : Place) (s : FishSign) (byte : ℕ) (word : List ℕ) → ends_word place s ≡ false
+    → place_after (place_at place word) s byte ≡ Some (place_at (character_place place s) (character_word place s byte word (byte ∷ [])))
+unfolding ends_word character_place character_word
+step Bare blank byte word h = cc
+step Bare line_feed byte word h = cc
+step Bare single byte word h = refl
+step Bare double byte word h = refl
+step Bare backslash byte word h = refl
+step Bare dollar byte word h = refl
+step Bare hash byte word h = refl
+step Bare other byte word h = refl
+step BareEscaped s byte word h = unescaped_byte byte word (byte == 116) (byte == 110)
+step InSingle blank byte word h = refl
+step InSingle line_feed byte word h = refl
+step InSingle single byte word h = refl
+step InSingle double byte word h = refl
+step InSingle backslash byte word h = refl
+step InSingle dollar byte word h = refl
+step InSingle hash byte word h = refl
+step InSingle other byte word h = refl
+step InSingleEscaped blank byte word h = refl
+step InSingleEscaped line_feed byte word h = refl
+step InSingleEscaped single byte word h = refl
+step InSingleEscaped double byte word h = refl
+step InSingleEscaped backslash byte word h = refl
+step InSingleEscaped dollar byte word h = refl
+step InSingleEscaped hash byte word h = refl
+step InSingleEscaped other byte word h = refl
+step InDouble blank byte word h = refl
+step InDouble line_feed byte word h = refl
+step InDouble single byte word h = refl
+step InDouble double byte word h = refl
+step InDouble backslash byte word h = refl
+step InDouble dollar byte word h = refl
+step InDouble hash byte word h = refl
+step InDouble other byte word h = refl
+step InDoubleEscaped blank byte word h = refl
+step InDoubleEscaped line_feed byte word h = refl
+step InDoubleEscaped single byte word h = refl
+step InDoubleEscaped double byte word h = refl
+step InDoubleEscaped backslash byte word h = refl
+step InDoubleEscaped dollar byte word h = refl
+step InDoubleEscaped hash byte word h = refl
+step InDoubleEscaped other byte word h = refl
+
+-- the reader stops before a byte
+stops : (place : Place) (byte : ℕ) (rest word : List ℕ) → ends_word place (fish_sign byte) ≡ true → fish_word_from (place_at place word) (byte ∷ rest) ≡ Some (word, byte ∷ rest)
+unfolding ends_word
+stops place byte rest word e = by place (fish_sign byte) refl e
+  where
+    at : FishSign → Option (List ℕ × List ℕ)
+    at s = elim (place_after (bare word) s byte) [
+      | Some next ↦ fish_word_from next rest
+      | None ↦ Some (spelled (bare word), byte ∷ rest)
+    ]
+
+    by : (place : Place) (s : FishSign) → fish_sign byte ≡ s → ends_word place s ≡ true → fish_word_from (place_at place word) (byte ∷ rest) ≡ Some (word, byte ∷ rest)
+    by Bare blank is e = ap at is
+    by Bare line_feed is e = ap at is
+    by Bare single is e = cc
+    by Bare double is e = cc
+    by Bare backslash is e = cc
+    by Bare dollar is e = cc
+    by Bare hash is e = cc
+    by Bare other is e = cc
+    by BareEscaped s is e = cc
+    by InSingle s is e = cc
+    by InSingleEscaped s is e = cc
+    by InDouble s is e = cc
+    by InDoubleEscaped s is e = cc
+
+-- ---- bytes from 128 on
+
+-- such a byte means nothing to the reader
+high_sign : (byte : ℕ) → 128 ≤ byte → fish_sign byte ≡ other
+unfolding fish_sign
+high_sign byte h = grind (arith, nat_tests)
+
+never_ends : (place : Place) → ends_word place other ≡ false
+unfolding ends_word
+never_ends Bare = refl
+never_ends BareEscaped = refl
+never_ends InSingle = refl
+never_ends InSingleEscaped = refl
+never_ends InDouble = refl
+never_ends InDoubleEscaped = refl
+
+-- the place after it is kept by another
+kept : (place : Place) (byte : ℕ) (word : List ℕ) → place_after (place_at (character_place place other) word) other byte ≡ Some (place_at (character_place place other) (word ++ byte ∷ []))
+unfolding character_place
+kept Bare byte word = refl
+kept BareEscaped byte word = refl
+kept InSingle byte word = refl
+kept InSingleEscaped byte word = refl
+kept InDouble byte word = refl
+kept InDoubleEscaped byte word = refl
+
+-- and by more of them
+high_run : (place : Place) (word bytes : List ℕ) → AreHigh bytes → advance (Some (place_at (character_place place other) word)) bytes ≡ Some (place_at (character_place place other) (word ++ bytes))
+high_run place word [] h = ap (λ w. Some (place_at (character_place place other) w)) (sym (append-nil word))
+high_run place word (byte ∷ bytes) h =
+    ap (λ p. advance p bytes) (ap (λ s. place_after (place_at (character_place place other) word) s byte) (high_sign byte h.0) ∙ kept place byte word)
+    ∙ high_run place (word ++ byte ∷ []) bytes h.1
+    ∙ ap (λ w. Some (place_at (character_place place other) w)) (append_assoc word (byte ∷ []) bytes)
+
+-- the word after the bytes of a character from 128 on
+grown : (place : Place) (byte c : ℕ) (run word : List ℕ) → 128 ≤ byte → 128 ≤ c
+    → character_word place other byte word (byte ∷ []) ++ run ≡ character_word place other c word (byte ∷ run)
+unfolding character_word
+grown Bare byte c run word h k = append_assoc word (byte ∷ []) run
+grown BareEscaped byte c run word h k =
+    let t : byte == 116 ≡ false = grind (arith, nat_tests) in
+    let n : byte == 110 ≡ false = grind (arith, nat_tests) in
+    let u : c == 116 ≡ false = grind (arith, nat_tests) in
+    let m : c == 110 ≡ false = grind (arith, nat_tests) in
+    rw (t, n, u, m) (append_assoc word (byte ∷ []) run)
+grown InSingle byte c run word h k = append_assoc word (byte ∷ []) run
+grown InSingleEscaped byte c run word h k = append_assoc (word ++ codes "\\") (byte ∷ []) run
+grown InDouble byte c run word h k = append_assoc word (byte ∷ []) run
+grown InDoubleEscaped byte c run word h k = append_assoc (word ++ codes "\\") (byte ∷ []) run
+
+-- ---- one character
+
+-- the first byte of such a character
+first_high : (place : Place) (byte : ℕ) (word : List ℕ) → 128 ≤ byte
+    → place_after (place_at place word) (fish_sign byte) byte ≡ Some (place_at (character_place place other) (character_word place other byte word (byte ∷ [])))
+first_high place byte word h = ap (λ s. place_after (place_at place word) s byte) (high_sign byte h) ∙ step place other byte word (never_ends place)
+
+-- a character before which the word does not end
+advances : (place : Place) (c : ℕ) (bytes word : List ℕ) → IsCharacter c bytes → ends_word place (fish_sign c) ≡ false
+    → advance (Some (place_at place word)) bytes ≡ Some (place_at (character_place place (fish_sign c)) (character_word place (fish_sign c) c word bytes))
+advances place c bytes word (low byte below) e = step place (fish_sign byte) byte word e
+advances place c bytes word (high number byte run above first h) e =
+    ap (λ p. advance p run) (first_high place byte word first)
+    ∙ high_run place (character_word place other byte word (byte ∷ [])) run h
+    ∙ ap (λ w. Some (place_at (character_place place other) w)) (grown place byte number run word first above)
+    ∙ ap (λ s. Some (place_at (character_place place s) (character_word place s number word (byte ∷ run)))) (sym (high_sign number above))
+
+-- the place and the word after a character
+abbrev pub after : Place → ℕ → List ℕ → FishPlace
+after place c word = place_at (character_place place (fish_sign c)) (character_word place (fish_sign c) c word (encode_utf8 c))
+
+-- the reader of a word goes on
+pub character_read : (place : Place) (c : ℕ) (rest word : List ℕ) → ends_word place (fish_sign c) ≡ false
+    → fish_word_from (place_at place word) (encode_utf8 c ++ rest) ≡ fish_word_from (after place c word) rest
+character_read place c rest word e =
+    word_after (encode_utf8 c) (place_at place word) (after place c word) rest (advances place c (encode_utf8 c) word (character c) e)
+
+-- it stops
+pub character_stops : (place : Place) (c : ℕ) (rest word : List ℕ) → ends_word place (fish_sign c) ≡ true
+    → fish_word_from (place_at place word) (encode_utf8 c ++ rest) ≡ Some (word, encode_utf8 c ++ rest)
+character_stops place c rest word e = by_bytes c (encode_utf8 c) (character c) e
+  where
+    by_bytes : (c : ℕ) (bytes : List ℕ) → IsCharacter c bytes → ends_word place (fish_sign c) ≡ true → fish_word_from (place_at place word) (bytes ++ rest) ≡ Some (word, bytes ++ rest)
+    by_bytes c bytes (low byte below) e = stops place byte rest word e
+    by_bytes c bytes (high number byte run above first h) e =
+        let wrong : false ≡ true = sym (never_ends place) ∙ ap (ends_word place) (sym (high_sign number above)) ∙ e in cc
+
+-- ---- the end of a text
+
+pub ends_bare : (place : Place) (word : List ℕ) → is_bare place ≡ true → fish_word_from (place_at place word) [] ≡ Some (word, [])
+unfolding is_bare
+ends_bare Bare word e = refl
+ends_bare BareEscaped word e = cc
+ends_bare InSingle word e = cc
+ends_bare InSingleEscaped word e = cc
+ends_bare InDouble word e = cc
+ends_bare InDoubleEscaped word e = cc
+
+pub ends_open : (place : Place) (word : List ℕ) → is_bare place ≡ false → fish_word_from (place_at place word) [] ≡ None
+unfolding is_bare
+ends_open Bare word e = cc
+ends_open BareEscaped word e = refl
+ends_open InSingle word e = refl
+ends_open InSingleEscaped word e = refl
+ends_open InDouble word e = refl
+ends_open InDoubleEscaped word e = refl
+
+-- ---- between `"`
+
+abbrev pub IsWithin : Place → Type 0
+IsWithin InDouble = ⊤
+IsWithin InDoubleEscaped = ⊤
+IsWithin _ = ⊥
+
+within_goes_on : (place : Place) (s : FishSign) → IsWithin place → ends_word place s ≡ false
+unfolding ends_word
+within_goes_on Bare s h = absurd h
+within_goes_on BareEscaped s h = absurd h
+within_goes_on InSingle s h = absurd h
+within_goes_on InSingleEscaped s h = absurd h
+within_goes_on InDouble s h = refl
+within_goes_on InDoubleEscaped s h = refl
+
+within_next : (place : Place) (s : FishSign) → IsWithin place → is_bare (character_place place s) ≡ false → IsWithin (character_place place s)
+unfolding character_place is_bare
+within_next InDouble blank h e = tt
+within_next InDouble line_feed h e = tt
+within_next InDouble single h e = tt
+within_next InDouble double h e = cc
+within_next InDouble backslash h e = tt
+within_next InDouble dollar h e = tt
+within_next InDouble hash h e = tt
+within_next InDouble other h e = tt
+within_next InDoubleEscaped s h e = tt
+within_next Bare s h e = absurd h
+within_next BareEscaped s h e = absurd h
+within_next InSingle s h e = absurd h
+within_next InSingleEscaped s h e = absurd h
+
+-- the reading from the next place on
+abbrev resumed : Option FishPlace → List ℕ → Option (List ℕ × List ℕ)
+resumed place rest = elim place [
+  | Some (bare word) ↦ Some (word, rest)
+  | Some next ↦ fish_double_from next rest
+  | None ↦ None
+]
+
+-- a text that does not begin with `"`
+pub double_none : (text : List ℕ) → ((rest : List ℕ) → text ≢ 34 ∷ rest) → fish_double_of text ≡ None
+double_none [] h = refl
+double_none (byte ∷ rest) h = by (byte == 34) refl
+  where
+    by : (b : Bool) → byte == 34 ≡ b → cond b (fish_double_from (in_double []) rest) None ≡ None
+    by true e = absurd (h rest (ap (λ b. b ∷ rest) ((Decides-eqb byte 34).0 e)))
+    by false e = refl
+
+-- over bytes from 128 on
+double_run : (bytes rest word : List ℕ) → AreHigh bytes → fish_double_from (in_double word) (bytes ++ rest) ≡ fish_double_from (in_double (word ++ bytes)) rest
+double_run [] rest word h = ap (λ w. fish_double_from (in_double w) rest) (sym (append-nil word))
+double_run (byte ∷ bytes) rest word h =
+    ap (λ s. resumed (place_after (in_double word) s byte) (bytes ++ rest)) (high_sign byte h.0)
+    ∙ double_run bytes rest (word ++ byte ∷ []) h.1
+    ∙ ap (λ w. fish_double_from (in_double w) rest) (append_assoc word (byte ∷ []) bytes)
+
+within_run : (place : Place) (bytes rest word : List ℕ) → IsWithin place → AreHigh bytes
+    → resumed (Some (place_at (character_place place other) word)) (bytes ++ rest) ≡ resumed (Some (place_at (character_place place other) (word ++ bytes))) rest
+unfolding character_place
+within_run InDouble bytes rest word h k = double_run bytes rest word k
+within_run InDoubleEscaped bytes rest word h k = double_run bytes rest word k
+within_run Bare bytes rest word h k = absurd h
+within_run BareEscaped bytes rest word h k = absurd h
+within_run InSingle bytes rest word h k = absurd h
+within_run InSingleEscaped bytes rest word h k = absurd h
+
+-- over a character
+double_read : (place : Place) (c : ℕ) (bytes rest word : List ℕ) → IsCharacter c bytes → IsWithin place
+    → fish_double_from (place_at place word) (bytes ++ rest) ≡ resumed (Some (place_at (character_place place (fish_sign c)) (character_word place (fish_sign c) c word bytes))) rest
+double_read place c bytes rest word (low byte below) h = ap (λ p. resumed p rest) (step place (fish_sign byte) byte word (within_goes_on place (fish_sign byte) h))
+double_read place c bytes rest word (high number byte run above first k) h =
+    ap (λ p. resumed p (run ++ rest)) (first_high place byte word first)
+    ∙ within_run place run rest (character_word place other byte word (byte ∷ [])) h k
+    ∙ ap (λ w. resumed (Some (place_at (character_place place other) w)) rest) (grown place byte number run word first above)
+    ∙ ap (λ s. resumed (Some (place_at (character_place place s) (character_word place s number word (byte ∷ run)))) rest) (sym (high_sign number above))
+
+resumed-bare : (place : Place) (rest word : List ℕ) → is_bare place ≡ true → resumed (Some (place_at place word)) rest ≡ Some (word, rest)
+unfolding is_bare
+resumed-bare Bare rest word e = refl
+resumed-bare BareEscaped rest word e = cc
+resumed-bare InSingle rest word e = cc
+resumed-bare InSingleEscaped rest word e = cc
+resumed-bare InDouble rest word e = cc
+resumed-bare InDoubleEscaped rest word e = cc
+
+resumed-open : (place : Place) (rest word : List ℕ) → is_bare place ≡ false → resumed (Some (place_at place word)) rest ≡ fish_double_from (place_at place word) rest
+unfolding is_bare
+resumed-open Bare rest word e = cc
+resumed-open BareEscaped rest word e = refl
+resumed-open InSingle rest word e = refl
+resumed-open InSingleEscaped rest word e = refl
+resumed-open InDouble rest word e = refl
+resumed-open InDoubleEscaped rest word e = refl
+
+-- the quote that closes
+pub character_closes : (place : Place) (c : ℕ) (rest word : List ℕ) → IsWithin place → is_bare (character_place place (fish_sign c)) ≡ true
+    → fish_double_from (place_at place word) (encode_utf8 c ++ rest) ≡ Some (character_word place (fish_sign c) c word (encode_utf8 c), rest)
+character_closes place c rest word within e =
+    double_read place c (encode_utf8 c) rest word (character c) within
+    ∙ resumed-bare (character_place place (fish_sign c)) rest (character_word place (fish_sign c) c word (encode_utf8 c)) e
+
+-- any other character
+pub character_within : (place : Place) (c : ℕ) (rest word : List ℕ) → IsWithin place → is_bare (character_place place (fish_sign c)) ≡ false
+    → fish_double_from (place_at place word) (encode_utf8 c ++ rest) ≡ fish_double_from (after place c word) rest
+character_within place c rest word within e =
+    double_read place c (encode_utf8 c) rest word (character c) within
+    ∙ resumed-open (character_place place (fish_sign c)) rest (character_word place (fish_sign c) c word (encode_utf8 c)) e
+
+pub stays_within : (place : Place) (c : ℕ) → IsWithin place → is_bare (character_place place (fish_sign c)) ≡ false → IsWithin (character_place place (fish_sign c))
+stays_within place c within e = within_next place (fish_sign c) within e
