@@ -10,14 +10,14 @@ use Rattle.cc_command.proofs.PlainParts.{plain_tree}
 use Rattle.cc_bash.specs.Arms.{arm_of, arm_below, node_arm, tree_arms}
 use Rattle.cc_bash.specs.CaseTable.{Case, node_cases, case_below, tree_cases, next_label, run, last_or, run_end}
 use Rattle.cc_bash.specs.Labels.{Labelled, root_label, child_label, labelled_node, labelled, labels, shared_label}
-use Rattle.cc_bash.specs.Reads.{arm_at, place_label}
+use Rattle.cc_bash.specs.Reads.{arm_at, place_arm, place_label}
 use Rattle.cc_bash.specs.Walk.{Place, visible_child, next_place, places, walk, root_place, label_at, level_of}
 use Rattle.cc_bash.proofs.Clashes.{AllDifferBy-map, same_element, texts_differ}
 use Rattle.cc_bash.proofs.ListedNodes.{parents, siblings_listed, children_listed, children_differ}
 use Rattle.cc_bash.proofs.NextSteps.{bytes_tells, next_cases, visible_child-is, visible_child-of}
 
 -- one more name
-label_at-more : (root : List ℕ) (path : List (List ℕ)) (name : List ℕ) →
+pub label_at-more : (root : List ℕ) (path : List (List ℕ)) (name : List ℕ) →
     label_at root (path ++ name ∷ []) ≡ child_label (label_at root path) name
 label_at-more root [] name = refl
 label_at-more root (n ∷ path) name = label_at-more (child_label root n) path name
@@ -118,7 +118,7 @@ option_cases : (o : Option Tree) → ((x : Tree) × (o ≡ Some x)) ⊎ (o ≡ N
 option_cases None = inr refl
 option_cases (Some x) = inl (x, refl)
 
-length-more : (path : List (List ℕ)) (name : List ℕ) →
+pub length-more : (path : List (List ℕ)) (name : List ℕ) →
     suc (length path) ≡ length (path ++ name ∷ [])
 length-more [] name = refl
 length-more (n ∷ path) name = ap (λ k. suc k) (length-more path name)
@@ -280,8 +280,7 @@ arm_of_node tree node clear h =
 -- at the label to which words lead stands the arm of the node
 pub arm_stands : (tree : Tree) → shared_label tree ≡ None → (words : List (List ℕ)) →
     arm_at (tree_arms tree) (place_label tree (walk (root_place tree) words))
-    ≡ Some (arm_of (place_label tree (walk (root_place tree) words))
-    (level_of (walk (root_place tree) words)) (walk (root_place tree) words).tree)
+    ≡ Some (place_arm tree (walk (root_place tree) words))
 arm_stands tree clear words =
     let end : Place = walk (root_place tree) words in
     let at : StandsAt tree end = stands_after tree words (root_place tree) (root_stands tree) in
@@ -289,3 +288,11 @@ arm_stands tree clear words =
     ∙ ap (λ l. Some (arm_of l at.node.level at.node.tree)) at.label
     ∙ ap (λ k. Some (arm_of (place_label tree end) k at.node.tree)) at.level
     ∙ ap (λ t. Some (arm_of (place_label tree end) (level_of end) t)) at.same
+
+-- so it does at the label to which the table's own cases lead
+pub arm_at_end : (tree : Tree) → IsTrue (is_plain_tree tree) → shared_label tree ≡ None →
+    (words : List (List ℕ)) →
+    arm_at (tree_arms tree) (run_end (tree_cases tree) (root_label tree) words)
+    ≡ Some (place_arm tree (walk (root_place tree) words))
+arm_at_end tree plain clear words =
+    ap (arm_at (tree_arms tree)) (table_ends tree plain clear words) ∙ arm_stands tree clear words

@@ -3,6 +3,7 @@ pub mod CaseOrder
 pub mod CaseWalk
 pub mod Clashes
 pub mod DetailTexts
+pub mod EachArm
 mod Examples
 pub mod ListedNodes
 pub mod NextSteps

@@ -1,5 +1,5 @@
 -- The bash script of a plain tree reads to the tree's cases, and with quiet values to its arms.
-use Rattle.std.proofs.Common.{◌≡◌, ℕ, suc, ◌&&◌, IsTrue, List, [], flat_map, Some, None}
+use Rattle.std.proofs.Common.{◌≡◌, ℕ, suc, ◌&&◌, IsTrue, List, [], flat_map, Some, None, ap, ◌∙◌}
 use Rattle.std.specs.List.{AllByRecursion}
 use Rattle.cc_base.specs.Sorting.{in_order}
 use Rattle.cc_base.proofs.Booleans.{both_true}
@@ -15,9 +15,10 @@ use Rattle.cc_bash.specs.CaseTable.{Case, node_cases, case_below, tree_cases}
 use Rattle.cc_bash.specs.Labels.{Labelled, child_label, labelled, labelled_under, labels, root_label, shared_label}
 use Rattle.cc_bash.specs.Quiet.{is_quiet_forest, is_quiet_node, is_quiet_tree}
 use Rattle.cc_bash.specs.Reader.{bash_cases, bash_table}
-use Rattle.cc_bash.specs.Reads.{BashReads}
+use Rattle.cc_bash.specs.Reads.{BashReads, arm_after}
 use Rattle.cc_bash.specs.Script.{tree_script}
-use Rattle.cc_bash.proofs.CaseWalk.{arm_stands, table_ends, table_walks}
+use Rattle.cc_bash.proofs.CaseWalk.{arm_at_end, arm_stands, table_ends, table_walks}
+use Rattle.cc_bash.proofs.EachArm.{arms_of_places}
 use Rattle.cc_bash.proofs.Clashes.{texts_differ}
 use Rattle.cc_bash.proofs.PlainArms.{IsQuietNode, arm_readable, quiet_node}
 use Rattle.cc_bash.proofs.PlainBytes.{IsPlainText, bytes_of, child_plain, no_comma_of, no_paren_of, other_of, plain_text, root_plain, word_of}
@@ -148,6 +149,9 @@ bash_plain_reads tree clear h = record {
   table = table_back tree h;
   walks = table_walks tree h clear;
   ends = table_ends tree h clear;
+  each_arm = arms_of_places tree;
   arms = arm_stands tree clear;
+  reached = λ quiet words. ap (λ table. arm_after table words) (table_back tree h quiet)
+      ∙ arm_at_end tree h clear words;
   one_label = texts_differ [] (labels tree) clear;
 }

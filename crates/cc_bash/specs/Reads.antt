@@ -1,14 +1,16 @@
 -- What the bash script of a tree reads to.
-use Rattle.std.specs.Prelude.{◌≡◌, ℕ, List, [], ◌∷◌, map, IsTrue, Option, Some, None, bytes_eq, if◌then◌else◌}
+use Rattle.std.specs.Prelude.{◌≡◌, ℕ, List, [], ◌∷◌, map, IsTrue, Option, Some, None}
+use Rattle.std.specs.Prelude.{bytes_eq, if◌then◌else◌}
+use Rattle.std.specs.List.Sorted.{IsPermutation}
 use Rattle.cc_base.specs.Differ.{AllDifferBy}
 use Rattle.cc_command.specs.Tree.{Tree}
 use Rattle.cc_bash.specs.Labels.{labels, root_label}
 use Rattle.cc_bash.specs.CaseTable.{tree_cases, run, run_end}
 use Rattle.cc_bash.specs.Arms.{Arm, arm_of, tree_arms}
 use Rattle.cc_bash.specs.Quiet.{is_quiet_tree}
-use Rattle.cc_bash.specs.Reader.{bash_cases, bash_table}
+use Rattle.cc_bash.specs.Reader.{Table, bash_cases, bash_table}
 use Rattle.cc_bash.specs.Script.{tree_script}
-use Rattle.cc_bash.specs.Walk.{Place, label_at, level_of, places, root_place, walk}
+use Rattle.cc_bash.specs.Walk.{Place, all_places, label_at, level_of, places, root_place, walk}
 
 -- the first arm with a label
 abbrev pub arm_at : List Arm → List ℕ → Option Arm
@@ -19,9 +21,20 @@ arm_at (arm ∷ arms) label = if bytes_eq arm.label label then Some arm else arm
 abbrev pub place_label : Tree → Place → List ℕ
 place_label tree place = label_at (root_label tree) place.path
 
+-- the arm of the node at a place of a tree, at that label
+abbrev pub place_arm : Tree → Place → Arm
+place_arm tree place = arm_of (place_label tree place) (level_of place) place.tree
+
+-- the arm that a table has at the label to which its cases lead from the root's over some words
+abbrev pub arm_after : Option Table → List (List ℕ) → Option Arm
+arm_after None words = None
+arm_after (Some table) words = arm_at table.arms (run_end table.cases table.root words)
+
 -- The script of a tree reads to the tree's cases, and where its possible values are quiet to its
 -- arms too. Over any words the cases lead along the labels of the walk by visible names, and so to
--- that of its last node. At that label stands the node's arm. No two nodes have one label.
+-- that of its last node. The arms are those of all nodes, one for each, at its label, and none
+-- besides; so at the label to which words lead, also as it is read from the script, stands the arm
+-- of the node that the walk reaches. No two nodes have one label.
 pub record BashReads (tree : Tree) : Type 0 where
   pub cases : bash_cases (tree_script tree)
       ≡ Some (record { root = root_label tree; cases = tree_cases tree; arms = [] })
@@ -33,8 +46,11 @@ pub record BashReads (tree : Tree) : Type 0 where
   pub ends : (words : List (List ℕ)) →
       run_end (tree_cases tree) (root_label tree) words
       ≡ place_label tree (walk (root_place tree) words)
+  pub each_arm : IsPermutation (map (place_arm tree) (all_places tree)) (tree_arms tree)
   pub arms : (words : List (List ℕ)) →
       arm_at (tree_arms tree) (place_label tree (walk (root_place tree) words))
-      ≡ Some (arm_of (place_label tree (walk (root_place tree) words))
-      (level_of (walk (root_place tree) words)) (walk (root_place tree) words).tree)
+      ≡ Some (place_arm tree (walk (root_place tree) words))
+  pub reached : IsTrue (is_quiet_tree tree) → (words : List (List ℕ)) →
+      arm_after (bash_table (tree_script tree)) words
+      ≡ Some (place_arm tree (walk (root_place tree) words))
   pub one_label : AllDifferBy (λ label. label) (labels tree)

@@ -37,6 +37,18 @@ walk place (word ∷ words) = walk (next_place place word) words
 abbrev pub root_place : Tree → Place
 root_place tree = record { path = []; tree = tree }
 
+-- the places of siblings below a path: of a node, of those below it, then of those after it
+abbrev pub places_below : List (List ℕ) → Forest → List Place
+places_below path none = []
+places_below path (more node below rest) =
+    let own : List (List ℕ) = path ++ node.name ∷ [] in
+    let place : Place = record { path = own; tree = record { node = node; children = below } } in
+    place ∷ (places_below own below ++ places_below path rest)
+
+-- the places of all nodes of a tree, the root's first
+abbrev pub all_places : Tree → List Place
+all_places tree = root_place tree ∷ places_below [] tree.children
+
 -- the label of the node to which some names lead, below a node with this label
 abbrev pub label_at : List ℕ → List (List ℕ) → List ℕ
 label_at label [] = label

@@ -4,15 +4,18 @@ ghost use Rattle.std.specs.Prelude.{◌++◌, filter, map, flat_map};
 ghost use Rattle.cc_arg.specs.ShownNames.{shown_longs, shown_shorts};
 ghost use Rattle.cc_base.specs.Writes.{Writes};
 ghost use Rattle.cc_command.specs.ArgumentLists.{is_option};
-ghost use Rattle.cc_bash.specs.Arms.{detail_of, filenames, long_word, mode_of, names_of_shown, nospace, offered_by, option_details, plusdirs, short_word, values};
-ghost use Rattle.cc_bash.specs.Script.{detail_text, mode_text, moded_text, offered_text, reply_text};
+ghost use Rattle.cc_bash.specs.Arms.{detail_of, filenames, long_word, mode_of, names_of_shown};
+ghost use Rattle.cc_bash.specs.Arms.{nospace, offered_by, option_details, plusdirs, short_word};
+ghost use Rattle.cc_bash.specs.Arms.{values};
+ghost use Rattle.cc_bash.specs.Script.{detail_text, mode_text, moded_text, offered_text};
+ghost use Rattle.cc_bash.specs.Script.{reply_text};
 
 use crate::texts::{
     detail_begins, detail_ends, detail_word_ends, filenames_word, files_offered, mode_begins,
     mode_ends, nospace_word, plusdirs_word, reply_begins, reply_ends, separator_back,
     separator_kept, values_begin, values_end, word_offered,
 };
-use crate::words::{write_long, write_short, write_shown_values};
+use crate::words::{write_dashed, write_shown_values};
 use cc_arg::{Arg, PossibleValue, ValueHint, possible_values, shown_longs, shown_shorts};
 use cc_base::{Error, Sink, put_all};
 
@@ -45,7 +48,7 @@ fn write_long_details<W: Sink>(argument: &Arg, sink: &mut W) -> Result<(), Error
         (map (detail_of argument.now) (map long_word (shown_longs argument.now)))) }
 {
     for long in shown_longs(argument) {
-        write_long_detail(argument, long, sink)?;
+        write_detail(argument, "--", long, sink)?;
     }
     Ok(())
 }
@@ -56,30 +59,25 @@ fn write_short_details<W: Sink>(argument: &Arg, sink: &mut W) -> Result<(), Erro
         (map (detail_of argument.now) (map short_word (shown_shorts argument.now)))) }
 {
     for short in shown_shorts(argument) {
-        write_short_detail(argument, short, sink)?;
+        let mut buffer = [0; 4];
+        write_detail(argument, "-", short.encode_utf8(&mut buffer), sink)?;
     }
     Ok(())
 }
 
+// For a name and the dashes before it.
 #[tactic(auto, unfolding(crate::specs::Script::detail_text, crate::specs::Script::pattern_text))]
-fn write_long_detail<W: Sink>(argument: &Arg, long: &str, sink: &mut W) -> Result<(), Error>
+fn write_detail<W: Sink>(
+    argument: &Arg,
+    dashes: &str,
+    name: &str,
+    sink: &mut W,
+) -> Result<(), Error>
     ensures { Writes W.taken W.failed result sink.old sink.new
-        (detail_text (detail_of argument.now (long_word long.now))) }
+        (detail_text (detail_of argument.now (dashes.now ++ name.now))) }
 {
     put_all(sink, detail_begins().as_bytes())?;
-    write_long(long, sink)?;
-    put_all(sink, detail_word_ends().as_bytes())?;
-    write_moded(argument, sink)?;
-    put_all(sink, detail_ends().as_bytes())
-}
-
-#[tactic(auto, unfolding(crate::specs::Script::detail_text, crate::specs::Script::pattern_text))]
-fn write_short_detail<W: Sink>(argument: &Arg, short: char, sink: &mut W) -> Result<(), Error>
-    ensures { Writes W.taken W.failed result sink.old sink.new
-        (detail_text (detail_of argument.now (short_word short))) }
-{
-    put_all(sink, detail_begins().as_bytes())?;
-    write_short(short, sink)?;
+    write_dashed(dashes, name, sink)?;
     put_all(sink, detail_word_ends().as_bytes())?;
     write_moded(argument, sink)?;
     put_all(sink, detail_ends().as_bytes())

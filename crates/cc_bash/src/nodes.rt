@@ -1,10 +1,12 @@
 //! The nodes of a command tree, each with its label.
 
-ghost use Rattle.std.specs.Prelude.{◌≡◌, ◌++◌, ◌∷◌, [], ◌<◌, ◌≤◌, ◌+◌, suc, ℕ, List, length, map, reverse, codes, encode_utf8, IfOk, OnOk};
+ghost use Rattle.std.specs.Prelude.{◌≡◌, ◌++◌, ◌∷◌, [], ◌<◌, ◌≤◌, ◌+◌, suc, ℕ, List, length, map};
+ghost use Rattle.std.specs.Prelude.{reverse, codes, encode_utf8, IfOk, OnOk};
 ghost use Rattle.std.specs.String.{string_bytes};
 ghost use Rattle.cc_flat.specs.Flat.{HasItsChildren, children_at, tree_at};
 ghost use Rattle.cc_command.specs.Names.{full_name};
-ghost use Rattle.cc_bash.specs.Labels.{child_label, labelled_node, labelled_under, replaced, sort_text};
+ghost use Rattle.cc_bash.specs.Labels.{child_label, labelled_node, labelled_under, replaced};
+ghost use Rattle.cc_bash.specs.Labels.{sort_text};
 ghost use Rattle.cc_bash.specs.Nodes.{AreListed, labelled_by_all, labelled_of, pending_of};
 
 use cc_base::Text;

@@ -7,7 +7,8 @@ ghost use Rattle.cc_command.specs.Names.{full_name};
 ghost use Rattle.cc_bash.specs.Arms.{arm_below, arm_of, node_arm};
 ghost use Rattle.cc_bash.specs.CaseTable.{case_below, node_cases};
 ghost use Rattle.cc_bash.specs.Nodes.{labelled_of};
-ghost use Rattle.cc_bash.specs.Script.{arm_text, bash_script, case_text, head_text, sorted_text, unsorted_text};
+ghost use Rattle.cc_bash.specs.Script.{arm_text, bash_script, case_text, head_text, sorted_text};
+ghost use Rattle.cc_bash.specs.Script.{unsorted_text};
 ghost use Rattle.cc_bash.specs.Texts.{arms_begin};
 
 use crate::arms::{sort_nodes, write_arm, write_arms};
@@ -38,7 +39,7 @@ pub(crate) fn write_script<W: Sink>(
     write_head(root, sink)?;
     write_table(alloc, &nodes, sink)?;
     write_arms_begin(sink)?;
-    write_arm(alloc, root, 1, command, sink)?;
+    write_root_arm(alloc, root, command, sink)?;
     write_sorted_arms(alloc, nodes, sink)?;
     write_unsorted(root, full_name(command), sink)?;
     write_sorted(root, full_name(command), sink)
@@ -72,6 +73,19 @@ fn write_arms_begin<W: Sink>(sink: &mut W) -> Result<(), Error>
     ensures { Writes W.taken W.failed result sink.old sink.new arms_begin }
 {
     put_all(sink, arms_begin().as_bytes())
+}
+
+// The root's level is 1, since its path has one name.
+fn write_root_arm<W: Sink>(
+    alloc: Global,
+    label: &str,
+    command: &Command,
+    sink: &mut W,
+) -> Result<(), Error>
+    ensures { Writes W.taken W.failed result sink.old sink.new
+        (arm_text (arm_of label.now 1 command.now)) }
+{
+    write_arm(alloc, label, 1, command, sink)
 }
 
 fn write_sorted_arms<W: Sink>(

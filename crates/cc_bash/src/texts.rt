@@ -1,7 +1,14 @@
 //! The fixed texts of a script, as the definitions have them.
 
 ghost use Rattle.std.specs.Prelude.{◌≡◌};
-ghost use Rattle.cc_bash.specs.Texts.{arm_begins, arm_details, arm_ends, arm_level, arm_words, arms_begin, arms_end, case_begins, case_comma, case_ends, case_sets, cases_begin, detail_begins, detail_ends, detail_word_ends, filenames_word, files_offered, function_begins, function_head, mode_begins, mode_ends, nospace_word, otherwise, plusdirs_word, reply_begins, reply_ends, script_ends, separator_back, separator_kept, sorted, unsorted, values_begin, values_end, word_offered};
+ghost use Rattle.cc_bash.specs.Texts.{arm_begins, arm_details, arm_ends, arm_level, arm_words};
+ghost use Rattle.cc_bash.specs.Texts.{arms_begin, arms_end, case_begins, case_comma, case_ends};
+ghost use Rattle.cc_bash.specs.Texts.{case_sets, cases_begin, detail_begins, detail_ends};
+ghost use Rattle.cc_bash.specs.Texts.{detail_word_ends, filenames_word, files_offered};
+ghost use Rattle.cc_bash.specs.Texts.{function_begins, function_head, mode_begins, mode_ends};
+ghost use Rattle.cc_bash.specs.Texts.{nospace_word, otherwise, plusdirs_word, reply_begins};
+ghost use Rattle.cc_bash.specs.Texts.{reply_ends, script_ends, separator_back, separator_kept};
+ghost use Rattle.cc_bash.specs.Texts.{sorted, unsorted, values_begin, values_end, word_offered};
 
 #[tactic(auto, unfolding(crate::specs::Texts::function_begins))]
 pub(crate) fn function_begins() -> &'static str
@@ -62,7 +69,8 @@ pub(crate) fn arms_end() -> &'static str
     esac
 }
 
-if [[ \"${BASH_VERSINFO[0]}\" -eq 4 && \"${BASH_VERSINFO[1]}\" -ge 4 || \"${BASH_VERSINFO[0]}\" -gt 4 ]]; then
+if [[ \"${BASH_VERSINFO[0]}\" -eq 4 && \"${BASH_VERSINFO[1]}\" -ge 4 \
+    || \"${BASH_VERSINFO[0]}\" -gt 4 ]]; then
     complete -F _"
 }
 

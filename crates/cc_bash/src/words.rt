@@ -5,7 +5,8 @@ ghost use Rattle.cc_arg.specs.Arguments.{is_positional};
 ghost use Rattle.cc_base.specs.Writes.{Writes};
 ghost use Rattle.cc_command.specs.Names.{visible_names};
 ghost use Rattle.cc_command.specs.Tree.{forest_of};
-ghost use Rattle.cc_bash.specs.Arms.{long_word, long_words, names_of_shown, names_of_values, short_word, short_words, sibling_names, value_names, words_at};
+ghost use Rattle.cc_bash.specs.Arms.{long_word, long_words, names_of_shown, names_of_values};
+ghost use Rattle.cc_bash.specs.Arms.{short_word, short_words, sibling_names, value_names, words_at};
 ghost use Rattle.cc_bash.specs.Script.{words_text};
 ghost use Rattle.cc_bash.specs.Words.{has_words, separator, words_after};
 
@@ -57,17 +58,9 @@ fn write_short_word<W: Sink>(short: char, begun: &mut bool, sink: &mut W) -> Res
         (separator begun.old ++ short_word short) }
     ensures begun { OnOk result (begun.new ≡ true) }
 {
-    write_separator(begun, sink)?;
-    write_short(short, sink)
-}
-
-/// Writes a short as it is typed.
-pub(crate) fn write_short<W: Sink>(short: char, sink: &mut W) -> Result<(), Error>
-    ensures { Writes W.taken W.failed result sink.old sink.new (short_word short) }
-{
     let mut buffer = [0; 4];
-    put_all(sink, "-".as_bytes())?;
-    put_all(sink, short.encode_utf8(&mut buffer).as_bytes())
+    write_separator(begun, sink)?;
+    write_dashed("-", short.encode_utf8(&mut buffer), sink)
 }
 
 fn write_longs<W: Sink>(arguments: &[Arg], begun: &mut bool, sink: &mut W) -> Result<(), Error>
@@ -102,15 +95,15 @@ fn write_long_word<W: Sink>(long: &str, begun: &mut bool, sink: &mut W) -> Resul
     ensures begun { OnOk result (begun.new ≡ true) }
 {
     write_separator(begun, sink)?;
-    write_long(long, sink)
+    write_dashed("--", long, sink)
 }
 
-/// Writes a long as it is typed.
-pub(crate) fn write_long<W: Sink>(long: &str, sink: &mut W) -> Result<(), Error>
-    ensures { Writes W.taken W.failed result sink.old sink.new (long_word long.now) }
+/// Writes a name after its dashes.
+pub(crate) fn write_dashed<W: Sink>(dashes: &str, name: &str, sink: &mut W) -> Result<(), Error>
+    ensures { Writes W.taken W.failed result sink.old sink.new (dashes.now ++ name.now) }
 {
-    put_all(sink, "--".as_bytes())?;
-    put_all(sink, long.as_bytes())
+    put_all(sink, dashes.as_bytes())?;
+    put_all(sink, name.as_bytes())
 }
 
 fn write_positional_values<W: Sink>(
@@ -154,7 +147,8 @@ fn write_values<W: Sink>(
 ) -> Result<(), Error>
     ensures written { Writes W.taken W.failed result sink.old sink.new
         (words_after begun.old (names_of_values possible.now)) }
-    ensures begun { OnOk result (begun.new ≡ (begun.old || has_words (names_of_values possible.now))) }
+    ensures begun { OnOk result
+        (begun.new ≡ (begun.old || has_words (names_of_values possible.now))) }
 {
     for value in possible {
         write_word(value.get_name(), begun, sink)?;

@@ -15,5 +15,5 @@ returns g c =
     (writes_then _ _ (writes_then _ _ (writes_then _ _
     (writes_then _ _ (writes_then _ _ (writes_then _ _
     c.in_ok-write_head.ensures c.in_ok-write_table.ensures) c.in_ok-write_arms_begin.ensures)
-    c.in_ok-write_arm.ensures)
+    c.in_ok-write_root_arm.ensures)
     c.in_ok-write_sorted_arms.ensures) c.in_ok-write_unsorted.ensures) c.write_sorted.ensures)

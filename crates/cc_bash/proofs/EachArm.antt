@@ -1,0 +1,80 @@
+-- The arms of a tree are those of its nodes, each at its label.
+use Rattle.std.proofs.Common.{◌≡◌, ℕ, suc, Bool, true, false, List, [], ◌∷◌, ◌++◌, length, map}
+use Rattle.std.proofs.Common.{inl, inr, refl, sym, ap, ◌∙◌, subst}
+use Rattle.std.specs.List.Sorted.{IsPermutation}
+use Rattle.std.proofs.lemmas.Bool.{cases_Bool}
+use Rattle.std.proofs.lemmas.List.{map-append}
+use Rattle.std.proofs.lemmas.List.Sorted.{IsPermutation-refl, IsPermutation-cons}
+use Rattle.std.proofs.lemmas.List.Sorted.{IsPermutation-trans, IsPermutation-middle}
+use Rattle.std.proofs.lemmas.List.Sorted.{IsPermutation-map}
+use Rattle.cc_base.specs.Sorting.{placed, in_order}
+use Rattle.cc_command.specs.Tree.{Forest, none, more, Tree}
+use Rattle.cc_bash.specs.Arms.{Arm, arm_of, arm_below, node_arm, tree_arms}
+use Rattle.cc_bash.specs.Labels.{child_label, labelled_under, labelled, root_label}
+use Rattle.cc_bash.specs.Reads.{place_arm}
+use Rattle.cc_bash.specs.Walk.{all_places, label_at, places_below}
+use Rattle.cc_bash.proofs.CaseWalk.{label_at-more, length-more}
+
+-- ---- a list in order has the elements of the list
+
+module _ {X : Type 0} (below : X → X → Bool) where
+  placed-permutes : (x : X) (ys : List X) → IsPermutation (x ∷ ys) (placed below x ys)
+  unfolding placed
+  placed-permutes x [] = IsPermutation-refl (x ∷ [])
+  placed-permutes x (y ∷ ys) = elim (cases_Bool (below y x)) [
+    | inl t ↦ rw t (IsPermutation-trans (x ∷ y ∷ ys) (y ∷ x ∷ ys) (y ∷ placed below x ys)
+        (IsPermutation-middle (x ∷ []) y ys)
+        (IsPermutation-cons y (x ∷ ys) (placed below x ys) (placed-permutes x ys)))
+    | inr f ↦ rw f (IsPermutation-refl (x ∷ y ∷ ys))
+  ]
+
+  in_order-permutes : (xs : List X) → IsPermutation xs (in_order below xs)
+  unfolding in_order
+  in_order-permutes [] = IsPermutation-refl []
+  in_order-permutes (x ∷ xs) =
+      IsPermutation-trans (x ∷ xs) (x ∷ in_order below xs) (placed below x (in_order below xs))
+      (IsPermutation-cons x xs (in_order below xs) (in_order-permutes xs))
+      (placed-permutes x (in_order below xs))
+
+-- ---- the nodes with their labels are the places
+
+arms_below : (tree : Tree) (path : List (List ℕ)) (label : List ℕ) (level : ℕ) (forest : Forest) →
+    label ≡ label_at (root_label tree) path → level ≡ suc (suc (length path)) →
+    map node_arm (labelled_under label level forest)
+    ≡ map (place_arm tree) (places_below path forest)
+arms_below tree path label level none at deep = refl
+arms_below tree path label level (more node below rest) at deep =
+    let root : List ℕ = root_label tree in
+    let own : List (List ℕ) = path ++ node.name ∷ [] in
+    let here : Tree = record { node = node; children = below } in
+    let named : child_label label node.name ≡ label_at root own =
+    ap (λ l. child_label l node.name) at ∙ sym (label_at-more root path node.name) in
+    let deeper : level ≡ suc (length own) =
+    deep ∙ ap (λ k. suc k) (length-more path node.name) in
+    let one : arm_of (child_label label node.name) level here
+    ≡ arm_of (label_at root own) (suc (length own)) here =
+    ap (λ l. arm_of l level here) named ∙ ap (λ k. arm_of (label_at root own) k here) deeper in
+    let inner = arms_below tree own (child_label label node.name) (suc level) below named
+    (ap (λ k. suc k) deeper) in
+    let later = arms_below tree path label level rest at deep in
+    ap (λ arm. arm ∷ map node_arm (labelled_under (child_label label node.name) (suc level) below
+    ++ labelled_under label level rest)) one
+    ∙ ap (λ arms. place_arm tree (record { path = own; tree = here }) ∷ arms)
+    (map-append node_arm (labelled_under (child_label label node.name) (suc level) below)
+    (labelled_under label level rest)
+    ∙ ap (λ arms. arms ++ map node_arm (labelled_under label level rest)) inner
+    ∙ ap (λ arms. map (place_arm tree) (places_below own below) ++ arms) later
+    ∙ sym (map-append (place_arm tree) (places_below own below) (places_below path rest)))
+
+-- the arms of a tree are, but for their order, those of its nodes
+pub arms_of_places : (tree : Tree) →
+    IsPermutation (map (place_arm tree) (all_places tree)) (tree_arms tree)
+unfolding tree_arms
+arms_of_places tree =
+    let sorted : List Arm = map node_arm (in_order arm_below (labelled tree)) in
+    IsPermutation-cons (arm_of (root_label tree) 1 tree)
+    (map (place_arm tree) (places_below [] tree.children)) sorted
+    (subst (λ arms. IsPermutation arms sorted)
+    (arms_below tree [] (root_label tree) 2 tree.children refl refl)
+    (IsPermutation-map node_arm (labelled tree) (in_order arm_below (labelled tree))
+    (in_order-permutes arm_below (labelled tree))))
