@@ -1,5 +1,6 @@
 -- Tables, walks and scripts of small trees, as the definitions have them.
-use Rattle.std.proofs.Common.{◌≡◌, Bool, true, List, [], ◌∷◌, Some, None, codes, refl}
+use Rattle.std.proofs.Common.{◌≡◌, Bool, true, List, [], ◌∷◌, map, Some, None, codes, refl}
+use Rattle.std.specs.Option.{option_map}
 use Rattle.std.specs.Char.{encode_utf8}
 use Rattle.std.specs.Fmt.{digits}
 use Rattle.cc_arg.specs.Arguments.{new_arg}
@@ -18,6 +19,8 @@ use Rattle.cc_bash.specs.Arms.{Arm, details_at, tree_arms, words_at, values, fil
 use Rattle.cc_bash.specs.CaseTable.{Case, run, tree_cases}
 use Rattle.cc_bash.specs.Labels.{shared_label}
 use Rattle.cc_bash.specs.Quiet.{is_quiet_value}
+use Rattle.cc_bash.specs.Reads.{arm_after, place_label}
+use Rattle.cc_bash.specs.Walk.{all_places}
 use Rattle.cc_bash.specs.Reader.{pattern_of, assigned, bare_text, double_text, is_root, is_empty_reply, is_typed_reply, is_compgen_reply, mode_named, case_by, next, closed_table, read, bash_table}
 use Rattle.cc_bash.specs.Script.{case_text, offered_text, reply_text, mode_word, mode_text, moded_text, pattern_text, detail_text, arm_words_text, arm_level_text, arm_text, head_text, unsorted_text, sorted_text, bash_script}
 use Rattle.cc_bash.specs.Texts.{function_begins, function_head, cases_begin, arms_begin, arms_end, unsorted, otherwise, sorted, script_ends, case_begins, case_comma, case_sets, case_ends, arm_begins, arm_words, arm_level, arm_details, arm_ends, detail_begins, detail_word_ends, separator_kept, separator_back, reply_begins, reply_ends, values_begin, values_end, files_offered, word_offered, mode_begins, mode_ends, filenames_word, plusdirs_word, nospace_word, detail_ends}
@@ -93,6 +96,22 @@ my_app_run : run (tree_cases my_app) (codes "my__app")
     ∷ codes "my__app__subcmd__test" ∷ []
 unfolding placed in_order tree_cases help_argument version_argument help_name version_name
 my_app_run = refl
+
+-- the nodes of `my-app`, by their labels
+my_app_places : map (place_label my_app) (all_places my_app)
+    ≡ codes "my__app" ∷ codes "my__app__subcmd__test" ∷ codes "my__app__subcmd__help"
+    ∷ codes "my__app__subcmd__help__subcmd__test" ∷ codes "my__app__subcmd__help__subcmd__help"
+    ∷ []
+unfolding help_argument version_argument help_name version_name
+my_app_places = refl
+
+-- at the label to which words lead stands the arm of the third level
+my_app_reached : option_map (λ arm. arm.level) (arm_after
+    (Some (record { root = codes "my__app"; cases = tree_cases my_app; arms = tree_arms my_app }))
+    (codes "--flag" ∷ codes "help" ∷ codes "test" ∷ []))
+    ≡ Some (codes "3")
+unfolding placed in_order tree_cases tree_arms words_at details_at digits encode_utf8 help_argument version_argument help_name version_name
+my_app_reached = refl
 
 my_app_clear : shared_label my_app ≡ None
 unfolding help_argument version_argument help_name version_name
