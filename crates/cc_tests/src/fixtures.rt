@@ -5,7 +5,8 @@ use clap_complete::Error;
 use clap_complete::command::{Arg, ArgAction, Command, PossibleValue, ValueHint};
 use std::alloc::Global;
 
-fn named(alloc: Global, name: &str) -> Result<Command, Error> {
+/// A command of this name.
+pub(crate) fn named(alloc: Global, name: &str) -> Result<Command, Error> {
     Ok(Command::new(alloc, String::from_str(alloc, name)?))
 }
 
@@ -201,6 +202,31 @@ fn value(alloc: Global, name: &str) -> Result<PossibleValue, Error> {
 /// `app` with an option `--path` whose values are what this hint says.
 pub(crate) fn hinted(alloc: Global, hint: ValueHint) -> Result<Command, Error> {
     with(bare(alloc), Ok(long(alloc, "path")?.value_hint(hint)))
+}
+
+/// `app` with an option `--dir` whose values are directories.
+pub(crate) fn with_directory(alloc: Global) -> Result<Command, Error> {
+    let dir = long(alloc, "dir")?.value_hint(ValueHint::DirPath);
+    with(named(alloc, "app"), Ok(dir))
+}
+
+/// `app` with an option `--one` that may be this value, which has this help.
+pub(crate) fn listed(alloc: Global, name: &str, help: &str) -> Result<Command, Error> {
+    let one = long(alloc, "one")?.value_parser(helped_value(alloc, name, help)?);
+    with(bare(alloc), Ok(one))
+}
+
+fn helped_value(alloc: Global, name: &str, help: &str) -> Result<Vec<PossibleValue>, Error> {
+    let help = String::from_str(alloc, help)?;
+    let mut values = Vec::new(alloc);
+    values.push(value(alloc, name)?.help(help))?;
+    Ok(values)
+}
+
+/// `p`, which holds `a`, which holds `b`, which holds `c`, and all that building adds.
+pub(crate) fn deep(alloc: Global) -> Result<Command, Error> {
+    let b = holding(named(alloc, "b"), named(alloc, "c"));
+    holding(named(alloc, "p"), holding(named(alloc, "a"), b))
 }
 
 /// A command that was built.

@@ -15,6 +15,8 @@ mod elvish;
 #[cfg(test)]
 mod example;
 #[cfg(test)]
+mod fish;
+#[cfg(test)]
 mod fixtures;
 #[cfg(test)]
 mod index;

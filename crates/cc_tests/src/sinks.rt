@@ -1,8 +1,8 @@
 //! Scripts written to sinks that take little, fail, take nothing, or measure what they take.
 
-use crate::fixtures::{app, helped, many, nested};
+use crate::fixtures::{app, colored, helped, many, nested};
 use crate::written::{script, write_script};
-use clap_complete::aot::{Bash, Counted, Elvish, PowerShell, Sink};
+use clap_complete::aot::{Bash, Counted, Elvish, Fish, PowerShell, Sink};
 use clap_complete::command::Command;
 use clap_complete::{Error, Generator, generate};
 use std::alloc::Global;
@@ -95,6 +95,14 @@ fn one_byte_a_call_is_the_same_powershell_script(rt: HostRuntime) -> Result<(), 
 fn one_byte_a_call_is_the_same_bash_script(rt: HostRuntime) -> Result<(), Fail> {
     let whole = script(rt.alloc(), Bash, helped(rt.alloc()))?;
     let by_bytes = by_bytes(rt.alloc(), Bash, helped(rt.alloc()))?;
+    assert_eq!(rt; by_bytes.as_str(), whole.as_str());
+    Ok(())
+}
+
+#[test]
+fn one_byte_a_call_is_the_same_fish_script(rt: HostRuntime) -> Result<(), Fail> {
+    let whole = script(rt.alloc(), Fish, colored(rt.alloc()))?;
+    let by_bytes = by_bytes(rt.alloc(), Fish, colored(rt.alloc()))?;
     assert_eq!(rt; by_bytes.as_str(), whole.as_str());
     Ok(())
 }
@@ -212,6 +220,18 @@ fn bash_reports_a_writer_that_takes_nothing_more(rt: HostRuntime) -> Result<(), 
     Ok(())
 }
 
+#[test]
+fn fish_reports_a_writer_that_fails_and_is_whole_afterwards(rt: HostRuntime) -> Result<(), Fail> {
+    assert!(rt; reports(rt.alloc(), Fish, (BROKEN, BROKEN))?);
+    Ok(())
+}
+
+#[test]
+fn fish_reports_a_writer_that_takes_nothing_more(rt: HostRuntime) -> Result<(), Fail> {
+    assert!(rt; reports(rt.alloc(), Fish, (None, ZERO))?);
+    Ok(())
+}
+
 // What a measuring writer counts of the script of many options.
 fn handed_on<G: Generator + Drop>(alloc: Global, generator: G) -> Result<Measured, Error> {
     let mut sink = Counted::new(Measured { most: 0, all: 0 });
@@ -238,6 +258,14 @@ fn no_slice_of_a_long_powershell_script_is_long(rt: HostRuntime) -> Result<(), F
 #[test]
 fn no_slice_of_a_long_bash_script_is_long(rt: HostRuntime) -> Result<(), Fail> {
     let measured = handed_on(rt.alloc(), Bash)?;
+    assert!(rt; measured.all > 10_000);
+    assert!(rt; measured.most <= 1_024);
+    Ok(())
+}
+
+#[test]
+fn no_slice_of_a_long_fish_script_is_long(rt: HostRuntime) -> Result<(), Fail> {
+    let measured = handed_on(rt.alloc(), Fish)?;
     assert!(rt; measured.all > 10_000);
     assert!(rt; measured.most <= 1_024);
     Ok(())

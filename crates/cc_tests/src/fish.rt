@@ -1,0 +1,192 @@
+//! Fish scripts.
+
+use crate::fixtures::{
+    built, chain, colored, deep, described, hinted, listed, named, with_directory,
+};
+use crate::written::{script, script_for};
+use clap_complete::aot::{Collected, Fish};
+use clap_complete::command::{Command, ValueHint};
+use clap_complete::{Error, Generator};
+use std::alloc::Global;
+use std::test::Fail;
+
+const COLORED: &str =
+    "# Print an optspec for argparse to handle cmd's options that are independent of any subcommand.
+function __fish_my_app_global_optspecs
+    string join \\n c/color= h/help
+end
+
+function __fish_my_app_needs_command
+    # Figure out if the current invocation already has a command.
+    set -l cmd (commandline -opc)
+    set -e cmd[1]
+    argparse -s (__fish_my_app_global_optspecs) -- $cmd 2>/dev/null
+    or return
+    if set -q argv[1]
+        # Also print the command, so this can be used to figure out what it is.
+        echo $argv[1]
+        return 1
+    end
+    return 0
+end
+
+function __fish_my_app_using_subcommand
+    set -l cmd (__fish_my_app_needs_command)
+    test -z \"$cmd\"
+    and return 1
+    contains -- $cmd[1] $argv
+end
+
+complete -c my-app -n \"__fish_my_app_needs_command\" -s c -l color -d 'Colour' -r -f -a \"auto\\t''\"
+complete -c my-app -n \"__fish_my_app_needs_command\" -s h -l help -d 'Print help'
+complete -c my-app -n \"__fish_my_app_needs_command\" -f -a \"run\"
+complete -c my-app -n \"__fish_my_app_needs_command\" -f -a \"help\" -d 'Print this message or the help of the given subcommand(s)'
+complete -c my-app -n \"__fish_my_app_using_subcommand run\" -s h -l help -d 'Print help'
+complete -c my-app -n \"__fish_my_app_using_subcommand help; and not __fish_seen_subcommand_from run help\" -f -a \"run\"
+complete -c my-app -n \"__fish_my_app_using_subcommand help; and not __fish_seen_subcommand_from run help\" -f -a \"help\" -d 'Print this message or the help of the given subcommand(s)'
+";
+
+#[test]
+fn the_whole_script(rt: HostRuntime) -> Result<(), Fail> {
+    let script = script_for(rt.alloc(), Fish, colored(rt.alloc()), "my-app")?;
+    assert_eq!(rt; script.as_str(), COLORED);
+    Ok(())
+}
+
+const OPTION: &str = "
+complete -c app -n \"__fish_app_needs_command\" -s c -l color -d 'Colour' -r -f -a \"auto\\t''\"
+";
+
+#[test]
+fn values_that_are_shown_are_offered(rt: HostRuntime) -> Result<(), Fail> {
+    let script = script(rt.alloc(), Fish, colored(rt.alloc()))?;
+    assert!(rt; script.as_str().contains(OPTION));
+    assert!(rt;
+        script
+            .as_str()
+            .contains("\n    string join \\n c/color= h/help\n")
+    );
+    Ok(())
+}
+
+#[test]
+fn a_command_without_children_has_no_head(rt: HostRuntime) -> Result<(), Fail> {
+    let script = script(rt.alloc(), Fish, named(rt.alloc(), "app"))?;
+    assert_eq!(rt;
+        script.as_str(),
+        "complete -c app -s h -l help -d 'Print help'\n"
+    );
+    Ok(())
+}
+
+#[test]
+fn a_hint_calls_a_function_of_fish(rt: HostRuntime) -> Result<(), Fail> {
+    let script = script(rt.alloc(), Fish, with_directory(rt.alloc()))?;
+    assert_eq!(rt;
+        script.as_str().lines().next(),
+        Some("complete -c app -l dir -r -f -a \"(__fish_complete_directories)\"")
+    );
+    Ok(())
+}
+
+#[test]
+fn an_about_is_escaped(rt: HostRuntime) -> Result<(), Fail> {
+    let script = script(rt.alloc(), Fish, described(rt.alloc(), "it's\n[x]:\\"))?;
+    assert!(rt;
+        script
+            .as_str()
+            .ends_with(" -f -a \"c\" -d 'it\\'s [x]:\\\\'\n")
+    );
+    Ok(())
+}
+
+#[test]
+fn a_value_is_escaped_for_two_readings(rt: HostRuntime) -> Result<(), Fail> {
+    let script = script(rt.alloc(), Fish, listed(rt.alloc(), "v", "$HOME \"x\""))?;
+    assert!(rt;
+        script
+            .as_str()
+            .contains(" -a \"v\\t'\\$HOME \\\"x\\\"'\"\n")
+    );
+    Ok(())
+}
+
+const SECOND: &str = "
+complete -c p -n \"__fish_p_using_subcommand a; and __fish_seen_subcommand_from b; and not __fish_seen_subcommand_from c help\" -s h -l help -d 'Print help'
+complete -c p -n \"__fish_p_using_subcommand a; and __fish_seen_subcommand_from b; and not __fish_seen_subcommand_from c help\" -f -a \"c\"
+";
+
+const THIRD: &str = "
+complete -c p -n \"__fish_p_using_subcommand a; and __fish_seen_subcommand_from b; and __fish_seen_subcommand_from c\" -s h -l help -d 'Print help'
+";
+
+const HELP: &str = "
+complete -c p -n \"__fish_p_using_subcommand help; and __fish_seen_subcommand_from a; and __fish_seen_subcommand_from b; and not __fish_seen_subcommand_from c\" -f -a \"c\"
+";
+
+#[test]
+fn every_visible_path_has_its_records(rt: HostRuntime) -> Result<(), Fail> {
+    let script = script_for(rt.alloc(), Fish, deep(rt.alloc()), "p")?;
+    assert!(rt; script.as_str().contains(SECOND));
+    assert!(rt; script.as_str().contains(THIRD));
+    assert!(rt; script.as_str().contains(HELP));
+    Ok(())
+}
+
+const LAST: &str =
+    "; and __fish_seen_subcommand_from n198; and __fish_seen_subcommand_from n199\" -l end\n";
+
+#[test]
+fn the_last_of_two_hundred_commands_has_its_record(rt: HostRuntime) -> Result<(), Fail> {
+    let script = script(rt.alloc(), Fish, chain(rt.alloc()))?;
+    assert_eq!(rt; script.as_str().split("\ncomplete -c app ").count(), 201);
+    assert!(rt; script.as_str().ends_with(LAST));
+    Ok(())
+}
+
+// Whether the script of an option with this hint is this line.
+fn offers(alloc: Global, hint: ValueHint, line: &str) -> Result<bool, Error> {
+    Ok(script(alloc, Fish, hinted(alloc, hint))?.as_str() == line)
+}
+
+#[test]
+fn each_hint_has_its_marks(rt: HostRuntime) -> Result<(), Fail> {
+    let unknown = "complete -c app -l path -r\n";
+    let file = "complete -c app -l path -r -F\n";
+    let other = "complete -c app -l path -r -f\n";
+    let user = "complete -c app -l path -r -f -a \"(__fish_complete_users)\"\n";
+    assert!(rt; offers(rt.alloc(), ValueHint::Unknown, unknown)?);
+    assert!(rt; offers(rt.alloc(), ValueHint::FilePath, file)?);
+    assert!(rt; offers(rt.alloc(), ValueHint::Url, other)?);
+    assert!(rt; offers(rt.alloc(), ValueHint::Username, user)?);
+    Ok(())
+}
+
+// What the methods write of a command that is ready.
+fn twice(alloc: Global, command: &Command) -> Result<String, Error> {
+    let mut sink = Collected::new(alloc);
+    if command.is_ready() {
+        Fish.generate(alloc, command, &mut sink)?;
+        Fish.try_generate(alloc, command, &mut sink)?;
+    }
+    Ok(String::from_utf8_lossy(alloc, sink.as_slice())?)
+}
+
+fn ready(alloc: Global) -> Result<Command, Error> {
+    let bin_name = String::from_str(alloc, "my-app")?;
+    built(alloc, Ok(colored(alloc)?.bin_name(bin_name)))
+}
+
+#[test]
+fn the_methods_write_the_script(rt: HostRuntime) -> Result<(), Fail> {
+    let written = twice(rt.alloc(), &ready(rt.alloc())?)?;
+    assert_eq!(rt; written.as_str().strip_prefix(COLORED), Some(COLORED));
+    Ok(())
+}
+
+#[test]
+fn the_file_is_named_after_the_program(rt: HostRuntime) -> Result<(), Fail> {
+    let file = Fish.file_name(rt.alloc(), "app")?;
+    assert_eq!(rt; file.as_str(), "app.fish");
+    Ok(())
+}
