@@ -1,10 +1,10 @@
 -- What a call that writes an Elvish script of plain commands alone does.
 use Rattle.std.specs.Prelude.{◌≡◌, ℕ, List, ◌++◌, Bool, true, false, Some, Result, Ok, ⊤}
-use Rattle.cc_base.specs.declared.error.Error.{Error}
-use Rattle.cc_command.specs.Tree.{Tree}
-use Rattle.cc_tables.specs.ElvishReader.{elvish_tables, offer_read}
-use Rattle.cc_tables.specs.ElvishScript.{elvish_script}
-use Rattle.cc_tables.specs.Tables.{tree_tables}
+use Rattle.clap_complete.specs.ElvishReader.{elvish_tables, offer_read}
+use Rattle.clap_complete.specs.ElvishScript.{elvish_script}
+use Rattle.clap_complete.specs.Error.{Error}
+use Rattle.clap_complete.specs.Tables.{tree_tables}
+use Rattle.clap_complete.specs.Tree.{Tree}
 
 -- the script of the tree is taken, and it reads to the tree's tables
 pub record TakesTables (old new : List ℕ) (tree : Tree) : Type 0 where

@@ -2,12 +2,11 @@
 
 ghost use Rattle.std.specs.Prelude.{Some};
 ghost use Rattle.std.specs.String.{string_bytes};
-ghost use Rattle.cc_command.specs.Built.{built_under};
+ghost use Rattle.clap_complete.specs.Built.{built_under};
 ghost use Rattle.cc_tests.specs.PlainScript.{TakesPlain};
 
-use cc_command::is_plain_name;
 use clap_complete::aot::{Elvish, Sink};
-use clap_complete::command::Command;
+use clap_complete::command::{Command, is_plain_name};
 use clap_complete::{Error, generate};
 use std::alloc::Global;
 

@@ -3,9 +3,9 @@
 
 use crate::fixtures::{file, nested, test};
 use crate::written::script;
-use clap_complete::aot::{Collected, Elvish, PowerShell};
+use clap_complete::aot::Collected;
 use clap_complete::command::{Arg, Command, Text};
-use clap_complete::{Error, Generator};
+use clap_complete::{Error, Generator, Shell};
 use std::alloc::Global;
 use std::test::Fail;
 
@@ -114,19 +114,12 @@ fn doubled(text: Result<String, Error>) -> Result<String, Error> {
 }
 
 #[test]
-fn the_methods_of_elvish_write_its_script(rt: HostRuntime) -> Result<(), Fail> {
-    let command = ready(rt.alloc())?;
-    let written = twice(rt.alloc(), &Elvish, &command)?;
-    let wanted = doubled(script(rt.alloc(), Elvish, nested(rt.alloc())))?;
-    assert_eq!(rt; written.as_str(), wanted.as_str());
-    Ok(())
-}
-
-#[test]
-fn the_methods_of_powershell_write_its_script(rt: HostRuntime) -> Result<(), Fail> {
-    let command = ready(rt.alloc())?;
-    let written = twice(rt.alloc(), &PowerShell, &command)?;
-    let wanted = doubled(script(rt.alloc(), PowerShell, nested(rt.alloc())))?;
-    assert_eq!(rt; written.as_str(), wanted.as_str());
+fn the_methods_of_a_shell_write_its_script(rt: HostRuntime) -> Result<(), Fail> {
+    for shell in Shell::value_variants() {
+        let command = ready(rt.alloc())?;
+        let written = twice(rt.alloc(), shell, &command)?;
+        let wanted = doubled(script(rt.alloc(), *shell, nested(rt.alloc())))?;
+        assert_eq!(rt; written.as_str(), wanted.as_str());
+    }
     Ok(())
 }

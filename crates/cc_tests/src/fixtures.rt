@@ -1,5 +1,5 @@
-//! Small trees. Each step that may be refused memory is a function of its own, since a check of many
-//! such steps in one function takes long.
+//! Small trees. Each step that may run out of memory is a function of its own, since a check of
+//! many such steps in one function takes long.
 
 use clap_complete::Error;
 use clap_complete::command::{Arg, ArgAction, Command, PossibleValue, ValueHint};
@@ -175,7 +175,8 @@ pub(crate) fn clashing(alloc: Global) -> Result<Command, Error> {
     holding(holding(named(alloc, "p"), named(alloc, "a-b")), a)
 }
 
-/// `app` with an option `-c`, `--color`, which may be `auto` or, hidden, `never`, and a child `run`.
+/// `app` with an option `-c`, `--color`, which may be `auto` or, hidden, `never`, and a child
+/// `run`.
 pub(crate) fn colored(alloc: Global) -> Result<Command, Error> {
     let command = with(named(alloc, "app"), color(alloc));
     holding(command, named(alloc, "run"))

@@ -1,8 +1,7 @@
 //! What a command lists of its arguments and names by kind, and which commands are plain.
 
 use crate::fixtures::{app_with_input, built, nested, quoted};
-use cc_command::is_plain_name;
-use clap_complete::command::{Arg, Command};
+use clap_complete::command::{Arg, Command, is_plain_name};
 use std::test::Fail;
 
 // The id, and nothing where there is no argument.

@@ -27,6 +27,8 @@ mod lists;
 #[cfg(test)]
 mod powershell;
 #[cfg(test)]
+mod shell;
+#[cfg(test)]
 mod sinks;
 #[cfg(test)]
 mod tree_file;

@@ -1,10 +1,10 @@
 //! Scripts written to sinks that take little, fail, take nothing, or measure what they take.
 
-use crate::fixtures::{app, colored, helped, many, nested};
+use crate::fixtures::{app, helped, many, nested};
 use crate::written::{script, write_script};
-use clap_complete::aot::{Bash, Counted, Elvish, Fish, PowerShell, Sink};
+use clap_complete::aot::{Counted, Sink};
 use clap_complete::command::Command;
-use clap_complete::{Error, Generator, generate};
+use clap_complete::{Error, Shell, generate};
 use std::alloc::Global;
 use std::io::{self, ErrorKind, Write};
 use std::test::Fail;
@@ -65,78 +65,41 @@ fn narrow_sink(alloc: Global, room: usize, kind: Option<ErrorKind>) -> Counted<N
 }
 
 // The script as a writer takes it that takes one byte a call.
-fn by_bytes<G: Generator + Drop>(
-    alloc: Global,
-    generator: G,
-    command: Result<Command, Error>,
-) -> Result<String, Error> {
+fn by_bytes(alloc: Global, shell: Shell, command: Result<Command, Error>) -> Result<String, Error> {
     let mut sink = narrow_sink(alloc, usize::MAX, None);
-    write_script(alloc, generator, command, &mut sink)?;
+    write_script(alloc, shell, command, &mut sink)?;
     Ok(String::from_utf8_lossy(alloc, sink.get_ref().held.as_slice())?)
 }
 
-#[test]
-fn one_byte_a_call_is_the_same_elvish_script(rt: HostRuntime) -> Result<(), Fail> {
-    let whole = script(rt.alloc(), Elvish, nested(rt.alloc()))?;
-    let by_bytes = by_bytes(rt.alloc(), Elvish, nested(rt.alloc()))?;
-    assert_eq!(rt; by_bytes.as_str(), whole.as_str());
-    Ok(())
+// Whether a writer that takes one byte a call gets the whole script, also of copies below `help`.
+fn same_by_bytes(alloc: Global, shell: Shell) -> Result<bool, Error> {
+    let whole = script(alloc, shell, nested(alloc))?;
+    let taken = by_bytes(alloc, shell, nested(alloc))?;
+    let whole_with_copies = script(alloc, shell, helped(alloc))?;
+    let taken_with_copies = by_bytes(alloc, shell, helped(alloc))?;
+    Ok(taken.as_str() == whole.as_str() && taken_with_copies.as_str() == whole_with_copies.as_str())
 }
 
 #[test]
-fn one_byte_a_call_is_the_same_powershell_script(rt: HostRuntime) -> Result<(), Fail> {
-    let whole = script(rt.alloc(), PowerShell, nested(rt.alloc()))?;
-    let by_bytes = by_bytes(rt.alloc(), PowerShell, nested(rt.alloc()))?;
-    assert_eq!(rt; by_bytes.as_str(), whole.as_str());
+fn one_byte_a_call_is_the_same_script(rt: HostRuntime) -> Result<(), Fail> {
+    for shell in Shell::value_variants() {
+        assert!(rt; same_by_bytes(rt.alloc(), *shell)?);
+    }
     Ok(())
 }
 
-#[test]
-fn one_byte_a_call_is_the_same_bash_script(rt: HostRuntime) -> Result<(), Fail> {
-    let whole = script(rt.alloc(), Bash, helped(rt.alloc()))?;
-    let by_bytes = by_bytes(rt.alloc(), Bash, helped(rt.alloc()))?;
-    assert_eq!(rt; by_bytes.as_str(), whole.as_str());
-    Ok(())
-}
-
-#[test]
-fn one_byte_a_call_is_the_same_fish_script(rt: HostRuntime) -> Result<(), Fail> {
-    let whole = script(rt.alloc(), Fish, colored(rt.alloc()))?;
-    let by_bytes = by_bytes(rt.alloc(), Fish, colored(rt.alloc()))?;
-    assert_eq!(rt; by_bytes.as_str(), whole.as_str());
-    Ok(())
-}
-
-#[test]
-fn one_byte_a_call_is_the_same_elvish_script_with_copies(rt: HostRuntime) -> Result<(), Fail> {
-    let whole = script(rt.alloc(), Elvish, helped(rt.alloc()))?;
-    let by_bytes = by_bytes(rt.alloc(), Elvish, helped(rt.alloc()))?;
-    assert_eq!(rt; by_bytes.as_str(), whole.as_str());
-    assert!(rt; whole.as_str().contains("&'app;help;test'= {"));
-    Ok(())
-}
-
-#[test]
-fn one_byte_a_call_is_the_same_powershell_script_with_copies(rt: HostRuntime) -> Result<(), Fail> {
-    let whole = script(rt.alloc(), PowerShell, helped(rt.alloc()))?;
-    let by_bytes = by_bytes(rt.alloc(), PowerShell, helped(rt.alloc()))?;
-    assert_eq!(rt; by_bytes.as_str(), whole.as_str());
-    assert!(rt; whole.as_str().contains("'app;help;test' {"));
-    Ok(())
-}
-
-// How the script of a command ends over a writer that takes `room` bytes: the kind of the write that
-// failed, how many failed, how much was taken, and whether `whole` begins with it.
-fn end_of<G: Generator + Drop>(
+// How the script of a command ends over a writer that takes `room` bytes: the kind of the write
+// that failed, how many failed, how much was taken, and whether `whole` begins with it.
+fn end_of(
     alloc: Global,
-    generator: G,
+    shell: Shell,
     command: &mut Command,
     narrow: (usize, Option<ErrorKind>),
     whole: &str,
 ) -> Result<(Option<ErrorKind>, u64, usize, bool), Error> {
     let mut sink = narrow_sink(alloc, narrow.0, narrow.1);
     let bin_name = String::from_str(alloc, "app")?;
-    let kind = match generate(alloc, generator, command, bin_name, &mut sink) {
+    let kind = match generate(alloc, shell, command, bin_name, &mut sink) {
         Err(Error::Write(kind)) => Some(kind),
         _ => None,
     };
@@ -154,119 +117,63 @@ const ZERO: Option<ErrorKind> = Some(ErrorKind::WriteZero);
 
 // Whether a writer with too little room, for each such room, is reported as it is to be, and a call
 // with room enough then writes the whole script.
-fn reports_each<G: Generator + Drop + Copy>(
+fn reports_each(
     alloc: Global,
-    generator: G,
+    shell: Shell,
     command: &mut Command,
     kinds: (Option<ErrorKind>, Option<ErrorKind>),
     whole: &str,
 ) -> Result<bool, Error> {
     let (kind, reported) = kinds;
     for room in 0..whole.len() {
-        if end_of(alloc, generator, command, (room, kind), whole)? != (reported, 1, room, true) {
+        if end_of(alloc, shell, command, (room, kind), whole)? != (reported, 1, room, true) {
             return Ok(false);
         }
     }
-    let again = end_of(alloc, generator, command, ROOMY, whole)?;
+    let again = end_of(alloc, shell, command, ROOMY, whole)?;
     Ok(again == (None, 0, whole.len(), true))
 }
 
 // The same over the fixture `app`.
-fn reports<G: Generator + Drop + Copy>(
+fn reports(
     alloc: Global,
-    generator: G,
+    shell: Shell,
     kinds: (Option<ErrorKind>, Option<ErrorKind>),
 ) -> Result<bool, Error> {
-    let whole = script(alloc, generator, app(alloc))?;
+    let whole = script(alloc, shell, app(alloc))?;
     let mut command = app(alloc)?;
-    reports_each(alloc, generator, &mut command, kinds, whole.as_str())
+    reports_each(alloc, shell, &mut command, kinds, whole.as_str())
 }
 
 #[test]
-fn elvish_reports_a_writer_that_fails_and_is_whole_afterwards(rt: HostRuntime) -> Result<(), Fail> {
-    assert!(rt; reports(rt.alloc(), Elvish, (BROKEN, BROKEN))?);
+fn a_writer_that_fails_is_reported(rt: HostRuntime) -> Result<(), Fail> {
+    for shell in Shell::value_variants() {
+        assert!(rt; reports(rt.alloc(), *shell, (BROKEN, BROKEN))?);
+    }
     Ok(())
 }
 
 #[test]
-fn powershell_reports_a_writer_that_fails_and_is_whole_afterwards(
-    rt: HostRuntime,
-) -> Result<(), Fail> {
-    assert!(rt; reports(rt.alloc(), PowerShell, (BROKEN, BROKEN))?);
-    Ok(())
-}
-
-#[test]
-fn elvish_reports_a_writer_that_takes_nothing_more(rt: HostRuntime) -> Result<(), Fail> {
-    assert!(rt; reports(rt.alloc(), Elvish, (None, ZERO))?);
-    Ok(())
-}
-
-#[test]
-fn powershell_reports_a_writer_that_takes_nothing_more(rt: HostRuntime) -> Result<(), Fail> {
-    assert!(rt; reports(rt.alloc(), PowerShell, (None, ZERO))?);
-    Ok(())
-}
-
-#[test]
-fn bash_reports_a_writer_that_fails_and_is_whole_afterwards(rt: HostRuntime) -> Result<(), Fail> {
-    assert!(rt; reports(rt.alloc(), Bash, (BROKEN, BROKEN))?);
-    Ok(())
-}
-
-#[test]
-fn bash_reports_a_writer_that_takes_nothing_more(rt: HostRuntime) -> Result<(), Fail> {
-    assert!(rt; reports(rt.alloc(), Bash, (None, ZERO))?);
-    Ok(())
-}
-
-#[test]
-fn fish_reports_a_writer_that_fails_and_is_whole_afterwards(rt: HostRuntime) -> Result<(), Fail> {
-    assert!(rt; reports(rt.alloc(), Fish, (BROKEN, BROKEN))?);
-    Ok(())
-}
-
-#[test]
-fn fish_reports_a_writer_that_takes_nothing_more(rt: HostRuntime) -> Result<(), Fail> {
-    assert!(rt; reports(rt.alloc(), Fish, (None, ZERO))?);
+fn a_writer_that_takes_nothing_more_is_reported(rt: HostRuntime) -> Result<(), Fail> {
+    for shell in Shell::value_variants() {
+        assert!(rt; reports(rt.alloc(), *shell, (None, ZERO))?);
+    }
     Ok(())
 }
 
 // What a measuring writer counts of the script of many options.
-fn handed_on<G: Generator + Drop>(alloc: Global, generator: G) -> Result<Measured, Error> {
+fn handed_on(alloc: Global, shell: Shell) -> Result<Measured, Error> {
     let mut sink = Counted::new(Measured { most: 0, all: 0 });
-    write_script(alloc, generator, many(alloc), &mut sink)?;
+    write_script(alloc, shell, many(alloc), &mut sink)?;
     Ok(sink.into_inner())
 }
 
 #[test]
-fn no_slice_of_a_long_elvish_script_is_long(rt: HostRuntime) -> Result<(), Fail> {
-    let measured = handed_on(rt.alloc(), Elvish)?;
-    assert!(rt; measured.all > 10_000);
-    assert!(rt; measured.most <= 1_024);
-    Ok(())
-}
-
-#[test]
-fn no_slice_of_a_long_powershell_script_is_long(rt: HostRuntime) -> Result<(), Fail> {
-    let measured = handed_on(rt.alloc(), PowerShell)?;
-    assert!(rt; measured.all > 10_000);
-    assert!(rt; measured.most <= 1_024);
-    Ok(())
-}
-
-#[test]
-fn no_slice_of_a_long_bash_script_is_long(rt: HostRuntime) -> Result<(), Fail> {
-    let measured = handed_on(rt.alloc(), Bash)?;
-    assert!(rt; measured.all > 10_000);
-    assert!(rt; measured.most <= 1_024);
-    Ok(())
-}
-
-#[test]
-fn no_slice_of_a_long_fish_script_is_long(rt: HostRuntime) -> Result<(), Fail> {
-    let measured = handed_on(rt.alloc(), Fish)?;
-    assert!(rt; measured.all > 10_000);
-    assert!(rt; measured.most <= 1_024);
+fn no_slice_of_a_long_script_is_long(rt: HostRuntime) -> Result<(), Fail> {
+    for shell in Shell::value_variants() {
+        let measured = handed_on(rt.alloc(), *shell)?;
+        assert!(rt; measured.all > 10_000);
+        assert!(rt; measured.most <= 1_024);
+    }
     Ok(())
 }

@@ -1,5 +1,5 @@
--- The definitions that the contracts of this crate's calls cite: a proof about them names this crate
--- alone.
+-- The definitions that the contracts of this crate's calls cite, and those that they are made of: a
+-- proof about these calls names this crate alone.
 
 -- sinks and errors
 pub use Rattle.cc_base.specs.Collected
@@ -7,10 +7,12 @@ pub use Rattle.cc_base.specs.Counted
 pub use Rattle.cc_base.specs.Differ
 pub use Rattle.cc_base.specs.ErrorText
 pub use Rattle.cc_base.specs.Sink
+pub use Rattle.cc_base.specs.Sorting
 pub use Rattle.cc_base.specs.Writes
 pub use Rattle.cc_base.specs.declared.error.Error
 pub use Rattle.cc_base.specs.declared.failures.Failures
 -- quoted words
+pub use Rattle.cc_quote.specs.Bytes
 pub use Rattle.cc_quote.specs.ElvishQuote
 pub use Rattle.cc_quote.specs.ElvishTokens
 pub use Rattle.cc_quote.specs.FishEscapes
@@ -21,6 +23,7 @@ pub use Rattle.cc_quote.specs.PosixTokens
 pub use Rattle.cc_quote.specs.PowershellQuote
 pub use Rattle.cc_quote.specs.PowershellTokens
 pub use Rattle.cc_quote.specs.QuotedWord
+pub use Rattle.cc_quote.specs.Signs
 pub use Rattle.cc_quote.specs.Tokens
 pub use Rattle.cc_quote.specs.ZshQuote
 -- the command tree
@@ -39,9 +42,11 @@ pub use Rattle.cc_command.specs.Built
 pub use Rattle.cc_command.specs.Generated
 pub use Rattle.cc_command.specs.Iterators
 pub use Rattle.cc_command.specs.Made
+pub use Rattle.cc_command.specs.Marked
 pub use Rattle.cc_command.specs.Names
 pub use Rattle.cc_command.specs.Plain
 pub use Rattle.cc_command.specs.PlainName
+pub use Rattle.cc_command.specs.Texts
 pub use Rattle.cc_command.specs.Tree
 pub use Rattle.cc_command.specs.declared.node.Node
 -- generators
@@ -66,10 +71,17 @@ pub use Rattle.cc_bash.specs.Quiet as BashQuiet
 pub use Rattle.cc_bash.specs.Reader as BashReader
 pub use Rattle.cc_bash.specs.Reads as BashReads
 pub use Rattle.cc_bash.specs.Script as BashScript
+pub use Rattle.cc_bash.specs.Texts as BashTexts
 pub use Rattle.cc_bash.specs.Walk as BashWalk
+pub use Rattle.cc_bash.specs.Words as BashWords
 -- fish
 pub use Rattle.cc_fish.specs.FishReads
 pub use Rattle.cc_fish.specs.FishScript
 pub use Rattle.cc_fish.specs.FishTable
 pub use Rattle.cc_fish.specs.RecordReader as FishReader
 pub use Rattle.cc_fish.specs.Records as FishRecords
+-- the shells as one type, and scripts in files
+pub use Rattle.cc_shell.specs.Files as ScriptFiles
+pub use Rattle.cc_shell.specs.Generators as ShellGenerators
+pub use Rattle.cc_shell.specs.Shells
+pub use Rattle.cc_shell.specs.declared.shell.Shell

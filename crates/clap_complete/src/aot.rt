@@ -5,4 +5,5 @@ pub use cc_base::{Collected, Counted, Sink, put_all};
 pub use cc_bash::Bash;
 pub use cc_fish::Fish;
 pub use cc_lists::{Generator, generate, utils};
+pub use cc_shell::{InvalidShell, Shell, generate_to};
 pub use cc_tables::{Elvish, PowerShell};

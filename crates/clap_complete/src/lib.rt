@@ -28,3 +28,4 @@ pub mod quote;
 pub use cc_arg::ValueHint;
 pub use cc_base::Error;
 pub use cc_lists::{Generator, generate};
+pub use cc_shell::{Shell, generate_to};

@@ -1,44 +1,23 @@
 -- How the program ends once its words are read: one case for each outcome.
 use Rattle.std.specs.Prelude.{◌≡◌, ◌++◌, ℕ, List, Option, None, Some, Result, Ok, Err}
-use Rattle.std.specs.Prelude.{codes, if◌then◌else◌, string_bytes}
-use Rattle.std.specs.Str.{bytes_eq}
+use Rattle.std.specs.Prelude.{string_bytes}
 use Rattle.std.specs.declared.io.ErrorKind.{ErrorKind}
-use Rattle.clap_complete.specs.BashLabels.{shared_label}
-use Rattle.clap_complete.specs.BashScript.{tree_script as bash_script}
 use Rattle.clap_complete.specs.Built.{built_under}
-use Rattle.clap_complete.specs.ElvishScript.{elvish_script}
-use Rattle.clap_complete.specs.Error.TheVariants.{LabelClash, Write}
+use Rattle.clap_complete.specs.Error.TheVariants.{InvalidVariant, LabelClash, Write}
 use Rattle.clap_complete.specs.Failures.{Failures}
-use Rattle.clap_complete.specs.FishScript.{fish_script}
-use Rattle.clap_complete.specs.PowershellScript.{powershell_script}
+use Rattle.clap_complete.specs.Shell.{Shell}
+use Rattle.clap_complete.specs.ShellGenerators.{shell_clash, shell_script}
+use Rattle.clap_complete.specs.Shells.{invalid_variant, shell_text}
 use Rattle.clap_complete.specs.Sink.{raised}
 use Rattle.clap_complete.specs.Tree.{Tree}
 use Rattle.cc_tree_file.specs.TreeFile.{Describes, HoldsTree, ReadsTree, SpellsNone}
 use Rattle.cc_tree_file.specs.declared.error.TreeError.{TreeError}
 use Rattle.complgen.specs.Refusals.{IsMade, IsOutOfMemory, IsRefusal, ReportsTree, bad_form_line}
 use Rattle.complgen.specs.Refusals.{error_line}
-use Rattle.complgen.specs.Refusals.{invalid_variant_line, not_json_line, unreadable_line}
+use Rattle.complgen.specs.Refusals.{not_json_line, unreadable_line}
 use Rattle.complgen.specs.declared.types.Plan.{Plan}
 use Rattle.complgen.specs.declared.types.Plan.TheVariants.{Script}
 use Rattle.complgen.specs.declared.types.Refusal.{Refusal}
-
--- a shell's script of a built tree, and the label that two of its nodes would share
-pub record Writer : Type 0 where
-  pub script : Tree → List ℕ
-  pub clash : Tree → Option (List ℕ)
-
--- no two nodes ever share a label
-abbrev no_clash : Tree → Option (List ℕ)
-no_clash tree = None
-
--- what writes the scripts for the shell of this name
-abbrev pub writer_for : List ℕ → Option Writer
-writer_for shell =
-    if bytes_eq shell (codes "bash") then Some (record { script = bash_script; clash = shared_label })
-    else if bytes_eq shell (codes "elvish") then Some (record { script = elvish_script; clash = no_clash })
-    else if bytes_eq shell (codes "fish") then Some (record { script = fish_script; clash = no_clash })
-    else if bytes_eq shell (codes "powershell") then Some (record { script = powershell_script; clash = no_clash })
-    else None
 
 -- nothing is taken, and no write failed
 pub record Untouched {S : Type 0} (taken : S → List ℕ) (failed : S → Failures) (old new : S)
@@ -50,46 +29,46 @@ pub record Untouched {S : Type 0} (taken : S → List ℕ) (failed : S → Failu
 -- describes no command; two commands would share a label; a write failed; memory ran out; or all
 -- went well. The script is that of the very command that the file describes, built under the bin
 -- name; it is begun only where no two nodes of that command share a label.
-pub data Finishes {S : Type 0} (taken : S → List ℕ) (failed : S → Failures) (writer : Writer)
+pub data Finishes {S : Type 0} (taken : S → List ℕ) (failed : S → Failures) (shell : Shell)
     (bin : List ℕ) (old new : S)
     : Option (List ℕ) → Result (Unit {0}) Refusal → Type 0 where
   -- the file can't be read
   unreadable : (refusal : Refusal) → IsRefusal unreadable_line refusal
-      → Untouched taken failed old new → Finishes taken failed writer bin old new None (Err refusal)
+      → Untouched taken failed old new → Finishes taken failed shell bin old new None (Err refusal)
   -- its bytes spell no JSON
   not_json : (bytes : List ℕ) (refusal : Refusal) → SpellsNone bytes
       → IsRefusal not_json_line refusal → Untouched taken failed old new
-      → Finishes taken failed writer bin old new (Some bytes) (Err refusal)
+      → Finishes taken failed shell bin old new (Some bytes) (Err refusal)
   -- the JSON describes no command
   bad_form : (bytes : List ℕ) (refusal : Refusal) → Describes bytes None
       → IsRefusal bad_form_line refusal → Untouched taken failed old new
-      → Finishes taken failed writer bin old new (Some bytes) (Err refusal)
+      → Finishes taken failed shell bin old new (Some bytes) (Err refusal)
   -- two nodes of the command would share this label, and nothing is written
   label_clash : (bytes label : List ℕ) (tree : Tree) (refusal : Refusal)
       → Describes bytes (Some tree)
-      → writer.clash (built_under (Some bin) tree) ≡ Some label
+      → shell_clash shell (built_under (Some bin) tree) ≡ Some label
       → IsMade (error_line (LabelClash label)) refusal → Untouched taken failed old new
-      → Finishes taken failed writer bin old new (Some bytes) (Err refusal)
+      → Finishes taken failed shell bin old new (Some bytes) (Err refusal)
   -- a write failed, which is counted with its kind
   write_failed : (bytes : List ℕ) (tree : Tree) (kind : ErrorKind) (refusal : Refusal)
-      → Describes bytes (Some tree) → writer.clash (built_under (Some bin) tree) ≡ None
+      → Describes bytes (Some tree) → shell_clash shell (built_under (Some bin) tree) ≡ None
       → IsRefusal (error_line (Write kind)) refusal → failed new ≡ raised kind (failed old)
-      → Finishes taken failed writer bin old new (Some bytes) (Err refusal)
+      → Finishes taken failed shell bin old new (Some bytes) (Err refusal)
   -- out of memory, and nothing is written
   out_of_memory : (bytes : List ℕ) (refusal : Refusal) → IsOutOfMemory refusal
       → Untouched taken failed old new
-      → Finishes taken failed writer bin old new (Some bytes) (Err refusal)
+      → Finishes taken failed shell bin old new (Some bytes) (Err refusal)
   -- out of memory once the script of the command may have been begun; how much of it is written is
   -- left open
   out_of_memory_in_script : (bytes : List ℕ) (tree : Tree) (refusal : Refusal)
-      → Describes bytes (Some tree) → writer.clash (built_under (Some bin) tree) ≡ None
+      → Describes bytes (Some tree) → shell_clash shell (built_under (Some bin) tree) ≡ None
       → IsOutOfMemory refusal → failed new ≡ failed old
-      → Finishes taken failed writer bin old new (Some bytes) (Err refusal)
+      → Finishes taken failed shell bin old new (Some bytes) (Err refusal)
   -- the script is written
   script_written : (bytes : List ℕ) (tree : Tree) → Describes bytes (Some tree)
-      → writer.clash (built_under (Some bin) tree) ≡ None
-      → taken new ≡ taken old ++ writer.script (built_under (Some bin) tree)
-      → failed new ≡ failed old → Finishes taken failed writer bin old new (Some bytes) (Ok tt)
+      → shell_clash shell (built_under (Some bin) tree) ≡ None
+      → taken new ≡ taken old ++ shell_script shell (built_under (Some bin) tree)
+      → failed new ≡ failed old → Finishes taken failed shell bin old new (Some bytes) (Ok tt)
 
 -- how a tree file that holds no tree is reported
 abbrev pub ReportsFile : Option (List ℕ) → Refusal → Type 0
@@ -104,15 +83,16 @@ ReadsFile file (Err refusal) = ReportsFile file refusal
 
 -- how writing a script for the shell of this name ends; a name that no shell has is reported before
 -- the file is looked at
-pub data EndsScript {S : Type 0} (taken : S → List ℕ) (failed : S → Failures) (shell bin : List ℕ)
+pub data EndsScript {S : Type 0} (taken : S → List ℕ) (failed : S → Failures) (name bin : List ℕ)
     (file : Option (List ℕ)) (old new : S)
     : Result (Unit {0}) Refusal → Type 0 where
-  unknown_shell : (refusal : Refusal) → writer_for shell ≡ None
-      → IsMade (invalid_variant_line shell) refusal → Untouched taken failed old new
-      → EndsScript taken failed shell bin file old new (Err refusal)
-  known_shell : (writer : Writer) (result : Result (Unit {0}) Refusal) → writer_for shell ≡ Some writer
-      → Finishes taken failed writer bin old new file result
-      → EndsScript taken failed shell bin file old new result
+  unknown_shell : (refusal : Refusal) → ((shell : Shell) → name ≡ shell_text shell → ⊥)
+      → IsMade (error_line (InvalidVariant (invalid_variant name))) refusal
+      → Untouched taken failed old new
+      → EndsScript taken failed name bin file old new (Err refusal)
+  known_shell : (shell : Shell) (result : Result (Unit {0}) Refusal) → name ≡ shell_text shell
+      → Finishes taken failed shell bin old new file result
+      → EndsScript taken failed name bin file old new result
 
 -- how carrying out a plan ends
 abbrev pub Ends : {S : Type 0} → (S → List ℕ) → (S → Failures) → Plan → Option (List ℕ) → S → S

@@ -26,10 +26,6 @@ pub record IsRefusal (text : List ℕ) (refusal : Refusal) : Type 0 where
 abbrev pub error_line : Error → List ℕ
 error_line error = error_text error ++ codes "\n"
 
--- no shell has this name
-abbrev pub invalid_variant_line : List ℕ → List ℕ
-invalid_variant_line shell = codes "invalid variant: " ++ shell ++ codes "\n"
-
 -- the tree file can't be read
 abbrev pub unreadable_line : List ℕ
 unreadable_line = codes "tree: unreadable\n"

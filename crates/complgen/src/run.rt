@@ -2,14 +2,13 @@
 
 ghost use Rattle.std.specs.Prelude.{◌≡◌, Some, option_copied};
 ghost use Rattle.complgen.specs.Ends.{Ends, EndsScript, Finishes, ReadsFile};
-ghost use Rattle.complgen.specs.Refusals.{HasText, IsMade, Reports, ReportsTree};
-ghost use Rattle.complgen.specs.Refusals.{invalid_variant_line};
+ghost use Rattle.complgen.specs.Refusals.{HasText, Reports, ReportsTree};
 
 use crate::types::{Plan, Refusal, WRITE_FAILED};
 use cc_tree_file::{TreeError, read_tree};
-use clap_complete::aot::{Bash, Elvish, Fish, Generator, PowerShell, Sink};
+use clap_complete::aot::Sink;
 use clap_complete::command::Command;
-use clap_complete::{Error, generate};
+use clap_complete::{Error, Shell, generate};
 use std::alloc::{AllocError, Global};
 use std::borrow::CowStr;
 
@@ -49,30 +48,26 @@ fn script<W: Sink>(
     ensures { EndsScript W.taken W.failed shell.now bin.now (option_copied file.entry)
         out.old out.new result }
 {
-    match shell {
-        "bash" => script_by(alloc, Bash, bin, file, out),
-        "elvish" => script_by(alloc, Elvish, bin, file, out),
-        "fish" => script_by(alloc, Fish, bin, file, out),
-        "powershell" => script_by(alloc, PowerShell, bin, file, out),
-        unknown => Err(invalid_variant(alloc, unknown)),
+    match Shell::parse(alloc, shell) {
+        Ok(shell) => script_by(alloc, shell, bin, file, out),
+        Err(unknown) => Err(error_refusal(alloc, &unknown)),
     }
 }
 
-// Writes the generator's script for a tree file.
-fn script_by<G: Generator + Drop, W: Sink>(
+// Writes the script for this shell of a tree file.
+fn script_by<W: Sink>(
     alloc: Global,
-    generator: G,
+    shell: Shell,
     bin: &str,
     file: Option<&[u8]>,
     out: &mut W,
 ) -> Result<(), Refusal>
-    ensures { Finishes W.taken W.failed
-        (record { script = G.script generator; clash = G.clash generator }) bin.now
-        out.old out.new (option_copied file.entry) result }
+    ensures { Finishes W.taken W.failed shell bin.now out.old out.new
+        (option_copied file.entry) result }
 {
     let mut command = tree(alloc, file)?;
     let bin = String::from_str(alloc, bin)?;
-    match generate(alloc, generator, &mut command, bin, out) {
+    match generate(alloc, shell, &mut command, bin, out) {
         Ok(()) => Ok(()),
         Err(error) => Err(error_refusal(alloc, &error)),
     }
@@ -86,13 +81,6 @@ fn tree(alloc: Global, file: Option<&[u8]>) -> Result<Command, Refusal>
         return Err(Refusal::fixed(1, UNREADABLE));
     };
     read_tree(alloc, bytes).map_err(tree_refusal)
-}
-
-// No shell has this name.
-fn invalid_variant(alloc: Global, shell: &str) -> Refusal
-    ensures { IsMade (invalid_variant_line shell.now) result }
-{
-    with_text(format!(in alloc; "invalid variant: {shell}\n"))
 }
 
 fn tree_refusal(error: TreeError) -> Refusal

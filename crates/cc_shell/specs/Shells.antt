@@ -1,0 +1,49 @@
+-- The texts and the programs of the shells.
+use Rattle.std.specs.Prelude.{◌≡◌, ◌++◌, ℕ, List, [], ◌∷◌, Option, Result, Ok, IfOk, codes, find}
+use Rattle.std.specs.List.{list_any}
+use Rattle.std.specs.Option.{option_and_then}
+use Rattle.std.specs.Path.{path_file_stem}
+use Rattle.std.specs.Str.{bytes_eq}
+use Rattle.cc_shell.specs.declared.shell.InvalidShell.{InvalidShell}
+use Rattle.cc_shell.specs.declared.shell.Shell.{Shell}
+use Rattle.cc_shell.specs.declared.shell.Shell.TheVariants.{Bash, Elvish, Fish, PowerShell, Zsh}
+use Rattle.cc_shell.specs.declared.shell.Shell.TheVariants.{Nushell}
+
+-- all shells, in order
+abbrev pub all_shells : List Shell
+all_shells = Bash ∷ Elvish ∷ Fish ∷ PowerShell ∷ Zsh ∷ Nushell ∷ []
+
+-- the text by which a shell is named
+abbrev pub shell_text : Shell → List ℕ
+shell_text Bash = codes "bash"
+shell_text Elvish = codes "elvish"
+shell_text Fish = codes "fish"
+shell_text PowerShell = codes "powershell"
+shell_text Zsh = codes "zsh"
+shell_text Nushell = codes "nushell"
+
+-- the names of its programs
+abbrev pub programs : Shell → List (List ℕ)
+programs Bash = codes "bash" ∷ []
+programs Elvish = codes "elvish" ∷ []
+programs Fish = codes "fish" ∷ []
+programs PowerShell = codes "powershell" ∷ codes "pwsh" ∷ codes "powershell_ise" ∷ []
+programs Zsh = codes "zsh" ∷ []
+programs Nushell = codes "nu" ∷ []
+
+-- the shell that has a program of this name
+abbrev pub shell_of_program : List ℕ → Option Shell
+shell_of_program name = find (λ shell. list_any (bytes_eq name) (programs shell)) all_shells
+
+-- the shell whose program a path leads to: by the last name of the path, without its extension
+abbrev pub shell_of_path : List ℕ → Option Shell
+shell_of_path path = option_and_then shell_of_program (path_file_stem path)
+
+-- What a shell prints is read as that shell, and nothing else is read.
+pub record ReadsShell (text : List ℕ) (result : Result Shell InvalidShell) : Type 0 where
+  pub printed : (shell : Shell) → text ≡ shell_text shell → result ≡ Ok shell
+  pub only : IfOk result (λ shell. text ≡ shell_text shell)
+
+-- the message that no shell has this text
+abbrev pub invalid_variant : List ℕ → List ℕ
+invalid_variant text = codes "invalid variant: " ++ text

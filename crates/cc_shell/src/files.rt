@@ -1,0 +1,118 @@
+//! Scripts written to files.
+
+ghost use Rattle.std.specs.Prelude.{◌≡◌, ℕ, List, Some, IsTrue, IfOk, IfErr, OnOk};
+ghost use Rattle.std.specs.Path.{path_join};
+ghost use Rattle.std.specs.String.{string_bytes};
+ghost use Rattle.cc_base.specs.declared.error.Error.{Error};
+ghost use Rattle.cc_command.specs.Built.{built_under};
+ghost use Rattle.cc_command.specs.Plain.{is_plain_tree};
+ghost use Rattle.cc_command.specs.PlainName.{is_plain_name};
+ghost use Rattle.cc_shell.specs.Files.{EndsFile, LeavesTree};
+
+use cc_base::{Counted, Error};
+use cc_command::Command;
+use cc_lists::{Generator, generate};
+use std::alloc::{AllocError, Global};
+use std::fs;
+use std::io::{self, BufWriter, Write};
+use std::path::Path;
+use std::rt::Files;
+
+/// Sets the bin name, builds the command and writes the generator's script, as `generate` does, to
+/// the file that the generator names for the bin name, in a folder. Returns the path of the file.
+///
+/// The file is made, or emptied if it is there, when the first part of the script leaves the
+/// buffer. So none is made where two commands share a label, and where memory runs out before.
+///
+/// Fails as `generate` does; with `Write` and the system's kind where the file can't be made, as in
+/// a folder that isn't there, or can't be written. A later failure leaves the file as far as it was
+/// written.
+pub fn generate_to<R: Files, G: Generator + Drop>(
+    files: &R,
+    alloc: Global,
+    generator: G,
+    command: &mut Command,
+    bin_name: String,
+    out_dir: &str,
+) -> Result<String, Error>
+    ensures path { IfOk result (λ path. string_bytes path
+        ≡ path_join out_dir.now (G.file generator (string_bytes bin_name))) }
+    ensures built { LeavesTree result command.old command.new
+        (built_under (Some (string_bytes bin_name)) command.old) }
+    ensures ends { EndsFile result
+        (G.clash generator (built_under (Some (string_bytes bin_name)) command.old)) }
+    ensures plain { OnOk result (IsTrue (is_plain_tree command.old) →
+        IsTrue (is_plain_name (string_bytes bin_name)) →
+        G.Reads generator (built_under (Some (string_bytes bin_name)) command.old)) }
+{
+    let name = generator.file_name(alloc, bin_name.as_str())?;
+    let path = Path::new(out_dir).join(alloc, name.as_str())?.into_string();
+    write_file(files, alloc, generator, command, bin_name, path.as_str())?;
+    Ok(path)
+}
+
+// Writes the script to the file of this path.
+fn write_file<R: Files, G: Generator + Drop>(
+    files: &R,
+    alloc: Global,
+    generator: G,
+    command: &mut Command,
+    bin_name: String,
+    path: &str,
+) -> Result<(), Error>
+    ensures built { LeavesTree result command.old command.new
+        (built_under (Some (string_bytes bin_name)) command.old) }
+    ensures ends { EndsFile result
+        (G.clash generator (built_under (Some (string_bytes bin_name)) command.old)) }
+    ensures plain { OnOk result (IsTrue (is_plain_tree command.old) →
+        IsTrue (is_plain_name (string_bytes bin_name)) →
+        G.Reads generator (built_under (Some (string_bytes bin_name)) command.old)) }
+{
+    let writer = BufWriter::new(alloc, LateFile::new(files, path)).map_err(|_| AllocError)?;
+    let mut sink = Counted::new(writer);
+    generate(alloc, generator, command, bin_name, &mut sink)?;
+    sink.flush()
+}
+
+// A file that is made, or emptied if it is there, when it is first written or flushed.
+#[derive(Drop)]
+struct LateFile<'f, R: Files> {
+    files: &'f R,
+    path: &'f str,
+    file: Option<R::File>,
+}
+
+impl<'f, R: Files> LateFile<'f, R> {
+    fn new(files: &'f R, path: &'f str) -> LateFile<'f, R> {
+        LateFile {
+            files,
+            path,
+            file: None,
+        }
+    }
+
+    fn make(&mut self) -> io::Result<()> {
+        if self.file.is_none() {
+            self.file = Some(fs::create(self.files, self.path)?);
+        }
+        Ok(())
+    }
+}
+
+impl<'f, R: Files> Write for LateFile<'f, R> {
+    fn write(&mut self, bytes: &[u8]) -> io::Result<usize> {
+        self.make()?;
+        match &mut self.file {
+            Some(file) => file.write(bytes),
+            None => Ok(0),
+        }
+    }
+
+    fn flush(&mut self) -> io::Result<()> {
+        self.make()?;
+        match &mut self.file {
+            Some(file) => file.flush(),
+            None => Ok(()),
+        }
+    }
+}

@@ -1,0 +1,213 @@
+//! The shells for which scripts are written, as one type.
+
+ghost use Rattle.std.specs.Prelude.{◌≡◌, ◌++◌, ℕ, Some, None, IfOk, IfErr, IsSome, codes, ◌⊎◌};
+ghost use Rattle.std.specs.Option.{option_and_then, option_copied};
+ghost use Rattle.std.specs.Path.{path_file_stem};
+ghost use Rattle.cc_base.specs.declared.error.Error.{Error};
+ghost use Rattle.cc_arg.specs.PossibleValues.{new_possible_value};
+ghost use Rattle.cc_shell.specs.Shells.{ReadsShell, all_shells, invalid_variant, shell_of_path};
+ghost use Rattle.cc_shell.specs.Shells.{shell_of_program, shell_text};
+
+use cc_arg::PossibleValue;
+use cc_base::{Error, Sink, Text};
+use cc_bash::Bash;
+use cc_command::Command;
+use cc_fish::Fish;
+use cc_lists::Generator;
+use cc_tables::{Elvish, Nushell, PowerShell};
+use cc_zsh::Zsh;
+use std::alloc::{AllocError, Global};
+use std::fmt;
+use std::path::Path;
+use std::str::FromStr;
+
+/// A shell for which scripts are written. As a generator it does what the generator of that shell
+/// does.
+#[derive(Clone, Copy, PartialEq, Eq, Hash, Debug)]
+pub enum Shell {
+    /// Bash.
+    Bash,
+    /// Elvish.
+    Elvish,
+    /// fish.
+    Fish,
+    /// PowerShell.
+    PowerShell,
+    /// zsh.
+    Zsh,
+    /// Nushell.
+    Nushell,
+}
+
+/// A text names no shell.
+#[derive(Clone, Copy, PartialEq, Eq, Debug)]
+pub struct InvalidShell;
+
+const ALL: &[Shell] = &[
+    Shell::Bash,
+    Shell::Elvish,
+    Shell::Fish,
+    Shell::PowerShell,
+    Shell::Zsh,
+    Shell::Nushell,
+];
+
+impl Shell {
+    /// All shells, in the order of the type.
+    pub fn value_variants() -> &'static [Shell]
+        ensures { result.now ≡ all_shells }
+    {
+        ALL
+    }
+
+    /// The shell of this text, in this very case.
+    ///
+    /// Fails with `InvalidVariant` and the message `invalid variant: TEXT` where no shell has the
+    /// text, and with `Memory` where there is no memory for the message.
+    pub fn parse(alloc: Global, text: &str) -> Result<Shell, Error>
+        ensures ok { (shell : Shell) → text.now ≡ shell_text shell → result ≡ Ok shell }
+        ensures only { IfOk result (λ shell. text.now ≡ shell_text shell) }
+        ensures err { IfErr result (λ error.
+            (error ≡ Error.InvalidVariant (invalid_variant text.now)) ⊎ (error ≡ Error.Memory)) }
+    {
+        match text.parse::<Shell>() {
+            Ok(shell) => Ok(shell),
+            Err(InvalidShell) => Err(Error::InvalidVariant(message(alloc, text)?)),
+        }
+    }
+
+    /// The shell whose program a path leads to, by the name of its file without extension:
+    /// `powershell`, `pwsh` and `powershell_ise` are PowerShell, `nu` is Nushell, and each other
+    /// shell has the one program of its name. `None` for any other name.
+    pub fn from_shell_path(path: &str) -> Option<Shell>
+        ensures { result ≡ shell_of_path path.now }
+    {
+        from_program(Path::new(path).file_stem()?)
+    }
+
+    /// The shell whose program the value of the variable `SHELL` leads to, as `from_shell_path`
+    /// says; `None` where the variable is not set.
+    pub fn from_env(value: Option<&str>) -> Option<Shell>
+        ensures { result ≡ option_and_then shell_of_path (option_copied value.entry) }
+    {
+        Shell::from_shell_path(value?)
+    }
+
+    /// The shell as a possible value of an argument, which has its text as name. Fails with
+    /// `Memory` alone.
+    pub fn to_possible_value(&self, alloc: Global) -> Result<Option<PossibleValue>, Error>
+        ensures ok { IfOk result
+            (λ value. value ≡ Some (new_possible_value (shell_text self.now))) }
+        ensures memory { IfErr result (λ error. error ≡ Error.Memory) }
+    {
+        let name = String::from_str(alloc, self.name())?;
+        Ok(Some(PossibleValue::new(name)))
+    }
+
+    // The text by which the shell is named.
+    fn name(&self) -> &'static str
+        ensures { result.now ≡ shell_text self.now }
+    {
+        match self {
+            Shell::Bash => "bash",
+            Shell::Elvish => "elvish",
+            Shell::Fish => "fish",
+            Shell::PowerShell => "powershell",
+            Shell::Zsh => "zsh",
+            Shell::Nushell => "nushell",
+        }
+    }
+}
+
+// The shell that runs as this program.
+fn from_program(name: &str) -> Option<Shell>
+    ensures { result ≡ shell_of_program name.now }
+{
+    match name {
+        "bash" => Some(Shell::Bash),
+        "elvish" => Some(Shell::Elvish),
+        "fish" => Some(Shell::Fish),
+        "powershell" | "pwsh" | "powershell_ise" => Some(Shell::PowerShell),
+        "zsh" => Some(Shell::Zsh),
+        "nu" => Some(Shell::Nushell),
+        _ => None,
+    }
+}
+
+// The message that no shell has this text.
+fn message(alloc: Global, text: &str) -> Result<Text, AllocError>
+    ensures { IfOk result (λ message. message ≡ invalid_variant text.now) }
+{
+    let message = format!(in alloc; "invalid variant: {text}")?;
+    Ok(Text::from(message))
+}
+
+impl FromStr for Shell {
+    type Err = InvalidShell;
+
+    ghost from_str_gives = { ReadsShell };
+
+    /// The shell of this text, in this very case. Fails where no shell has the text.
+    fn from_str(text: &str) -> Result<Shell, InvalidShell> {
+        match text {
+            "bash" => Ok(Shell::Bash),
+            "elvish" => Ok(Shell::Elvish),
+            "fish" => Ok(Shell::Fish),
+            "powershell" => Ok(Shell::PowerShell),
+            "zsh" => Ok(Shell::Zsh),
+            "nushell" => Ok(Shell::Nushell),
+            _ => Err(InvalidShell),
+        }
+    }
+}
+
+impl fmt::Display for Shell {
+    ghost use Rattle.std.specs.Fmt.{styled_text};
+
+    ghost output = { λ shell. Some (shell_text shell) };
+
+    ghost styled_output = { λ shell options. Some (styled_text options (shell_text shell)) };
+
+    fn fmt<W: fmt::Write>(&self, f: &mut fmt::Formatter<W>) -> fmt::Result {
+        f.pad(self.name())
+    }
+}
+
+impl Generator for Shell {
+    ghost use Rattle.cc_shell.specs.Generators.{ShellReads, shell_clash, shell_file, shell_script};
+
+    ghost script = { shell_script };
+
+    ghost Reads = { ShellReads };
+
+    ghost clash = { shell_clash };
+
+    ghost file = { shell_file };
+
+    fn file_name(&self, alloc: Global, name: &str) -> Result<String, Error> {
+        match self {
+            Shell::Bash => Bash.file_name(alloc, name),
+            Shell::Elvish => Elvish.file_name(alloc, name),
+            Shell::Fish => Fish.file_name(alloc, name),
+            Shell::PowerShell => PowerShell.file_name(alloc, name),
+            Shell::Zsh => Zsh.file_name(alloc, name),
+            Shell::Nushell => Nushell.file_name(alloc, name),
+        }
+    }
+
+    fn generate<W: Sink>(
+        &self,
+        alloc: Global,
+        command: &Command,
+        sink: &mut W,
+    ) -> Result<(), Error> {
+        match self {
+            Shell::Bash => Bash.generate(alloc, command, sink),
+            Shell::Elvish => Elvish.generate(alloc, command, sink),
+            Shell::Fish => Fish.generate(alloc, command, sink),
+            Shell::PowerShell => PowerShell.generate(alloc, command, sink),
+            Shell::Zsh => Zsh.generate(alloc, command, sink),
+            Shell::Nushell => Nushell.generate(alloc, command, sink),
+        }
+    }
+}

@@ -1,0 +1,196 @@
+//! `Shell` by text, path and value, and scripts written to files.
+
+use crate::fixtures::{app, clashing, nested};
+use crate::written::script;
+use clap_complete::aot::{Bash, Elvish, Fish, InvalidShell, Nushell, PowerShell, Zsh};
+use clap_complete::command::Command;
+use clap_complete::{Error, Generator, Shell, generate_to};
+use std::alloc::Global;
+use std::io::ErrorKind;
+use std::os::unix::fs::symlink;
+use std::test::Fail;
+use std::{env, fs};
+
+#[test]
+fn each_shell_prints_its_text_and_is_read_from_it(rt: HostRuntime) -> Result<(), Fail> {
+    let texts = ["bash", "elvish", "fish", "powershell", "zsh", "nushell"];
+    assert_eq!(rt; Shell::value_variants().len(), texts.len());
+    for (shell, text) in Shell::value_variants().iter().zip(texts) {
+        let printed = format!(in rt.alloc(); "{shell}")?;
+        assert_eq!(rt; printed.as_str(), text);
+        assert_eq!(rt; text.parse::<Shell>(), Ok(*shell));
+        assert!(rt; Shell::parse(rt.alloc(), text)? == *shell);
+    }
+    Ok(())
+}
+
+#[test]
+fn display_heeds_width_fill_and_alignment(rt: HostRuntime) -> Result<(), Fail> {
+    let right = format!(in rt.alloc(); "{:>6}|", Shell::Bash)?;
+    assert_eq!(rt; right.as_str(), "  bash|");
+    let centred = format!(in rt.alloc(); "{:*^8}", Shell::Fish)?;
+    assert_eq!(rt; centred.as_str(), "**fish**");
+    let left = format!(in rt.alloc(); "{:8}|", Shell::Elvish)?;
+    assert_eq!(rt; left.as_str(), "elvish  |");
+    let shown = format!(in rt.alloc(); "{:?} {:?}", Shell::PowerShell, InvalidShell)?;
+    assert_eq!(rt; shown.as_str(), "PowerShell InvalidShell");
+    Ok(())
+}
+
+#[test]
+fn no_other_text_is_a_shell(rt: HostRuntime) {
+    for text in ["", "Bash", "bash ", "tcsh", "pwsh", "nu"] {
+        assert_eq!(rt; text.parse::<Shell>(), Err(InvalidShell));
+    }
+    let invalid = Shell::parse(rt.alloc(), "Bash");
+    let Err(Error::InvalidVariant(message)) = invalid else {
+        assert!(rt; false);
+        return;
+    };
+    assert_eq!(rt; message.as_str(), "invalid variant: Bash");
+}
+
+#[test]
+fn a_path_leads_to_a_shell(rt: HostRuntime) {
+    let found = |path: &str| Shell::from_shell_path(path);
+    assert_eq!(rt; found("/bin/bash"), Some(Shell::Bash));
+    assert_eq!(rt; found("/bin/bash/"), Some(Shell::Bash));
+    assert_eq!(rt; found("bash.exe"), Some(Shell::Bash));
+    assert_eq!(rt; found("/usr/bin/pwsh"), Some(Shell::PowerShell));
+    assert_eq!(rt; found("powershell_ise.exe"), Some(Shell::PowerShell));
+    for path in ["/opt/my_custom_shell", ".bash", "", "/", "BASH"] {
+        assert_eq!(rt; found(path), None);
+    }
+    assert_eq!(rt; found("/usr/bin/nu"), Some(Shell::Nushell));
+    assert_eq!(rt; Shell::from_env(Some("/bin/zsh")), Some(Shell::Zsh));
+    assert_eq!(rt; Shell::from_env(None), None);
+}
+
+#[test]
+fn a_shell_is_a_possible_value(rt: HostRuntime) -> Result<(), Fail> {
+    let value = Shell::Elvish.to_possible_value(rt.alloc())?;
+    assert_eq!(rt;
+        value.as_ref().map(|value| value.get_name()),
+        Some("elvish")
+    );
+    Ok(())
+}
+
+// Whether a shell writes the script of its generator, and names the same file.
+fn is_of<G: Generator + Drop + Copy>(
+    alloc: Global,
+    shell: Shell,
+    generator: G,
+) -> Result<bool, Error> {
+    let by_shell = script(alloc, shell, nested(alloc))?;
+    let by_generator = script(alloc, generator, nested(alloc))?;
+    let name = shell.file_name(alloc, "app")?;
+    let its_name = generator.file_name(alloc, "app")?;
+    Ok(by_shell.as_str() == by_generator.as_str() && name.as_str() == its_name.as_str())
+}
+
+#[test]
+fn a_shell_writes_the_script_of_its_generator(rt: HostRuntime) -> Result<(), Fail> {
+    assert!(rt; is_of(rt.alloc(), Shell::Bash, Bash)?);
+    assert!(rt; is_of(rt.alloc(), Shell::Elvish, Elvish)?);
+    assert!(rt; is_of(rt.alloc(), Shell::Fish, Fish)?);
+    assert!(rt; is_of(rt.alloc(), Shell::PowerShell, PowerShell)?);
+    assert!(rt; is_of(rt.alloc(), Shell::Zsh, Zsh)?);
+    assert!(rt; is_of(rt.alloc(), Shell::Nushell, Nushell)?);
+    Ok(())
+}
+
+// A folder of this name that was just made, with nothing in it.
+fn folder(rt: &HostRuntime, name: &str) -> Result<String, Fail> {
+    let folder = env::temp_dir(rt)?.join(rt.alloc(), name)?;
+    let folder = folder.into_string();
+    if fs::exists(rt, folder.as_str())? {
+        fs::remove_dir_all(rt, folder.as_str())?;
+    }
+    fs::create_dir(rt, folder.as_str())?;
+    Ok(folder)
+}
+
+// Writes the script of a command to a file in a folder.
+fn write_to(
+    rt: &HostRuntime,
+    shell: Shell,
+    command: &mut Command,
+    folder: &str,
+) -> Result<String, Error> {
+    let bin_name = String::from_str(rt.alloc(), "app")?;
+    generate_to(rt, rt.alloc(), shell, command, bin_name, folder)
+}
+
+#[test]
+fn each_script_is_written_to_its_file(rt: HostRuntime) -> Result<(), Fail> {
+    let folder = folder(&rt, "lagvtsune_written")?;
+    let names = [
+        "app.bash", "app.elv", "app.fish", "_app.ps1", "_app", "app.nu",
+    ];
+    for (shell, name) in Shell::value_variants().iter().zip(names) {
+        let mut command = app(rt.alloc())?;
+        let path = write_to(&rt, *shell, &mut command, folder.as_str())?;
+        let wanted = format!(in rt.alloc(); "{folder}/{name}")?;
+        assert_eq!(rt; path.as_str(), wanted.as_str());
+        assert!(rt; command.is_built());
+        let written = fs::read_to_string(&rt, path.as_str())?;
+        let wanted = script(rt.alloc(), *shell, app(rt.alloc()))?;
+        assert_eq!(rt; written.as_str(), wanted.as_str());
+    }
+    fs::remove_dir_all(&rt, folder.as_str())?;
+    Ok(())
+}
+
+#[test]
+fn a_file_that_is_there_is_emptied_first(rt: HostRuntime) -> Result<(), Fail> {
+    let folder = folder(&rt, "lagvtsune_emptied")?;
+    let mut command = app(rt.alloc())?;
+    let with_slash = format!(in rt.alloc(); "{folder}/")?;
+    let path = write_to(&rt, Shell::Fish, &mut command, with_slash.as_str())?;
+    let wanted = fs::read_to_string(&rt, path.as_str())?;
+    let longer = format!(in rt.alloc(); "{wanted}# more")?;
+    fs::write(&rt, path.as_str(), longer.as_str())?;
+    write_to(&rt, Shell::Fish, &mut command, folder.as_str())?;
+    let written = fs::read_to_string(&rt, path.as_str())?;
+    assert_eq!(rt; written.as_str(), wanted.as_str());
+    fs::remove_dir_all(&rt, folder.as_str())?;
+    Ok(())
+}
+
+#[test]
+fn a_folder_that_is_not_there_is_a_failed_write(rt: HostRuntime) -> Result<(), Fail> {
+    let folder = folder(&rt, "lagvtsune_missing")?;
+    fs::remove_dir(&rt, folder.as_str())?;
+    let mut command = app(rt.alloc())?;
+    let written = write_to(&rt, Shell::Bash, &mut command, folder.as_str());
+    assert!(rt; matches!(written, Err(Error::Write(ErrorKind::NotFound))));
+    assert!(rt; command.is_built());
+    Ok(())
+}
+
+// The system's device that is always full stands in for the file.
+#[test]
+fn a_full_disk_is_a_failed_write(rt: HostRuntime) -> Result<(), Fail> {
+    let folder = folder(&rt, "lagvtsune_full")?;
+    let path = format!(in rt.alloc(); "{folder}/app.fish")?;
+    symlink(&rt, "/dev/full", path.as_str())?;
+    let mut command = app(rt.alloc())?;
+    let written = write_to(&rt, Shell::Fish, &mut command, folder.as_str());
+    assert!(rt; matches!(written, Err(Error::Write(ErrorKind::StorageFull))));
+    assert!(rt; command.is_built());
+    fs::remove_dir_all(&rt, folder.as_str())?;
+    Ok(())
+}
+
+#[test]
+fn no_file_is_made_where_a_label_is_shared(rt: HostRuntime) -> Result<(), Fail> {
+    let folder = folder(&rt, "lagvtsune_clash")?;
+    let mut command = clashing(rt.alloc())?;
+    let written = write_to(&rt, Shell::Bash, &mut command, folder.as_str());
+    assert!(rt; matches!(written, Err(Error::LabelClash(_))));
+    assert!(rt; command.is_built());
+    // A folder with nothing in it is the only kind that can be removed so.
+    fs::remove_dir(&rt, folder.as_str())?;
+    Ok(())
+}
