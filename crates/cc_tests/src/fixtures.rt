@@ -83,6 +83,13 @@ fn run(alloc: Global) -> Result<Command, Error> {
     plain(alloc, "run")?.visible_alias(alias)
 }
 
+/// `app` with a flag `-v`, `--verbose` and a child `run`, shown as `r` too, that has an option
+/// `--out`; nothing is generated.
+pub(crate) fn with_out_below(alloc: Global) -> Result<Command, Error> {
+    let run = with(run(alloc), out(alloc));
+    holding(with(plain(alloc, "app"), verbose(alloc)), run)
+}
+
 /// `test`, hidden as `t`, with a flag `-f`, `--file`, shown as `-p` and `--path` too, and hidden as
 /// `-q` and `--old`.
 pub(crate) fn test(alloc: Global) -> Result<Command, Error> {

@@ -25,6 +25,8 @@ mod kinds;
 #[cfg(test)]
 mod lists;
 #[cfg(test)]
+mod nushell;
+#[cfg(test)]
 mod powershell;
 #[cfg(test)]
 mod shell;

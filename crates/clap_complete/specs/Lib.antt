@@ -55,9 +55,11 @@ pub use Rattle.cc_lists.specs.Generators
 pub use Rattle.cc_lists.specs.Subcommands
 pub use Rattle.cc_visits.specs.Paths
 pub use Rattle.cc_visits.specs.Visits
--- Elvish and PowerShell
+-- Elvish, Nushell and PowerShell
 pub use Rattle.cc_tables.specs.ElvishReader
 pub use Rattle.cc_tables.specs.ElvishScript
+pub use Rattle.cc_tables.specs.NushellReader
+pub use Rattle.cc_tables.specs.NushellScript
 pub use Rattle.cc_tables.specs.Offers
 pub use Rattle.cc_tables.specs.PowershellReader
 pub use Rattle.cc_tables.specs.PowershellScript

@@ -1,0 +1,49 @@
+//! Nushell scripts.
+
+use crate::fixtures::{flag, with_out_below};
+use crate::written::script;
+use clap_complete::aot::{Generator, Nushell};
+use std::test::Fail;
+
+const SCRIPT: &str = "module completions {
+
+  export extern \"app\" [
+    -v # Be loud
+    --verbose # Be loud
+  ]
+
+  export extern \"app run\" [
+    --out: string
+  ]
+
+  export extern \"app r\" [
+    --out: string
+  ]
+
+}
+
+export use completions *
+";
+
+const LINE: &str = "\n    -x # a # b   ]\n  ]\n";
+
+#[test]
+fn every_visible_path_has_a_block(rt: HostRuntime) -> Result<(), Fail> {
+    let script = script(rt.alloc(), Nushell, with_out_below(rt.alloc()))?;
+    assert_eq!(rt; script.as_str(), SCRIPT);
+    Ok(())
+}
+
+#[test]
+fn a_line_feed_in_a_help_is_a_space(rt: HostRuntime) -> Result<(), Fail> {
+    let script = script(rt.alloc(), Nushell, flag(rt.alloc(), 'x', "a # b\n  ]"))?;
+    assert!(rt; script.as_str().contains(LINE));
+    Ok(())
+}
+
+#[test]
+fn the_file_has_the_name_of_the_program(rt: HostRuntime) -> Result<(), Fail> {
+    let file = Nushell.file_name(rt.alloc(), "app")?;
+    assert_eq!(rt; file.as_str(), "app.nu");
+    Ok(())
+}
