@@ -2,7 +2,7 @@
 //! many such steps in one function takes long.
 
 use clap_complete::Error;
-use clap_complete::command::{Arg, ArgAction, Command, PossibleValue, ValueHint};
+use clap_complete::command::{Arg, ArgAction, Command, PossibleValue, ValueHint, ValueRange};
 use std::alloc::Global;
 
 /// A command of this name.
@@ -235,6 +235,62 @@ fn helped_value(alloc: Global, name: &str, help: &str) -> Result<Vec<PossibleVal
 pub(crate) fn deep(alloc: Global) -> Result<Command, Error> {
     let b = holding(named(alloc, "b"), named(alloc, "c"));
     holding(named(alloc, "p"), holding(named(alloc, "a"), b))
+}
+
+/// `app` with the flags `-v`, `--verbose`, which counts and excludes `quiet`, and `-q`.
+pub(crate) fn counted(alloc: Global) -> Result<Command, Error> {
+    with(with(bare(alloc), counting(alloc)), quiet(alloc))
+}
+
+fn counting(alloc: Global) -> Result<Arg, Error> {
+    let quiet = String::from_str(alloc, "quiet")?;
+    let verbose = long(alloc, "verbose")?.short('v').action(ArgAction::Count);
+    verbose.conflicts_with(quiet)
+}
+
+fn quiet(alloc: Global) -> Result<Arg, Error> {
+    let quiet = Arg::new(alloc, String::from_str(alloc, "quiet")?);
+    Ok(quiet.short('q').action(ArgAction::SetTrue))
+}
+
+/// `app` with a global flag `--json`, which excludes `yaml`, a flag `--yaml` and a child `run`.
+pub(crate) fn global(alloc: Global) -> Result<Command, Error> {
+    let command = with(with(named(alloc, "app"), json(alloc)), yaml(alloc));
+    holding(command, named(alloc, "run"))
+}
+
+fn json(alloc: Global) -> Result<Arg, Error> {
+    let yaml = String::from_str(alloc, "yaml")?;
+    let json = long(alloc, "json")?.action(ArgAction::SetTrue).global(true);
+    json.conflicts_with(yaml)
+}
+
+fn yaml(alloc: Global) -> Result<Arg, Error> {
+    Ok(long(alloc, "yaml")?.action(ArgAction::SetTrue))
+}
+
+/// `app` with an option `--n` of 0 or 1 values, a positional `in` that is required and one `rest`
+/// of any number of values; nothing is generated.
+pub(crate) fn placed(alloc: Global) -> Result<Command, Error> {
+    let command = with(bare(alloc), optional(alloc));
+    with(with(command, input(alloc)), rest(alloc))
+}
+
+fn optional(alloc: Global) -> Result<Arg, Error> {
+    let name = String::from_str(alloc, "N")?;
+    let n = long(alloc, "n")?.num_args(ValueRange::new(0, 1));
+    n.value_name(name)
+}
+
+fn input(alloc: Global) -> Result<Arg, Error> {
+    let input = Arg::new(alloc, String::from_str(alloc, "in")?);
+    Ok(input.value_hint(ValueHint::FilePath).required(true))
+}
+
+fn rest(alloc: Global) -> Result<Arg, Error> {
+    let help = String::from_str(alloc, "a:b")?;
+    let rest = Arg::new(alloc, String::from_str(alloc, "rest")?);
+    Ok(rest.num_args(ValueRange::new(0, usize::MAX)).help(help))
 }
 
 /// A command that was built.

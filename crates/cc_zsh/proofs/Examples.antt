@@ -1,0 +1,252 @@
+-- Worked values of the definitions.
+use Rattle.std.proofs.Common.{◌≡◌, ℕ, List, [], ◌∷◌, ◌++◌, Bool, true, false, Option, Some, None, codes, map, refl}
+use Rattle.std.specs.Char.{encode_utf8}
+use Rattle.std.specs.Fmt.{digits}
+use Rattle.cc_arg.specs.declared.arg.Arg.{Arg}
+use Rattle.cc_arg.specs.declared.action.ArgAction.TheVariants.{Count, SetTrue}
+use Rattle.cc_arg.specs.declared.possible_value.PossibleValue.{PossibleValue}
+use Rattle.cc_arg.specs.declared.value_hint.ValueHint.TheVariants.{FilePath}
+use Rattle.cc_arg.specs.Arguments.{new_arg}
+use Rattle.cc_base.specs.Sorting.{placed, in_order}
+use Rattle.cc_command.specs.declared.node.Node.{Node}
+use Rattle.cc_command.specs.Tree.{Forest, none, more, Tree}
+use Rattle.cc_command.specs.Made.{new_node, new_tree, with_argument, with_child}
+use Rattle.cc_command.specs.Generated.{help_argument}
+use Rattle.cc_command.specs.Built.{built_tree, built_under}
+use Rattle.cc_command.specs.Texts.{help_name, help_help, help_about}
+use Rattle.cc_quote.specs.ZshQuote.{zsh_escaped_help, zsh_escaped_value}
+use Rattle.cc_zsh.specs.Conflicts.{conflicts_text}
+use Rattle.cc_zsh.specs.Functions.{entries_end, entries_text, entry_text, function_1, function_2, function_3, function_4, function_5, function_text, sorted_functions, tree_functions}
+use Rattle.cc_zsh.specs.Nested.{arm_ends, arms_text, below_1, below_2, below_3, below_text, block_begins, block_ends, block_text, children_text, external_text, nested_1, nested_2, nested_3, nested_4, nested_5, nested_6, nested_7, nested_begins, root_text}
+use Rattle.cc_zsh.specs.Options.{flag_text, flags_text, front_text, help_text, line_end, long_flag, long_option, option_text, options_text, short_flag, short_option}
+use Rattle.cc_zsh.specs.Positionals.{count_text, positional_escaped, positional_text, positionals_text}
+use Rattle.cc_zsh.specs.Values.{described_list, described_text, hint_text, list_text, named_list, named_text, one_value, value_text, values_text}
+use Rattle.cc_zsh.specs.ZshScript.{begin_1, begin_2, begin_3, begin_text, end_1, end_2, end_3, end_4, end_5, end_text, functions_text, middle, script_text, zsh_script}
+
+-- ---- single lines
+
+abbrev flag : List ℕ → Arg
+flag name = record (new_arg name) { long = Some name; action = Some SetTrue }
+
+-- what zsh takes for syntax stands after a backslash
+odd : List ℕ
+odd = codes "\\ [foo]() `bar https://$PATH"
+
+escaped : (zsh_escaped_value odd ≡ codes "\\\\\\ \\[foo\\]\\(\\)\\ \\`bar\\ https\\://\\$PATH")
+    × (zsh_escaped_help odd ≡ codes "\\\\ \\[foo\\]() \\`bar https\\://\\$PATH")
+unfolding odd zsh_escaped_help zsh_escaped_value
+escaped = (refl, refl)
+
+-- a flag that counts, in conflict with one that has no long
+abbrev counted : Node
+counted =
+    let verbose : Arg = record (new_arg (codes "verbose")) {
+      short = Some 118;
+      long = Some (codes "verbose");
+      action = Some Count;
+      conflicts = codes "quiet" ∷ [];
+    } in
+    let quiet : Arg = record (new_arg (codes "quiet")) {
+      short = Some 113;
+      action = Some SetTrue;
+    } in
+    with_argument (with_argument (new_node (codes "app")) verbose) quiet
+
+conflicts : flags_text counted counted
+    ≡ codes "'(-q)*-v[]' \\\n'(-q)*--verbose[]' \\\n'-q[]' \\\n"
+unfolding flags_text flag_text short_flag long_flag front_text conflicts_text help_text line_end zsh_escaped_help encode_utf8
+conflicts = refl
+
+-- a conflict with a positional has no name, and the brackets stand all the same
+abbrev unnamed : Node
+unnamed =
+    with_argument (with_argument (new_node (codes "app"))
+    (record (flag (codes "yes")) { conflicts = codes "file" ∷ codes "none" ∷ [] }))
+    (new_arg (codes "file"))
+
+unnamed_conflicts : flags_text unnamed unnamed ≡ codes "'()--yes[]' \\\n"
+unfolding flags_text flag_text short_flag long_flag front_text conflicts_text help_text line_end zsh_escaped_help encode_utf8
+unnamed_conflicts = refl
+
+-- the conflicts of a global argument are those that the node above finds
+abbrev json : Arg
+json = record (flag (codes "json")) { global = true; conflicts = codes "yaml" ∷ [] }
+
+abbrev app_node : Node
+app_node = with_argument (with_argument (new_node (codes "app")) json) (flag (codes "yaml"))
+
+abbrev with_global : Tree
+with_global =
+    built_under (Some (codes "app"))
+    (with_child (record (new_tree []) { node = app_node }) (new_tree (codes "run")))
+
+-- the flags of each node of a forest that has this one above it
+abbrev flags_below : Node → Forest → List (List ℕ)
+flags_below above none = []
+flags_below above (more node below rest) = flags_text above node ∷ flags_below above rest
+
+global_conflicts : flags_below with_global.node with_global.children
+    ≡ codes "'(--yaml)--json[]' \\\n'-h[Print help]' \\\n'--help[Print help]' \\\n" ∷ [] ∷ []
+unfolding flags_text flag_text short_flag long_flag front_text conflicts_text help_text line_end zsh_escaped_help encode_utf8 help_argument help_name help_help
+global_conflicts = refl
+
+-- a value that may be left out, a positional that must be there, one that takes the rest
+abbrev lines : Tree
+lines =
+    let n : Arg = record (new_arg (codes "n")) {
+      long = Some (codes "n");
+      value_names = codes "N" ∷ [];
+      num_args = Some (record { least = 0; greatest = 1 });
+    } in
+    let first : Arg = record (new_arg (codes "in")) { value_hint = FilePath; required = true } in
+    let others : Arg = record (new_arg (codes "rest")) {
+      help = Some (codes "a:b");
+      num_args = Some (record { least = 0; greatest = 18446744073709551615 });
+    } in
+    let root : Node = record (new_node (codes "app")) { disable_help_flag = true } in
+    built_tree (record (new_tree []) {
+      node = with_argument (with_argument (with_argument root n) first) others;
+    })
+
+block : block_text lines.node lines
+    ≡ codes "_arguments \"${_arguments_options[@]}\" : \\\n"
+    ++ codes "'--n=[]::N:_default' \\\n"
+    ++ codes "':in:_files' \\\n"
+    ++ codes "'*::rest -- a\\:b:_default' \\\n"
+    ++ codes "&& ret=0"
+unfolding zsh_escaped_help zsh_escaped_value block_text block_begins block_ends below_text options_text option_text long_option flags_text flag_text front_text conflicts_text help_text line_end values_text one_value value_text hint_text positionals_text positional_text count_text positional_escaped
+block = refl
+
+-- possible values
+abbrev value : List ℕ → Bool → PossibleValue
+value name hide = record { name = name; help = None; hide = hide }
+
+abbrev colour : Arg
+colour = record (new_arg (codes "color")) {
+  short = Some 99;
+  long = Some (codes "color");
+  help = Some (codes "Colour");
+  value_names = codes "WHEN" ∷ [];
+  possible_values = Some (value (codes "auto") false ∷ value (codes "never") true ∷ []);
+}
+
+values : option_text app_node app_node colour
+    ≡ codes "'-c+[Colour]:WHEN:(auto)' \\\n'--color=[Colour]:WHEN:(auto)' \\\n"
+unfolding zsh_escaped_help zsh_escaped_value encode_utf8 option_text short_option long_option front_text conflicts_text help_text line_end values_text one_value value_text list_text named_list named_text
+values = refl
+
+described : list_text (record (value (codes "a b") false) { help = Some (codes "it's") } ∷ value (codes "c") false ∷ [])
+    ≡ codes "((a\\ b\\:\"it'\\''s\"\nc\\:\"\"))"
+unfolding zsh_escaped_help zsh_escaped_value list_text described_list described_text
+described = refl
+
+-- ---- a whole script
+
+abbrev app : Tree
+app =
+    built_under (Some (codes "app"))
+    (with_child (new_tree (codes "app")) (new_tree (codes "run")))
+
+whole : zsh_script app ≡
+    codes "#compdef app\n"
+    ++ codes "\n"
+    ++ codes "autoload -U is-at-least\n"
+    ++ codes "\n"
+    ++ codes "_app() {\n"
+    ++ codes "    typeset -A opt_args\n"
+    ++ codes "    typeset -a _arguments_options\n"
+    ++ codes "    local ret=1\n"
+    ++ codes "\n"
+    ++ codes "    if is-at-least 5.2; then\n"
+    ++ codes "        _arguments_options=(-s -S -C)\n"
+    ++ codes "    else\n"
+    ++ codes "        _arguments_options=(-s -C)\n"
+    ++ codes "    fi\n"
+    ++ codes "\n"
+    ++ codes "    local context curcontext=\"$curcontext\" state line\n"
+    ++ codes "    _arguments \"${_arguments_options[@]}\" : \\\n"
+    ++ codes "'-h[Print help]' \\\n"
+    ++ codes "'--help[Print help]' \\\n"
+    ++ codes "\":: :_app_commands\" \\\n"
+    ++ codes "\"*::: :->app\" \\\n"
+    ++ codes "&& ret=0\n"
+    ++ codes "    case $state in\n"
+    ++ codes "    (app)\n"
+    ++ codes "        words=($line[1] \"${words[@]}\")\n"
+    ++ codes "        (( CURRENT += 1 ))\n"
+    ++ codes "        curcontext=\"${curcontext%:*:*}:app-command-$line[1]:\"\n"
+    ++ codes "        case $line[1] in\n"
+    ++ codes "            (run)\n"
+    ++ codes "_arguments \"${_arguments_options[@]}\" : \\\n"
+    ++ codes "'-h[Print help]' \\\n"
+    ++ codes "'--help[Print help]' \\\n"
+    ++ codes "&& ret=0\n"
+    ++ codes ";;\n"
+    ++ codes "(help)\n"
+    ++ codes "_arguments \"${_arguments_options[@]}\" : \\\n"
+    ++ codes "\":: :_app__subcmd__help_commands\" \\\n"
+    ++ codes "\"*::: :->help\" \\\n"
+    ++ codes "&& ret=0\n"
+    ++ codes "\n"
+    ++ codes "    case $state in\n"
+    ++ codes "    (help)\n"
+    ++ codes "        words=($line[1] \"${words[@]}\")\n"
+    ++ codes "        (( CURRENT += 1 ))\n"
+    ++ codes "        curcontext=\"${curcontext%:*:*}:app-help-command-$line[1]:\"\n"
+    ++ codes "        case $line[1] in\n"
+    ++ codes "            (run)\n"
+    ++ codes "_arguments \"${_arguments_options[@]}\" : \\\n"
+    ++ codes "&& ret=0\n"
+    ++ codes ";;\n"
+    ++ codes "(help)\n"
+    ++ codes "_arguments \"${_arguments_options[@]}\" : \\\n"
+    ++ codes "&& ret=0\n"
+    ++ codes ";;\n"
+    ++ codes "        esac\n"
+    ++ codes "    ;;\n"
+    ++ codes "esac\n"
+    ++ codes ";;\n"
+    ++ codes "        esac\n"
+    ++ codes "    ;;\n"
+    ++ codes "esac\n"
+    ++ codes "}\n"
+    ++ codes "\n"
+    ++ codes "(( $+functions[_app_commands] )) ||\n"
+    ++ codes "_app_commands() {\n"
+    ++ codes "    local commands; commands=(\n"
+    ++ codes "'run:' \\\n"
+    ++ codes "'help:Print this message or the help of the given subcommand(s)' \\\n"
+    ++ codes "    )\n"
+    ++ codes "    _describe -t commands 'app commands' commands \"$@\"\n"
+    ++ codes "}\n"
+    ++ codes "(( $+functions[_app__subcmd__help_commands] )) ||\n"
+    ++ codes "_app__subcmd__help_commands() {\n"
+    ++ codes "    local commands; commands=(\n"
+    ++ codes "'run:' \\\n"
+    ++ codes "'help:Print this message or the help of the given subcommand(s)' \\\n"
+    ++ codes "    )\n"
+    ++ codes "    _describe -t commands 'app help commands' commands \"$@\"\n"
+    ++ codes "}\n"
+    ++ codes "(( $+functions[_app__subcmd__help__subcmd__help_commands] )) ||\n"
+    ++ codes "_app__subcmd__help__subcmd__help_commands() {\n"
+    ++ codes "    local commands; commands=()\n"
+    ++ codes "    _describe -t commands 'app help help commands' commands \"$@\"\n"
+    ++ codes "}\n"
+    ++ codes "(( $+functions[_app__subcmd__help__subcmd__run_commands] )) ||\n"
+    ++ codes "_app__subcmd__help__subcmd__run_commands() {\n"
+    ++ codes "    local commands; commands=()\n"
+    ++ codes "    _describe -t commands 'app help run commands' commands \"$@\"\n"
+    ++ codes "}\n"
+    ++ codes "(( $+functions[_app__subcmd__run_commands] )) ||\n"
+    ++ codes "_app__subcmd__run_commands() {\n"
+    ++ codes "    local commands; commands=()\n"
+    ++ codes "    _describe -t commands 'app run commands' commands \"$@\"\n"
+    ++ codes "}\n"
+    ++ codes "\n"
+    ++ codes "if [ \"$funcstack[1]\" = \"_app\" ]; then\n"
+    ++ codes "    _app \"$@\"\n"
+    ++ codes "else\n"
+    ++ codes "    compdef _app app\n"
+    ++ codes "fi\n"
+unfolding zsh_escaped_help encode_utf8 help_argument help_name help_help help_about placed in_order digits script_text begin_text begin_1 begin_2 begin_3 middle root_text block_text block_begins block_ends options_text flags_text flag_text short_flag long_flag front_text conflicts_text help_text line_end positionals_text below_text children_text below_1 below_2 below_3 nested_begins nested_1 nested_2 nested_3 nested_4 nested_5 nested_6 nested_7 arms_text arm_ends functions_text sorted_functions function_text function_1 function_2 function_3 function_4 function_5 entry_text entries_text entries_end end_text end_1 end_2 end_3 end_4 end_5
+whole = refl

@@ -1,0 +1,29 @@
+use Rattle.std.proofs.Common.{◌≡◌, ◌++◌, ◌∷◌, ◌+◌, codes, drop, ap, sym, ◌∙◌, rules}
+use Rattle.std.specs.Option.{option_to_list}
+use Rattle.std.proofs.lemmas.List.Concat.{flat_map-append}
+use Rattle.cc_command.specs.ArgumentLists.{first_with}
+use Rattle.cc_zsh.specs.Conflicts.{conflict_words, own_words, with_ids}
+use Rattle.cc_zsh.specs.Joined.{joined_after}
+use Rattle.cc_zsh.proofs.JoinedTexts.{joined_step, one_more}
+use Rattle.cc_zsh.proofs.conflicts.write_words.Goals as goal
+
+pub loop-id-preserved : goal.loop-id-preserved
+loop-id-preserved g c =
+    let arguments = c.args.arguments.now in
+    let items = c.args.ids.now in
+    let i = c.loop-id.id-index in
+    let item = c.id-item.result in
+    let left = drop (i + 1) items in
+    let found = option_to_list (first_with arguments item) in
+    let taken = g.W.Sink.taken c.loop-id.sink in
+    let opened = ap (λ ids. conflict_words (with_ids arguments ids))
+    (one_more items i item item c.loop-id-test.true c.id-item.is)
+    ∙ flat_map-append own_words found (with_ids arguments left) in
+    record {
+      whole = joined_step (codes " ") c.loop-id.begun c.write_first.new.begun
+          (conflict_words found) (conflict_words (with_ids arguments left)) taken _ _
+          c.in_ok-write_first.ensures.written.ok c.in_ok-write_first.ensures.begun
+          (ap (λ texts. taken ++ joined_after (codes " ") c.loop-id.begun texts) (sym opened)
+          ∙ c.loop-id.invariant.whole);
+      failures = search rules;
+    }

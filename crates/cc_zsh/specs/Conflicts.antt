@@ -1,0 +1,56 @@
+-- The arguments with which an argument is in conflict, as an option's word names them.
+use Rattle.std.specs.Prelude.{ℕ, List, [], ◌∷◌, ◌++◌, if◌then◌else◌, Bool, true, false, Option, Some, None, codes, encode_utf8}
+use Rattle.std.specs.List.{flat_map}
+use Rattle.std.specs.Option.{option_to_list}
+use Rattle.cc_arg.specs.declared.arg.Arg.{Arg}
+use Rattle.cc_command.specs.declared.node.Node.{Node}
+use Rattle.cc_command.specs.ArgumentLists.{conflicting, first_with}
+use Rattle.cc_zsh.specs.Joined.{joined}
+
+-- for each of these ids in order the first of the arguments with it; an id that none has is passed
+-- over
+abbrev pub with_ids : List Arg → List (List ℕ) → List Arg
+with_ids arguments ids = flat_map (λ id. option_to_list (first_with arguments id)) ids
+
+-- where the conflicts of an argument are looked up: those of a global one in the node above, which
+-- for the root is the root itself
+abbrev pub looked_up : Node → Node → Arg → List Arg
+looked_up above node argument = if argument.global then above.arguments else node.arguments
+
+-- the arguments with which an argument of a node is in conflict
+abbrev pub excluded : Node → Node → Arg → List Arg
+excluded above node argument = conflicting (looked_up above node argument) argument
+
+-- a short and a long as they are typed
+abbrev pub short_word : ℕ → List ℕ
+short_word short = codes "-" ++ encode_utf8 short
+
+abbrev pub long_word : List ℕ → List ℕ
+long_word long = codes "--" ++ long
+
+abbrev pub short_words : Option ℕ → List (List ℕ)
+short_words None = []
+short_words (Some short) = short_word short ∷ []
+
+abbrev pub long_words : Option (List ℕ) → List (List ℕ)
+long_words None = []
+long_words (Some long) = long_word long ∷ []
+
+-- an argument's short and its long, where it has them
+abbrev pub own_words : Arg → List (List ℕ)
+own_words argument = short_words argument.short ++ long_words argument.long
+
+-- those of each of some arguments
+abbrev pub conflict_words : List Arg → List (List ℕ)
+conflict_words arguments = flat_map own_words arguments
+
+-- whether there is an argument
+abbrev pub has_arguments : List Arg → Bool
+has_arguments [] = false
+has_arguments (_ ∷ _) = true
+
+-- the names of the conflicting arguments in brackets, where there are such arguments
+unfoldable pub conflicts_text : List Arg → List ℕ
+conflicts_text arguments =
+    if has_arguments arguments
+    then codes "(" ++ (joined (codes " ") (conflict_words arguments) ++ codes ")") else []

@@ -1,0 +1,11 @@
+pub mod Conflicts
+pub mod Functions
+pub mod Joined
+pub mod Named
+pub mod Nested
+pub mod Options
+pub mod Positionals
+pub mod Steps
+pub mod Values
+pub mod ZshReads
+pub mod ZshScript

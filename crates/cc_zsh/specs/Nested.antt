@@ -1,0 +1,134 @@
+-- The blocks of a script: what is offered at a node, and the arms of its children.
+use Rattle.std.specs.Prelude.{ℕ, suc, List, [], ◌∷◌, ◌++◌, ◌==◌, if◌then◌else◌, codes, length}
+use Rattle.std.specs.List.{flat_map}
+use Rattle.std.specs.Fmt.{decimal}
+use Rattle.cc_command.specs.declared.node.Node.{Node}
+use Rattle.cc_command.specs.ArgumentLists.{positionals}
+use Rattle.cc_command.specs.Names.{full_name, visible_names}
+use Rattle.cc_command.specs.Tree.{Forest, none, more, Tree, has_nodes}
+use Rattle.cc_quote.specs.Bytes.{line_feed, space}
+use Rattle.cc_zsh.specs.Options.{flags_text, options_text}
+use Rattle.cc_zsh.specs.Positionals.{positionals_text}
+
+-- a text with another in place of each space
+abbrev pub unspaced : List ℕ → List ℕ → List ℕ
+unspaced by text = flat_map (λ byte. if byte == space then by else byte ∷ []) text
+
+-- the name of the function that describes a node's children, without the first `_`
+abbrev pub function_label : List ℕ → List ℕ
+function_label name = unspaced (codes "__subcmd__") name ++ codes "_commands"
+
+-- ---- what is offered at a node
+
+unfoldable pub block_begins : List ℕ
+block_begins = codes "_arguments \"${_arguments_options[@]}\" : \\\n"
+
+unfoldable pub block_ends : List ℕ
+block_ends = codes "&& ret=0"
+
+unfoldable pub external_text : List ℕ
+external_text = codes "\"*::external_command:_default\" \\\n"
+
+unfoldable pub below_1 : List ℕ
+below_1 = codes "\":: :_"
+
+unfoldable pub below_2 : List ℕ
+below_2 = codes "\" \\\n\"*::: :->"
+
+unfoldable pub below_3 : List ℕ
+below_3 = codes "\" \\\n"
+
+-- the children: the function that describes them, and the name of the node, at which its arms stand
+unfoldable pub children_text : Node → List ℕ
+children_text node =
+    below_1 ++ (function_label (full_name node) ++ (below_2 ++ (node.name ++ below_3)))
+
+-- what stands for the words after the options and positionals: the children, or, where there are
+-- none, commands from outside the tree, where the node allows these
+unfoldable pub below_text : Tree → List ℕ
+below_text tree =
+    if has_nodes tree.children then children_text tree.node
+    else (if tree.node.allow_external_subcommands then external_text else [])
+
+-- the block of a tree that has this node above it
+unfoldable pub block_text : Node → Tree → List ℕ
+block_text above tree =
+    block_begins ++ (options_text above tree.node ++ (flags_text above tree.node
+    ++ (positionals_text tree ++ (below_text tree ++ block_ends))))
+
+-- ---- the arms of a node's children
+
+unfoldable pub nested_1 : List ℕ
+nested_1 = codes "\n    case $state in\n    ("
+
+unfoldable pub nested_2 : List ℕ
+nested_2 = codes ")\n        words=($line["
+
+unfoldable pub nested_3 : List ℕ
+nested_3 =
+    codes "] \"${words[@]}\")\n        (( CURRENT += 1 ))\n        curcontext=\"${curcontext%:*:*}:"
+
+unfoldable pub nested_4 : List ℕ
+nested_4 = codes "-command-$line["
+
+unfoldable pub nested_5 : List ℕ
+nested_5 = codes "]:\"\n        case $line["
+
+unfoldable pub nested_6 : List ℕ
+nested_6 = codes "] in\n            "
+
+unfoldable pub nested_7 : List ℕ
+nested_7 = codes "        esac\n    ;;\nesac"
+
+-- the place of the word that names a child: after the positionals
+abbrev pub place_text : Node → List ℕ
+place_text node = decimal (suc (length (positionals node)))
+
+-- the full name with dashes
+abbrev pub context_text : Node → List ℕ
+context_text node = unspaced (codes "-") (full_name node)
+
+-- what the arms begin with, where the place of the word is this text; from the context on
+abbrev pub nested_back : List ℕ → Node → List ℕ
+nested_back place node =
+    context_text node ++ (nested_4 ++ (place ++ (nested_5 ++ (place ++ nested_6))))
+
+-- the whole
+abbrev pub nested_at : List ℕ → Node → List ℕ
+nested_at place node =
+    nested_1 ++ (node.name ++ (nested_2 ++ (place ++ (nested_3 ++ nested_back place node))))
+
+-- what the arms begin with
+unfoldable pub nested_begins : Node → List ℕ
+nested_begins node = nested_at (place_text node) node
+
+-- the arms of a node, where it has children
+abbrev pub nested_text : Node → Forest → List ℕ → List ℕ
+nested_text node children arms =
+    if has_nodes children then nested_begins node ++ (arms ++ nested_7) else []
+
+-- the same on a line of its own
+abbrev pub nested_line : Node → Forest → List ℕ → List ℕ
+nested_line node children arms =
+    if has_nodes children then line_feed ∷ (nested_begins node ++ (arms ++ nested_7)) else []
+
+unfoldable pub arm_ends : List ℕ
+arm_ends = codes "\n;;\n"
+
+-- the arm of a word, with a block and what is nested in it, and a line feed at its end
+abbrev pub arm_text : List ℕ → List ℕ → List ℕ → List ℕ
+arm_text block nested word = codes "(" ++ (word ++ (codes ")\n" ++ (block ++ (nested ++ arm_ends))))
+
+-- an arm for each visible name of each child, below this node
+unfoldable pub arms_text : Node → Forest → List ℕ
+arms_text above none = []
+arms_text above (more node below rest) =
+    flat_map (arm_text (block_text above (record { node = node; children = below }))
+    (nested_line node below (arms_text node below))) (visible_names node)
+    ++ arms_text above rest
+
+-- what is offered at the root and at all nodes below it
+unfoldable pub root_text : Tree → List ℕ
+root_text root =
+    block_text root.node root
+    ++ nested_text root.node root.children (arms_text root.node root.children)

@@ -1,0 +1,78 @@
+-- The lines of a node's options and flags.
+use Rattle.std.specs.Prelude.{ℕ, List, [], ◌∷◌, ◌++◌, Bool, true, false, if◌then◌else◌, unwrap_or, codes}
+use Rattle.std.specs.List.{flat_map}
+use Rattle.cc_arg.specs.declared.arg.Arg.{Arg}
+use Rattle.cc_arg.specs.declared.action.ArgAction.{ArgAction}
+use Rattle.cc_arg.specs.declared.action.ArgAction.TheVariants.{Set, Append, Count}
+use Rattle.cc_arg.specs.ShownNames.{shown_longs, shown_shorts}
+use Rattle.cc_command.specs.declared.node.Node.{Node}
+use Rattle.cc_command.specs.ArgumentLists.{flags, options}
+use Rattle.cc_zsh.specs.Conflicts.{conflicts_text, excluded, long_word, short_word}
+use Rattle.cc_quote.specs.ZshQuote.{zsh_escaped_help}
+use Rattle.cc_zsh.specs.Values.{values_text}
+
+-- whether an action counts uses, or keeps the values of each use
+abbrev pub repeats : ArgAction → Bool
+repeats Count = true
+repeats Append = true
+repeats _ = false
+
+-- whether an argument may be used again; building has filled in the action
+abbrev pub is_repeated : Arg → Bool
+is_repeated argument = repeats (unwrap_or argument.action Set)
+
+-- a star, where the argument may be used again
+abbrev pub repeated_text : Arg → List ℕ
+repeated_text argument = if is_repeated argument then codes "*" else []
+
+-- the help, or nothing, in square brackets
+unfoldable pub help_text : Arg → List ℕ
+help_text argument = codes "[" ++ (zsh_escaped_help (unwrap_or argument.help []) ++ codes "]")
+
+-- what stands before the name of an argument of a node: the names of those in conflict with it, and
+-- a star
+unfoldable pub front_text : Node → Node → Arg → List ℕ
+front_text above node argument =
+    codes "'" ++ (conflicts_text (excluded above node argument) ++ repeated_text argument)
+
+-- what each line ends with
+unfoldable pub line_end : List ℕ
+line_end = codes "' \\\n"
+
+-- an option's short, and one of its longs
+unfoldable pub short_option : Node → Node → Arg → ℕ → List ℕ
+short_option above node argument short =
+    front_text above node argument ++ (short_word short
+    ++ (codes "+" ++ (help_text argument ++ (values_text argument ++ line_end))))
+
+unfoldable pub long_option : Node → Node → Arg → List ℕ → List ℕ
+long_option above node argument long =
+    front_text above node argument ++ (long_word long
+    ++ (codes "=" ++ (help_text argument ++ (values_text argument ++ line_end))))
+
+-- a flag's
+unfoldable pub short_flag : Node → Node → Arg → ℕ → List ℕ
+short_flag above node argument short =
+    front_text above node argument ++ (short_word short ++ (help_text argument ++ line_end))
+
+unfoldable pub long_flag : Node → Node → Arg → List ℕ → List ℕ
+long_flag above node argument long =
+    front_text above node argument ++ (long_word long ++ (help_text argument ++ line_end))
+
+-- an option under each of its shown names, shorts first; a flag likewise
+unfoldable pub option_text : Node → Node → Arg → List ℕ
+option_text above node argument =
+    flat_map (short_option above node argument) (shown_shorts argument)
+    ++ flat_map (long_option above node argument) (shown_longs argument)
+
+unfoldable pub flag_text : Node → Node → Arg → List ℕ
+flag_text above node argument =
+    flat_map (short_flag above node argument) (shown_shorts argument)
+    ++ flat_map (long_flag above node argument) (shown_longs argument)
+
+-- the options and the flags of a node that has this node above it
+unfoldable pub options_text : Node → Node → List ℕ
+options_text above node = flat_map (option_text above node) (options node)
+
+unfoldable pub flags_text : Node → Node → List ℕ
+flags_text above node = flat_map (flag_text above node) (flags node)

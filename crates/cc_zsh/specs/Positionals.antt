@@ -1,0 +1,84 @@
+-- The lines of a node's positionals.
+use Rattle.std.specs.Prelude.{ℕ, List, [], ◌∷◌, ◌++◌, ◌==◌, ◌&&◌, ◌||◌, nat_lt, Bool, false, not, if◌then◌else◌, Option, Some, None, is_some, codes}
+use Rattle.std.specs.List.{flat_map}
+use Rattle.cc_arg.specs.declared.arg.Arg.{Arg}
+use Rattle.cc_command.specs.ArgumentLists.{positionals}
+use Rattle.cc_command.specs.Tree.{Tree, has_nodes}
+use Rattle.cc_quote.specs.Bytes.{backslash, single_quote}
+use Rattle.cc_quote.specs.ZshQuote.{zsh_escaped_value}
+use Rattle.cc_zsh.specs.Options.{line_end}
+use Rattle.cc_zsh.specs.Values.{range, value_text}
+
+-- whether an argument takes more than one value
+abbrev pub takes_several : Arg → Bool
+takes_several argument = nat_lt 1 (range argument).greatest
+
+-- whether a positional takes all words that follow, or those up to its terminator; where there are
+-- children, none does
+abbrev pub takes_rest : Bool → Arg → Bool
+takes_rest has_children argument = takes_several argument && not has_children
+
+-- what stands for the rest of the words, or for those up to a terminator
+abbrev pub rest_text : Option (List ℕ) → List ℕ
+rest_text None = codes "*:"
+rest_text (Some terminator) = codes "*" ++ (zsh_escaped_value terminator ++ codes ":")
+
+-- how many words a positional takes: the rest, or one, which need not be there where a colon stands
+unfoldable pub count_text : Bool → Arg → List ℕ
+count_text has_children argument =
+    if takes_rest has_children argument then rest_text argument.value_terminator
+    else (if argument.required then [] else codes ":")
+
+-- `[`, `]` and `:` after a backslash, and a quote as `'\''`
+abbrev pub is_bracket_or_colon : ℕ → Bool
+is_bracket_or_colon byte = byte == 91 || byte == 93 || byte == 58
+
+abbrev pub positional_byte : ℕ → List ℕ
+positional_byte byte =
+    if is_bracket_or_colon byte then backslash ∷ byte ∷ []
+    else (if byte == single_quote then codes "'\\''" else byte ∷ [])
+
+-- whether something else stands for a byte
+abbrev pub is_positional_escaped : ℕ → Bool
+is_positional_escaped byte = is_bracket_or_colon byte || byte == single_quote
+
+unfoldable pub positional_escaped : List ℕ → List ℕ
+positional_escaped text = flat_map positional_byte text
+
+-- the help of a positional
+abbrev pub positional_help : Option (List ℕ) → List ℕ
+positional_help None = []
+positional_help (Some help) = codes " -- " ++ positional_escaped help
+
+-- what stands after the id of a positional
+abbrev pub positional_back : Arg → List ℕ
+positional_back argument =
+    positional_help argument.help ++ (codes ":" ++ (value_text argument ++ line_end))
+
+-- a positional of a node, where it is told whether the node has children
+unfoldable pub positional_text : Bool → Arg → List ℕ
+positional_text has_children argument =
+    codes "'" ++ (count_text has_children argument
+    ++ (codes ":" ++ (argument.id ++ positional_back argument)))
+
+-- whether a positional takes all words that follow, to the end
+abbrev pub takes_all : Bool → Arg → Bool
+takes_all has_children argument =
+    takes_rest has_children argument && not (is_some argument.value_terminator)
+
+-- whether a positional is left out, where it is told whether one before it takes all words
+abbrev pub is_left_out : Bool → Arg → Bool
+is_left_out taken argument = taken && (argument.last || takes_several argument)
+
+-- the positionals that are shown, where it is told whether one before them takes all words
+abbrev pub shown_positionals : Bool → Bool → List Arg → List Arg
+shown_positionals has_children taken [] = []
+shown_positionals has_children taken (argument ∷ arguments) =
+    (if is_left_out taken argument then [] else argument ∷ [])
+    ++ shown_positionals has_children (taken || takes_all has_children argument) arguments
+
+-- the positionals of a node
+unfoldable pub positionals_text : Tree → List ℕ
+positionals_text tree =
+    flat_map (positional_text (has_nodes tree.children))
+    (shown_positionals (has_nodes tree.children) false (positionals tree.node))

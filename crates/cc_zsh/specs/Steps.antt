@@ -1,0 +1,33 @@
+-- What is written where a node is entered and where it is left.
+use Rattle.std.specs.Prelude.{ℕ, List, [], ◌∷◌, ◌++◌, if◌then◌else◌, codes}
+use Rattle.cc_command.specs.Tree.{Tree, has_nodes}
+use Rattle.cc_quote.specs.Bytes.{line_feed}
+use Rattle.cc_visits.specs.Visits.{Keyed, Step, enter, leave}
+use Rattle.cc_zsh.specs.Nested.{arm_ends, block_text, nested_7, nested_begins}
+
+-- the key of a node is the name by which it is reached
+abbrev pub last_name : List ℕ → List ℕ → List ℕ
+last_name key name = name
+
+-- what the arms of a node begin with, on a line of its own, where it has children
+unfoldable pub nested_opens : Tree → List ℕ
+nested_opens tree =
+    if has_nodes tree.children then line_feed ∷ nested_begins tree.node else []
+
+-- what they end with
+unfoldable pub nested_closes : Tree → List ℕ
+nested_closes tree = if has_nodes tree.children then nested_7 else []
+
+-- the word of an arm, the block of its node, and what the arms of its children begin with
+unfoldable pub enter_text : Keyed (List ℕ) → List ℕ
+enter_text visit =
+    codes "(" ++ (visit.key ++ (codes ")\n"
+    ++ (block_text visit.above visit.tree ++ nested_opens visit.tree)))
+
+-- what these arms end with, and what an arm ends with
+unfoldable pub leave_text : Tree → List ℕ
+leave_text tree = nested_closes tree ++ arm_ends
+
+abbrev pub step_text : Step (List ℕ) → List ℕ
+step_text (enter visit) = enter_text visit
+step_text (leave visit) = leave_text visit.tree

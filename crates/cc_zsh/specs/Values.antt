@@ -1,0 +1,95 @@
+-- What an argument's values may be.
+use Rattle.std.specs.Prelude.{ℕ, zero, suc, Bool, List, [], ◌∷◌, ◌++◌, if◌then◌else◌, not, ◌&&◌, Option, Some, None, is_some, unwrap_or, codes, filter, map}
+use Rattle.std.specs.List.{list_any}
+use Rattle.cc_arg.specs.declared.arg.Arg.{Arg}
+use Rattle.cc_arg.specs.declared.possible_value.PossibleValue.{PossibleValue}
+use Rattle.cc_arg.specs.declared.range.ValueRange.{ValueRange}
+use Rattle.cc_arg.specs.declared.value_hint.ValueHint.{ValueHint}
+use Rattle.cc_arg.specs.declared.value_hint.ValueHint.TheVariants.{Unknown, Other, AnyPath, FilePath, DirPath, ExecutablePath, CommandName, CommandString, CommandWithArguments, Username, Hostname, Url, EmailAddress}
+use Rattle.cc_arg.specs.Arguments.{exactly, possible_values}
+use Rattle.cc_quote.specs.ZshQuote.{zsh_escaped_help, zsh_escaped_value}
+use Rattle.cc_zsh.specs.Joined.{joined}
+
+-- the values of a list that are shown
+abbrev pub shown_values : List PossibleValue → List PossibleValue
+shown_values values = filter (λ value. not value.hide) values
+
+-- whether a value is shown and has a help
+abbrev pub is_described : PossibleValue → Bool
+is_described value = not value.hide && is_some value.help
+
+-- a value with its help, or with an empty one
+unfoldable pub described_text : PossibleValue → List ℕ
+described_text value =
+    zsh_escaped_value value.name
+    ++ (codes "\\:\"" ++ (zsh_escaped_help (unwrap_or value.help []) ++ codes "\""))
+
+-- a value without its help
+unfoldable pub named_text : PossibleValue → List ℕ
+named_text value = zsh_escaped_value value.name
+
+-- the values of a list that are shown: with their helps, each on a line of its own, where one of them
+-- has a help; else the names alone
+unfoldable pub described_list : List PossibleValue → List ℕ
+described_list values =
+    codes "((" ++ (joined (codes "\n") (map described_text (shown_values values)) ++ codes "))")
+
+unfoldable pub named_list : List PossibleValue → List ℕ
+named_list values =
+    codes "(" ++ (joined (codes " ") (map named_text (shown_values values)) ++ codes ")")
+
+unfoldable pub list_text : List PossibleValue → List ℕ
+list_text values = if list_any is_described values then described_list values else named_list values
+
+-- what a hint tells
+unfoldable pub hint_text : ValueHint → List ℕ
+hint_text Unknown = codes "_default"
+hint_text Other = []
+hint_text AnyPath = codes "_files"
+hint_text FilePath = codes "_files"
+hint_text DirPath = codes "_files -/"
+hint_text ExecutablePath = codes "_absolute_command_paths"
+hint_text CommandName = codes "_command_names -e"
+hint_text CommandString = codes "_cmdstring"
+hint_text CommandWithArguments = codes "_cmdambivalent"
+hint_text Username = codes "_users"
+hint_text Hostname = codes "_hosts"
+hint_text Url = codes "_urls"
+hint_text EmailAddress = codes "_email_addresses"
+
+-- the values of the list where there is one, else what the hint tells
+abbrev pub listed_or_hint : Option (List PossibleValue) → ValueHint → List ℕ
+listed_or_hint (Some values) hint = list_text values
+listed_or_hint None hint = hint_text hint
+
+-- what a value of an argument may be
+unfoldable pub value_text : Arg → List ℕ
+value_text argument = listed_or_hint (possible_values argument) argument.value_hint
+
+-- the first value name, or a space
+abbrev pub first_name : List (List ℕ) → List ℕ
+first_name [] = codes " "
+first_name (name ∷ names) = name
+
+-- one value of an option
+unfoldable pub one_value : Arg → List ℕ
+one_value argument =
+    codes ":" ++ (first_name argument.value_names ++ (codes ":" ++ value_text argument))
+
+-- a text as often as told
+abbrev pub times : ℕ → List ℕ → List ℕ
+times zero text = []
+times (suc count) text = text ++ times count text
+
+-- a value as often as told; one that may be left out is told once, after a colon
+abbrev pub least_values : ℕ → List ℕ → List ℕ
+least_values zero one = codes ":" ++ one
+least_values (suc count) one = times (suc count) one
+
+-- how many values an argument takes; building has filled in the range
+abbrev pub range : Arg → ValueRange
+range argument = unwrap_or argument.num_args (exactly 1)
+
+-- the values of an option: as many as it takes at least
+unfoldable pub values_text : Arg → List ℕ
+values_text argument = least_values (range argument).least (one_value argument)

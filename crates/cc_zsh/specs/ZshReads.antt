@@ -1,0 +1,6 @@
+-- What the zsh script of a tree reads to.
+use Rattle.cc_command.specs.Tree.{Tree}
+
+-- nothing yet
+abbrev pub ZshReads : Tree → Type 0
+ZshReads root = Unit {0}

@@ -1,0 +1,225 @@
+//! The functions of a script: each describes the children of a command.
+
+ghost use Rattle.std.specs.Prelude.{◌≡◌, ◌++◌, ◌<◌, None, length, map, reverse, unwrap_or, IfOk, OnOk};
+ghost use Rattle.std.specs.List.{flat_map};
+ghost use Rattle.std.specs.Option.{option_copied};
+ghost use Rattle.std.specs.Ordering.{nat_cmp};
+ghost use Rattle.std.specs.Cmp.Lexicographic.{slice_cmp};
+ghost use Rattle.cc_base.specs.Sorting.{in_order};
+ghost use Rattle.cc_base.specs.Writes.{Writes};
+ghost use Rattle.cc_command.specs.Names.{full_name, visible_names};
+ghost use Rattle.cc_command.specs.Tree.{forest_of};
+ghost use Rattle.cc_flat.specs.Flat.{HasItsChildren, children_at, tree_at};
+ghost use Rattle.cc_zsh.specs.Functions.{entries_of, entries_text, entry, entry_text, function_back, function_below, function_text, functions_below, is_again, once_after, sorted_functions};
+ghost use Rattle.cc_zsh.specs.Named.{AreListed, function_named, functions_by};
+ghost use Rattle.cc_zsh.specs.ZshScript.{functions_text};
+
+use crate::names::{full_name, write_label};
+use crate::texts::{entries_end, function_1, function_2, function_3, function_4, function_5};
+use cc_base::{Error, Sink, put_all};
+use cc_command::Command;
+use cc_flat::Flat;
+use cc_quote::{ZshHelpEscape, put_escaped};
+use std::alloc::{AllocError, Global};
+use std::cmp::Ordering;
+
+// A command with its full name.
+#[derive(Clone, Copy)]
+pub(crate) struct Named<'a> {
+    name: &'a str,
+    command: &'a Command,
+}
+
+/// Writes the functions of all commands: the root's, then the others in the order of the bytes of
+/// their full names, each full name once.
+#[tactic(auto, unfolding(crate::specs::ZshScript::functions_text))]
+pub(crate) fn write_functions<W: Sink>(
+    alloc: Global,
+    flat: &Flat<'_>,
+    sink: &mut W,
+) -> Result<(), Error>
+    requires { 0 < length flat.now }
+    ensures { Writes W.taken W.failed result sink.old sink.new
+        (functions_text (tree_at flat.now 0)) }
+{
+    let root = with_full_name(flat.command(0));
+    let sorted = sorted_commands(alloc, flat)?;
+    write_function(&root, sink)?;
+    write_once(&sorted, sink)
+}
+
+// The commands below the root in the order of the bytes of their full names.
+fn sorted_commands<'a>(alloc: Global, flat: &Flat<'a>) -> Result<Vec<Named<'a>>, AllocError>
+    requires { 0 < length flat.now }
+    ensures { IfOk result (λ sorted. map function_named sorted.items
+        ≡ in_order function_below (functions_below (tree_at flat.now 0).children)) }
+{
+    let mut commands = commands_below(alloc, flat)?;
+    sort_commands(&mut commands)?;
+    Ok(commands)
+}
+
+fn sort_commands(commands: &mut Vec<Named<'_>>) -> Result<(), AllocError>
+    ensures { OnOk result (map function_named commands.new.items
+        ≡ in_order function_below (map function_named commands.old.items)) }
+{
+    commands.sort_by(|one, other| compared(one, other))
+}
+
+fn compared(one: &Named<'_>, other: &Named<'_>) -> Ordering
+    ensures { result ≡ slice_cmp nat_cmp one.now.name.now other.now.name.now }
+{
+    one.name.cmp(other.name)
+}
+
+// The commands below the root: of each child the child itself, then all below it.
+#[tactic(auto, using(crate::proofs::Stack::functions_begin, crate::proofs::Stack::AreListed_begin))]
+fn commands_below<'a>(alloc: Global, flat: &Flat<'a>) -> Result<Vec<Named<'a>>, AllocError>
+    requires { 0 < length flat.now }
+    ensures { IfOk result (λ found.
+        map function_named found.items ≡ functions_below (tree_at flat.now 0).children) }
+{
+    let mut stack = Vec::new(alloc);
+    push_children(&mut stack, flat, 0)?;
+    commands_of(alloc, flat, stack)
+}
+
+// The commands that a stack of numbers stands for, its last item first.
+fn commands_of<'a>(
+    alloc: Global,
+    flat: &Flat<'a>,
+    mut stack: Vec<usize>,
+) -> Result<Vec<Named<'a>>, AllocError>
+    requires { AreListed flat.now stack.items }
+    ensures { IfOk result (λ found.
+        map function_named found.items ≡ functions_by flat.now stack.items) }
+{
+    let mut found = Vec::new(alloc);
+    while let Some(number) = stack.pop() {
+        found.push(with_full_name(flat.command(number)))?;
+        push_children(&mut stack, flat, number)?;
+    }
+    Ok(found)
+}
+
+// A command with its full name.
+fn with_full_name(command: &Command) -> Named<'_>
+    ensures name { result.name.now ≡ full_name command.now.node }
+    ensures command { result.command.now ≡ command.now }
+{
+    Named {
+        name: full_name(command),
+        command,
+    }
+}
+
+// Adds the children of a node, so that the first child is the last item.
+fn push_children(stack: &mut Vec<usize>, flat: &Flat<'_>, number: usize) -> Result<(), AllocError>
+    requires { number < length flat.now }
+    ensures items { OnOk result (stack.new.items
+        ≡ stack.old.items ++ reverse (children_at flat.now number)) }
+    ensures children { OnOk result (HasItsChildren flat.now number) }
+{
+    let children = flat.children(number);
+    let mut child = children.end;
+    while child > children.start {
+        child -= 1;
+        stack.push(child)?;
+    }
+    Ok(())
+}
+
+// Writes the functions of some commands: of neighbours with one full name the first alone.
+fn write_once<W: Sink>(commands: &[Named<'_>], sink: &mut W) -> Result<(), Error>
+    ensures { Writes W.taken W.failed result sink.old sink.new
+        (flat_map function_text (once_after None (map function_named commands.now))) }
+{
+    let mut last = None;
+    for command in commands {
+        if is_again(last, command.name) {
+            continue;
+        }
+        last = Some(command.name);
+        write_function(command, sink)?;
+    }
+    Ok(())
+}
+
+// Whether a name is the one before it.
+fn is_again(last: Option<&str>, name: &str) -> bool
+    ensures { result ≡ is_again (option_copied last.entry) name.now }
+{
+    match last {
+        Some(last) => last == name,
+        None => false,
+    }
+}
+
+// Writes the function of a command.
+#[tactic(auto, unfolding(crate::specs::Functions::function_text))]
+fn write_function<W: Sink>(command: &Named<'_>, sink: &mut W) -> Result<(), Error>
+    ensures { Writes W.taken W.failed result sink.old sink.new
+        (function_text (function_named command.now)) }
+{
+    put_all(sink, function_1().as_bytes())?;
+    write_label(command.name, sink)?;
+    put_all(sink, function_2().as_bytes())?;
+    write_label(command.name, sink)?;
+    put_all(sink, function_3().as_bytes())?;
+    write_entries(command.command, sink)?;
+    write_back(command.name, sink)
+}
+
+fn write_back<W: Sink>(name: &str, sink: &mut W) -> Result<(), Error>
+    ensures { Writes W.taken W.failed result sink.old sink.new (function_back name.now) }
+{
+    put_all(sink, function_4().as_bytes())?;
+    put_all(sink, name.as_bytes())?;
+    put_all(sink, function_5().as_bytes())
+}
+
+// Writes the visible names of a command's children with their descriptions, where there are any.
+#[tactic(auto, unfolding(crate::specs::Functions::entries_text), using(crate::proofs::ArmSteps::has_entries_of))]
+fn write_entries<W: Sink>(command: &Command, sink: &mut W) -> Result<(), Error>
+    ensures { Writes W.taken W.failed result sink.old sink.new
+        (entries_text (entries_of command.now.children)) }
+{
+    if !command.has_subcommands() {
+        return Ok(());
+    }
+    write_children(command.get_subcommands(), sink)?;
+    put_all(sink, entries_end().as_bytes())
+}
+
+fn write_children<W: Sink>(children: &[Command], sink: &mut W) -> Result<(), Error>
+    ensures { Writes W.taken W.failed result sink.old sink.new
+        (flat_map entry_text (entries_of (forest_of children.now))) }
+{
+    for child in children {
+        write_child(child, sink)?;
+    }
+    Ok(())
+}
+
+fn write_child<W: Sink>(child: &Command, sink: &mut W) -> Result<(), Error>
+    ensures { Writes W.taken W.failed result sink.old sink.new
+        (flat_map entry_text (map (entry child.now.node) (visible_names child.now.node))) }
+{
+    for name in child.get_name_and_visible_aliases() {
+        write_entry(name, child, sink)?;
+    }
+    Ok(())
+}
+
+// Writes a name with the description of its command.
+#[tactic(auto, unfolding(crate::specs::Functions::entry_text))]
+fn write_entry<W: Sink>(name: &str, child: &Command, sink: &mut W) -> Result<(), Error>
+    ensures { Writes W.taken W.failed result sink.old sink.new
+        (entry_text (entry child.now.node name.now)) }
+{
+    put_all(sink, "\n'".as_bytes())?;
+    put_all(sink, name.as_bytes())?;
+    put_all(sink, ":".as_bytes())?;
+    put_escaped(&ZshHelpEscape, child.get_about().unwrap_or(""), sink)?;
+    put_all(sink, "' \\".as_bytes())
+}

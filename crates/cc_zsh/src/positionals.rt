@@ -1,0 +1,175 @@
+//! The lines of a command's positionals.
+
+ghost use Rattle.std.specs.Prelude.{◌≡◌, ◌++◌, false, true, codes};
+ghost use Rattle.std.specs.List.{flat_map};
+ghost use Rattle.std.specs.Option.{option_copied};
+ghost use Rattle.memchr.specs.Find.{IsFirstByte};
+ghost use Rattle.cc_base.specs.Writes.{Writes};
+ghost use Rattle.cc_command.specs.ArgumentLists.{positionals};
+ghost use Rattle.cc_zsh.specs.Options.{line_end};
+ghost use Rattle.cc_zsh.specs.Positionals.{count_text, is_left_out, is_positional_escaped, positional_back, positional_byte, positional_escaped, positional_help, positional_text, positionals_text, rest_text, shown_positionals, takes_all, takes_rest, takes_several};
+ghost use Rattle.cc_zsh.specs.Values.{value_text};
+
+use crate::texts::line_end;
+use crate::values::{range, write_value};
+use cc_arg::Arg;
+use cc_base::{Error, Sink, put_all};
+use cc_command::Command;
+use cc_quote::{Escape, ZshValueEscape, put_escaped};
+
+/// Writes the positionals of a command.
+#[tactic(auto, unfolding(crate::specs::Positionals::positionals_text))]
+pub(crate) fn write_positionals<W: Sink>(command: &Command, sink: &mut W) -> Result<(), Error>
+    ensures { Writes W.taken W.failed result sink.old sink.new (positionals_text command.now) }
+{
+    write_shown(command.has_subcommands(), command, sink)
+}
+
+// Writes those that are shown, where it is told whether the command has children.
+fn write_shown<W: Sink>(has_children: bool, command: &Command, sink: &mut W) -> Result<(), Error>
+    ensures { Writes W.taken W.failed result sink.old sink.new
+        (flat_map (positional_text has_children)
+        (shown_positionals has_children false (positionals command.now.node))) }
+{
+    let mut taken = false;
+    for positional in command.get_positionals() {
+        let left_out = is_left_out(taken, positional);
+        taken = taken || takes_all(has_children, positional);
+        if left_out {
+            continue;
+        }
+        write_positional(has_children, positional, sink)?;
+    }
+    Ok(())
+}
+
+// Whether a positional is left out, where it is told whether one before it takes all words.
+fn is_left_out(taken: bool, argument: &Arg) -> bool
+    ensures { result ≡ is_left_out taken argument.now }
+{
+    taken && (argument.is_last_set() || takes_several(argument))
+}
+
+fn takes_several(argument: &Arg) -> bool
+    ensures { result ≡ takes_several argument.now }
+{
+    range(argument).max_values() > 1
+}
+
+// Whether a positional takes all words that follow, or those up to its terminator.
+fn takes_rest(has_children: bool, argument: &Arg) -> bool
+    ensures { result ≡ takes_rest has_children argument.now }
+{
+    takes_several(argument) && !has_children
+}
+
+// Whether a positional takes all words that follow, to the end.
+fn takes_all(has_children: bool, argument: &Arg) -> bool
+    ensures { result ≡ takes_all has_children argument.now }
+{
+    takes_rest(has_children, argument) && !argument.get_value_terminator().is_some()
+}
+
+// Writes a positional.
+#[tactic(auto, unfolding(crate::specs::Positionals::positional_text))]
+fn write_positional<W: Sink>(has_children: bool, argument: &Arg, sink: &mut W) -> Result<(), Error>
+    ensures { Writes W.taken W.failed result sink.old sink.new
+        (positional_text has_children argument.now) }
+{
+    put_all(sink, "'".as_bytes())?;
+    write_count(has_children, argument, sink)?;
+    put_all(sink, ":".as_bytes())?;
+    put_all(sink, argument.get_id().as_bytes())?;
+    write_back(argument, sink)
+}
+
+// Writes its help, and what its value may be.
+fn write_back<W: Sink>(argument: &Arg, sink: &mut W) -> Result<(), Error>
+    ensures { Writes W.taken W.failed result sink.old sink.new (positional_back argument.now) }
+{
+    write_help(argument.get_help(), sink)?;
+    put_all(sink, ":".as_bytes())?;
+    write_value(argument, sink)?;
+    put_all(sink, line_end().as_bytes())
+}
+
+// Writes how many words a positional takes.
+#[tactic(auto, unfolding(crate::specs::Positionals::count_text))]
+fn write_count<W: Sink>(has_children: bool, argument: &Arg, sink: &mut W) -> Result<(), Error>
+    ensures { Writes W.taken W.failed result sink.old sink.new
+        (count_text has_children argument.now) }
+{
+    if takes_rest(has_children, argument) {
+        return write_rest(argument.get_value_terminator(), sink);
+    }
+    if argument.is_required_set() {
+        return Ok(());
+    }
+    put_all(sink, ":".as_bytes())
+}
+
+// Writes what stands for the rest of the words, or for those up to a terminator.
+fn write_rest<W: Sink>(terminator: Option<&str>, sink: &mut W) -> Result<(), Error>
+    ensures { Writes W.taken W.failed result sink.old sink.new
+        (rest_text (option_copied terminator.entry)) }
+{
+    let Some(terminator) = terminator else {
+        return put_all(sink, "*:".as_bytes());
+    };
+    put_all(sink, "*".as_bytes())?;
+    put_escaped(&ZshValueEscape, terminator, sink)?;
+    put_all(sink, ":".as_bytes())
+}
+
+// Writes the help of a positional, where there is one.
+fn write_help<W: Sink>(help: Option<&str>, sink: &mut W) -> Result<(), Error>
+    ensures { Writes W.taken W.failed result sink.old sink.new
+        (positional_help (option_copied help.entry)) }
+{
+    let Some(help) = help else {
+        return Ok(());
+    };
+    put_all(sink, " -- ".as_bytes())?;
+    put_escaped(&PositionalEscape, help, sink)
+}
+
+// The escape of a positional's help: `[`, `]` and `:` after a backslash, and `'` as `'\''`.
+struct PositionalEscape;
+
+impl Escape for PositionalEscape {
+    ghost escaped = { λ _ text. positional_escaped text };
+
+    fn split<'a>(&self, text: &'a str) -> Option<(&'a str, &'static str, &'a str)> {
+        let bytes = text.as_bytes();
+        let Some(at) = find_escaped(bytes) else {
+            return None;
+        };
+        let replacement = replacement(bytes[at]);
+        Some((&text[..at], replacement, &text[at + 1..]))
+    }
+}
+
+// The place of the first byte that is escaped.
+fn find_escaped(bytes: &[u8]) -> Option<usize>
+    ensures { IsFirstByte is_positional_escaped bytes.now result }
+{
+    for at in 0..bytes.len() {
+        if matches!(bytes[at], b'[' | b']' | b':' | b'\'') {
+            return Some(at);
+        }
+    }
+    None
+}
+
+// What stands for a byte that is escaped.
+fn replacement(escaped: u8) -> &'static str
+    requires { is_positional_escaped escaped ≡ true }
+    ensures { result.now ≡ positional_byte escaped }
+{
+    match escaped {
+        b'[' => "\\[",
+        b']' => "\\]",
+        b':' => "\\:",
+        _ => "'\\''",
+    }
+}

@@ -1,0 +1,108 @@
+//! The zsh script: a function with a block for each visible path, then a function for each command.
+
+ghost use Rattle.std.specs.Prelude.{◌≡◌, ◌++◌, ◌<◌, None, codes, length};
+ghost use Rattle.cc_base.specs.Writes.{Writes};
+ghost use Rattle.cc_command.specs.Names.{full_name};
+ghost use Rattle.cc_flat.specs.Flat.{tree_at};
+ghost use Rattle.cc_zsh.specs.ZshReads.{ZshReads};
+ghost use Rattle.cc_zsh.specs.ZshScript.{begin_text, defined_text, end_text, script_text, zsh_script};
+
+use crate::functions::write_functions;
+use crate::names::full_name;
+use crate::nested::write_root;
+use crate::texts::{begin_1, begin_2, begin_3, end_1, end_2, end_3, end_4, end_5, middle};
+use cc_base::{Error, Sink, put_all};
+use cc_command::Command;
+use cc_flat::Flat;
+use cc_lists::Generator;
+use std::alloc::Global;
+
+/// Writes zsh scripts. The file of a program `N` is `_N`.
+#[derive(Clone, Copy, PartialEq, Eq, Debug)]
+pub struct Zsh;
+
+impl Generator for Zsh {
+    ghost script = { λ _ root. zsh_script root };
+
+    ghost Reads = { λ _ root. ZshReads root };
+
+    ghost clash = { λ _ _. None };
+
+    ghost file = { λ _ name. codes "_" ++ name };
+
+    fn file_name(&self, alloc: Global, name: &str) -> Result<String, Error> {
+        let mut file = String::from_str(alloc, "_")?;
+        file.push_str(name)?;
+        Ok(file)
+    }
+
+    fn generate<W: Sink>(
+        &self,
+        alloc: Global,
+        command: &Command,
+        sink: &mut W,
+    ) -> Result<(), Error> {
+        let flat = Flat::new(alloc, command)?;
+        write_script(alloc, &flat, sink)
+    }
+}
+
+// Writes the script of the tree that the list holds.
+fn write_script<W: Sink>(alloc: Global, flat: &Flat<'_>, sink: &mut W) -> Result<(), Error>
+    requires { 0 < length flat.now }
+    ensures { Writes W.taken W.failed result sink.old sink.new (zsh_script (tree_at flat.now 0)) }
+{
+    write_parts(alloc, flat, full_name(flat.command(0)), sink)
+}
+
+// Writes its parts.
+#[tactic(auto, unfolding(crate::specs::ZshScript::script_text))]
+fn write_parts<W: Sink>(
+    alloc: Global,
+    flat: &Flat<'_>,
+    bin_name: &str,
+    sink: &mut W,
+) -> Result<(), Error>
+    requires { 0 < length flat.now }
+    ensures { Writes W.taken W.failed result sink.old sink.new
+        (script_text bin_name.now (tree_at flat.now 0)) }
+{
+    write_begin(bin_name, sink)?;
+    write_root(alloc, flat, sink)?;
+    put_all(sink, middle().as_bytes())?;
+    write_functions(alloc, flat, sink)?;
+    write_end(bin_name, sink)
+}
+
+#[tactic(auto, unfolding(crate::specs::ZshScript::begin_text))]
+fn write_begin<W: Sink>(bin_name: &str, sink: &mut W) -> Result<(), Error>
+    ensures { Writes W.taken W.failed result sink.old sink.new (begin_text bin_name.now) }
+{
+    put_all(sink, begin_1().as_bytes())?;
+    put_all(sink, bin_name.as_bytes())?;
+    put_all(sink, begin_2().as_bytes())?;
+    put_all(sink, bin_name.as_bytes())?;
+    put_all(sink, begin_3().as_bytes())
+}
+
+#[tactic(auto, unfolding(crate::specs::ZshScript::end_text))]
+fn write_end<W: Sink>(bin_name: &str, sink: &mut W) -> Result<(), Error>
+    ensures { Writes W.taken W.failed result sink.old sink.new (end_text bin_name.now) }
+{
+    put_all(sink, end_1().as_bytes())?;
+    put_all(sink, bin_name.as_bytes())?;
+    put_all(sink, end_2().as_bytes())?;
+    put_all(sink, bin_name.as_bytes())?;
+    write_defined(bin_name, sink)
+}
+
+// Writes the rest of the end: where the function is not being called, it is made known to zsh.
+fn write_defined<W: Sink>(bin_name: &str, sink: &mut W) -> Result<(), Error>
+    ensures { Writes W.taken W.failed result sink.old sink.new (defined_text bin_name.now) }
+{
+    put_all(sink, end_3().as_bytes())?;
+    put_all(sink, bin_name.as_bytes())?;
+    put_all(sink, end_4().as_bytes())?;
+    put_all(sink, bin_name.as_bytes())?;
+    put_all(sink, end_5().as_bytes())
+}
