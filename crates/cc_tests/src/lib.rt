@@ -38,5 +38,7 @@ mod tree_file;
 mod trees;
 #[cfg(test)]
 mod written;
+#[cfg(test)]
+mod zsh;
 
 pub use crate::caller::write_if_plain;

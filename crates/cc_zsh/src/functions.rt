@@ -7,10 +7,10 @@ ghost use Rattle.std.specs.Ordering.{nat_cmp};
 ghost use Rattle.std.specs.Cmp.Lexicographic.{slice_cmp};
 ghost use Rattle.cc_base.specs.Sorting.{in_order};
 ghost use Rattle.cc_base.specs.Writes.{Writes};
-ghost use Rattle.cc_command.specs.Names.{full_name, visible_names};
+ghost use Rattle.cc_command.specs.Names.{visible_names};
 ghost use Rattle.cc_command.specs.Tree.{forest_of};
 ghost use Rattle.cc_flat.specs.Flat.{HasItsChildren, children_at, tree_at};
-ghost use Rattle.cc_zsh.specs.Functions.{entries_of, entries_text, entry, entry_text, function_back, function_below, function_text, functions_below, is_again, once_after, sorted_functions};
+ghost use Rattle.cc_zsh.specs.Functions.{entries_of, entries_text, entry, entry_text, function_back, function_below, function_of, function_text, functions_below, is_again, once_after, sorted_functions};
 ghost use Rattle.cc_zsh.specs.Named.{AreListed, function_named, functions_by};
 ghost use Rattle.cc_zsh.specs.ZshScript.{functions_text};
 
@@ -42,9 +42,27 @@ pub(crate) fn write_functions<W: Sink>(
     ensures { Writes W.taken W.failed result sink.old sink.new
         (functions_text (tree_at flat.now 0)) }
 {
-    let root = with_full_name(flat.command(0));
+    write_of(flat.command(0), sink)?;
+    write_sorted(alloc, flat, sink)
+}
+
+// Writes the function of a command.
+fn write_of<W: Sink>(command: &Command, sink: &mut W) -> Result<(), Error>
+    ensures { Writes W.taken W.failed result sink.old sink.new
+        (function_text (function_of command.now.node command.now.children)) }
+{
+    let named = with_full_name(command);
+    write_function(&named, sink)
+}
+
+// Writes the functions of the commands below the root.
+#[tactic(auto, unfolding(crate::specs::Functions::sorted_functions))]
+fn write_sorted<W: Sink>(alloc: Global, flat: &Flat<'_>, sink: &mut W) -> Result<(), Error>
+    requires { 0 < length flat.now }
+    ensures { Writes W.taken W.failed result sink.old sink.new
+        (flat_map function_text (sorted_functions (tree_at flat.now 0).children)) }
+{
     let sorted = sorted_commands(alloc, flat)?;
-    write_function(&root, sink)?;
     write_once(&sorted, sink)
 }
 
@@ -104,8 +122,7 @@ fn commands_of<'a>(
 
 // A command with its full name.
 fn with_full_name(command: &Command) -> Named<'_>
-    ensures name { result.name.now ≡ full_name command.now.node }
-    ensures command { result.command.now ≡ command.now }
+    ensures { function_named result ≡ function_of command.now.node command.now.children }
 {
     Named {
         name: full_name(command),

@@ -87,3 +87,12 @@ pub use Rattle.cc_shell.specs.Files as ScriptFiles
 pub use Rattle.cc_shell.specs.Generators as ShellGenerators
 pub use Rattle.cc_shell.specs.Shells
 pub use Rattle.cc_shell.specs.declared.shell.Shell
+-- zsh
+pub use Rattle.cc_zsh.specs.Conflicts as ZshConflicts
+pub use Rattle.cc_zsh.specs.Functions as ZshFunctions
+pub use Rattle.cc_zsh.specs.Nested as ZshNested
+pub use Rattle.cc_zsh.specs.Options as ZshOptions
+pub use Rattle.cc_zsh.specs.Positionals as ZshPositionals
+pub use Rattle.cc_zsh.specs.Values as ZshValues
+pub use Rattle.cc_zsh.specs.ZshReads
+pub use Rattle.cc_zsh.specs.ZshScript

@@ -7,3 +7,4 @@ pub use cc_fish::Fish;
 pub use cc_lists::{Generator, generate, utils};
 pub use cc_shell::{InvalidShell, Shell, generate_to};
 pub use cc_tables::{Elvish, Nushell, PowerShell};
+pub use cc_zsh::Zsh;
