@@ -172,7 +172,7 @@ fn handed_on(alloc: Global, shell: Shell) -> Result<Measured, Error> {
 fn no_slice_of_a_long_script_is_long(rt: HostRuntime) -> Result<(), Fail> {
     for shell in Shell::value_variants() {
         let measured = handed_on(rt.alloc(), *shell)?;
-        assert!(rt; measured.all > 10_000);
+        assert!(rt; measured.all > 5_000);
         assert!(rt; measured.most <= 1_024);
     }
     Ok(())
