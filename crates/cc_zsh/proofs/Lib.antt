@@ -5,3 +5,19 @@ pub mod JoinedTexts
 pub mod PositionalBytes
 pub mod Stack
 pub mod Unspaced
+pub mod ZshArms
+pub mod ZshBlock
+pub mod ZshCutting
+pub mod ZshFunctions
+pub mod ZshLabels
+pub mod ZshLines
+pub mod ZshNames
+pub mod ZshNumbers
+pub mod ZshOptionLines
+pub mod ZshOptionWords
+pub mod ZshPlainTree
+pub mod ZshPositionals
+mod ZshReadExamples
+pub mod ZshReadsBack
+pub mod ZshValues
+pub mod ZshWhole

@@ -7,5 +7,7 @@ pub mod Options
 pub mod Positionals
 pub mod Steps
 pub mod Values
+pub mod ZshReader
 pub mod ZshReads
 pub mod ZshScript
+pub mod ZshTable

@@ -1,6 +1,18 @@
 -- What the zsh script of a tree reads to.
+use Rattle.std.specs.Prelude.{◌≡◌, List, [], map, option_map, Some}
 use Rattle.cc_command.specs.Tree.{Tree}
+use Rattle.cc_visits.specs.Paths.{CoversPaths}
+use Rattle.cc_visits.specs.Visits.{longer_path, path_visits}
+use Rattle.cc_zsh.specs.Functions.{tree_functions}
+use Rattle.cc_zsh.specs.ZshReader.{Parts, zsh_parts, zsh_shown}
+use Rattle.cc_zsh.specs.ZshScript.{zsh_script}
+use Rattle.cc_zsh.specs.ZshTable.{all_shown_at, description_of}
 
--- nothing yet
-abbrev pub ZshReads : Tree → Type 0
-ZshReads root = Unit {0}
+-- The script reads to what the tree shows at each visible path, path by path: its options and flags,
+-- and the visible names of its children with their descriptions. Its functions are exactly those of
+-- the tree. The visits are exactly the visible paths, each once, with the nodes that they lead to.
+pub record ZshReads (root : Tree) : Type 0 where
+  pub shown : zsh_shown (zsh_script root) ≡ Some (all_shown_at root)
+  pub functions : option_map (λ parts. parts.descriptions) (zsh_parts (zsh_script root))
+      ≡ Some (map description_of (tree_functions root))
+  pub covers : CoversPaths root (path_visits longer_path [] root)

@@ -42,6 +42,9 @@ impl Generator for Zsh {
         command: &Command,
         sink: &mut W,
     ) -> Result<(), Error> {
+        // Building a built command changes nothing, so every node has its full name.
+        let built = command.is_built();
+        prove!(built);
         let flat = Flat::new(alloc, command)?;
         write_script(alloc, &flat, sink)
     }

@@ -94,5 +94,7 @@ pub use Rattle.cc_zsh.specs.Nested as ZshNested
 pub use Rattle.cc_zsh.specs.Options as ZshOptions
 pub use Rattle.cc_zsh.specs.Positionals as ZshPositionals
 pub use Rattle.cc_zsh.specs.Values as ZshValues
+pub use Rattle.cc_zsh.specs.ZshReader
 pub use Rattle.cc_zsh.specs.ZshReads
 pub use Rattle.cc_zsh.specs.ZshScript
+pub use Rattle.cc_zsh.specs.ZshTable

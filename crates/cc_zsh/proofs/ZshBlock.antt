@@ -1,0 +1,256 @@
+-- The block of a node is read back.
+use Rattle.std.proofs.Common.{◌≡◌, ◌==◌, ℕ, Bool, true, false, cond, List, [], ◌∷◌, ◌++◌, map, flat_map, Option, Some, None, codes, refl, sym, ◌∙◌, ap, inl, inr, ◌⊎◌, append_assoc, append-nil}
+use Rattle.std.specs.List.{AllByRecursion}
+use Rattle.std.specs.Option.{option_to_list}
+use Rattle.cc_base.proofs.Lines.{IsLine}
+use Rattle.cc_base.proofs.Lines.IsLine.{line}
+use Rattle.cc_base.proofs.Members.{AllByRecursion-append}
+use Rattle.cc_arg.specs.declared.arg.Arg.{Arg}
+use Rattle.cc_command.specs.declared.node.Node.{Node}
+use Rattle.cc_command.specs.Names.{full_name}
+use Rattle.cc_command.specs.Tree.{Forest, Tree, has_nodes}
+use Rattle.cc_command.proofs.PlainParts.{IsPlainArgument, IsPlainNode}
+use Rattle.cc_quote.specs.PosixTokens.{sign, byte_of, cut, double, is_double_quote}
+use Rattle.cc_quote.specs.PosixTokens.Place.{between, in_double}
+use Rattle.cc_quote.specs.Tokens.{Token, is_word}
+use Rattle.cc_quote.proofs.PosixCutting.{IsKept-IsOther, tokens_from, double_run}
+use Rattle.cc_zsh.specs.Nested.{unspaced, function_label, block_begins, block_ends, external_text, below_1, below_2, below_3, children_text, below_text, block_text}
+use Rattle.cc_zsh.specs.Options.{options_text, flags_text}
+use Rattle.cc_zsh.specs.Positionals.{positionals_text}
+use Rattle.cc_zsh.specs.ZshReader.{Block, Path, State, ZshOption, first_named, is_name_byte, named_function, new_block, next, after_name, next_place, option_of, place_after, read, read_option, text_after, with_word, word_of}
+use Rattle.cc_zsh.specs.ZshReader.State.{after_block, at_block, at_ret, before_blocks, in_block}
+use Rattle.cc_zsh.specs.ZshTable.{node_rows}
+use Rattle.cc_zsh.proofs.ZshOptionWords.{AreNameBytes, colon_none, star_none, not_space}
+use Rattle.cc_zsh.proofs.ZshLines.{reading, with_options, first_named-none}
+use Rattle.cc_zsh.proofs.ZshNames.{name_other, plain_name_bytes}
+use Rattle.cc_zsh.proofs.ZshOptionLines.{node_adds}
+use Rattle.cc_zsh.proofs.ZshPositionals.{positionals_add}
+
+-- ---- full names
+
+-- a name in full is of the bytes of names and of spaces
+abbrev pub AreFullBytes : List ℕ → Type 0
+AreFullBytes text = AllByRecursion (λ byte. (is_name_byte byte ≡ true) ⊎ (byte ≡ 32)) text
+
+pub unspaced_bytes : (by text : List ℕ) → AreNameBytes by → AreFullBytes text →
+    AreNameBytes (unspaced by text)
+unspaced_bytes by [] h k = tt
+unspaced_bytes by (byte ∷ text) h (inl k, ks) =
+    AllByRecursion-append (λ b. is_name_byte b ≡ true) (cond (byte == 32) by (byte ∷ [])) (unspaced by text)
+    (let e : byte == 32 ≡ false = not_space byte k in rw e (k, tt)) (unspaced_bytes by text h ks)
+unspaced_bytes by (byte ∷ text) h (inr e, ks) =
+    AllByRecursion-append (λ b. is_name_byte b ≡ true) (cond (byte == 32) by (byte ∷ [])) (unspaced by text)
+    (rw e h) (unspaced_bytes by text h ks)
+
+subcmd_bytes : AreNameBytes (codes "__subcmd__")
+unfolding is_name_byte
+subcmd_bytes = (refl, (refl, (refl, (refl, (refl, (refl, (refl, (refl, (refl, (refl, tt))))))))))
+
+commands_bytes : AreNameBytes (codes "_commands")
+unfolding is_name_byte
+commands_bytes = (refl, (refl, (refl, (refl, (refl, (refl, (refl, (refl, (refl, tt)))))))))
+
+dash_bytes : AreNameBytes (codes "-")
+unfolding is_name_byte
+dash_bytes = (refl, tt)
+
+pub label_bytes : (name : List ℕ) → AreFullBytes name → AreNameBytes (function_label name)
+label_bytes name h =
+    AllByRecursion-append (λ b. is_name_byte b ≡ true) (unspaced (codes "__subcmd__") name)
+    (codes "_commands") (unspaced_bytes (codes "__subcmd__") name subcmd_bytes h) commands_bytes
+
+pub context_bytes : (name : List ℕ) → AreFullBytes name → AreNameBytes (unspaced (codes "-") name)
+context_bytes name h = unspaced_bytes (codes "-") name dash_bytes h
+
+-- ---- words that tell no option
+
+abbrev pub with_function : Block → Option (List ℕ) → Block
+with_function block function = record block { function = function }
+
+word_step : (token : Token) (named : Option (List ℕ)) (outer : List Path) (blocks : List Block)
+    (block : Block) → is_word (codes "&&") token ≡ false → option_of (word_of token) ≡ None →
+    named_function token ≡ named → next (in_block outer blocks block) token
+    ≡ in_block outer blocks (with_function block (first_named block.function named))
+unfolding next with_word
+word_step token named outer blocks block not_and none names =
+    ap (λ b. cond b (at_ret outer blocks block) (in_block outer blocks (with_word block token))) not_and
+    ∙ ap (λ o. in_block outer blocks (record {
+      path = block.path;
+      options = block.options ++ option_to_list o;
+      function = first_named block.function (named_function token);
+    })) none
+    ∙ ap (λ os. in_block outer blocks (record {
+      path = block.path;
+      options = os;
+      function = first_named block.function (named_function token);
+    })) (append-nil block.options)
+    ∙ ap (λ n. in_block outer blocks (with_function block (first_named block.function n))) names
+
+first_word : (function : List ℕ) (outer : List Path) (blocks : List Block) (block : Block) →
+    next (in_block outer blocks block) (double (codes ":: :_" ++ function) ∷ [])
+    ≡ in_block outer blocks (with_function block
+    (first_named block.function (Some (95 ∷ function))))
+unfolding is_word word_of named_function text_after
+first_word function outer blocks block =
+    word_step (double (codes ":: :_" ++ function) ∷ []) (Some (95 ∷ function)) outer blocks block
+    refl (colon_none ((codes ": :_" ++ function) ++ [])) refl
+
+second_word : (name : List ℕ) (outer : List Path) (blocks : List Block) (block : Block) →
+    next (in_block outer blocks block) (double (codes "*::: :->" ++ name) ∷ [])
+    ≡ in_block outer blocks block
+unfolding is_word word_of named_function text_after
+second_word name outer blocks block =
+    word_step (double (codes "*::: :->" ++ name) ∷ []) None outer blocks block
+    refl (star_none [] ((codes ":: :->" ++ name) ++ [])) refl
+    ∙ ap (λ f. in_block outer blocks (with_function block f)) (first_named-none block.function)
+
+regroup_children : (a b c d e rest : List ℕ) →
+    (a ++ (b ++ (c ++ (d ++ e)))) ++ rest ≡ a ++ (b ++ (c ++ (d ++ (e ++ rest))))
+regroup_children a b c d e rest = simp append_assoc
+
+-- the words of the children name their function
+children_read : (node : Node) (outer : List Path) (blocks : List Block) (block : Block)
+    (rest : List ℕ) → AreNameBytes (function_label (full_name node)) → AreNameBytes node.name →
+    reading (in_block outer blocks block) between (children_text node ++ rest)
+    ≡ reading (in_block outer blocks (with_function block
+    (first_named block.function (Some (95 ∷ function_label (full_name node)))))) between rest
+unfolding children_text below_1 below_2 below_3 sign byte_of cut read
+children_read node outer blocks block rest label name =
+    let function : List ℕ = function_label (full_name node) in
+    let named : Block = with_function block (first_named block.function (Some (95 ∷ function))) in
+    let after : List ℕ = node.name ++ (below_3 ++ rest) in
+    ap (reading (in_block outer blocks block) between)
+    (regroup_children below_1 function below_2 node.name below_3 rest)
+    ∙ ap (read (in_block outer blocks block))
+    (double_run function (below_2 ++ after) [] (codes ":: :_")
+    (IsKept-IsOther function (name_other function label)))
+    ∙ ap (λ s. read s (tokens_from (in_double [] (codes "*::: :->")) after))
+    (first_word function outer blocks block)
+    ∙ ap (read (in_block outer blocks named))
+    (double_run node.name (below_3 ++ rest) [] (codes "*::: :->")
+    (IsKept-IsOther node.name (name_other node.name name)))
+    ∙ ap (λ s. read s (tokens_from between rest)) (second_word node.name outer blocks named)
+
+external_word : (outer : List Path) (blocks : List Block) (block : Block) →
+    next (in_block outer blocks block) (double (codes "*::external_command:_default") ∷ [])
+    ≡ in_block outer blocks block
+unfolding is_word word_of named_function text_after
+external_word outer blocks block =
+    word_step (double (codes "*::external_command:_default") ∷ []) None outer blocks block
+    refl (star_none [] (codes ":external_command:_default")) refl
+    ∙ ap (λ f. in_block outer blocks (with_function block f)) (first_named-none block.function)
+
+external_read : (outer : List Path) (blocks : List Block) (block : Block) (rest : List ℕ) →
+    reading (in_block outer blocks block) between (external_text ++ rest)
+    ≡ reading (in_block outer blocks block) between rest
+unfolding external_text sign byte_of cut read
+external_read outer blocks block rest =
+    ap (λ s. read s (tokens_from between rest)) (external_word outer blocks block)
+
+-- ---- the block
+
+-- the function that a node's block names
+abbrev pub children_label : Node → Forest → Option (List ℕ)
+children_label node children =
+    cond (has_nodes children) (Some (95 ∷ function_label (full_name node))) None
+
+-- what is asked of a node with the node above it
+pub record IsReadable (above : Node) (tree : Tree) : Type 0 where
+  pub above_plain : AllByRecursion IsPlainArgument above.arguments
+  pub plain : IsPlainNode tree.node
+  pub full : AreFullBytes (full_name tree.node)
+
+abbrev pub block_with : Path → Node → Tree → Block
+block_with path above tree = record {
+  path = path;
+  options = node_rows above tree.node;
+  function = children_label tree.node tree.children;
+}
+
+regroup_block : (o f p b e rest : List ℕ) →
+    (o ++ (f ++ (p ++ (b ++ e)))) ++ rest ≡ (o ++ f) ++ (p ++ (b ++ (e ++ rest)))
+regroup_block o f p b e rest = simp append_assoc
+
+ends_read : (outer : List Path) (blocks : List Block) (block : Block) (rest : List ℕ) →
+    IsLine rest → reading (in_block outer blocks block) between (block_ends ++ rest)
+    ≡ reading (after_block outer (blocks ++ block ∷ []) block.path) between rest
+unfolding block_ends sign byte_of cut is_word next read
+ends_read outer blocks block rest (line tail) = refl
+
+below_read : (path : Path) (above : Node) (tree : Tree) (outer : List Path) (blocks : List Block)
+    (rest : List ℕ) → IsReadable above tree →
+    reading (in_block outer blocks (with_options (new_block path) (node_rows above tree.node)))
+    between (below_text tree ++ rest)
+    ≡ reading (in_block outer blocks (block_with path above tree)) between rest
+unfolding below_text
+below_read path above tree outer blocks rest is =
+    by_tests (has_nodes tree.children) tree.node.allow_external_subcommands
+  where
+    block : Block
+    block = with_options (new_block path) (node_rows above tree.node)
+
+    by_tests : (has external : Bool) → reading (in_block outer blocks block) between
+        (cond has (children_text tree.node) (cond external external_text []) ++ rest)
+        ≡ reading (in_block outer blocks (with_function block
+        (cond has (Some (95 ∷ function_label (full_name tree.node))) None))) between rest
+    by_tests true external = children_read tree.node outer blocks block rest
+        (label_bytes (full_name tree.node) is.full) (plain_name_bytes tree.node.name is.plain.names.0)
+    by_tests false true = external_read outer blocks block rest
+    by_tests false false = refl
+
+-- from the first option on
+body_read : (path : Path) (above : Node) (tree : Tree) (outer : List Path) (blocks : List Block)
+    (rest : List ℕ) → IsReadable above tree → IsLine rest →
+    reading (in_block outer blocks (new_block path)) between
+    ((options_text above tree.node ++ (flags_text above tree.node ++ (positionals_text tree
+    ++ (below_text tree ++ block_ends)))) ++ rest)
+    ≡ reading (after_block outer (blocks ++ block_with path above tree ∷ []) path) between rest
+body_read path above tree outer blocks rest is l =
+    let rows : List ZshOption = node_rows above tree.node in
+    let end : List ℕ = block_ends ++ rest in
+    let below : List ℕ = below_text tree ++ end in
+    ap (reading (in_block outer blocks (new_block path)) between)
+    (regroup_block (options_text above tree.node) (flags_text above tree.node)
+    (positionals_text tree) (below_text tree) block_ends rest)
+    ∙ node_adds above tree.node is.above_plain is.plain outer blocks (new_block path)
+    (positionals_text tree ++ below)
+    ∙ positionals_add tree is.plain.arguments outer blocks (with_options (new_block path) rows) below
+    ∙ ap (λ os. reading (in_block outer blocks (record (new_block path) { options = os })) between below)
+    (append-nil rows)
+    ∙ below_read path above tree outer blocks end is
+    ∙ ends_read outer blocks (block_with path above tree) rest l
+
+begins_arm : (outer : List Path) (blocks : List Block) (path : Path) (rest : List ℕ) →
+    reading (at_block outer blocks path) between (block_begins ++ rest)
+    ≡ reading (in_block outer blocks (new_block path)) between rest
+unfolding block_begins sign byte_of cut is_word next read with_word word_of named_function text_after option_of place_after next_place read_option
+begins_arm outer blocks path rest = refl
+
+begins_root : (rest : List ℕ) → reading before_blocks between (block_begins ++ rest)
+    ≡ reading (in_block [] [] (new_block [])) between rest
+unfolding block_begins sign byte_of cut is_word next read with_word word_of named_function text_after option_of place_after next_place read_option
+begins_root rest = refl
+
+-- the block in an arm, and the root's
+pub arm_block_read : (path : Path) (above : Node) (tree : Tree) (outer : List Path)
+    (blocks : List Block) (rest : List ℕ) → IsReadable above tree → IsLine rest →
+    reading (at_block outer blocks path) between (block_text above tree ++ rest)
+    ≡ reading (after_block outer (blocks ++ block_with path above tree ∷ []) path) between rest
+unfolding block_text
+arm_block_read path above tree outer blocks rest is l =
+    let body : List ℕ = options_text above tree.node ++ (flags_text above tree.node
+    ++ (positionals_text tree ++ (below_text tree ++ block_ends))) in
+    ap (reading (at_block outer blocks path) between) (append_assoc block_begins body rest)
+    ∙ begins_arm outer blocks path (body ++ rest)
+    ∙ body_read path above tree outer blocks rest is l
+
+pub root_block_read : (above : Node) (tree : Tree) (rest : List ℕ) → IsReadable above tree →
+    IsLine rest → reading before_blocks between (block_text above tree ++ rest)
+    ≡ reading (after_block [] (block_with [] above tree ∷ []) []) between rest
+unfolding block_text
+root_block_read above tree rest is l =
+    let body : List ℕ = options_text above tree.node ++ (flags_text above tree.node
+    ++ (positionals_text tree ++ (below_text tree ++ block_ends))) in
+    ap (reading before_blocks between) (append_assoc block_begins body rest)
+    ∙ begins_root (body ++ rest)
+    ∙ body_read [] above tree [] [] rest is l

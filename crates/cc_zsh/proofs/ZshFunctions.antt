@@ -1,0 +1,294 @@
+-- The functions of a script are read back.
+use Rattle.std.proofs.Common.{◌≡◌, ◌==◌, ℕ, Bool, true, false, cond, List, [], ◌∷◌, ◌++◌, map, flat_map, fold, Option, Some, None, option_map, codes, refl, sym, ◌∙◌, ap, append_assoc, append-nil, arith}
+use Rattle.std.specs.List.{AllByRecursion}
+use Rattle.std.proofs.lemmas.Bool.Decides.{nat_tests}
+use Rattle.cc_base.proofs.Lines.{IsLine}
+use Rattle.cc_base.proofs.Lines.IsLine.{line}
+use Rattle.cc_base.proofs.ReadInTurn.{in_turn}
+use Rattle.cc_quote.specs.PosixQuote.{posix_escaped}
+use Rattle.cc_quote.specs.PosixTokens.{sign, byte_of, cut}
+use Rattle.cc_quote.specs.PosixTokens.Place.{between, in_bare, in_single}
+use Rattle.cc_quote.specs.QuotedWord.{line_feeds_as_spaces}
+use Rattle.cc_quote.specs.Tokens.{Token, is_word}
+use Rattle.cc_quote.specs.Tokens.Piece.{bare}
+use Rattle.cc_quote.specs.ZshQuote.{is_help_marked, marked, marks, marks_from, zsh_escaped_help, zsh_unescaped, unmarked}
+use Rattle.cc_quote.specs.ZshQuote.Mark.{kept}
+use Rattle.cc_quote.proofs.PosixCutting.{IsOther, tokens_from, bare_run}
+use Rattle.cc_quote.proofs.ZshWords.{marks-kept, marked_unescaped}
+use Rattle.cc_zsh.specs.Functions.{Entry, Function, function_1, function_2, function_3, function_4, function_5, entry_text, entries_end, entries_text, function_text}
+use Rattle.cc_zsh.specs.Nested.{function_label}
+use Rattle.cc_zsh.specs.ZshReader.{Block, Description, Parts, State, entry_from, entry_of, function_name, is_name_byte, next, next_function, read, text_before, with_description, word_of}
+use Rattle.cc_zsh.specs.ZshReader.State.{at_list, between_functions, in_list, malformed}
+use Rattle.cc_zsh.specs.ZshTable.{description_of, entry_row}
+use Rattle.cc_zsh.proofs.ZshCutting.{Escapes, escapes_append, escapes_same, NoQuote, quoted_token, single_cut, single_run, token_quoted, not_word, word_of-quoted}
+use Rattle.cc_zsh.proofs.ZshOptionWords.{AreNameBytes}
+use Rattle.cc_zsh.proofs.ZshLines.{reading}
+use Rattle.cc_zsh.proofs.ZshNames.{name_other, name_no_quote}
+
+-- ---- one description
+
+not_slash : (byte : ℕ) → is_name_byte byte ≡ true → byte == 92 ≡ false
+unfolding is_name_byte
+not_slash byte h = grind (arith, nat_tests)
+
+not_colon : (byte : ℕ) → is_name_byte byte ≡ true → byte == 58 ≡ false
+unfolding is_name_byte
+not_colon byte h = grind (arith, nat_tests)
+
+entry_name : (name rest word : List ℕ) → AreNameBytes name →
+    entry_from word (marks_from false (name ++ rest))
+    ≡ entry_from (word ++ name) (marks_from false rest)
+unfolding entry_from
+entry_name [] rest word h =
+    ap (λ w. entry_from w (marks_from false rest)) (sym (append-nil word))
+entry_name (byte ∷ name) rest word (h, hs) =
+    ap (entry_from word) (marks-kept byte (name ++ rest) (not_slash byte h))
+    ∙ ap (λ b. elim b as (λ x. Option Entry) [
+      | true ↦ option_map (λ help. let e : Entry = record { word = word; help = help } in e)
+          (unmarked (marks_from false (name ++ rest)))
+      | false ↦ entry_from (word ++ byte ∷ []) (marks_from false (name ++ rest))
+    ]) (not_colon byte h)
+    ∙ entry_name name rest (word ++ byte ∷ []) hs
+    ∙ ap (λ w. entry_from w (marks_from false rest)) (append_assoc word (byte ∷ []) name)
+
+abbrev entry_word : Entry → List ℕ
+entry_word e = e.word ++ (codes ":" ++ marked is_help_marked (line_feeds_as_spaces e.help))
+
+colon_read : (word help : List ℕ) →
+    entry_from word (marks_from false (codes ":" ++ marked is_help_marked help))
+    ≡ Some (record { word = word; help = help })
+unfolding entry_from marks_from zsh_unescaped marks
+colon_read word help =
+    ap (option_map (λ help. let e : Entry = record { word = word; help = help } in e))
+    (marked_unescaped is_help_marked refl help)
+
+entry_told : (e : Entry) → AreNameBytes e.word → entry_of (entry_word e) ≡ Some (entry_row e)
+unfolding entry_of marks
+entry_told e h =
+    entry_name e.word (codes ":" ++ marked is_help_marked (line_feeds_as_spaces e.help)) [] h
+    ∙ colon_read e.word (line_feeds_as_spaces e.help)
+
+entry_escapes : (e : Entry) → AreNameBytes e.word →
+    Escapes (e.word ++ (codes ":" ++ zsh_escaped_help e.help)) (entry_word e)
+unfolding zsh_escaped_help
+entry_escapes e h =
+    escapes_append e.word (codes ":" ++ zsh_escaped_help e.help) e.word
+    (codes ":" ++ marked is_help_marked (line_feeds_as_spaces e.help))
+    (escapes_same e.word (name_no_quote e.word h))
+    (escapes_append (codes ":") (zsh_escaped_help e.help) (codes ":")
+    (marked is_help_marked (line_feeds_as_spaces e.help)) (escapes_same (codes ":") (refl, tt))
+    (record { is = refl }))
+
+-- ---- a list
+
+module _ (blocks : List Block) (ds : List Description) (label : List ℕ) where
+  abbrev listing : List Entry → List ℕ → Option Parts
+  listing entries text = reading (in_list blocks ds label entries) between text
+
+  abbrev with_entry : List Entry → Entry → List Entry
+  with_entry entries e = entries ++ entry_row e ∷ []
+
+  entry_next : (entries : List Entry) (e : Entry) → AreNameBytes e.word →
+      next (in_list blocks ds label entries) (quoted_token (entry_word e))
+      ≡ in_list blocks ds label (with_entry entries e)
+  unfolding next
+  entry_next entries e h =
+      ap (λ b. cond b (between_functions blocks (with_description ds label entries))
+      (elim (entry_of (word_of (quoted_token (entry_word e)))) as (λ x. State) [
+        | Some entry ↦ in_list blocks ds label (entries ++ entry ∷ [])
+        | None ↦ malformed
+      ])) (not_word (codes ")") (quoted_token (entry_word e)) (token_quoted (entry_word e)))
+      ∙ ap (λ o. elim o as (λ x. State) [
+        | Some entry ↦ in_list blocks ds label (entries ++ entry ∷ [])
+        | None ↦ malformed
+      ]) (ap entry_of (word_of-quoted (entry_word e)) ∙ entry_told e h)
+
+  entry_line : (e : Entry) (rest : List ℕ) → IsLine (entry_text e ++ rest)
+  unfolding entry_text
+  entry_line e rest = line _
+
+  regroup_entry : (a b c d e rest : List ℕ) →
+      (a ++ (b ++ (c ++ (d ++ e)))) ++ rest ≡ a ++ ((b ++ (c ++ d)) ++ (e ++ rest))
+  regroup_entry a b c d e rest = simp append_assoc
+
+  entry_read : (entries : List Entry) (e : Entry) (rest : List ℕ) → AreNameBytes e.word →
+      IsLine rest → listing entries (entry_text e ++ rest) ≡ listing (with_entry entries e) rest
+  unfolding entry_text sign cut read
+  entry_read entries e rest h (line tail) =
+      ap (reading (in_list blocks ds label entries) between)
+      (regroup_entry (codes "\n'") e.word (codes ":") (zsh_escaped_help e.help) (codes "' \\") (10 ∷ tail)
+      ∙ ap (λ t. codes "\n'" ++ (t ++ (codes "' \\\n" ++ tail))) (entry_escapes e h).is)
+      ∙ ap (read (in_list blocks ds label entries)) (single_cut (entry_word e) tail [] [])
+      ∙ ap (λ s. read s (tokens_from between tail)) (entry_next entries e h)
+
+  fold_entries : (entries es : List Entry) →
+      fold with_entry entries es ≡ entries ++ map entry_row es
+  fold_entries entries [] = sym (append-nil entries)
+  fold_entries entries (e ∷ es) = fold_entries (with_entry entries e) es
+      ∙ append_assoc entries (entry_row e ∷ []) (map entry_row es)
+
+  entries_read : (es : List Entry) (rest : List ℕ) → AllByRecursion (λ e. AreNameBytes e.word) es →
+      IsLine rest → listing [] (flat_map entry_text es ++ rest) ≡ listing (map entry_row es) rest
+  entries_read es rest h l =
+      in_turn listing entry_text with_entry (λ e. AreNameBytes e.word) entry_line entry_read [] es rest h l
+      ∙ ap (λ entries. listing entries rest) (fold_entries [] es)
+
+  -- the list ends
+  end_read : (entries : List Entry) (rest : List ℕ) →
+      listing entries (entries_end ++ (function_4 ++ rest))
+      ≡ reading (between_functions blocks (with_description ds label entries)) (in_single [] []) rest
+  unfolding entries_end function_4 sign byte_of cut is_word next next_function function_name text_before read
+  end_read entries rest = refl
+
+  regroup_end : (a b rest : List ℕ) → (a ++ b) ++ rest ≡ a ++ (b ++ rest)
+  regroup_end a b rest = append_assoc a b rest
+
+  end_line : (rest : List ℕ) → IsLine (entries_end ++ rest)
+  unfolding entries_end
+  end_line rest = line _
+
+  -- from the bracket on
+  list_read : (es : List Entry) (rest : List ℕ) → AllByRecursion (λ e. AreNameBytes e.word) es →
+      reading (at_list blocks ds label) (in_bare [] (codes "commands=("))
+      (entries_text es ++ (function_4 ++ rest))
+      ≡ reading (between_functions blocks (with_description ds label (map entry_row es)))
+      (in_single [] []) rest
+  unfolding entries_text function_4 sign byte_of cut is_word next next_function function_name text_before read
+  list_read [] rest h = refl
+  list_read (e ∷ es) rest h =
+      let end : List ℕ = entries_end ++ (function_4 ++ rest) in
+      ap (reading (at_list blocks ds label) (in_bare [] (codes "commands=(")))
+      (append_assoc (flat_map entry_text (e ∷ es)) entries_end (function_4 ++ rest))
+      ∙ opens (flat_map entry_text (e ∷ es) ++ end) (first_line e es end)
+      ∙ entries_read (e ∷ es) end h (end_line (function_4 ++ rest))
+      ∙ end_read (map entry_row (e ∷ es)) rest
+    where
+      opens : (text : List ℕ) → IsLine text →
+          reading (at_list blocks ds label) (in_bare [] (codes "commands=(")) text ≡ listing [] text
+      opens text (line tail) = refl
+
+      first_line : (e : Entry) (es : List Entry) (end : List ℕ) →
+          IsLine (flat_map entry_text (e ∷ es) ++ end)
+      first_line e es end = rw (append_assoc (entry_text e) (flat_map entry_text es) end)
+          (entry_line e (flat_map entry_text es ++ end))
+
+-- ---- one function
+
+-- what is asked of a function
+pub record IsFunction (function : Function) : Type 0 where
+  pub label : AreNameBytes (function_label function.name)
+  pub name : NoQuote function.name
+  pub words : AllByRecursion (λ e. AreNameBytes e.word) function.entries
+
+before-other : (last byte : ℕ) (text : List ℕ) → byte == last ≡ false →
+    text_before last (text ++ byte ∷ []) ≡ None
+unfolding text_before
+before-other last byte [] e = ap (λ b. cond b (Some []) None) e
+before-other last byte (first ∷ []) e =
+    ap (option_map (λ before. first ∷ before)) (before-other last byte [] e)
+before-other last byte (first ∷ next ∷ text) e =
+    ap (option_map (λ before. first ∷ before)) (before-other last byte (next ∷ text) e)
+
+before-last : (last : ℕ) (text : List ℕ) → last == last ≡ true →
+    text_before last (text ++ last ∷ []) ≡ Some text
+unfolding text_before
+before-last last [] e = ap (λ b. cond b (Some []) None) e
+before-last last (byte ∷ []) e = ap (option_map (λ before. byte ∷ before)) (before-last last [] e)
+before-last last (byte ∷ next ∷ text) e =
+    ap (option_map (λ before. byte ∷ before)) (before-last last (next ∷ text) e)
+
+abbrev by_name : List Block → List Description → Option (List ℕ) → State
+by_name blocks ds found = elim found as (λ x. State) [
+  | Some label ↦ at_list blocks ds label
+  | None ↦ between_functions blocks ds
+]
+
+-- a bare token that does not end in a bracket is passed over
+pub passed : (blocks : List Block) (ds : List Description) (run : List ℕ) →
+    text_before 41 run ≡ None →
+    next (between_functions blocks ds) (bare run ∷ []) ≡ between_functions blocks ds
+unfolding next next_function function_name
+passed blocks ds run e = ap (λ o. by_name blocks ds (elim o as (λ x. Option (List ℕ)) [
+  | Some front ↦ text_before 40 front
+  | None ↦ None
+])) e
+
+-- one that ends in `()` begins a function
+begins : (blocks : List Block) (ds : List Description) (label : List ℕ) →
+    next (between_functions blocks ds) (bare ((label ++ codes "(") ++ codes ")") ∷ [])
+    ≡ at_list blocks ds label
+unfolding next next_function function_name
+begins blocks ds label =
+    ap (λ o. by_name blocks ds (elim o as (λ x. Option (List ℕ)) [
+      | Some front ↦ text_before 40 front
+      | None ↦ None
+    ])) (before-last 41 (label ++ codes "(") refl)
+    ∙ ap (by_name blocks ds) (before-last 40 label refl)
+
+regroup_function : (a b c d e f g h i rest : List ℕ) →
+    (a ++ (b ++ (c ++ (d ++ (e ++ (f ++ (g ++ (h ++ i)))))))) ++ rest
+    ≡ a ++ (b ++ (c ++ (d ++ (e ++ (f ++ (g ++ (h ++ (i ++ rest))))))))
+regroup_function a b c d e f g h i rest = simp append_assoc
+
+module _ (blocks : List Block) (ds : List Description) where
+  -- up to the second label
+  first_read : (label rest : List ℕ) → AreNameBytes label →
+      reading (between_functions blocks ds) between (function_1 ++ (label ++ (function_2 ++ rest)))
+      ≡ reading (between_functions blocks ds) (in_bare [] (codes "_")) rest
+  unfolding function_1 function_2 sign byte_of cut next next_function function_name text_before read
+  first_read label rest h =
+      ap (read (between_functions blocks ds))
+      (bare_run label (function_2 ++ rest) [] (codes "$+functions[_") (name_other label h))
+      ∙ ap (λ s. read s (tokens_from between (codes " )) ||\n_" ++ rest)))
+      (passed blocks ds ((codes "$+functions[_" ++ label) ++ codes "]")
+      (before-other 41 93 (codes "$+functions[_" ++ label) refl))
+
+  second_read : (label rest : List ℕ) → AreNameBytes label →
+      reading (between_functions blocks ds) (in_bare [] (codes "_")) (label ++ (function_3 ++ rest))
+      ≡ reading (at_list blocks ds (95 ∷ label)) (in_bare [] (codes "commands=(")) rest
+  unfolding function_3 sign byte_of cut is_word next read
+  second_read label rest h =
+      ap (read (between_functions blocks ds))
+      (bare_run label (function_3 ++ rest) [] (codes "_") (name_other label h))
+      ∙ ap (λ s. read s (tokens_from between (codes " {\n    local commands; commands=(" ++ rest)))
+      (begins blocks ds (95 ∷ label))
+
+  describe_read : (name rest : List ℕ) → NoQuote name →
+      reading (between_functions blocks ds) (in_single [] []) (name ++ (function_5 ++ rest))
+      ≡ reading (between_functions blocks ds) between rest
+  unfolding function_5 sign byte_of cut next next_function function_name text_before read
+  describe_read name rest h =
+      ap (read (between_functions blocks ds)) (single_run name (function_5 ++ rest) [] [] h)
+
+-- a function is read
+pub function_read : (blocks : List Block) (ds : List Description) (function : Function)
+    (rest : List ℕ) → IsFunction function →
+    reading (between_functions blocks ds) between (function_text function ++ rest)
+    ≡ reading (between_functions blocks (ds ++ description_of function ∷ [])) between rest
+unfolding function_text
+function_read blocks ds function rest is =
+    let label : List ℕ = function_label function.name in
+    let named : List ℕ = function.name ++ (function_5 ++ rest) in
+    let listed : List ℕ = entries_text function.entries ++ (function_4 ++ named) in
+    ap (reading (between_functions blocks ds) between)
+    (regroup_function function_1 label function_2 label function_3 (entries_text function.entries)
+    function_4 function.name function_5 rest)
+    ∙ first_read blocks ds label (label ++ (function_3 ++ listed)) is.label
+    ∙ second_read blocks ds label listed is.label
+    ∙ list_read blocks ds (95 ∷ label) function.entries named is.words
+    ∙ describe_read blocks (ds ++ description_of function ∷ []) function.name rest is.name
+
+-- functions are read one after another
+pub functions_read : (blocks : List Block) (functions : List Function) (ds : List Description)
+    (rest : List ℕ) → AllByRecursion IsFunction functions →
+    reading (between_functions blocks ds) between (flat_map function_text functions ++ rest)
+    ≡ reading (between_functions blocks (ds ++ map description_of functions)) between rest
+functions_read blocks [] ds rest h =
+    ap (λ more. reading (between_functions blocks more) between rest) (sym (append-nil ds))
+functions_read blocks (function ∷ functions) ds rest (h, hs) =
+    ap (reading (between_functions blocks ds) between)
+    (append_assoc (function_text function) (flat_map function_text functions) rest)
+    ∙ function_read blocks ds function (flat_map function_text functions ++ rest) h
+    ∙ functions_read blocks functions (ds ++ description_of function ∷ []) rest hs
+    ∙ ap (λ more. reading (between_functions blocks more) between rest)
+    (append_assoc ds (description_of function ∷ []) (map description_of functions))

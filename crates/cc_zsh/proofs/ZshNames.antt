@@ -1,0 +1,203 @@
+-- What the reader asks of plain names.
+use Rattle.std.proofs.Common.{◌≡◌, ◌≢◌, ◌==◌, ◌||◌, ℕ, ◌<◌, Bool, true, false, cond, IsTrue, List, [], ◌∷◌, ◌++◌, map, flat_map, Option, Some, None, codes, refl, sym, ◌∙◌, ap, subst, arith}
+use Rattle.std.specs.Char.{is_ascii_alphanumeric, encode_utf8}
+use Rattle.std.specs.List.{AllByRecursion}
+use Rattle.std.specs.Option.{option_to_list}
+use Rattle.std.specs.Str.{bytes_eq}
+use Rattle.std.proofs.lemmas.Str.{encode_ascii}
+use Rattle.std.proofs.lemmas.Bool.Decides.{nat_tests}
+use Rattle.cc_base.proofs.Members.{AllByRecursion-weaker, AllByRecursion-append}
+use Rattle.cc_arg.specs.declared.arg.Arg.{Arg}
+use Rattle.cc_arg.specs.ShownNames.{with_aliases, shown_shorts, shown_longs}
+use Rattle.cc_command.specs.declared.node.Node.{Node}
+use Rattle.cc_command.specs.Plain.{passes_if_some}
+use Rattle.cc_command.specs.PlainName.{letter, joiner, foreign, name_byte, is_plain_name}
+use Rattle.cc_command.proofs.NameBytes.{plain_bytes}
+use Rattle.cc_command.proofs.PlainParts.{IsPlainName, IsPlainShort, IsPlainArgument}
+use Rattle.cc_quote.specs.PosixTokens.{sign}
+use Rattle.cc_quote.specs.PosixTokens.Sign.{other}
+use Rattle.cc_quote.proofs.PosixCutting.{IsOther}
+use Rattle.cc_command.specs.ArgumentLists.{first_with}
+use Rattle.cc_zsh.specs.Conflicts.{looked_up, excluded, short_word, long_word, short_words, long_words, own_words, conflict_words, conflicts_text}
+use Rattle.cc_zsh.specs.Joined.{joined, joined_after, separator}
+use Rattle.cc_zsh.specs.ZshReader.{is_name_byte}
+use Rattle.cc_zsh.proofs.ZshCutting.{NoQuote}
+use Rattle.cc_zsh.proofs.ZshOptionWords.{AreNameBytes, IsDashed, IsFront, dashed_bytes, front_of}
+
+-- ---- bytes
+
+letter_is : (byte : ℕ) → is_ascii_alphanumeric byte ≡ true → is_name_byte byte ≡ true
+unfolding is_name_byte
+letter_is byte h = grind (arith, nat_tests)
+
+joiner_is : (byte : ℕ) → (byte == 45 || byte == 95) ≡ true → is_name_byte byte ≡ true
+unfolding is_name_byte
+joiner_is byte h = grind (arith, nat_tests)
+
+name_byte_is : (byte : ℕ) → name_byte byte ≢ foreign → is_name_byte byte ≡ true
+unfolding name_byte
+name_byte_is byte h = by_tests (is_ascii_alphanumeric byte) (byte == 45 || byte == 95) refl refl h
+  where
+    by_tests : (a j : Bool) → is_ascii_alphanumeric byte ≡ a → (byte == 45 || byte == 95) ≡ j →
+        cond a letter (cond j joiner foreign) ≢ foreign → is_name_byte byte ≡ true
+    by_tests true j e f k = letter_is byte e
+    by_tests false true e f k = joiner_is byte f
+    by_tests false false e f k = absurd (k refl)
+
+-- a plain name is of such bytes
+pub plain_name_bytes : (name : List ℕ) → IsPlainName name → AreNameBytes name
+plain_name_bytes name h = AllByRecursion-weaker (λ byte. name_byte byte ≢ foreign)
+    (λ byte. is_name_byte byte ≡ true) name_byte_is name (plain_bytes name h)
+
+name_byte_other : (byte : ℕ) → is_name_byte byte ≡ true → sign byte ≡ other byte
+unfolding is_name_byte sign
+name_byte_other byte h = grind (arith, nat_tests)
+
+pub name_other : (text : List ℕ) → AreNameBytes text → IsOther text
+name_other text h = AllByRecursion-weaker (λ byte. is_name_byte byte ≡ true)
+    (λ byte. sign byte ≡ other byte) name_byte_other text h
+
+pub name_byte_no_quote : (byte : ℕ) → is_name_byte byte ≡ true → byte == 39 ≡ false
+unfolding is_name_byte
+name_byte_no_quote byte h = grind (arith, nat_tests)
+
+pub name_no_quote : (text : List ℕ) → AreNameBytes text → NoQuote text
+name_no_quote text h = AllByRecursion-weaker (λ byte. is_name_byte byte ≡ true)
+    (λ byte. byte == 39 ≡ false) name_byte_no_quote text h
+
+-- ---- names of arguments
+
+short_low : (short : ℕ) → is_ascii_alphanumeric short ≡ true → short < 128
+short_low short h = grind (arith, nat_tests)
+
+pub short_dashed : (short : ℕ) → IsPlainShort short → IsDashed (short_word short)
+short_dashed short h = subst (λ t. IsDashed (45 ∷ t)) (sym (encode_ascii short (short_low short h)))
+    (refl, (letter_is short h, tt))
+
+dash_bytes : (text : List ℕ) → AreNameBytes text → IsDashed (codes "--" ++ text)
+unfolding is_name_byte
+dash_bytes text h = (refl, (refl, h))
+
+pub long_dashed : (long : List ℕ) → IsPlainName long → IsDashed (long_word long)
+long_dashed long h = dash_bytes long (plain_name_bytes long h)
+
+pub plain_shorts : (argument : Arg) → IsPlainArgument argument →
+    AllByRecursion IsPlainShort (shown_shorts argument)
+plain_shorts argument h = by_short argument.short h.short
+  where
+    by_short : (short : Option ℕ) → IsTrue (passes_if_some is_ascii_alphanumeric short) →
+        AllByRecursion IsPlainShort (with_aliases short argument.visible_short_aliases)
+    by_short None k = tt
+    by_short (Some short) k = (k, h.shorts)
+
+pub plain_longs : (argument : Arg) → IsPlainArgument argument →
+    AllByRecursion IsPlainName (shown_longs argument)
+plain_longs argument h = by_long argument.long h.long
+  where
+    by_long : (long : Option (List ℕ)) → IsTrue (passes_if_some is_plain_name long) →
+        AllByRecursion IsPlainName (with_aliases long argument.visible_aliases)
+    by_long None k = tt
+    by_long (Some long) k = (k, h.longs)
+
+-- ---- names in conflict
+
+own_dashed : (argument : Arg) → IsPlainArgument argument →
+    AllByRecursion IsDashed (own_words argument)
+own_dashed argument h = AllByRecursion-append IsDashed (short_words argument.short)
+    (long_words argument.long) (by_short argument.short h.short) (by_long argument.long h.long)
+  where
+    by_short : (short : Option ℕ) → IsTrue (passes_if_some is_ascii_alphanumeric short) →
+        AllByRecursion IsDashed (short_words short)
+    by_short None k = tt
+    by_short (Some short) k = (short_dashed short k, tt)
+
+    by_long : (long : Option (List ℕ)) → IsTrue (passes_if_some is_plain_name long) →
+        AllByRecursion IsDashed (long_words long)
+    by_long None k = tt
+    by_long (Some long) k = (long_dashed long k, tt)
+
+words_dashed : (arguments : List Arg) → AllByRecursion IsPlainArgument arguments →
+    AllByRecursion IsDashed (conflict_words arguments)
+words_dashed [] h = tt
+words_dashed (argument ∷ arguments) (h, hs) =
+    AllByRecursion-append IsDashed (own_words argument) (conflict_words arguments)
+    (own_dashed argument h) (words_dashed arguments hs)
+
+found_plain : (arguments : List Arg) (id : List ℕ) → AllByRecursion IsPlainArgument arguments →
+    AllByRecursion IsPlainArgument (option_to_list (first_with arguments id))
+found_plain [] id h = tt
+found_plain (argument ∷ arguments) id (h, hs) =
+    by_test (bytes_eq argument.id id) (found_plain arguments id hs)
+  where
+    by_test : (b : Bool) →
+        AllByRecursion IsPlainArgument (option_to_list (first_with arguments id)) →
+        AllByRecursion IsPlainArgument
+        (option_to_list (cond b (Some argument) (first_with arguments id)))
+    by_test true k = (h, tt)
+    by_test false k = k
+
+ids_plain : (arguments : List Arg) (ids : List (List ℕ)) →
+    AllByRecursion IsPlainArgument arguments →
+    AllByRecursion IsPlainArgument (flat_map (λ id. option_to_list (first_with arguments id)) ids)
+ids_plain arguments [] h = tt
+ids_plain arguments (id ∷ ids) h =
+    AllByRecursion-append IsPlainArgument (option_to_list (first_with arguments id))
+    (flat_map (λ id. option_to_list (first_with arguments id)) ids) (found_plain arguments id h) (ids_plain arguments ids h)
+
+conflicting_plain : (above node : Node) (argument : Arg) →
+    AllByRecursion IsPlainArgument above.arguments →
+    AllByRecursion IsPlainArgument node.arguments →
+    AllByRecursion IsPlainArgument (excluded above node argument)
+conflicting_plain above node argument h k =
+    ids_plain (looked_up above node argument) argument.conflicts (by_test argument.global)
+  where
+    by_test : (b : Bool) →
+        AllByRecursion IsPlainArgument (cond b above.arguments node.arguments)
+    by_test true = h
+    by_test false = k
+
+pub conflicting_dashed : (above node : Node) (argument : Arg) →
+    AllByRecursion IsPlainArgument above.arguments →
+    AllByRecursion IsPlainArgument node.arguments →
+    AllByRecursion IsDashed (conflict_words (excluded above node argument))
+conflicting_dashed above node argument h k =
+    words_dashed (excluded above node argument) (conflicting_plain above node argument h k)
+
+-- the brackets stand where there are arguments in conflict
+abbrev pub has_any : List Arg → Bool
+has_any [] = false
+has_any (argument ∷ arguments) = true
+
+pub conflicts_front : (arguments : List Arg) →
+    conflicts_text arguments ≡ front_of (has_any arguments) (conflict_words arguments)
+unfolding conflicts_text
+conflicts_front [] = refl
+conflicts_front (argument ∷ arguments) = refl
+
+pub conflicts_are : (arguments : List Arg) → AllByRecursion IsDashed (conflict_words arguments) →
+    IsFront (has_any arguments) (conflict_words arguments)
+conflicts_are [] h = refl
+conflicts_are (argument ∷ arguments) h = h
+
+joined_no_quote : (begun : Bool) (words : List (List ℕ)) → AllByRecursion IsDashed words →
+    NoQuote (joined_after (codes " ") begun words)
+joined_no_quote begun [] h = tt
+joined_no_quote begun (word ∷ words) (h, hs) =
+    AllByRecursion-append (λ byte. byte == 39 ≡ false) (separator (codes " ") begun ++ word)
+    (joined_after (codes " ") true words)
+    (AllByRecursion-append (λ byte. byte == 39 ≡ false) (separator (codes " ") begun) word
+    (front begun) (name_no_quote word (dashed_bytes word h)))
+    (joined_no_quote true words hs)
+  where
+    front : (begun : Bool) → NoQuote (separator (codes " ") begun)
+    front true = (refl, tt)
+    front false = tt
+
+pub front_no_quote : (has_front : Bool) (words : List (List ℕ)) → IsFront has_front words →
+    NoQuote (front_of has_front words)
+front_no_quote false words h = tt
+front_no_quote true words h = (
+  refl,
+  AllByRecursion-append (λ byte. byte == 39 ≡ false) (joined (codes " ") words) (codes ")")
+      (joined_no_quote false words h) (refl, tt),
+)

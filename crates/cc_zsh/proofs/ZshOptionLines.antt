@@ -1,0 +1,177 @@
+-- The lines of a node's options and flags add exactly these.
+use Rattle.std.proofs.Common.{◌≡◌, ◌==◌, ℕ, Bool, true, false, cond, List, [], ◌∷◌, ◌++◌, map, flat_map, Option, Some, None, unwrap_or, codes, refl, sym, ◌∙◌, ap, subst, append_assoc}
+use Rattle.std.specs.List.{AllByRecursion}
+use Rattle.std.specs.Option.{option_to_list}
+use Rattle.cc_base.proofs.Members.{AllByRecursion-weaker}
+use Rattle.cc_arg.specs.declared.arg.Arg.{Arg}
+use Rattle.cc_arg.specs.ShownNames.{shown_shorts, shown_longs}
+use Rattle.cc_command.specs.declared.node.Node.{Node}
+use Rattle.cc_command.specs.ArgumentLists.{options, flags}
+use Rattle.cc_command.proofs.PlainParts.{IsPlainName, IsPlainShort, IsPlainArgument, IsPlainNode}
+use Rattle.cc_quote.specs.QuotedWord.{line_feeds_as_spaces}
+use Rattle.cc_quote.specs.ZshQuote.{is_help_marked, marked, zsh_escaped_help}
+use Rattle.cc_zsh.specs.Conflicts.{excluded, conflict_words, conflicts_text, short_word, long_word}
+use Rattle.cc_zsh.specs.Options.{is_repeated, repeated_text, help_text, front_text, line_end, short_option, long_option, short_flag, long_flag, option_text, flag_text, options_text, flags_text}
+use Rattle.cc_zsh.specs.Values.{values_text}
+use Rattle.cc_zsh.specs.ZshReader.{Bracket, ZshOption, option_of}
+use Rattle.cc_zsh.specs.ZshReader.Bracket.{alone, after_plus, after_equals}
+use Rattle.cc_zsh.specs.ZshTable.{option_row, option_rows, flag_rows, node_rows}
+use Rattle.cc_zsh.proofs.ZshCutting.{Escapes, escapes_append, escapes_same, IsEscaped, escaped_same}
+use Rattle.cc_zsh.proofs.ZshOptionWords.{IsDashed, dashed_bytes, IsFront, bracket_text, front_of, star_of, option_word, option_read}
+use Rattle.cc_zsh.proofs.ZshLines.{Adds, adds_append, adds_flat_map, adds_map, line_adds}
+use Rattle.cc_zsh.proofs.ZshNames.{short_dashed, long_dashed, plain_shorts, plain_longs, conflicting_dashed, has_any, conflicts_front, conflicts_are, name_no_quote, front_no_quote}
+use Rattle.cc_zsh.proofs.ZshValues.{escaped_values}
+
+star_escapes : (repeated : Bool) → Escapes (star_of repeated) (star_of repeated)
+star_escapes true = escapes_same (codes "*") (refl, tt)
+star_escapes false = escapes_same [] tt
+
+bracket_escapes : (bracket : Bracket) → Escapes (bracket_text bracket) (bracket_text bracket)
+bracket_escapes alone = escapes_same [] tt
+bracket_escapes after_plus = escapes_same (codes "+") (refl, tt)
+bracket_escapes after_equals = escapes_same (codes "=") (refl, tt)
+
+help_escapes : (help : List ℕ) →
+    Escapes (zsh_escaped_help help) (marked is_help_marked (line_feeds_as_spaces help))
+unfolding zsh_escaped_help
+help_escapes help = record { is = refl }
+
+-- what stands between the quotes of an option's line
+abbrev inner : Bool → List (List ℕ) → Bool → List ℕ → Bracket → List ℕ → List ℕ → List ℕ
+inner has_front words repeated name bracket help values =
+    front_of has_front words ++ (star_of repeated ++ (name ++ (bracket_text bracket
+    ++ (codes "[" ++ (zsh_escaped_help help ++ (codes "]" ++ values))))))
+
+inner_escapes : (has_front : Bool) (words : List (List ℕ)) (repeated : Bool) (name : List ℕ)
+    (bracket : Bracket) (help values : List ℕ) (v : IsEscaped values) → IsFront has_front words →
+    IsDashed name → Escapes (inner has_front words repeated name bracket help values)
+    (option_word has_front words repeated name bracket (line_feeds_as_spaces help) v.word)
+inner_escapes has_front words repeated name bracket help values v front dashed =
+    escapes_append (front_of has_front words) _ (front_of has_front words) _
+    (escapes_same (front_of has_front words) (front_no_quote has_front words front))
+    (escapes_append (star_of repeated) _ (star_of repeated) _ (star_escapes repeated)
+    (escapes_append name _ name _ (escapes_same name (name_no_quote name (dashed_bytes name dashed)))
+    (escapes_append (bracket_text bracket) _ (bracket_text bracket) _ (bracket_escapes bracket)
+    (escapes_append (codes "[") _ (codes "[") _ (escapes_same (codes "[") (refl, tt))
+    (escapes_append (zsh_escaped_help help) _ (marked is_help_marked (line_feeds_as_spaces help)) _
+    (help_escapes help)
+    (escapes_append (codes "]") values (codes "]") v.word (escapes_same (codes "]") (refl, tt))
+    v.escapes))))))
+
+module _ (above node : Node) (above_plain : AllByRecursion IsPlainArgument above.arguments)
+    (plain : AllByRecursion IsPlainArgument node.arguments) (argument : Arg)
+    (is : IsPlainArgument argument) where
+  abbrev words : List (List ℕ)
+  words = conflict_words (excluded above node argument)
+
+  abbrev has_front : Bool
+  has_front = has_any (excluded above node argument)
+
+  front : IsFront has_front words
+  front = conflicts_are (excluded above node argument)
+      (conflicting_dashed above node argument above_plain plain)
+
+  abbrev help : List ℕ
+  help = unwrap_or argument.help []
+
+  -- a line under one name
+  line_of : (name : List ℕ) (bracket : Bracket) (values : List ℕ) → IsEscaped values →
+      IsDashed name →
+      Adds (39 ∷ (inner has_front words (is_repeated argument) name bracket help values
+      ++ line_end)) (option_row above node argument bracket name ∷ [])
+  line_of name bracket values v dashed =
+      line_adds (inner has_front words (is_repeated argument) name bracket help values)
+      (option_word has_front words (is_repeated argument) name bracket
+      (line_feeds_as_spaces help) v.word) (option_row above node argument bracket name ∷ [])
+      (inner_escapes has_front words (is_repeated argument) name bracket help values v front dashed)
+      (ap option_to_list (option_read has_front words (is_repeated argument) name bracket
+      (line_feeds_as_spaces help) v.word front dashed))
+
+  star_is : (b : Bool) → cond b (codes "*") [] ≡ star_of b
+  star_is true = refl
+  star_is false = refl
+
+  front_is : conflicts_text (excluded above node argument) ++ repeated_text argument
+      ≡ front_of has_front words ++ star_of (is_repeated argument)
+  front_is = ap (λ t. t ++ repeated_text argument) (conflicts_front (excluded above node argument))
+      ∙ ap (λ t. front_of has_front words ++ t) (star_is (is_repeated argument))
+
+  regroup_option : (q conf rep name br ob helps cb values end : List ℕ) →
+      (q ++ (conf ++ rep)) ++ (name ++ (br ++ ((ob ++ (helps ++ cb)) ++ (values ++ end))))
+      ≡ q ++ ((conf ++ (rep ++ (name ++ (br ++ (ob ++ (helps ++ (cb ++ values))))))) ++ end)
+  regroup_option q conf rep name br ob helps cb values end = simp append_assoc
+
+  regroup_flag : (q conf rep name ob helps cb end : List ℕ) →
+      (q ++ (conf ++ rep)) ++ (name ++ ((ob ++ (helps ++ cb)) ++ end))
+      ≡ q ++ ((conf ++ (rep ++ (name ++ (ob ++ (helps ++ cb))))) ++ end)
+  regroup_flag q conf rep name ob helps cb end = simp append_assoc
+
+  option_line : (name : List ℕ) (bracket : Bracket) → IsDashed name →
+      Adds (front_text above node argument ++ (name ++ (bracket_text bracket
+      ++ (help_text argument ++ (values_text argument ++ line_end)))))
+      (option_row above node argument bracket name ∷ [])
+  unfolding front_text help_text
+  option_line name bracket dashed =
+      subst (λ t. Adds t (option_row above node argument bracket name ∷ []))
+      (sym (ap (λ t. (codes "'" ++ t) ++ (name ++ (bracket_text bracket
+      ++ ((codes "[" ++ (zsh_escaped_help help ++ codes "]")) ++ (values_text argument ++ line_end)))))
+      front_is ∙ regroup_option (codes "'") (front_of has_front words)
+      (star_of (is_repeated argument)) name (bracket_text bracket) (codes "[")
+      (zsh_escaped_help help) (codes "]") (values_text argument) line_end))
+      (line_of name bracket (values_text argument) (escaped_values argument is.value_names) dashed)
+
+  flag_line : (name : List ℕ) → IsDashed name →
+      Adds (front_text above node argument ++ (name ++ (help_text argument ++ line_end)))
+      (option_row above node argument alone name ∷ [])
+  unfolding front_text help_text
+  flag_line name dashed =
+      subst (λ t. Adds t (option_row above node argument alone name ∷ []))
+      (sym (ap (λ t. (codes "'" ++ t) ++ (name ++ ((codes "[" ++ (zsh_escaped_help help ++ codes "]"))
+      ++ line_end))) front_is ∙ regroup_flag (codes "'") (front_of has_front words)
+      (star_of (is_repeated argument)) name (codes "[") (zsh_escaped_help help) (codes "]")
+      line_end))
+      (line_of name alone [] (escaped_same [] tt) dashed)
+
+  option_adds : Adds (option_text above node argument) (option_rows above node argument)
+  unfolding option_text short_option long_option
+  option_adds = adds_append (flat_map (short_option above node argument) (shown_shorts argument))
+      (flat_map (long_option above node argument) (shown_longs argument))
+      (map (λ short. option_row above node argument after_plus (short_word short))
+      (shown_shorts argument))
+      (map (λ long. option_row above node argument after_equals (long_word long))
+      (shown_longs argument))
+      (adds_map IsPlainShort (short_option above node argument)
+      (λ short. option_row above node argument after_plus (short_word short))
+      (λ short h. option_line (short_word short) after_plus (short_dashed short h))
+      (shown_shorts argument) (plain_shorts argument is))
+      (adds_map IsPlainName (long_option above node argument)
+      (λ long. option_row above node argument after_equals (long_word long))
+      (λ long h. option_line (long_word long) after_equals (long_dashed long h))
+      (shown_longs argument) (plain_longs argument is))
+
+  flag_adds : Adds (flag_text above node argument) (flag_rows above node argument)
+  unfolding flag_text short_flag long_flag
+  flag_adds = adds_append (flat_map (short_flag above node argument) (shown_shorts argument))
+      (flat_map (long_flag above node argument) (shown_longs argument))
+      (map (λ short. option_row above node argument alone (short_word short)) (shown_shorts argument))
+      (map (λ long. option_row above node argument alone (long_word long)) (shown_longs argument))
+      (adds_map IsPlainShort (short_flag above node argument)
+      (λ short. option_row above node argument alone (short_word short))
+      (λ short h. flag_line (short_word short) (short_dashed short h))
+      (shown_shorts argument) (plain_shorts argument is))
+      (adds_map IsPlainName (long_flag above node argument)
+      (λ long. option_row above node argument alone (long_word long))
+      (λ long h. flag_line (long_word long) (long_dashed long h))
+      (shown_longs argument) (plain_longs argument is))
+
+-- all options and flags of a node
+pub node_adds : (above node : Node) → AllByRecursion IsPlainArgument above.arguments →
+    IsPlainNode node →
+    Adds (options_text above node ++ flags_text above node) (node_rows above node)
+unfolding options_text flags_text
+node_adds above node above_plain is = adds_append (options_text above node) (flags_text above node)
+    (flat_map (option_rows above node) (options node)) (flat_map (flag_rows above node) (flags node))
+    (adds_flat_map IsPlainArgument (option_text above node) (option_rows above node)
+    (option_adds above node above_plain is.arguments) (options node) is.options)
+    (adds_flat_map IsPlainArgument (flag_text above node) (flag_rows above node)
+    (flag_adds above node above_plain is.arguments) (flags node) is.flags)

@@ -1,0 +1,341 @@
+-- The word of an option is read back to it, and the words that tell none.
+use Rattle.std.proofs.Common.{◌≡◌, ◌==◌, ◌||◌, ℕ, ◌<◌, Bool, true, false, cond, IsTrue, List, [], ◌∷◌, ◌++◌, map, flat_map, Option, Some, None, codes, refl, sym, ◌∙◌, ap, subst, arith, append_assoc, append-nil}
+use Rattle.std.specs.Char.{is_ascii_alphanumeric}
+use Rattle.std.specs.List.{AllByRecursion}
+use Rattle.std.proofs.lemmas.Bool.Decides.{nat_tests}
+use Rattle.cc_quote.specs.ZshQuote.{is_help_marked, is_value_marked, marked_byte, marked}
+use Rattle.cc_zsh.specs.Joined.{joined, joined_after}
+use Rattle.cc_zsh.specs.ZshReader.{Bracket, ZshOption, OptionPlace, new_option, with_help, with_name, is_name_byte, after_name, next_place, place_after, read_option, option_of}
+use Rattle.cc_zsh.specs.ZshReader.Bracket.{alone, after_plus, after_equals}
+use Rattle.cc_zsh.specs.ZshReader.OptionPlace.{before_option, in_conflicts, after_conflicts, after_star, in_name, at_bracket, in_help, in_help_escaped, after_help, no_option}
+
+-- ---- names
+
+abbrev pub AreNameBytes : List ℕ → Type 0
+AreNameBytes text = AllByRecursion (λ byte. is_name_byte byte ≡ true) text
+
+-- a dash and such bytes
+abbrev pub IsDashed : List ℕ → Type 0
+IsDashed [] = ⊥
+IsDashed (byte ∷ text) = (byte ≡ 45) × AreNameBytes text
+
+not_close : (byte : ℕ) → is_name_byte byte ≡ true → byte == 41 ≡ false
+unfolding is_name_byte
+not_close byte h = grind (arith, nat_tests)
+
+pub not_space : (byte : ℕ) → is_name_byte byte ≡ true → byte == 32 ≡ false
+unfolding is_name_byte
+not_space byte h = grind (arith, nat_tests)
+
+dash_is_name : is_name_byte 45 ≡ true
+unfolding is_name_byte
+dash_is_name = refl
+
+pub dashed_bytes : (text : List ℕ) → IsDashed text → AreNameBytes text
+dashed_bytes [] h = absurd h
+dashed_bytes (byte ∷ text) (e, h) = (ap is_name_byte e ∙ dash_is_name, h)
+
+name_read : (text rest name : List ℕ) (names : List (List ℕ)) (repeated : Bool) →
+    AreNameBytes text → place_after (in_name names repeated name) (text ++ rest)
+    ≡ place_after (in_name names repeated (name ++ text)) rest
+unfolding place_after next_place
+name_read [] rest name names repeated h =
+    ap (λ n. place_after (in_name names repeated n) rest) (sym (append-nil name))
+name_read (byte ∷ text) rest name names repeated (h, hs) =
+    ap (λ b. place_after (cond b (in_name names repeated (name ++ byte ∷ []))
+    (after_name names repeated name byte)) (text ++ rest)) h
+    ∙ name_read text rest (name ++ byte ∷ []) names repeated hs
+    ∙ ap (λ n. place_after (in_name names repeated n) rest) (append_assoc name (byte ∷ []) text)
+
+-- ---- brackets and help
+
+-- what stands between a name and its help
+abbrev pub bracket_text : Bracket → List ℕ
+bracket_text alone = []
+bracket_text after_plus = codes "+"
+bracket_text after_equals = codes "="
+
+bracket_read : (bracket : Bracket) (rest name : List ℕ) (names : List (List ℕ)) (repeated : Bool) →
+    place_after (in_name names repeated name) (bracket_text bracket ++ 91 ∷ rest)
+    ≡ place_after (in_help (new_option names repeated name bracket)) rest
+unfolding place_after next_place is_name_byte after_name
+bracket_read alone rest name names repeated = refl
+bracket_read after_plus rest name names repeated = refl
+bracket_read after_equals rest name names repeated = refl
+
+-- after the help nothing changes
+pub after_stays : (option : ZshOption) (rest : List ℕ) →
+    place_after (after_help option) rest ≡ after_help option
+unfolding place_after next_place
+after_stays option [] = refl
+after_stays option (byte ∷ rest) = after_stays option rest
+
+abbrev helped : ZshOption → List ℕ → ZshOption
+helped option help = record option { help = option.help ++ help }
+
+not_bracket : (byte : ℕ) → is_help_marked byte ≡ false → byte == 93 ≡ false
+not_bracket byte h = grind (arith, nat_tests)
+
+not_backslash : (byte : ℕ) → is_help_marked byte ≡ false → byte == 92 ≡ false
+not_backslash byte h = grind (arith, nat_tests)
+
+help_byte_read : (byte : ℕ) (rest : List ℕ) (option : ZshOption) →
+    place_after (in_help option) (marked_byte is_help_marked byte ++ rest)
+    ≡ place_after (in_help (with_help option byte)) rest
+unfolding place_after next_place
+help_byte_read byte rest option = by_test (is_help_marked byte) refl
+  where
+    by_test : (m : Bool) → is_help_marked byte ≡ m →
+        place_after (in_help option) (cond m (92 ∷ byte ∷ []) (byte ∷ []) ++ rest)
+        ≡ place_after (in_help (with_help option byte)) rest
+    by_test true e = refl
+    by_test false e =
+        ap (λ b. place_after (cond b (after_help option) (cond (byte == 92) (in_help_escaped option)
+        (in_help (with_help option byte)))) rest) (not_bracket byte e)
+        ∙ ap (λ b. place_after (cond b (in_help_escaped option)
+        (in_help (with_help option byte))) rest) (not_backslash byte e)
+
+help_read : (help rest : List ℕ) (option : ZshOption) →
+    place_after (in_help option) (marked is_help_marked help ++ 93 ∷ rest)
+    ≡ after_help (helped option help)
+unfolding place_after next_place
+help_read [] rest option =
+    after_stays option rest ∙ ap (λ h. after_help (record option { help = h })) (sym (append-nil option.help))
+help_read (byte ∷ help) rest option =
+    ap (place_after (in_help option))
+    (append_assoc (marked_byte is_help_marked byte) (marked is_help_marked help) (93 ∷ rest))
+    ∙ help_byte_read byte (marked is_help_marked help ++ 93 ∷ rest) option
+    ∙ help_read help rest (with_help option byte)
+    ∙ ap (λ h. after_help (record option { help = h })) (append_assoc option.help (byte ∷ []) help)
+
+-- ---- names in conflict
+
+conflict_read : (text rest name : List ℕ) (names : List (List ℕ)) → AreNameBytes text →
+    place_after (in_conflicts names name) (text ++ rest)
+    ≡ place_after (in_conflicts names (name ++ text)) rest
+unfolding place_after next_place
+conflict_read [] rest name names h =
+    ap (λ n. place_after (in_conflicts names n) rest) (sym (append-nil name))
+conflict_read (byte ∷ text) rest name names (h, hs) =
+    ap (λ b. place_after (cond b (after_conflicts (with_name names name))
+    (cond (byte == 32) (in_conflicts (with_name names name) [])
+    (in_conflicts names (name ++ byte ∷ [])))) (text ++ rest)) (not_close byte h)
+    ∙ ap (λ b. place_after (cond b (in_conflicts (with_name names name) [])
+    (in_conflicts names (name ++ byte ∷ []))) (text ++ rest)) (not_space byte h)
+    ∙ conflict_read text rest (name ++ byte ∷ []) names hs
+    ∙ ap (λ n. place_after (in_conflicts names n) rest) (append_assoc name (byte ∷ []) text)
+
+with_dashed : (names : List (List ℕ)) (name : List ℕ) → IsDashed name →
+    with_name names name ≡ names ++ name ∷ []
+with_dashed names [] h = absurd h
+with_dashed names (byte ∷ name) h = refl
+
+-- the names after the first
+names_read : (words : List (List ℕ)) (rest name : List ℕ) (names : List (List ℕ)) →
+    AllByRecursion IsDashed words →
+    place_after (in_conflicts names name) (joined_after (codes " ") true words ++ 41 ∷ rest)
+    ≡ place_after (after_conflicts (with_name names name ++ words)) rest
+unfolding place_after next_place
+names_read [] rest name names h =
+    ap (λ ns. place_after (after_conflicts ns) rest) (sym (append-nil (with_name names name)))
+names_read (word ∷ words) rest name names (h, hs) =
+    let before : List (List ℕ) = with_name names name in
+    let more : List ℕ = joined_after (codes " ") true words ++ 41 ∷ rest in
+    ap (place_after (in_conflicts before []))
+    (append_assoc word (joined_after (codes " ") true words) (41 ∷ rest))
+    ∙ conflict_read word more [] before (dashed_bytes word h)
+    ∙ names_read words rest word before hs
+    ∙ ap (λ ns. place_after (after_conflicts (ns ++ words)) rest) (with_dashed before word h)
+    ∙ ap (λ ns. place_after (after_conflicts ns) rest) (append_assoc before (word ∷ []) words)
+
+-- all names between brackets
+pub conflicts_read : (words : List (List ℕ)) (rest : List ℕ) → AllByRecursion IsDashed words →
+    place_after before_option (codes "(" ++ (joined (codes " ") words ++ (codes ")" ++ rest)))
+    ≡ place_after (after_conflicts words) rest
+unfolding place_after next_place
+conflicts_read [] rest h = refl
+conflicts_read (word ∷ words) rest (h, hs) =
+    ap (place_after (in_conflicts [] []))
+    (append_assoc word (joined_after (codes " ") true words) (41 ∷ rest))
+    ∙ conflict_read word (joined_after (codes " ") true words ++ 41 ∷ rest) [] [] (dashed_bytes word h)
+    ∙ names_read words rest word [] hs
+    ∙ ap (λ ns. place_after (after_conflicts (ns ++ words)) rest) (with_dashed [] word h)
+
+-- ---- whole words
+
+-- what stands before the name
+abbrev pub front_of : Bool → List (List ℕ) → List ℕ
+front_of false words = []
+front_of true words = codes "(" ++ (joined (codes " ") words ++ codes ")")
+
+abbrev pub star_of : Bool → List ℕ
+star_of true = codes "*"
+star_of false = []
+
+-- the word of an option
+abbrev pub option_word : Bool → List (List ℕ) → Bool → List ℕ → Bracket → List ℕ → List ℕ → List ℕ
+option_word has_front words repeated name bracket help values =
+    front_of has_front words ++ (star_of repeated ++ (name ++ (bracket_text bracket
+    ++ (codes "[" ++ (marked is_help_marked help ++ (codes "]" ++ values))))))
+
+abbrev option_with : List (List ℕ) → Bool → List ℕ → Bracket → List ℕ → ZshOption
+option_with words repeated name bracket help = record {
+  conflicts = words;
+  repeated = repeated;
+  name = name;
+  bracket = bracket;
+  help = help;
+}
+
+-- from the first byte of the name on
+rest_read : (words : List (List ℕ)) (repeated : Bool) (name : List ℕ) (bracket : Bracket)
+    (help values : List ℕ) → AreNameBytes name →
+    place_after (in_name words repeated (45 ∷ [])) (name ++ (bracket_text bracket
+    ++ (codes "[" ++ (marked is_help_marked help ++ (codes "]" ++ values)))))
+    ≡ after_help (option_with words repeated (45 ∷ name) bracket help)
+rest_read words repeated name bracket help values h =
+    name_read name (bracket_text bracket
+    ++ (codes "[" ++ (marked is_help_marked help ++ (codes "]" ++ values)))) (45 ∷ []) words repeated h
+    ∙ bracket_read bracket (marked is_help_marked help ++ (codes "]" ++ values)) (45 ∷ name) words repeated
+    ∙ help_read help values (new_option words repeated (45 ∷ name) bracket)
+
+-- after the names in conflict, and where there are none
+conflicted : (words : List (List ℕ)) (repeated : Bool) (name : List ℕ) (bracket : Bracket)
+    (help values : List ℕ) → IsDashed name →
+    place_after (after_conflicts words) (star_of repeated ++ (name ++ (bracket_text bracket
+    ++ (codes "[" ++ (marked is_help_marked help ++ (codes "]" ++ values))))))
+    ≡ after_help (option_with words repeated name bracket help)
+unfolding place_after next_place
+conflicted words repeated [] bracket help values h = absurd h
+conflicted words true (byte ∷ name) bracket help values (e, h) =
+    rw e (rest_read words true name bracket help values h)
+conflicted words false (byte ∷ name) bracket help values (e, h) =
+    rw e (rest_read words false name bracket help values h)
+
+alone_read : (repeated : Bool) (name : List ℕ) (bracket : Bracket) (help values : List ℕ) →
+    IsDashed name → place_after before_option (star_of repeated ++ (name ++ (bracket_text bracket
+    ++ (codes "[" ++ (marked is_help_marked help ++ (codes "]" ++ values))))))
+    ≡ after_help (option_with [] repeated name bracket help)
+unfolding place_after next_place
+alone_read repeated [] bracket help values h = absurd h
+alone_read true (byte ∷ name) bracket help values (e, h) =
+    rw e (rest_read [] true name bracket help values h)
+alone_read false (byte ∷ name) bracket help values (e, h) =
+    rw e (rest_read [] false name bracket help values h)
+
+-- without a front there are no names in conflict
+abbrev pub IsFront : Bool → List (List ℕ) → Type 0
+IsFront true words = AllByRecursion IsDashed words
+IsFront false words = words ≡ []
+
+-- an option's word tells the option
+pub option_read : (has_front : Bool) (words : List (List ℕ)) (repeated : Bool) (name : List ℕ)
+    (bracket : Bracket) (help values : List ℕ) → IsFront has_front words → IsDashed name →
+    option_of (option_word has_front words repeated name bracket help values)
+    ≡ Some (option_with words repeated name bracket help)
+unfolding option_of read_option
+option_read false words repeated name bracket help values none h =
+    ap read_option (alone_read repeated name bracket help values h)
+    ∙ ap (λ ws. Some (option_with ws repeated name bracket help)) (sym none)
+option_read true words repeated name bracket help values are h =
+    let rest : List ℕ = star_of repeated ++ (name ++ (bracket_text bracket
+    ++ (codes "[" ++ (marked is_help_marked help ++ (codes "]" ++ values))))) in
+    ap (λ t. read_option (place_after before_option (codes "(" ++ t)))
+    (append_assoc (joined (codes " ") words) (codes ")") rest)
+    ∙ ap read_option (conflicts_read words rest are
+    ∙ conflicted words repeated name bracket help values h)
+
+-- ---- words that tell none
+
+pub none_stays : (rest : List ℕ) → place_after no_option rest ≡ no_option
+unfolding place_after next_place
+none_stays [] = refl
+none_stays (byte ∷ rest) = none_stays rest
+
+-- a word that begins with a colon
+pub colon_none : (rest : List ℕ) → option_of (codes ":" ++ rest) ≡ None
+unfolding option_of place_after next_place read_option
+colon_none rest = ap read_option (none_stays rest)
+
+-- the places between the star and the bracket
+data BeforeBracket : OptionPlace → Type 0 where
+  star_place : (names : List (List ℕ)) → BeforeBracket (after_star names)
+  name_place : (names : List (List ℕ)) (repeated : Bool) (name : List ℕ) →
+      BeforeBracket (in_name names repeated name)
+  bracket_place : (names : List (List ℕ)) (repeated : Bool) (name : List ℕ) (bracket : Bracket) →
+      BeforeBracket (at_bracket names repeated name bracket)
+  none_place : BeforeBracket no_option
+
+by_cond : (q : Bool) {a b : OptionPlace} → BeforeBracket a → BeforeBracket b → BeforeBracket (cond q a b)
+by_cond true h k = h
+by_cond false h k = k
+
+not_open : (byte : ℕ) → is_value_marked byte ≡ false → byte == 91 ≡ false
+not_open byte h = grind (arith, nat_tests)
+
+-- a byte that is no bracket does not lead on to the help
+kept_before : (place : OptionPlace) (byte : ℕ) → BeforeBracket place → byte == 91 ≡ false →
+    BeforeBracket (next_place place byte)
+unfolding next_place after_name
+kept_before place byte (star_place names) e =
+    by_cond (byte == 45) (name_place names true (byte ∷ [])) none_place
+kept_before place byte (name_place names repeated name) e =
+    by_cond (is_name_byte byte) (name_place names repeated (name ++ byte ∷ []))
+    (subst (λ b. BeforeBracket (cond b (in_help (new_option names repeated name alone))
+    (cond (byte == 43) (at_bracket names repeated name after_plus)
+    (cond (byte == 61) (at_bracket names repeated name after_equals) no_option)))) (sym e)
+    (by_cond (byte == 43) (bracket_place names repeated name after_plus)
+    (by_cond (byte == 61) (bracket_place names repeated name after_equals) none_place)))
+kept_before place byte (bracket_place names repeated name bracket) e =
+    subst (λ b. BeforeBracket (cond b (in_help (new_option names repeated name bracket)) no_option))
+    (sym e) none_place
+kept_before place byte none_place e = none_place
+
+-- after a backslash nothing is an option
+backslash_none : (place : OptionPlace) → BeforeBracket place → next_place place 92 ≡ no_option
+unfolding next_place after_name is_name_byte
+backslash_none place (star_place names) = refl
+backslash_none place (name_place names repeated name) = refl
+backslash_none place (bracket_place names repeated name bracket) = refl
+backslash_none place none_place = refl
+
+value_before : (text : List ℕ) (place : OptionPlace) → BeforeBracket place →
+    BeforeBracket (place_after place (marked is_value_marked text))
+unfolding place_after
+value_before [] place h = h
+value_before (byte ∷ text) place h = by_test (is_value_marked byte) refl
+    (λ e. value_before text (next_place place byte) (kept_before place byte h (not_open byte e)))
+  where
+    by_test : (m : Bool) → is_value_marked byte ≡ m → (is_value_marked byte ≡ false →
+        BeforeBracket (place_after (next_place place byte) (marked is_value_marked text))) →
+        BeforeBracket (place_after place (cond m (92 ∷ byte ∷ []) (byte ∷ [])
+        ++ marked is_value_marked text))
+    by_test true e again =
+        subst (λ p. BeforeBracket (place_after p (byte ∷ marked is_value_marked text)))
+        (sym (backslash_none place h))
+        (subst BeforeBracket (sym (none_stays (byte ∷ marked is_value_marked text))) none_place)
+    by_test false e again = again e
+
+-- and a colon ends it
+colon_ends : (place : OptionPlace) (rest : List ℕ) → BeforeBracket place →
+    place_after place (58 ∷ rest) ≡ no_option
+unfolding place_after next_place after_name is_name_byte
+colon_ends place rest (star_place names) = none_stays rest
+colon_ends place rest (name_place names repeated name) = none_stays rest
+colon_ends place rest (bracket_place names repeated name bracket) = none_stays rest
+colon_ends place rest none_place = none_stays rest
+
+place_after-append : (text rest : List ℕ) (place : OptionPlace) →
+    place_after place (text ++ rest) ≡ place_after (place_after place text) rest
+unfolding place_after
+place_after-append [] rest place = refl
+place_after-append (byte ∷ text) rest place = place_after-append text rest (next_place place byte)
+
+-- a word that begins with a star, an escaped value and a colon
+pub star_none : (value rest : List ℕ) →
+    option_of (codes "*" ++ (marked is_value_marked value ++ (codes ":" ++ rest))) ≡ None
+unfolding option_of place_after next_place read_option
+star_none value rest =
+    ap read_option (place_after-append (marked is_value_marked value) (58 ∷ rest) (after_star [])
+    ∙ colon_ends (place_after (after_star []) (marked is_value_marked value)) rest
+    (value_before value (after_star []) (star_place [])))

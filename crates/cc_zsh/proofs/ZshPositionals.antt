@@ -1,0 +1,159 @@
+-- The lines of a node's positionals add no option.
+use Rattle.std.proofs.Common.{◌≡◌, ◌==◌, ◌||◌, ℕ, ◌<◌, Bool, true, false, cond, List, [], ◌∷◌, ◌++◌, map, flat_map, Option, Some, None, codes, refl, sym, ◌∙◌, ap, subst, arith, append_assoc}
+use Rattle.std.specs.List.{AllByRecursion}
+use Rattle.std.specs.Option.{option_to_list}
+use Rattle.std.proofs.lemmas.Bool.Decides.{nat_tests}
+use Rattle.std.proofs.lemmas.List.Concat.{flat_map-append}
+use Rattle.cc_base.proofs.Members.{AllByRecursion-append, AllByRecursion-filter}
+use Rattle.cc_arg.specs.declared.arg.Arg.{Arg}
+use Rattle.cc_arg.specs.Arguments.{is_positional}
+use Rattle.cc_command.specs.ArgumentLists.{positionals}
+use Rattle.cc_command.specs.Tree.{Tree, has_nodes}
+use Rattle.cc_command.proofs.PlainParts.{IsPlainArgument}
+use Rattle.cc_quote.specs.PosixQuote.{posix_escaped, posix_escaped_byte}
+use Rattle.cc_quote.specs.ZshQuote.{is_value_marked, marked, marked_byte, zsh_escaped_value}
+use Rattle.cc_zsh.specs.Options.{line_end}
+use Rattle.cc_zsh.specs.Positionals.{takes_rest, rest_text, count_text, is_bracket_or_colon, positional_byte, positional_escaped, positional_help, positional_text, is_left_out, shown_positionals, takes_all, positionals_text}
+use Rattle.cc_zsh.specs.Values.{value_text}
+use Rattle.cc_zsh.specs.ZshReader.{option_of}
+use Rattle.cc_zsh.proofs.ZshCutting.{Escapes, escapes_append, escapes_same, IsEscaped, escaped_append, escaped_same, escaped_of}
+use Rattle.cc_zsh.proofs.ZshOptionWords.{colon_none, star_none}
+use Rattle.cc_zsh.proofs.ZshLines.{Adds, adds_nothing, line_adds}
+use Rattle.cc_zsh.proofs.ZshValues.{no_quote, escaped_value_text}
+
+same_byte : (byte : ℕ) →
+    positional_byte byte ≡ posix_escaped (marked_byte is_bracket_or_colon byte)
+same_byte byte = grind (arith, nat_tests)
+
+same_bytes : (text : List ℕ) →
+    positional_escaped text ≡ posix_escaped (marked is_bracket_or_colon text)
+unfolding positional_escaped
+same_bytes [] = refl
+same_bytes (byte ∷ text) =
+    ap (λ t. t ++ positional_escaped text) (same_byte byte)
+    ∙ ap (λ t. posix_escaped (marked_byte is_bracket_or_colon byte) ++ t) (same_bytes text)
+    ∙ sym (flat_map-append posix_escaped_byte (marked_byte is_bracket_or_colon byte)
+    (marked is_bracket_or_colon text))
+
+help_escaped : (help : Option (List ℕ)) → IsEscaped (positional_help help)
+help_escaped None = escaped_same [] tt
+help_escaped (Some help) =
+    escaped_append (codes " -- ") (positional_escaped help)
+    (escaped_same (codes " -- ") (refl, (refl, (refl, (refl, tt)))))
+    (escaped_of (positional_escaped help) (marked is_bracket_or_colon help) (same_bytes help))
+
+-- what follows the count and its colon
+rest_escaped : (argument : Arg) → IsPlainArgument argument →
+    IsEscaped (argument.id ++ (positional_help argument.help ++ (codes ":" ++ value_text argument)))
+rest_escaped argument is =
+    escaped_append argument.id (positional_help argument.help ++ (codes ":" ++ value_text argument))
+    (escaped_same argument.id (no_quote argument.id is.id))
+    (escaped_append (positional_help argument.help) (codes ":" ++ value_text argument)
+    (help_escaped argument.help)
+    (escaped_append (codes ":") (value_text argument) (escaped_same (codes ":") (refl, tt))
+    (escaped_value_text argument)))
+
+-- a count with what follows, as a word that tells no option
+pub record IsNone (text : List ℕ) : Type 0 where
+  pub word : List ℕ
+  pub escapes : Escapes text word
+  pub none : option_of word ≡ None
+
+colon_escapes : Escapes (codes ":") (codes ":")
+colon_escapes = escapes_same (codes ":") (refl, tt)
+
+-- where a colon stands first
+from_colon : (rest : List ℕ) → IsEscaped rest → IsNone (codes ":" ++ rest)
+from_colon rest h = record {
+  word = codes ":" ++ h.word;
+  escapes = escapes_append (codes ":") rest (codes ":") h.word colon_escapes h.escapes;
+  none = colon_none h.word;
+}
+
+value_escapes : (value : List ℕ) → Escapes (zsh_escaped_value value) (marked is_value_marked value)
+unfolding zsh_escaped_value
+value_escapes value = record { is = refl }
+
+star_escapes : Escapes (codes "*") (codes "*")
+star_escapes = escapes_same (codes "*") (refl, tt)
+
+from_rest : (terminator : Option (List ℕ)) (rest : List ℕ) → IsEscaped rest →
+    IsNone (rest_text terminator ++ rest)
+from_rest None rest h = record {
+  word = codes "*" ++ (marked is_value_marked [] ++ (codes ":" ++ h.word));
+  escapes = escapes_append (codes "*") (codes ":" ++ rest) (codes "*") (codes ":" ++ h.word)
+      star_escapes (escapes_append (codes ":") rest (codes ":") h.word colon_escapes h.escapes);
+  none = star_none [] h.word;
+}
+from_rest (Some terminator) rest h = record {
+  word = codes "*" ++ (marked is_value_marked terminator ++ (codes ":" ++ h.word));
+  escapes = subst (λ t. Escapes t (codes "*" ++ (marked is_value_marked terminator ++ (codes ":" ++ h.word))))
+      (sym (regroup (codes "*") (zsh_escaped_value terminator) (codes ":") rest))
+      (escapes_append (codes "*") (zsh_escaped_value terminator ++ (codes ":" ++ rest)) (codes "*")
+      (marked is_value_marked terminator ++ (codes ":" ++ h.word)) star_escapes
+      (escapes_append (zsh_escaped_value terminator) (codes ":" ++ rest)
+      (marked is_value_marked terminator) (codes ":" ++ h.word) (value_escapes terminator)
+      (escapes_append (codes ":") rest (codes ":") h.word colon_escapes h.escapes)));
+  none = star_none terminator h.word;
+}
+  where
+    regroup : (a b c d : List ℕ) → (a ++ (b ++ c)) ++ d ≡ a ++ (b ++ (c ++ d))
+    regroup a b c d = simp append_assoc
+
+counted : (has_children : Bool) (argument : Arg) (rest : List ℕ) → IsEscaped rest →
+    IsNone (count_text has_children argument ++ (codes ":" ++ rest))
+unfolding count_text
+counted has_children argument rest h =
+    by_tests (takes_rest has_children argument) argument.required
+  where
+    colon_rest : IsEscaped (codes ":" ++ rest)
+    colon_rest = escaped_append (codes ":") rest (escaped_same (codes ":") (refl, tt)) h
+
+    by_tests : (several required : Bool) →
+        IsNone (cond several (rest_text argument.value_terminator) (cond required [] (codes ":"))
+        ++ (codes ":" ++ rest))
+    by_tests true required = from_rest argument.value_terminator (codes ":" ++ rest) colon_rest
+    by_tests false true = from_colon rest h
+    by_tests false false = from_colon (codes ":" ++ rest) colon_rest
+
+positional_adds : (has_children : Bool) (argument : Arg) → IsPlainArgument argument →
+    Adds (positional_text has_children argument) []
+unfolding positional_text
+positional_adds has_children argument is =
+    let rest : List ℕ = argument.id ++ (positional_help argument.help ++ (codes ":" ++ value_text argument)) in
+    let none = counted has_children argument rest (rest_escaped argument is) in
+    subst (λ t. Adds (39 ∷ t) [])
+    (sym (regroup (count_text has_children argument) (codes ":") argument.id
+    (positional_help argument.help) (codes ":") (value_text argument) line_end))
+    (line_adds (count_text has_children argument ++ (codes ":" ++ rest)) none.word [] none.escapes
+    (ap option_to_list none.none))
+  where
+    regroup : (a b c d e f g : List ℕ) → a ++ (b ++ (c ++ (d ++ (e ++ (f ++ g)))))
+        ≡ (a ++ (b ++ (c ++ (d ++ (e ++ f))))) ++ g
+    regroup a b c d e f g = simp append_assoc
+
+shown_plain : (has_children taken : Bool) (arguments : List Arg) →
+    AllByRecursion IsPlainArgument arguments →
+    AllByRecursion IsPlainArgument (shown_positionals has_children taken arguments)
+shown_plain has_children taken [] h = tt
+shown_plain has_children taken (argument ∷ arguments) (h, hs) =
+    AllByRecursion-append IsPlainArgument
+    (cond (is_left_out taken argument) [] (argument ∷ []))
+    (shown_positionals has_children (taken || takes_all has_children argument) arguments)
+    (by_test (is_left_out taken argument))
+    (shown_plain has_children (taken || takes_all has_children argument) arguments hs)
+  where
+    by_test : (b : Bool) → AllByRecursion IsPlainArgument (cond b [] (argument ∷ []))
+    by_test true = tt
+    by_test false = (h, tt)
+
+-- all positionals of a node
+pub positionals_add : (tree : Tree) → AllByRecursion IsPlainArgument tree.node.arguments →
+    Adds (positionals_text tree) []
+unfolding positionals_text
+positionals_add tree h =
+    adds_nothing IsPlainArgument (positional_text (has_nodes tree.children))
+    (positional_adds (has_nodes tree.children))
+    (shown_positionals (has_nodes tree.children) false (positionals tree.node))
+    (shown_plain (has_nodes tree.children) false (positionals tree.node)
+    (AllByRecursion-filter IsPlainArgument is_positional tree.node.arguments h))

@@ -1,0 +1,147 @@
+-- What stands for the values of an argument holds no `'` but escaped ones.
+use Rattle.std.proofs.Common.{◌≡◌, ◌==◌, ℕ, zero, suc, Bool, true, false, cond, not, IsTrue, List, [], ◌∷◌, ◌++◌, map, flat_map, Option, Some, None, unwrap_or, codes, refl, sym, ◌∙◌, ap}
+use Rattle.std.specs.List.{AllByRecursion, list_all, list_any}
+use Rattle.cc_base.proofs.Booleans.{each_passes}
+use Rattle.cc_base.proofs.Members.{AllByRecursion-weaker}
+use Rattle.cc_arg.specs.declared.arg.Arg.{Arg}
+use Rattle.cc_arg.specs.declared.possible_value.PossibleValue.{PossibleValue}
+use Rattle.cc_arg.specs.declared.value_hint.ValueHint.{ValueHint}
+use Rattle.cc_arg.specs.declared.value_hint.ValueHint.TheVariants.{Unknown, Other, AnyPath, FilePath, DirPath, ExecutablePath, CommandName, CommandString, CommandWithArguments, Username, Hostname, Url, EmailAddress}
+use Rattle.cc_arg.specs.Arguments.{possible_values}
+use Rattle.cc_command.proofs.PlainParts.{HasNoQuote}
+use Rattle.cc_quote.specs.QuotedWord.{line_feeds_as_spaces}
+use Rattle.cc_quote.specs.ZshQuote.{is_help_marked, is_value_marked, marked, zsh_escaped_help, zsh_escaped_value}
+use Rattle.cc_zsh.specs.Joined.{joined, joined_after, separator}
+use Rattle.cc_zsh.specs.Values.{shown_values, is_described, described_text, named_text, described_list, named_list, list_text, hint_text, listed_or_hint, value_text, first_name, one_value, times, least_values, range, values_text}
+use Rattle.cc_zsh.proofs.ZshCutting.{NoQuote, IsEscaped, escaped_append, escaped_same, escaped_of}
+
+-- by the tests of plainness
+pub no_quote : (text : List ℕ) → HasNoQuote text → NoQuote text
+no_quote text h = AllByRecursion-weaker (λ byte. IsTrue (not (byte == 39))) (λ byte. byte == 39 ≡ false)
+    (λ byte k. by_test (byte == 39) k) text (each_passes (λ byte. not (byte == 39)) text h)
+  where
+    by_test : (b : Bool) → IsTrue (not b) → b ≡ false
+    by_test true k = cc
+    by_test false k = refl
+
+escaped_value : (text : List ℕ) → IsEscaped (zsh_escaped_value text)
+unfolding zsh_escaped_value
+escaped_value text = escaped_of (zsh_escaped_value text) (marked is_value_marked text) refl
+
+escaped_help : (text : List ℕ) → IsEscaped (zsh_escaped_help text)
+unfolding zsh_escaped_help
+escaped_help text =
+    escaped_of (zsh_escaped_help text) (marked is_help_marked (line_feeds_as_spaces text)) refl
+
+escaped_joined : {X : Type 0} (between : List ℕ) (text : X → List ℕ) → IsEscaped between →
+    ((x : X) → IsEscaped (text x)) → (begun : Bool) (xs : List X) →
+    IsEscaped (joined_after between begun (map text xs))
+escaped_joined between text h each begun [] = escaped_same [] tt
+escaped_joined between text h each begun (x ∷ xs) =
+    escaped_append (separator between begun ++ text x) (joined_after between true (map text xs))
+    (escaped_append (separator between begun) (text x) (front begun) (each x))
+    (escaped_joined between text h each true xs)
+  where
+    front : (begun : Bool) → IsEscaped (separator between begun)
+    front true = h
+    front false = escaped_same [] tt
+
+escaped_described : (value : PossibleValue) → IsEscaped (described_text value)
+unfolding described_text
+escaped_described value =
+    escaped_append (zsh_escaped_value value.name)
+    (codes "\\:\"" ++ (zsh_escaped_help (unwrap_or value.help []) ++ codes "\""))
+    (escaped_value value.name)
+    (escaped_append (codes "\\:\"") (zsh_escaped_help (unwrap_or value.help []) ++ codes "\"")
+    (escaped_same (codes "\\:\"") (refl, (refl, (refl, tt))))
+    (escaped_append (zsh_escaped_help (unwrap_or value.help [])) (codes "\"")
+    (escaped_help (unwrap_or value.help [])) (escaped_same (codes "\"") (refl, tt))))
+
+escaped_named : (value : PossibleValue) → IsEscaped (named_text value)
+unfolding named_text
+escaped_named value = escaped_value value.name
+
+escaped_list : (values : List PossibleValue) → IsEscaped (list_text values)
+unfolding list_text described_list named_list
+escaped_list values = by_test (list_any is_described values)
+  where
+    with_helps : List ℕ
+    with_helps = joined (codes "\n") (map described_text (shown_values values))
+
+    names : List ℕ
+    names = joined (codes " ") (map named_text (shown_values values))
+
+    by_test : (b : Bool) → IsEscaped (cond b (codes "((" ++ (with_helps ++ codes "))"))
+        (codes "(" ++ (names ++ codes ")")))
+    by_test true =
+        escaped_append (codes "((") (with_helps ++ codes "))")
+        (escaped_same (codes "((") (refl, (refl, tt)))
+        (escaped_append with_helps (codes "))")
+        (escaped_joined (codes "\n") described_text (escaped_same (codes "\n") (refl, tt))
+        escaped_described false (shown_values values))
+        (escaped_same (codes "))") (refl, (refl, tt))))
+    by_test false =
+        escaped_append (codes "(") (names ++ codes ")") (escaped_same (codes "(") (refl, tt))
+        (escaped_append names (codes ")")
+        (escaped_joined (codes " ") named_text (escaped_same (codes " ") (refl, tt))
+        escaped_named false (shown_values values))
+        (escaped_same (codes ")") (refl, tt)))
+
+-- a text in which no byte is a quote by the test
+computed : (text : List ℕ) → HasNoQuote text → IsEscaped text
+computed text h = escaped_same text (no_quote text h)
+
+escaped_hint : (hint : ValueHint) → IsEscaped (hint_text hint)
+unfolding hint_text
+escaped_hint Unknown = computed (codes "_default") refl
+escaped_hint Other = escaped_same [] tt
+escaped_hint AnyPath = computed (codes "_files") refl
+escaped_hint FilePath = computed (codes "_files") refl
+escaped_hint DirPath = computed (codes "_files -/") refl
+escaped_hint ExecutablePath = computed (codes "_absolute_command_paths") refl
+escaped_hint CommandName = computed (codes "_command_names -e") refl
+escaped_hint CommandString = computed (codes "_cmdstring") refl
+escaped_hint CommandWithArguments = computed (codes "_cmdambivalent") refl
+escaped_hint Username = computed (codes "_users") refl
+escaped_hint Hostname = computed (codes "_hosts") refl
+escaped_hint Url = computed (codes "_urls") refl
+escaped_hint EmailAddress = computed (codes "_email_addresses") refl
+
+escaped_listed : (values : Option (List PossibleValue)) (hint : ValueHint) →
+    IsEscaped (listed_or_hint values hint)
+escaped_listed (Some values) hint = escaped_list values
+escaped_listed None hint = escaped_hint hint
+
+pub escaped_value_text : (argument : Arg) → IsEscaped (value_text argument)
+unfolding value_text
+escaped_value_text argument = escaped_listed (possible_values argument) argument.value_hint
+
+escaped_first : (names : List (List ℕ)) → AllByRecursion HasNoQuote names → IsEscaped (first_name names)
+escaped_first [] h = escaped_same (codes " ") (refl, tt)
+escaped_first (name ∷ names) (h, hs) = computed name h
+
+escaped_times : (count : ℕ) (text : List ℕ) → IsEscaped text → IsEscaped (times count text)
+escaped_times zero text h = escaped_same [] tt
+escaped_times (suc count) text h =
+    escaped_append text (times count text) h (escaped_times count text h)
+
+colon : IsEscaped (codes ":")
+colon = escaped_same (codes ":") (refl, tt)
+
+pub escaped_values : (argument : Arg) → AllByRecursion HasNoQuote argument.value_names →
+    IsEscaped (values_text argument)
+unfolding values_text one_value
+escaped_values argument h = by_least (range argument).least
+  where
+    one : IsEscaped (codes ":" ++ (first_name argument.value_names ++ (codes ":" ++ value_text argument)))
+    one = escaped_append (codes ":") (first_name argument.value_names ++ (codes ":" ++ value_text argument))
+        colon (escaped_append (first_name argument.value_names) (codes ":" ++ value_text argument)
+        (escaped_first argument.value_names h)
+        (escaped_append (codes ":") (value_text argument) colon (escaped_value_text argument)))
+
+    by_least : (least : ℕ) → IsEscaped (least_values least
+        (codes ":" ++ (first_name argument.value_names ++ (codes ":" ++ value_text argument))))
+    by_least zero = escaped_append (codes ":")
+        (codes ":" ++ (first_name argument.value_names ++ (codes ":" ++ value_text argument))) colon one
+    by_least (suc count) = escaped_times (suc count)
+        (codes ":" ++ (first_name argument.value_names ++ (codes ":" ++ value_text argument))) one

@@ -1,0 +1,414 @@
+-- What a zsh script offers, by its tokens: blocks of options, each under its path, and the functions
+-- that describe children.
+use Rattle.std.specs.Prelude.{ℕ, Bool, true, false, List, [], ◌∷◌, ◌++◌, ◌==◌, ◌&&◌, ◌||◌, if◌then◌else◌, Option, Some, None, option_map, is_some, bytes_eq, codes}
+use Rattle.std.specs.Char.{is_ascii_alphanumeric}
+use Rattle.std.specs.List.{flat_map}
+use Rattle.std.specs.Option.{option_to_list}
+use Rattle.cc_quote.specs.PosixTokens.{is_double_quote, posix_tokens}
+use Rattle.cc_quote.specs.Tokens.{Piece, Token, is_word}
+use Rattle.cc_quote.specs.Tokens.Piece.{bare, quoted, unclosed}
+use Rattle.cc_quote.specs.ZshQuote.{Mark, marks, unmarked}
+use Rattle.cc_quote.specs.ZshQuote.Mark.{kept, escaped, unended}
+use Rattle.cc_zsh.specs.Functions.{Entry}
+
+-- the bytes at which texts are cut
+abbrev pub space_byte : ℕ
+space_byte = 32
+
+abbrev pub open_parenthesis : ℕ
+open_parenthesis = 40
+
+abbrev pub close_parenthesis : ℕ
+close_parenthesis = 41
+
+abbrev pub star_byte : ℕ
+star_byte = 42
+
+abbrev pub plus_byte : ℕ
+plus_byte = 43
+
+abbrev pub dash_byte : ℕ
+dash_byte = 45
+
+abbrev pub colon_byte : ℕ
+colon_byte = 58
+
+abbrev pub equals_byte : ℕ
+equals_byte = 61
+
+abbrev pub open_bracket : ℕ
+open_bracket = 91
+
+abbrev pub backslash_byte : ℕ
+backslash_byte = 92
+
+abbrev pub close_bracket : ℕ
+close_bracket = 93
+
+abbrev pub underscore_byte : ℕ
+underscore_byte = 95
+
+-- ---- the words of tokens
+
+-- the text of a piece
+abbrev pub piece_text : Piece → List ℕ
+piece_text (bare run) = run
+piece_text (quoted opening text) = text
+piece_text (unclosed opening text) = text
+
+-- the word that a token spells
+unfoldable pub word_of : Token → List ℕ
+word_of token = flat_map piece_text token
+
+-- what follows these first bytes of a text; none where the text does not begin with them
+unfoldable pub text_after : List ℕ → List ℕ → Option (List ℕ)
+text_after [] text = Some text
+text_after (first ∷ rest) [] = None
+text_after (first ∷ rest) (byte ∷ text) = elim (byte == first) [
+  | true ↦ text_after rest text
+  | false ↦ None
+]
+
+-- what stands before the last byte of a text, where it is this one
+unfoldable pub text_before : ℕ → List ℕ → Option (List ℕ)
+text_before last [] = None
+text_before last (byte ∷ []) = if byte == last then Some [] else None
+text_before last (byte ∷ next ∷ text) =
+    option_map (λ before. byte ∷ before) (text_before last (next ∷ text))
+
+-- ---- options
+
+-- what stands between an option's name and its help: `[`, `+[` or `=[`
+pub data Bracket : Type 0 where
+  alone : Bracket
+  after_plus : Bracket
+  after_equals : Bracket
+
+-- an option or a flag: the names in conflict with it, whether it may be used again, its name, which
+-- bracket follows the name, and its help
+pub record ZshOption : Type 0 where
+  pub conflicts : List (List ℕ)
+  pub repeated : Bool
+  pub name : List ℕ
+  pub bracket : Bracket
+  pub help : List ℕ
+
+-- an option without a help so far
+abbrev pub new_option : List (List ℕ) → Bool → List ℕ → Bracket → ZshOption
+new_option conflicts repeated name bracket =
+    record { conflicts = conflicts; repeated = repeated; name = name; bracket = bracket; help = [] }
+
+-- one more byte of its help
+abbrev pub with_help : ZshOption → ℕ → ZshOption
+with_help option byte = record option { help = option.help ++ byte ∷ [] }
+
+-- where the reader of a word is, with what it has read: before the option; among the names in
+-- conflict, of which one is open; after them; after the star; in the name; at the bracket; in the
+-- help, and after a backslash there; after the help; or in a word that is no option
+pub data OptionPlace : Type 0 where
+  before_option : OptionPlace
+  in_conflicts : List (List ℕ) → List ℕ → OptionPlace
+  after_conflicts : List (List ℕ) → OptionPlace
+  after_star : List (List ℕ) → OptionPlace
+  in_name : List (List ℕ) → Bool → List ℕ → OptionPlace
+  at_bracket : List (List ℕ) → Bool → List ℕ → Bracket → OptionPlace
+  in_help : ZshOption → OptionPlace
+  in_help_escaped : ZshOption → OptionPlace
+  after_help : ZshOption → OptionPlace
+  no_option : OptionPlace
+
+-- the names, with the one that was open, unless nothing of it was there
+abbrev pub with_name : List (List ℕ) → List ℕ → List (List ℕ)
+with_name names [] = names
+with_name names (byte ∷ name) = names ++ (byte ∷ name) ∷ []
+
+-- the bytes of a name: letters, digits, `-` and `_`
+unfoldable pub is_name_byte : ℕ → Bool
+is_name_byte byte =
+    is_ascii_alphanumeric byte || byte == dash_byte || byte == underscore_byte
+
+-- the place after a byte that does not belong to the name
+unfoldable pub after_name : List (List ℕ) → Bool → List ℕ → ℕ → OptionPlace
+after_name conflicts repeated name byte =
+    if byte == open_bracket then in_help (new_option conflicts repeated name alone)
+    else (if byte == plus_byte then at_bracket conflicts repeated name after_plus
+    else (if byte == equals_byte then at_bracket conflicts repeated name after_equals
+    else no_option))
+
+-- the place after one more byte
+unfoldable pub next_place : OptionPlace → ℕ → OptionPlace
+next_place before_option byte =
+    if byte == open_parenthesis then in_conflicts [] []
+    else (if byte == star_byte then after_star []
+    else (if byte == dash_byte then in_name [] false (byte ∷ []) else no_option))
+next_place (in_conflicts names name) byte =
+    if byte == close_parenthesis then after_conflicts (with_name names name)
+    else (if byte == space_byte then in_conflicts (with_name names name) []
+    else in_conflicts names (name ++ byte ∷ []))
+next_place (after_conflicts names) byte =
+    if byte == star_byte then after_star names
+    else (if byte == dash_byte then in_name names false (byte ∷ []) else no_option)
+next_place (after_star names) byte =
+    if byte == dash_byte then in_name names true (byte ∷ []) else no_option
+next_place (in_name names repeated name) byte =
+    if is_name_byte byte then in_name names repeated (name ++ byte ∷ [])
+    else after_name names repeated name byte
+next_place (at_bracket names repeated name bracket) byte =
+    if byte == open_bracket then in_help (new_option names repeated name bracket) else no_option
+next_place (in_help option) byte =
+    if byte == close_bracket then after_help option
+    else (if byte == backslash_byte then in_help_escaped option
+    else in_help (with_help option byte))
+next_place (in_help_escaped option) byte = in_help (with_help option byte)
+next_place (after_help option) byte = after_help option
+next_place no_option byte = no_option
+
+-- the place after a word
+unfoldable pub place_after : OptionPlace → List ℕ → OptionPlace
+place_after place [] = place
+place_after place (byte ∷ word) = place_after (next_place place byte) word
+
+-- the option that was read up to there
+unfoldable pub read_option : OptionPlace → Option ZshOption
+read_option (after_help option) = Some option
+read_option _ = None
+
+-- the option that a word tells, if it tells one
+unfoldable pub option_of : List ℕ → Option ZshOption
+option_of word = read_option (place_after before_option word)
+
+-- ---- descriptions of children
+
+-- a word with a description
+abbrev pub entry_with : List ℕ → List ℕ → Entry
+entry_with word help = record { word = word; help = help }
+
+-- from what stands before the colon so far on: a word, and its description after the first colon
+-- that no backslash escapes
+unfoldable pub entry_from : List ℕ → List Mark → Option Entry
+entry_from word [] = None
+entry_from word (unended ∷ rest) = None
+entry_from word (escaped byte ∷ rest) = entry_from (word ++ byte ∷ []) rest
+entry_from word (kept byte ∷ rest) = elim (byte == colon_byte) [
+  | true ↦ option_map (entry_with word) (unmarked rest)
+  | false ↦ entry_from (word ++ byte ∷ []) rest
+]
+
+-- the word and the description that an item of a list tells
+unfoldable pub entry_of : List ℕ → Option Entry
+entry_of item = entry_from [] (marks item)
+
+-- ---- blocks and functions
+
+-- names that lead from the root to a node
+abbrev pub Path : Type 0
+Path = List (List ℕ)
+
+-- the words between `_arguments` and `&& ret=0` at a path: the options that they tell, and the
+-- function that the first word names which names one
+pub record Block : Type 0 where
+  pub path : Path
+  pub options : List ZshOption
+  pub function : Option (List ℕ)
+
+-- a function that describes children
+pub record Description : Type 0 where
+  pub label : List ℕ
+  pub entries : List Entry
+
+-- what a script tells
+pub record Parts : Type 0 where
+  pub blocks : List Block
+  pub descriptions : List Description
+
+-- How far the reader is, with what it has read. In a block and around it, the paths that are open
+-- outside it, the innermost first.
+pub data State : Type 0 where
+  before_blocks : State
+  in_block : List Path → List Block → Block → State
+  at_ret : List Path → List Block → Block → State
+  after_block : List Path → List Block → Path → State
+  at_arms : List Path → List Block → Path → State
+  after_line : List Path → List Block → Path → State
+  between_arms : List Path → List Block → Path → State
+  at_block : List Path → List Block → Path → State
+  after_arms : List Path → List Block → State
+  at_esac : List Path → List Block → State
+  after_nested : List Path → List Block → State
+  between_functions : List Block → List Description → State
+  at_list : List Block → List Description → List ℕ → State
+  in_list : List Block → List Description → List ℕ → List Entry → State
+  malformed : State
+
+-- a path with one more name
+abbrev pub with_path : Path → List ℕ → Path
+with_path path name = path ++ name ∷ []
+
+-- a block of which nothing is read yet
+abbrev pub new_block : Path → Block
+new_block path = record { path = path; options = []; function = None }
+
+-- the word of an arm, `(word)`
+unfoldable pub arm_word : Token → Option (List ℕ)
+arm_word (bare run ∷ []) = elim (text_after (open_parenthesis ∷ []) run) [
+  | Some rest ↦ text_before close_parenthesis rest
+  | None ↦ None
+]
+arm_word _ = None
+
+-- whether a token names the word at which the arms stand, `$line[..]`
+unfoldable pub is_line : Token → Bool
+is_line (bare run ∷ []) = is_some (text_after (codes "$line[") run)
+is_line _ = false
+
+-- the function that a token names after `:: :` between double quotes
+unfoldable pub named_function : Token → Option (List ℕ)
+named_function (quoted opening text ∷ []) =
+    if is_double_quote opening then text_after (codes ":: :") text else None
+named_function _ = None
+
+-- the function that was named first
+abbrev pub first_named : Option (List ℕ) → Option (List ℕ) → Option (List ℕ)
+first_named None named = named
+first_named (Some label) named = Some label
+
+-- a block with one more word
+unfoldable pub with_word : Block → Token → Block
+with_word block token = record {
+  path = block.path;
+  options = block.options ++ option_to_list (option_of (word_of token));
+  function = first_named block.function (named_function token);
+}
+
+-- the name of the function that a token begins, `name()`
+unfoldable pub function_name : Token → Option (List ℕ)
+function_name (bare run ∷ []) = elim (text_before close_parenthesis run) [
+  | Some front ↦ text_before open_parenthesis front
+  | None ↦ None
+]
+function_name _ = None
+
+-- the state after a token outside the lists of functions
+unfoldable pub next_function : List Block → List Description → Token → State
+next_function blocks descriptions token = elim (function_name token) [
+  | Some label ↦ at_list blocks descriptions label
+  | None ↦ between_functions blocks descriptions
+]
+
+-- the state after a token before which the block of a path has ended, and all that is nested in it
+unfoldable pub next_arm : List Path → List Block → Token → State
+next_arm [] blocks token = next_function blocks [] token
+next_arm (up ∷ outer) blocks token =
+    if is_word (codes ";;") token then between_arms outer blocks up else malformed
+
+-- one more function
+abbrev pub with_description : List Description → List ℕ → List Entry → List Description
+with_description descriptions label entries =
+    descriptions ++ record { label = label; entries = entries } ∷ []
+
+-- the state after a token; what does not belong where it stands is malformed
+unfoldable pub next : State → Token → State
+next before_blocks token =
+    if is_word (codes "_arguments") token then in_block [] [] (new_block []) else before_blocks
+next (in_block outer blocks block) token =
+    if is_word (codes "&&") token then at_ret outer blocks block
+    else in_block outer blocks (with_word block token)
+next (at_ret outer blocks block) token =
+    if is_word (codes "ret=0") token then after_block outer (blocks ++ block ∷ []) block.path
+    else malformed
+next (after_block outer blocks path) token =
+    if is_word (codes "case") token then at_arms outer blocks path
+    else next_arm outer blocks token
+next (at_arms outer blocks path) token =
+    if is_line token then after_line outer blocks path else at_arms outer blocks path
+next (after_line outer blocks path) token =
+    if is_word (codes "in") token then between_arms outer blocks path
+    else (if is_line token then after_line outer blocks path else at_arms outer blocks path)
+next (between_arms outer blocks path) token = elim (arm_word token) [
+  | Some word ↦ at_block (path ∷ outer) blocks (with_path path word)
+  | None ↦ if is_word (codes "esac") token then after_arms outer blocks else malformed
+]
+next (at_block outer blocks path) token =
+    if is_word (codes "_arguments") token then in_block outer blocks (new_block path)
+    else malformed
+next (after_arms outer blocks) token =
+    if is_word (codes ";;") token then at_esac outer blocks else malformed
+next (at_esac outer blocks) token =
+    if is_word (codes "esac") token then after_nested outer blocks else malformed
+next (after_nested outer blocks) token = next_arm outer blocks token
+next (between_functions blocks descriptions) token = next_function blocks descriptions token
+next (at_list blocks descriptions label) token =
+    if is_word (codes "commands=()") token
+    then between_functions blocks (with_description descriptions label [])
+    else (if is_word (codes "commands=(") token then in_list blocks descriptions label []
+    else at_list blocks descriptions label)
+next (in_list blocks descriptions label entries) token =
+    if is_word (codes ")") token
+    then between_functions blocks (with_description descriptions label entries)
+    else (elim (entry_of (word_of token)) [
+      | Some entry ↦ in_list blocks descriptions label (entries ++ entry ∷ [])
+      | None ↦ malformed
+    ])
+next malformed token = malformed
+
+-- what is told where the script ends in a state
+unfoldable pub ended : State → Option Parts
+ended (between_functions blocks descriptions) =
+    Some (record { blocks = blocks; descriptions = descriptions })
+ended _ = None
+
+-- what the tokens tell from a state on
+unfoldable pub read : State → List Token → Option Parts
+read state [] = ended state
+read state (token ∷ tokens) = read (next state token) tokens
+
+-- the blocks and the functions of a script
+unfoldable pub zsh_parts : List ℕ → Option Parts
+zsh_parts script = read before_blocks (posix_tokens script)
+
+-- ---- what is shown at each path
+
+-- what is shown at a path: options and flags, and the descriptions of the children
+pub record Shown : Type 0 where
+  pub path : Path
+  pub options : List ZshOption
+  pub children : List Entry
+
+-- the descriptions of the first function of this name
+unfoldable pub described : List ℕ → List Description → Option (List Entry)
+described label [] = None
+described label (description ∷ descriptions) =
+    if bytes_eq description.label label then Some description.entries
+    else described label descriptions
+
+-- the descriptions of the children where a block names a function; where it names none, none
+unfoldable pub children_of : List Description → Option (List ℕ) → Option (List Entry)
+children_of descriptions None = Some []
+children_of descriptions (Some label) = described label descriptions
+
+-- what is shown at a path that has these options
+abbrev pub shown_with : Path → List ZshOption → List Entry → Shown
+shown_with path options children =
+    record { path = path; options = options; children = children }
+
+-- what is shown at the path of a block; none where the function that it names is not there
+unfoldable pub shown_of : List Description → Block → Option Shown
+shown_of descriptions block =
+    option_map (shown_with block.path block.options) (children_of descriptions block.function)
+
+abbrev pub with_shown : Option Shown → Option (List Shown) → Option (List Shown)
+with_shown (Some shown) (Some more) = Some (shown ∷ more)
+with_shown shown more = None
+
+-- the same of all blocks
+unfoldable pub all_shown : List Description → List Block → Option (List Shown)
+all_shown descriptions [] = Some []
+all_shown descriptions (block ∷ blocks) =
+    with_shown (shown_of descriptions block) (all_shown descriptions blocks)
+
+-- what a script shows, path by path
+unfoldable pub zsh_shown : List ℕ → Option (List Shown)
+zsh_shown script = elim (zsh_parts script) [
+  | Some parts ↦ all_shown parts.descriptions parts.blocks
+  | None ↦ None
+]

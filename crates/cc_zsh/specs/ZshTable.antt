@@ -1,0 +1,66 @@
+-- What a zsh script offers at each visible path of a tree.
+use Rattle.std.specs.Prelude.{ℕ, List, [], ◌∷◌, ◌++◌, map, unwrap_or}
+use Rattle.std.specs.List.{flat_map}
+use Rattle.cc_arg.specs.declared.arg.Arg.{Arg}
+use Rattle.cc_arg.specs.ShownNames.{shown_longs, shown_shorts}
+use Rattle.cc_command.specs.declared.node.Node.{Node}
+use Rattle.cc_command.specs.ArgumentLists.{flags, options}
+use Rattle.cc_command.specs.Tree.{Tree}
+use Rattle.cc_quote.specs.QuotedWord.{line_feeds_as_spaces}
+use Rattle.cc_visits.specs.Visits.{Keyed, longer_path, path_visits}
+use Rattle.cc_zsh.specs.Conflicts.{conflict_words, excluded, long_word, short_word}
+use Rattle.cc_zsh.specs.Functions.{Entry, Function, entries_of}
+use Rattle.cc_zsh.specs.Nested.{function_label}
+use Rattle.cc_zsh.specs.Options.{is_repeated}
+use Rattle.cc_zsh.specs.ZshReader.{Bracket, Description, Path, Shown, ZshOption}
+use Rattle.cc_zsh.specs.ZshReader.Bracket.{after_equals, after_plus, alone}
+
+-- an argument of a node under one of its names: the names in conflict with it, those of a global
+-- argument as the node above finds them; whether it may be used again; and its help, or nothing
+abbrev pub option_row : Node → Node → Arg → Bracket → List ℕ → ZshOption
+option_row above node argument bracket name = record {
+  conflicts = conflict_words (excluded above node argument);
+  repeated = is_repeated argument;
+  name = name;
+  bracket = bracket;
+  help = line_feeds_as_spaces (unwrap_or argument.help []);
+}
+
+-- an option under each of its shown names, shorts first; a flag likewise
+abbrev pub option_rows : Node → Node → Arg → List ZshOption
+option_rows above node argument =
+    map (λ short. option_row above node argument after_plus (short_word short))
+    (shown_shorts argument)
+    ++ map (λ long. option_row above node argument after_equals (long_word long))
+    (shown_longs argument)
+
+abbrev pub flag_rows : Node → Node → Arg → List ZshOption
+flag_rows above node argument =
+    map (λ short. option_row above node argument alone (short_word short)) (shown_shorts argument)
+    ++ map (λ long. option_row above node argument alone (long_word long)) (shown_longs argument)
+
+-- the options and the flags of a node that has this node above it
+abbrev pub node_rows : Node → Node → List ZshOption
+node_rows above node =
+    flat_map (option_rows above node) (options node) ++ flat_map (flag_rows above node) (flags node)
+
+-- a visible name of a child with its description, in which line feeds are spaces
+abbrev pub entry_row : Entry → Entry
+entry_row entry = record { word = entry.word; help = line_feeds_as_spaces entry.help }
+
+-- what is shown at a visible path
+abbrev pub shown_at : Keyed Path → Shown
+shown_at visit = record {
+  path = visit.key;
+  options = node_rows visit.above visit.tree.node;
+  children = map entry_row (entries_of visit.tree.children);
+}
+
+-- what is shown at all visible paths, path by path
+abbrev pub all_shown_at : Tree → List Shown
+all_shown_at root = map shown_at (path_visits longer_path [] root)
+
+-- a function that describes the children of a node
+abbrev pub description_of : Function → Description
+description_of function =
+    record { label = 95 ∷ function_label function.name; entries = map entry_row function.entries }
