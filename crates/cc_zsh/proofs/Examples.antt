@@ -1,5 +1,5 @@
 -- Worked values of the definitions.
-use Rattle.std.proofs.Common.{◌≡◌, ℕ, List, [], ◌∷◌, ◌++◌, Bool, true, false, Option, Some, None, codes, map, refl}
+use Rattle.std.proofs.Common.{◌≡◌, ℕ, List, [], ◌∷◌, ◌++◌, Bool, true, false, Some, None, codes, refl}
 use Rattle.std.specs.Char.{encode_utf8}
 use Rattle.std.specs.Fmt.{digits}
 use Rattle.cc_arg.specs.declared.arg.Arg.{Arg}
@@ -16,8 +16,8 @@ use Rattle.cc_command.specs.Built.{built_tree, built_under}
 use Rattle.cc_command.specs.Texts.{help_name, help_help, help_about}
 use Rattle.cc_quote.specs.ZshQuote.{zsh_escaped_help, zsh_escaped_value}
 use Rattle.cc_zsh.specs.Conflicts.{conflicts_text}
-use Rattle.cc_zsh.specs.Functions.{entries_end, entries_text, entry_text, function_1, function_2, function_3, function_4, function_5, function_text, sorted_functions, tree_functions}
-use Rattle.cc_zsh.specs.Nested.{arm_ends, arms_text, below_1, below_2, below_3, below_text, block_begins, block_ends, block_text, children_text, external_text, nested_1, nested_2, nested_3, nested_4, nested_5, nested_6, nested_7, nested_begins, root_text}
+use Rattle.cc_zsh.specs.Functions.{entries_end, entries_text, entry_text, function_1, function_2, function_3, function_4, function_5, function_text, sorted_functions}
+use Rattle.cc_zsh.specs.Nested.{arm_ends, arms_text, below_1, below_2, below_3, below_text, block_begins, block_ends, block_text, children_text, nested_1, nested_2, nested_3, nested_4, nested_5, nested_6, nested_7, nested_begins, root_text}
 use Rattle.cc_zsh.specs.Options.{flag_text, flags_text, front_text, help_text, line_end, long_flag, long_option, option_text, options_text, short_flag, short_option}
 use Rattle.cc_zsh.specs.Positionals.{count_text, positional_escaped, positional_text, positionals_text}
 use Rattle.cc_zsh.specs.Values.{described_list, described_text, hint_text, list_text, named_list, named_text, one_value, value_text, values_text}

@@ -1,5 +1,5 @@
 -- The lines of a node's options and flags.
-use Rattle.std.specs.Prelude.{ℕ, List, [], ◌∷◌, ◌++◌, Bool, true, false, if◌then◌else◌, unwrap_or, codes}
+use Rattle.std.specs.Prelude.{ℕ, List, [], ◌++◌, Bool, true, false, if◌then◌else◌, unwrap_or, codes}
 use Rattle.std.specs.List.{flat_map}
 use Rattle.cc_arg.specs.declared.arg.Arg.{Arg}
 use Rattle.cc_arg.specs.declared.action.ArgAction.{ArgAction}

@@ -1,4 +1,4 @@
-use Rattle.std.proofs.Common.{◌≡◌, ◌++◌, ◌∷◌, ◌+◌, codes, drop, ap, sym, ◌∙◌, rules}
+use Rattle.std.proofs.Common.{◌++◌, ◌+◌, codes, drop, ap, sym, ◌∙◌, rules}
 use Rattle.std.specs.Option.{option_to_list}
 use Rattle.std.proofs.lemmas.List.Concat.{flat_map-append}
 use Rattle.cc_command.specs.ArgumentLists.{first_with}

@@ -1,7 +1,7 @@
-use Rattle.std.proofs.Common.{◌≡◌, ◌<◌, List, ℕ, [], ◌∷◌, ◌++◌, length, map, reverse, ap, sym, ◌∙◌, append-nil, rules, arith}
+use Rattle.std.proofs.Common.{◌≡◌, List, ℕ, [], ◌++◌, length, map, reverse, ap, sym, ◌∙◌, append-nil, rules, arith}
 use Rattle.cc_flat.specs.Flat.{Entry, HasItsChildren, children_at, tree_at}
 use Rattle.cc_zsh.specs.Functions.{Function, function_of}
-use Rattle.cc_zsh.specs.Named.{function_named, functions_by}
+use Rattle.cc_zsh.specs.Named.{function_named}
 use Rattle.cc_zsh.proofs.Stack.{AreListed-step, commands_step, functions_by-nil, functions_step, top_listed}
 use Rattle.cc_zsh.proofs.functions.commands_of.Goals as goal
 

@@ -1,4 +1,4 @@
-use Rattle.std.proofs.Common.{◌≡◌, ◌++◌, ◌∷◌, ◌+◌, List, ℕ, true, codes, drop, map, ap, sym, ◌∙◌, append_assoc, rules}
+use Rattle.std.proofs.Common.{◌≡◌, ◌++◌, ◌+◌, List, ℕ, true, codes, drop, map, ap, sym, ◌∙◌, append_assoc, rules}
 use Rattle.cc_arg.specs.declared.possible_value.PossibleValue.{PossibleValue}
 use Rattle.cc_zsh.specs.Joined.{joined_after, separator}
 use Rattle.cc_zsh.specs.Values.{named_text, shown_values}
