@@ -1,5 +1,5 @@
 -- The arms of the nodes below the root are read back.
-use Rattle.std.proofs.Common.{◌≡◌, ◌==◌, ℕ, suc, Bool, true, false, cond, IsTrue, List, [], ◌∷◌, ◌++◌, map, flat_map, fold, length, decimal, Option, Some, None, option_map, codes, refl, sym, ◌∙◌, ap, append_assoc, append-nil}
+use Rattle.std.proofs.Common.{◌≡◌, ◌==◌, ℕ, suc, true, false, cond, List, [], ◌∷◌, ◌++◌, map, flat_map, fold, length, Some, None, option_map, codes, refl, sym, ◌∙◌, ap, append_assoc, append-nil}
 use Rattle.std.specs.List.{AllByRecursion}
 use Rattle.std.proofs.lemmas.List.{map-append}
 use Rattle.cc_base.proofs.Lines.{IsLine}
@@ -10,17 +10,17 @@ use Rattle.cc_command.specs.Names.{full_name, visible_names}
 use Rattle.cc_command.specs.Tree.{Forest, none, more, Tree, has_nodes}
 use Rattle.cc_command.proofs.PlainParts.{IsPlainName}
 use Rattle.cc_quote.specs.PosixTokens.{sign, byte_of, cut}
-use Rattle.cc_quote.specs.PosixTokens.Place.{between, in_bare}
-use Rattle.cc_quote.specs.Tokens.{Token, is_word}
+use Rattle.cc_quote.specs.PosixTokens.Place.{between}
+use Rattle.cc_quote.specs.Tokens.{is_word}
 use Rattle.cc_quote.specs.Tokens.Piece.{bare}
 use Rattle.cc_quote.proofs.PosixCutting.{IsOther, IsKept-IsOther, tokens_from, bare_run, double_run}
 use Rattle.cc_visits.specs.Visits.{Keyed, keyed, keys_below, longer_path, paths_below}
-use Rattle.cc_zsh.specs.Nested.{unspaced, block_text, nested_1, nested_2, nested_3, nested_4, nested_5, nested_6, nested_7, place_text, context_text, nested_begins, nested_text, nested_line, arm_ends, arm_text, arms_text}
+use Rattle.cc_zsh.specs.Nested.{block_text, nested_1, nested_2, nested_3, nested_4, nested_5, nested_6, nested_7, place_text, context_text, nested_begins, nested_text, nested_line, arm_ends, arm_text, arms_text}
 use Rattle.cc_zsh.specs.ZshReader.{Block, Path, State, arm_word, is_line, next, next_arm, read, text_after, text_before}
 use Rattle.cc_zsh.specs.ZshReader.State.{after_block, after_nested, at_arms, at_block, between_arms, after_arms, malformed}
 use Rattle.cc_zsh.proofs.ZshLines.{reading}
 use Rattle.cc_zsh.proofs.ZshNames.{name_other, plain_name_bytes}
-use Rattle.cc_zsh.proofs.ZshBlock.{AreFullBytes, context_bytes, IsReadable, block_with, arm_block_read}
+use Rattle.cc_zsh.proofs.ZshBlock.{context_bytes, IsReadable, block_with, arm_block_read}
 use Rattle.cc_zsh.proofs.ZshNumbers.{decimal_other}
 
 -- what is read at a visit

@@ -1,23 +1,22 @@
 -- The block of a node is read back.
-use Rattle.std.proofs.Common.{◌≡◌, ◌==◌, ℕ, Bool, true, false, cond, List, [], ◌∷◌, ◌++◌, map, flat_map, Option, Some, None, codes, refl, sym, ◌∙◌, ap, inl, inr, ◌⊎◌, append_assoc, append-nil}
+use Rattle.std.proofs.Common.{◌≡◌, ◌==◌, ℕ, Bool, true, false, cond, List, [], ◌∷◌, ◌++◌, Option, Some, None, codes, refl, ◌∙◌, ap, inl, inr, ◌⊎◌, append_assoc, append-nil}
 use Rattle.std.specs.List.{AllByRecursion}
 use Rattle.std.specs.Option.{option_to_list}
 use Rattle.cc_base.proofs.Lines.{IsLine}
 use Rattle.cc_base.proofs.Lines.IsLine.{line}
 use Rattle.cc_base.proofs.Members.{AllByRecursion-append}
-use Rattle.cc_arg.specs.declared.arg.Arg.{Arg}
 use Rattle.cc_command.specs.declared.node.Node.{Node}
 use Rattle.cc_command.specs.Names.{full_name}
 use Rattle.cc_command.specs.Tree.{Forest, Tree, has_nodes}
 use Rattle.cc_command.proofs.PlainParts.{IsPlainArgument, IsPlainNode}
-use Rattle.cc_quote.specs.PosixTokens.{sign, byte_of, cut, double, is_double_quote}
+use Rattle.cc_quote.specs.PosixTokens.{sign, byte_of, cut, double}
 use Rattle.cc_quote.specs.PosixTokens.Place.{between, in_double}
 use Rattle.cc_quote.specs.Tokens.{Token, is_word}
 use Rattle.cc_quote.proofs.PosixCutting.{IsKept-IsOther, tokens_from, double_run}
 use Rattle.cc_zsh.specs.Nested.{unspaced, function_label, block_begins, block_ends, external_text, below_1, below_2, below_3, children_text, below_text, block_text}
 use Rattle.cc_zsh.specs.Options.{options_text, flags_text}
 use Rattle.cc_zsh.specs.Positionals.{positionals_text}
-use Rattle.cc_zsh.specs.ZshReader.{Block, Path, State, ZshOption, first_named, is_name_byte, named_function, new_block, next, after_name, next_place, option_of, place_after, read, read_option, text_after, with_word, word_of}
+use Rattle.cc_zsh.specs.ZshReader.{Block, Path, ZshOption, first_named, is_name_byte, named_function, new_block, next, next_place, option_of, place_after, read, read_option, text_after, with_word, word_of}
 use Rattle.cc_zsh.specs.ZshReader.State.{after_block, at_block, at_ret, before_blocks, in_block}
 use Rattle.cc_zsh.specs.ZshTable.{node_rows}
 use Rattle.cc_zsh.proofs.ZshOptionWords.{AreNameBytes, colon_none, star_none, not_space}

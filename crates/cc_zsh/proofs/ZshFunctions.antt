@@ -1,19 +1,17 @@
 -- The functions of a script are read back.
-use Rattle.std.proofs.Common.{◌≡◌, ◌==◌, ℕ, Bool, true, false, cond, List, [], ◌∷◌, ◌++◌, map, flat_map, fold, Option, Some, None, option_map, codes, refl, sym, ◌∙◌, ap, append_assoc, append-nil, arith}
+use Rattle.std.proofs.Common.{◌≡◌, ◌==◌, ℕ, true, false, cond, List, [], ◌∷◌, ◌++◌, map, flat_map, fold, Option, Some, None, option_map, codes, refl, sym, ◌∙◌, ap, append_assoc, append-nil, arith}
 use Rattle.std.specs.List.{AllByRecursion}
 use Rattle.std.proofs.lemmas.Bool.Decides.{nat_tests}
 use Rattle.cc_base.proofs.Lines.{IsLine}
 use Rattle.cc_base.proofs.Lines.IsLine.{line}
 use Rattle.cc_base.proofs.ReadInTurn.{in_turn}
-use Rattle.cc_quote.specs.PosixQuote.{posix_escaped}
 use Rattle.cc_quote.specs.PosixTokens.{sign, byte_of, cut}
 use Rattle.cc_quote.specs.PosixTokens.Place.{between, in_bare, in_single}
 use Rattle.cc_quote.specs.QuotedWord.{line_feeds_as_spaces}
-use Rattle.cc_quote.specs.Tokens.{Token, is_word}
+use Rattle.cc_quote.specs.Tokens.{is_word}
 use Rattle.cc_quote.specs.Tokens.Piece.{bare}
 use Rattle.cc_quote.specs.ZshQuote.{is_help_marked, marked, marks, marks_from, zsh_escaped_help, zsh_unescaped, unmarked}
-use Rattle.cc_quote.specs.ZshQuote.Mark.{kept}
-use Rattle.cc_quote.proofs.PosixCutting.{IsOther, tokens_from, bare_run}
+use Rattle.cc_quote.proofs.PosixCutting.{tokens_from, bare_run}
 use Rattle.cc_quote.proofs.ZshWords.{marks-kept, marked_unescaped}
 use Rattle.cc_zsh.specs.Functions.{Entry, Function, function_1, function_2, function_3, function_4, function_5, entry_text, entries_end, entries_text, function_text}
 use Rattle.cc_zsh.specs.Nested.{function_label}

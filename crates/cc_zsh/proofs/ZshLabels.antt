@@ -1,10 +1,9 @@
 -- No two functions of a plain tree have one label.
-use Rattle.std.proofs.Common.{◌≡◌, ◌≢◌, ◌==◌, ◌&&◌, ◌||◌, ℕ, suc, ◌+◌, ◌<◌, Bool, true, false, cond, not, IsTrue, List, [], ◌∷◌, ◌++◌, map, flat_map, length, length-append, Option, Some, None, codes, bytes_eq, refl, sym, ◌∙◌, ap, subst, inl, inr, ◌⊎◌, append_assoc, append-nil, arith, drop}
+use Rattle.std.proofs.Common.{◌≡◌, ◌≢◌, ◌==◌, ◌&&◌, ◌||◌, ℕ, Bool, true, false, cond, IsTrue, List, [], ◌∷◌, ◌++◌, codes, refl, sym, ◌∙◌, ap, subst, inl, inr, append_assoc, append-nil, drop}
 use Rattle.std.specs.Char.{is_ascii_alphanumeric}
 use Rattle.std.specs.List.{AllByRecursion}
 use Rattle.std.proofs.lemmas.List.{append_cancel_left, append_cancel_right}
 use Rattle.std.proofs.lemmas.List.Concat.{flat_map-append}
-use Rattle.std.proofs.lemmas.Bool.Decides.{nat_tests}
 use Rattle.cc_base.specs.Differ.{AllDifferBy}
 use Rattle.cc_base.proofs.Differing.{AllDifferBy-append}
 use Rattle.cc_base.proofs.Members.{IsIn, AllByRecursion-append, AllByRecursion-IsIn, AllByRecursion-weaker}
@@ -17,7 +16,6 @@ use Rattle.cc_command.proofs.PlainParts.{IsPlainName, plain_node, plain_more}
 use Rattle.cc_command.proofs.SiblingNames.{not_shared, first_differs}
 use Rattle.cc_zsh.specs.Functions.{Function, function_of, functions_below}
 use Rattle.cc_zsh.specs.Nested.{unspaced, function_label}
-use Rattle.cc_zsh.specs.ZshReader.{is_name_byte}
 use Rattle.cc_zsh.proofs.ZshOptionWords.{AreNameBytes, not_space}
 use Rattle.cc_zsh.proofs.ZshNames.{plain_name_bytes}
 use Rattle.cc_zsh.proofs.ZshPlainTree.{IsNamed}

@@ -1,14 +1,12 @@
 -- Lines of a block add options to it.
-use Rattle.std.proofs.Common.{◌≡◌, ◌==◌, ℕ, Bool, true, false, cond, List, [], ◌∷◌, ◌++◌, map, flat_map, Option, Some, None, codes, refl, sym, ◌∙◌, ap, ap₂, append_assoc, append-nil}
+use Rattle.std.proofs.Common.{◌≡◌, ℕ, cond, List, [], ◌∷◌, ◌++◌, map, flat_map, Option, Some, None, codes, refl, sym, ◌∙◌, ap, append_assoc, append-nil}
 use Rattle.std.specs.List.{AllByRecursion}
 use Rattle.std.specs.Option.{option_to_list}
-use Rattle.cc_quote.specs.PosixQuote.{posix_escaped}
-use Rattle.cc_quote.specs.PosixTokens.{Place, sign, byte_of, cut}
+use Rattle.cc_quote.specs.PosixTokens.{Place, sign, cut}
 use Rattle.cc_quote.specs.PosixTokens.Place.{between, in_single}
-use Rattle.cc_quote.specs.Tokens.{Token, is_word}
 use Rattle.cc_quote.proofs.PosixCutting.{tokens_from}
 use Rattle.cc_zsh.specs.Options.{line_end}
-use Rattle.cc_zsh.specs.ZshReader.{Block, Parts, Path, State, ZshOption, first_named, named_function, next, option_of, read, with_word, word_of}
+use Rattle.cc_zsh.specs.ZshReader.{Block, Parts, Path, State, ZshOption, first_named, named_function, next, option_of, read, with_word}
 use Rattle.cc_zsh.specs.ZshReader.State.{at_ret, in_block}
 use Rattle.cc_zsh.proofs.ZshCutting.{Escapes, quoted_token, single_cut, token_quoted, not_word, names_none, word_of-quoted}
 

@@ -1,8 +1,7 @@
 -- The lines of a node's options and flags add exactly these.
-use Rattle.std.proofs.Common.{◌≡◌, ◌==◌, ℕ, Bool, true, false, cond, List, [], ◌∷◌, ◌++◌, map, flat_map, Option, Some, None, unwrap_or, codes, refl, sym, ◌∙◌, ap, subst, append_assoc}
+use Rattle.std.proofs.Common.{◌≡◌, ℕ, Bool, true, false, cond, List, [], ◌∷◌, ◌++◌, map, flat_map, unwrap_or, codes, refl, sym, ◌∙◌, ap, subst, append_assoc}
 use Rattle.std.specs.List.{AllByRecursion}
 use Rattle.std.specs.Option.{option_to_list}
-use Rattle.cc_base.proofs.Members.{AllByRecursion-weaker}
 use Rattle.cc_arg.specs.declared.arg.Arg.{Arg}
 use Rattle.cc_arg.specs.ShownNames.{shown_shorts, shown_longs}
 use Rattle.cc_command.specs.declared.node.Node.{Node}
@@ -13,7 +12,7 @@ use Rattle.cc_quote.specs.ZshQuote.{is_help_marked, marked, zsh_escaped_help}
 use Rattle.cc_zsh.specs.Conflicts.{excluded, conflict_words, conflicts_text, short_word, long_word}
 use Rattle.cc_zsh.specs.Options.{is_repeated, repeated_text, help_text, front_text, line_end, short_option, long_option, short_flag, long_flag, option_text, flag_text, options_text, flags_text}
 use Rattle.cc_zsh.specs.Values.{values_text}
-use Rattle.cc_zsh.specs.ZshReader.{Bracket, ZshOption, option_of}
+use Rattle.cc_zsh.specs.ZshReader.{Bracket}
 use Rattle.cc_zsh.specs.ZshReader.Bracket.{alone, after_plus, after_equals}
 use Rattle.cc_zsh.specs.ZshTable.{option_row, option_rows, flag_rows, node_rows}
 use Rattle.cc_zsh.proofs.ZshCutting.{Escapes, escapes_append, escapes_same, IsEscaped, escaped_same}

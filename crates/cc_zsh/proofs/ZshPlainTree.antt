@@ -1,10 +1,9 @@
 -- A plain tree that is built can be read, node by node and function by function.
-use Rattle.std.proofs.Common.{◌≡◌, ◌≢◌, ◌==◌, ◌&&◌, ◌||◌, ℕ, suc, Bool, true, false, cond, not, IsTrue, List, [], ◌∷◌, ◌++◌, map, flat_map, Option, Some, None, unwrap_or, codes, bytes_eq, refl, sym, ◌∙◌, ap, subst, inl, inr, ◌⊎◌, append_assoc, arith}
+use Rattle.std.proofs.Common.{◌≡◌, ◌==◌, ◌&&◌, ◌||◌, ℕ, suc, Bool, true, false, cond, IsTrue, List, [], ◌∷◌, ◌++◌, map, Option, Some, None, codes, refl, sym, ◌∙◌, ap, subst, inl, inr, ◌⊎◌, arith}
 use Rattle.std.specs.Char.{is_ascii_alphanumeric}
 use Rattle.std.specs.List.{AllByRecursion}
 use Rattle.std.proofs.lemmas.Bool.Decides.{nat_tests}
 use Rattle.cc_base.specs.Sorting.{in_order}
-use Rattle.cc_base.proofs.Booleans.{both_true}
 use Rattle.cc_base.proofs.Members.{AllByRecursion-weaker, AllByRecursion-append, AllByRecursion-map}
 use Rattle.cc_base.proofs.Sorted.{AllByRecursion-in_order}
 use Rattle.cc_arg.specs.declared.arg.Arg.{Arg}
@@ -18,12 +17,12 @@ use Rattle.cc_command.specs.Tree.{Forest, none, more, join, Tree}
 use Rattle.cc_command.specs.PlainName.{is_joined, is_plain_name}
 use Rattle.cc_command.proofs.PlainNames.{plain_after, plain_after_start, plain_after_more}
 use Rattle.cc_command.proofs.PlainParts.{IsPlainName, IsPlainArgument, IsPlainNode, plain_node, plain_more, plain_tree, plain_full_name}
-use Rattle.cc_zsh.specs.Functions.{Entry, Function, entry, entries_of, function_of, functions_below, function_below, is_again, once_after, sorted_functions, tree_functions}
+use Rattle.cc_zsh.specs.Functions.{Function, entry, entries_of, function_of, functions_below, function_below, is_again, once_after, sorted_functions}
 use Rattle.cc_zsh.specs.ZshReader.{is_name_byte}
 use Rattle.cc_zsh.proofs.ZshCutting.{NoQuote}
 use Rattle.cc_zsh.proofs.ZshOptionWords.{AreNameBytes}
 use Rattle.cc_zsh.proofs.ZshNames.{plain_name_bytes, name_byte_no_quote}
-use Rattle.cc_zsh.proofs.ZshBlock.{AreFullBytes, IsReadable, label_bytes}
+use Rattle.cc_zsh.proofs.ZshBlock.{AreFullBytes, label_bytes}
 use Rattle.cc_zsh.proofs.ZshArms.{AreReadable}
 use Rattle.cc_zsh.proofs.ZshFunctions.{IsFunction}
 use Rattle.cc_zsh.proofs.ZshWhole.{IsBinName, IsReadableTree}

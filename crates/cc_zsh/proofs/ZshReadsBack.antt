@@ -1,12 +1,11 @@
 -- The script of a plain tree that is built reads to what the tree shows.
-use Rattle.std.proofs.Common.{◌≡◌, ◌≢◌, ◌==◌, ℕ, Bool, true, false, cond, not, IsTrue, List, [], ◌∷◌, ◌++◌, map, flat_map, Option, Some, None, option_map, is_some, Result, Ok, Err, codes, bytes_eq, refl, sym, ◌∙◌, ap, subst, inl, inr, ◌⊎◌, drop}
+use Rattle.std.proofs.Common.{◌≡◌, ◌≢◌, ℕ, Bool, true, false, cond, IsTrue, List, [], ◌∷◌, ◌++◌, map, flat_map, Option, Some, None, option_map, is_some, Result, Ok, Err, codes, bytes_eq, refl, sym, ◌∙◌, ap, subst, inl, inr, drop}
 use Rattle.std.specs.List.{AllByRecursion}
-use Rattle.std.proofs.lemmas.Bool.{cases_Bool}
 use Rattle.std.proofs.lemmas.Slice.Eq.{bytes_eq-Decides}
 use Rattle.cc_base.specs.Differ.{AllDifferBy}
 use Rattle.cc_base.specs.Sorting.{in_order, placed}
 use Rattle.cc_base.proofs.Differing.{AllDifferBy-map, AllDifferBy-finer}
-use Rattle.cc_base.proofs.Members.{IsIn, AllByRecursion-IsIn, AllByRecursion-from_IsIn, AllByRecursion-append, AllByRecursion-flat_map, AllByRecursion-map, AllByRecursion-weaker, IsIn-append_left, IsIn-append_right, map-IsIn}
+use Rattle.cc_base.proofs.Members.{IsIn, AllByRecursion-IsIn, AllByRecursion-from_IsIn, AllByRecursion-append, AllByRecursion-flat_map, AllByRecursion-weaker, IsIn-append_left, IsIn-append_right, map-IsIn}
 use Rattle.cc_base.proofs.Sorted.{in_order-IsIn, AllByRecursion-in_order}
 use Rattle.cc_command.specs.declared.node.Node.{Node}
 use Rattle.cc_command.specs.Built.{built_tree}
@@ -16,7 +15,7 @@ use Rattle.cc_base.specs.declared.failures.Failures.{Failures}
 use Rattle.cc_base.specs.Writes.{Writes}
 use Rattle.cc_lists.specs.Generators.{Generates, IsReady}
 use Rattle.cc_base.proofs.Booleans.{both_true}
-use Rattle.cc_command.specs.Names.{full_name, visible_names}
+use Rattle.cc_command.specs.Names.{full_name}
 use Rattle.cc_command.specs.Plain.{is_plain_tree}
 use Rattle.cc_command.specs.Tree.{Forest, none, more, Tree, has_nodes}
 use Rattle.cc_command.proofs.PlainParts.{plain_tree}
@@ -24,7 +23,7 @@ use Rattle.cc_visits.specs.Visits.{Keyed, keyed, keys_below, longer_path, path_v
 use Rattle.cc_visits.proofs.VisitedPaths.{paths_cover}
 use Rattle.cc_zsh.specs.Functions.{Function, entries_of, function_of, functions_below, function_below, is_again, once_after, sorted_functions, tree_functions}
 use Rattle.cc_zsh.specs.Nested.{function_label, unspaced}
-use Rattle.cc_zsh.specs.ZshReader.{Block, Description, Parts, Path, Shown, all_shown, children_of, described, shown_of, with_shown, zsh_parts, zsh_shown}
+use Rattle.cc_zsh.specs.ZshReader.{Description, Path, Shown, all_shown, children_of, described, shown_of, with_shown, zsh_parts, zsh_shown}
 use Rattle.cc_zsh.specs.ZshReads.{ZshReads}
 use Rattle.cc_zsh.specs.ZshScript.{zsh_script}
 use Rattle.cc_zsh.specs.ZshTable.{all_shown_at, description_of, entry_row, shown_at}

@@ -1,6 +1,6 @@
 -- What stands for the values of an argument holds no `'` but escaped ones.
-use Rattle.std.proofs.Common.{◌≡◌, ◌==◌, ℕ, zero, suc, Bool, true, false, cond, not, IsTrue, List, [], ◌∷◌, ◌++◌, map, flat_map, Option, Some, None, unwrap_or, codes, refl, sym, ◌∙◌, ap}
-use Rattle.std.specs.List.{AllByRecursion, list_all, list_any}
+use Rattle.std.proofs.Common.{◌≡◌, ◌==◌, ℕ, zero, suc, Bool, true, false, cond, not, IsTrue, List, [], ◌∷◌, ◌++◌, map, Option, Some, None, unwrap_or, codes, refl}
+use Rattle.std.specs.List.{AllByRecursion, list_any}
 use Rattle.cc_base.proofs.Booleans.{each_passes}
 use Rattle.cc_base.proofs.Members.{AllByRecursion-weaker}
 use Rattle.cc_arg.specs.declared.arg.Arg.{Arg}

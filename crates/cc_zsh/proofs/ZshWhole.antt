@@ -1,32 +1,29 @@
 -- A whole script is read back to the blocks and the functions of its tree.
-use Rattle.std.proofs.Common.{◌≡◌, ◌≢◌, ◌==◌, ◌&&◌, ℕ, Bool, true, false, cond, not, List, [], ◌∷◌, ◌++◌, map, flat_map, Option, Some, None, option_map, codes, bytes_eq, refl, sym, ◌∙◌, ap, inl, inr, ◌⊎◌, append_assoc, append-nil, arith}
-use Rattle.std.specs.Char.{is_ascii_alphanumeric}
+use Rattle.std.proofs.Common.{◌≡◌, ◌==◌, ◌&&◌, ℕ, Bool, true, false, cond, not, List, [], ◌∷◌, ◌++◌, map, flat_map, Some, None, option_map, codes, bytes_eq, refl, sym, ◌∙◌, ap, append_assoc, append-nil, arith}
 use Rattle.std.specs.List.{AllByRecursion, list_all}
-use Rattle.std.proofs.lemmas.Bool.{cases_Bool}
 use Rattle.std.proofs.lemmas.Bool.Decides.{nat_tests}
 use Rattle.cc_base.proofs.Lines.{IsLine}
 use Rattle.cc_base.proofs.Lines.IsLine.{line}
 use Rattle.cc_base.proofs.Members.{AllByRecursion-weaker}
 use Rattle.cc_command.specs.declared.node.Node.{Node}
 use Rattle.cc_command.specs.Names.{full_name}
-use Rattle.cc_command.specs.Tree.{Forest, none, more, Tree, has_nodes}
-use Rattle.cc_command.proofs.PlainParts.{IsPlainName}
+use Rattle.cc_command.specs.Tree.{Forest, none, more, Tree}
 use Rattle.cc_quote.specs.PosixTokens.{sign, byte_of, cut, posix_tokens}
-use Rattle.cc_quote.specs.PosixTokens.Place.{between, in_bare, in_double}
-use Rattle.cc_quote.specs.Tokens.{Token, is_word}
+use Rattle.cc_quote.specs.PosixTokens.Place.{between, in_bare}
+use Rattle.cc_quote.specs.Tokens.{is_word}
 use Rattle.cc_quote.specs.Tokens.Piece.{bare}
 use Rattle.cc_quote.proofs.PosixCutting.{IsOther, IsKept-IsOther, tokens_from, bare_word, bare_run, double_run}
-use Rattle.cc_visits.specs.Visits.{Keyed, keyed, longer_path, path_visits, paths_below}
-use Rattle.cc_zsh.specs.Functions.{Function, function_text, tree_functions}
-use Rattle.cc_zsh.specs.Nested.{unspaced, block_text, nested_begins, nested_1, nested_7, nested_text, arms_text, root_text, context_text}
-use Rattle.cc_zsh.specs.ZshReader.{Block, Description, Parts, State, ended, function_name, is_name_byte, next, next_arm, next_function, read, text_before, zsh_parts}
+use Rattle.cc_visits.specs.Visits.{longer_path, path_visits, paths_below}
+use Rattle.cc_zsh.specs.Functions.{function_text, tree_functions}
+use Rattle.cc_zsh.specs.Nested.{block_text, nested_begins, nested_1, nested_7, nested_text, arms_text, root_text, context_text}
+use Rattle.cc_zsh.specs.ZshReader.{Block, Description, State, ended, function_name, is_name_byte, next, next_arm, next_function, read, text_before, zsh_parts}
 use Rattle.cc_zsh.specs.ZshReader.State.{after_block, after_nested, before_blocks, between_functions, in_block}
 use Rattle.cc_zsh.specs.ZshScript.{begin_1, begin_2, begin_3, begin_text, middle, end_1, end_2, end_3, end_4, end_5, end_text, functions_text, script_text, zsh_script}
 use Rattle.cc_zsh.specs.ZshTable.{description_of}
 use Rattle.cc_zsh.proofs.ZshOptionWords.{AreNameBytes}
 use Rattle.cc_zsh.proofs.ZshLines.{reading}
 use Rattle.cc_zsh.proofs.ZshNames.{name_other, plain_name_bytes}
-use Rattle.cc_zsh.proofs.ZshBlock.{AreFullBytes, IsReadable, block_with, context_bytes, root_block_read}
+use Rattle.cc_zsh.proofs.ZshBlock.{IsReadable, block_with, context_bytes, root_block_read}
 use Rattle.cc_zsh.proofs.ZshArms.{AreReadable, block_at, root_nested_read}
 use Rattle.cc_zsh.proofs.ZshFunctions.{IsFunction, functions_read, passed}
 

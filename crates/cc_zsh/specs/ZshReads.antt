@@ -1,10 +1,10 @@
 -- What the zsh script of a tree reads to.
-use Rattle.std.specs.Prelude.{◌≡◌, List, [], map, option_map, Some}
+use Rattle.std.specs.Prelude.{◌≡◌, [], map, option_map, Some}
 use Rattle.cc_command.specs.Tree.{Tree}
 use Rattle.cc_visits.specs.Paths.{CoversPaths}
 use Rattle.cc_visits.specs.Visits.{longer_path, path_visits}
 use Rattle.cc_zsh.specs.Functions.{tree_functions}
-use Rattle.cc_zsh.specs.ZshReader.{Parts, zsh_parts, zsh_shown}
+use Rattle.cc_zsh.specs.ZshReader.{zsh_parts, zsh_shown}
 use Rattle.cc_zsh.specs.ZshScript.{zsh_script}
 use Rattle.cc_zsh.specs.ZshTable.{all_shown_at, description_of}
 
