@@ -88,23 +88,3 @@ fn quoted_word(alloc: Global, text: &str) -> Result<Option<(String, &str)>, Allo
     }
     Ok(None)
 }
-
-#[cfg(test)]
-mod tests {
-    use super::*;
-    use std::test::Fail;
-
-    #[test]
-    fn escapes_and_reads_back(rt: HostRuntime) -> Result<(), Fail> {
-        let escaped = elvish_escape(rt.alloc(), "it's\n[x]:\\")?;
-        assert_eq!(rt; escaped.as_str(), "it''s [x]:\\");
-        let (word, rest) = elvish_word(rt.alloc(), "'it''s [x]:\\' more")?.ok_or("no word")?;
-        assert_eq!(rt; word.as_str(), "it's [x]:\\");
-        assert_eq!(rt; rest, " more");
-        let (word, rest) = elvish_word(rt.alloc(), "it's more")?.ok_or("no word")?;
-        assert_eq!(rt; word.as_str(), "it's");
-        assert_eq!(rt; rest, " more");
-        assert!(rt; elvish_word(rt.alloc(), "'it''s")?.is_none());
-        Ok(())
-    }
-}

@@ -48,24 +48,3 @@ pub fn push_escaped<E: Escape>(escape: &E, text: &str, made: &mut String) -> Res
     }
     made.push_str(rest)
 }
-
-#[cfg(test)]
-mod tests {
-    use super::*;
-    use crate::{ElvishEscape, PowershellEscape};
-    use cc_base::Collected;
-    use std::test::Fail;
-
-    #[test]
-    fn writes_and_appends(rt: HostRuntime) -> Result<(), Fail> {
-        let mut sink = Collected::new(rt.alloc());
-        put_escaped(&ElvishEscape, "it's\n’", &mut sink)?;
-        put_escaped(&PowershellEscape, "’it's\n", &mut sink)?;
-        assert_eq!(rt; sink.as_slice(), "it''s ’'’it''s ".as_bytes());
-        let mut made = String::from_str(rt.alloc(), "'")?;
-        push_escaped(&PowershellEscape, "’'–“b”", &mut made)?;
-        push_escaped(&ElvishEscape, "’'", &mut made)?;
-        assert_eq!(rt; made.as_str(), "''’''–“b”’''");
-        Ok(())
-    }
-}

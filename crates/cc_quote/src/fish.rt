@@ -324,28 +324,3 @@ fn put_in_quotes<E: Escape, W: Sink>(escape: &E, text: &str, sink: &mut W) -> Re
     put_escaped(escape, text, sink)?;
     put_all(sink, "'".as_bytes())
 }
-
-#[cfg(test)]
-mod tests {
-    use super::*;
-    use std::test::Fail;
-
-    #[test]
-    fn quotes(rt: HostRuntime) -> Result<(), Fail> {
-        let alloc = rt.alloc();
-        assert_eq!(rt; fish_quote(alloc, "")?.as_str(), "''");
-        assert_eq!(rt; fish_quote(alloc, "dyn\\amic")?.as_str(), "'dyn\\\\amic'");
-        assert_eq!(rt; fish_quote_for_eval(alloc, "auto")?.as_str(), "auto");
-        assert_eq!(rt;
-            fish_quote_for_eval(alloc, "/p/$var/c")?.as_str(),
-            "'/p/\\$var/c'"
-        );
-        let help = fish_help_for_eval(alloc, "it's \\ \"$x\"")?;
-        assert_eq!(rt; help.as_str(), "'it\\\\'s \\\\\\\\ \\\"\\$x\\\"'");
-        assert_eq!(rt;
-            fish_escape(alloc, "it's\n[x]:\\")?.as_str(),
-            "it\\'s [x]:\\\\"
-        );
-        Ok(())
-    }
-}

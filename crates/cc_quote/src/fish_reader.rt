@@ -164,28 +164,3 @@ fn is_bare(place: Place) -> bool
 {
     matches!(place, Place::Bare)
 }
-
-#[cfg(test)]
-mod tests {
-    use super::*;
-    use crate::{fish_help_for_eval, fish_quote, fish_quote_for_eval};
-    use std::test::Fail;
-
-    #[test]
-    fn reads_words(rt: HostRuntime) -> Result<(), Fail> {
-        let alloc = rt.alloc();
-        let text = "a#\\t'\\'\\\\\\n'\"é\\$\\x\\\ny\"\\é\\ z w";
-        let (word, rest) = fish_word(alloc, text)?.ok_or("no word")?;
-        assert_eq!(rt; word.as_str(), "a#\t'\\\\né$\\xyé z");
-        assert_eq!(rt; rest, " w");
-        for none in ["", " a", "# a", "'a", "a\\", "\"a"] {
-            assert!(rt; fish_word(alloc, none)?.is_none());
-        }
-        let (inside, rest) = fish_double(alloc, "\"it's\\\\ é\"more")?.ok_or("no text")?;
-        assert_eq!(rt; inside.as_str(), "it's\\ é");
-        assert_eq!(rt; rest, "more");
-        assert!(rt; fish_double(alloc, "a\"")?.is_none());
-        assert!(rt; fish_double(alloc, "\"a\\\"")?.is_none());
-        Ok(())
-    }
-}

@@ -203,26 +203,3 @@ fn end_word(place: Place, word: String, rest: &str) -> Option<(String, &str)>
         _ => None,
     }
 }
-
-#[cfg(test)]
-mod tests {
-    use super::*;
-    use std::test::Fail;
-
-    #[test]
-    fn quotes_and_reads_back(rt: HostRuntime) -> Result<(), Fail> {
-        let alloc = rt.alloc();
-        assert_eq!(rt; posix_quote(alloc, "a'b")?.as_str(), "'a'\\''b'");
-        assert_eq!(rt; posix_quote(alloc, "a/b:c")?.as_str(), "a/b:c");
-        assert_eq!(rt; posix_quote(alloc, "")?.as_str(), "''");
-        let (word, rest) = posix_word(alloc, "'a'\\''b' c")?.ok_or("no word")?;
-        assert_eq!(rt; word.as_str(), "a'b");
-        assert_eq!(rt; rest, " c");
-        let (word, rest) = posix_word(alloc, "\"a\\$b\\c\"é\\ y\\\nz w")?.ok_or("no word")?;
-        assert_eq!(rt; word.as_str(), "a$b\\cé yz");
-        assert_eq!(rt; rest, " w");
-        assert!(rt; posix_word(alloc, "'a")?.is_none());
-        assert!(rt; posix_word(alloc, "a\\")?.is_none());
-        Ok(())
-    }
-}

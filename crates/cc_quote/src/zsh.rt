@@ -165,28 +165,3 @@ fn unescaped(alloc: Global, text: &str) -> Result<Option<String>, AllocError>
     word.push_str(rest)?;
     Ok(Some(word))
 }
-
-#[cfg(test)]
-mod tests {
-    use super::*;
-    use std::test::Fail;
-
-    #[test]
-    fn escapes_and_takes_backslashes_off(rt: HostRuntime) -> Result<(), Fail> {
-        let alloc = rt.alloc();
-        let text = "\\ [foo]() `bar https://$PATH";
-        let value = zsh_escape_value(alloc, text)?;
-        assert_eq!(rt;
-            value.as_str(),
-            "\\\\\\ \\[foo\\]\\(\\)\\ \\`bar\\ https\\://\\$PATH"
-        );
-        let help = zsh_escape_help(alloc, text)?;
-        assert_eq!(rt; help.as_str(), "\\\\ \\[foo\\]() \\`bar https\\://\\$PATH");
-        let help = zsh_escape_help(alloc, "a]b[c:d\\e'f\ng")?;
-        assert_eq!(rt; help.as_str(), "a\\]b\\[c\\:d\\\\e'\\''f g");
-        let read = zsh_unescape(alloc, "a\\]b\\é\\\\e f")?.ok_or("a backslash is last")?;
-        assert_eq!(rt; read.as_str(), "a]bé\\e f");
-        assert!(rt; zsh_unescape(alloc, "a\\\\\\")?.is_none());
-        Ok(())
-    }
-}

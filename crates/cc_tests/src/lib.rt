@@ -29,6 +29,8 @@ mod nushell;
 #[cfg(test)]
 mod powershell;
 #[cfg(test)]
+mod quoting;
+#[cfg(test)]
 mod shell;
 #[cfg(test)]
 mod sinks;
@@ -36,6 +38,8 @@ mod sinks;
 mod tree_file;
 #[cfg(test)]
 mod trees;
+#[cfg(test)]
+mod visits;
 #[cfg(test)]
 mod written;
 #[cfg(test)]

@@ -11,6 +11,3 @@ pub use crate::keys::{Joined, Keys};
 pub use crate::path_steps::{PathStep, PathSteps};
 pub use crate::table_visits::TableVisits;
 pub use crate::visit::Visit;
-
-#[cfg(test)]
-mod tests;

@@ -1,11 +1,8 @@
 //! The visits of a small tree in both orders: each key with the node above and the node visited.
 
-use crate::keys::Joined;
-use crate::path_steps::{PathStep, PathSteps};
-use crate::table_visits::TableVisits;
-use crate::visit::Visit;
-use cc_command::Command;
 use cc_flat::Flat;
+use cc_visits::{Joined, PathStep, PathSteps, TableVisits, Visit};
+use clap_complete::command::Command;
 use std::alloc::{AllocError, Global};
 use std::test::Fail;
 
