@@ -1,44 +1,33 @@
--- What a stack of numbers stands for, step by step.
-use Rattle.std.proofs.Common.{◌≡◌, ℕ, zero, suc, subst, ◌+◌, ◌-◌, ◌<◌, ◌≤◌, List, [], ◌∷◌, ◌++◌, length, map, reverse, refl, ap, ◌∙◌, sym, append_assoc, append-nil, arith}
-use Rattle.std.specs.List.{flat_map, range_with_len}
-use Rattle.std.proofs.lemmas.List.{reverse-append, reverse-reverse}
-use Rattle.std.proofs.lemmas.List.Concat.{flat_map-append}
+-- What a stack of numbers stands for, as numbers are taken from it and put on it.
+use Rattle.std.proofs.Common.{◌≡◌, ℕ, zero, suc, subst, ◌+◌, ◌-◌, ◌<◌, ◌≤◌, List, [], ◌∷◌, ◌++◌, length, map, reverse, Some, refl, ap, ◌∙◌, sym, append_assoc, append-nil, arith}
+use Rattle.std.specs.List.{All, flat_map, range_with_len}
+use Rattle.std.proofs.lemmas.List.{map-append, reverse-append}
+use Rattle.std.proofs.lemmas.List.Elements.{All-nil, All-cons, All-pop, All-append}
+use Rattle.std.proofs.lemmas.List.Sorted.{All-permutation, IsPermutation-reverse}
 use Rattle.cc_command.specs.Tree.{Tree, forest_of}
 use Rattle.cc_flat.specs.Flat.{Entry, HasItsChildren, children_at, entry_at, tree_at, trees_at}
+use Rattle.cc_visits.proofs.FromStack.{from_stack_none, from_stack_popped, from_stack_pushed}
 use Rattle.cc_zsh.specs.Functions.{Function, function_of, functions_below}
-use Rattle.cc_zsh.specs.Named.{AreListed, function_named, functions_by, functions_from}
+use Rattle.cc_zsh.specs.Named.{AreListed, IsListed, function_named, functions_at, functions_by}
 use Rattle.cc_zsh.specs.declared.functions.Named.{Named}
 
--- the functions from the node with a number on
-abbrev at : List Entry → ℕ → List Function
-at flat number = functions_from (tree_at flat number)
-
-pub functions_by-nil : (flat : List Entry) (stack : List ℕ) → stack ≡ [] → functions_by flat stack ≡ []
-unfolding functions_by
-functions_by-nil flat stack e = ap (λ s. flat_map (at flat) (reverse s)) e
-
--- the number on top comes first
-functions_by-push : (flat : List Entry) (stack : List ℕ) (top : ℕ) →
-    functions_by flat (stack ++ top ∷ []) ≡ at flat top ++ functions_by flat stack
-unfolding functions_by
-functions_by-push flat stack top = ap (flat_map (at flat)) (reverse-append stack (top ∷ []))
-
--- numbers that were moved onto the stack come first, in their order
-functions_by-pushed : (flat : List Entry) (stack numbers : List ℕ) →
-    functions_by flat (stack ++ reverse numbers)
-    ≡ flat_map (at flat) numbers ++ functions_by flat stack
-unfolding functions_by
-functions_by-pushed flat stack numbers =
-    ap (flat_map (at flat)) (reverse-append stack (reverse numbers)
-    ∙ ap (λ xs. xs ++ reverse stack) (reverse-reverse numbers)) ∙
-    flat_map-append (at flat) numbers (reverse stack)
-
 -- nodes side by side
-functions_by-siblings : (flat : List Entry) (numbers : List ℕ) →
-    flat_map (at flat) numbers ≡ functions_below (forest_of (trees_at flat numbers))
-functions_by-siblings flat [] = refl
-functions_by-siblings flat (number ∷ numbers) =
-    ap (λ t. at flat number ++ t) (functions_by-siblings flat numbers)
+functions_at-siblings : (flat : List Entry) (numbers : List ℕ) →
+    flat_map (functions_at flat) numbers ≡ functions_below (forest_of (trees_at flat numbers))
+functions_at-siblings flat [] = refl
+functions_at-siblings flat (number ∷ numbers) =
+    ap (λ t. functions_at flat number ++ t) (functions_at-siblings flat numbers)
+
+-- the children of a node are put on the stack
+functions_pushed : (flat : List Entry) (rest after : List ℕ) (number : ℕ) →
+    HasItsChildren flat number → after ≡ rest ++ reverse (children_at flat number) →
+    functions_by flat after
+    ≡ functions_below (tree_at flat number).children ++ functions_by flat rest
+functions_pushed flat rest after number its pushed =
+    ap (functions_by flat) pushed ∙
+    from_stack_pushed (functions_at flat) rest (children_at flat number) ∙
+    ap (λ t. t ++ functions_by flat rest)
+    (functions_at-siblings flat (children_at flat number) ∙ ap functions_below its.forest)
 
 -- Taking the top number off: its function, then what its children add to the rest.
 pub functions_step : (flat : List Entry) (stack rest after : List ℕ) (top : ℕ) →
@@ -48,18 +37,9 @@ pub functions_step : (flat : List Entry) (stack rest after : List ℕ) (top : �
     ≡ function_of (tree_at flat top).node (tree_at flat top).children ∷ functions_by flat after
 functions_step flat stack rest after top popped its pushed =
     let tree : Tree = tree_at flat top in
-    let one : Function = function_of tree.node tree.children in
-    ap (functions_by flat) popped ∙ functions_by-push flat rest top ∙
-    ap (λ f. one ∷ (functions_below f ++ functions_by flat rest)) (sym its.forest) ∙
-    ap (λ t. one ∷ (t ++ functions_by flat rest))
-    (sym (functions_by-siblings flat (children_at flat top))) ∙
-    ap (λ t. one ∷ t) (sym (functions_by-pushed flat rest (children_at flat top))) ∙
-    ap (λ s. one ∷ functions_by flat s) (sym pushed)
-
-map-push : (commands : List Named) (one : Named) →
-    map function_named (commands ++ one ∷ []) ≡ map function_named commands ++ function_named one ∷ []
-map-push [] one = refl
-map-push (command ∷ commands) one = ap (λ t. function_named command ∷ t) (map-push commands one)
+    ap (functions_by flat) popped ∙ from_stack_popped (functions_at flat) rest top ∙
+    ap (λ t. function_of tree.node tree.children ∷ t)
+    (sym (functions_pushed flat rest after top its pushed))
 
 -- the step with the commands so far
 pub commands_step : (flat : List Entry) (before after : List ℕ) (commands more : List Named)
@@ -70,8 +50,9 @@ pub commands_step : (flat : List Entry) (before after : List ℕ) (commands more
     map function_named more ++ functions_by flat after ≡ whole
 commands_step flat before after commands more command one whole step is pushed so_far =
     ap (λ cs. map function_named cs ++ functions_by flat after) pushed ∙
-    ap (λ t. t ++ functions_by flat after) (map-push commands command) ∙
-    append_assoc (map function_named commands) (function_named command ∷ []) (functions_by flat after) ∙
+    ap (λ t. t ++ functions_by flat after) (map-append function_named commands (command ∷ [])) ∙
+    append_assoc (map function_named commands) (function_named command ∷ [])
+    (functions_by flat after) ∙
     ap (λ f. map function_named commands ++ f ∷ functions_by flat after) is ∙
     ap (λ t. map function_named commands ++ t) (sym step) ∙ so_far
 
@@ -80,72 +61,52 @@ pub functions_begin : (flat : List Entry) (stack : List ℕ) → HasItsChildren 
     stack ≡ [] ++ reverse (children_at flat 0) →
     functions_by flat stack ≡ functions_below (tree_at flat 0).children
 functions_begin flat stack its pushed =
-    ap (functions_by flat) pushed ∙ functions_by-pushed flat [] (children_at flat 0) ∙
-    ap (λ t. flat_map (at flat) (children_at flat 0) ++ t) (functions_by-nil flat [] refl) ∙
-    append-nil (flat_map (at flat) (children_at flat 0)) ∙
-    functions_by-siblings flat (children_at flat 0) ∙ ap functions_below its.forest
+    functions_pushed flat [] stack 0 its pushed ∙
+    ap (λ t. functions_below (tree_at flat 0).children ++ t)
+    (from_stack_none (functions_at flat) [] refl) ∙
+    append-nil (functions_below (tree_at flat 0).children)
 
 -- ---- the numbers
 
-AreListed-append : (flat : List Entry) (xs ys : List ℕ) → AreListed flat xs →
-    AreListed flat ys → AreListed flat (xs ++ ys)
-AreListed-append flat [] ys a b = b
-AreListed-append flat (x ∷ xs) ys a b = (a.0, AreListed-append flat xs ys a.1 b)
-
-AreListed-front : (flat : List Entry) (xs ys : List ℕ) → AreListed flat (xs ++ ys) →
-    AreListed flat xs
-AreListed-front flat [] ys a = tt
-AreListed-front flat (x ∷ xs) ys a = (a.0, AreListed-front flat xs ys a.1)
-
-AreListed-back : (flat : List Entry) (xs ys : List ℕ) → AreListed flat (xs ++ ys) →
-    AreListed flat ys
-AreListed-back flat [] ys a = a
-AreListed-back flat (x ∷ xs) ys a = AreListed-back flat xs ys a.1
-
--- the number on top is listed
-pub top_listed : (flat : List Entry) (stack rest : List ℕ) (top : ℕ) →
-    stack ≡ rest ++ top ∷ [] → AreListed flat stack → top < length flat
-top_listed flat stack rest top popped a =
-    let P : List ℕ → Type 0 = AreListed flat in
-    (AreListed-back flat rest (top ∷ []) (subst P popped a)).0
-
-AreListed-reverse : (flat : List Entry) (xs : List ℕ) → AreListed flat xs →
-    AreListed flat (reverse xs)
-AreListed-reverse flat [] a = tt
-AreListed-reverse flat (x ∷ xs) a =
-    let P : List ℕ → Type 0 = AreListed flat in
-    subst P (sym (reverse-append (x ∷ []) xs))
-    (AreListed-append flat (reverse xs) (x ∷ []) (AreListed-reverse flat xs a.1) (a.0, tt))
-
 AreListed-range : (flat : List Entry) (first count : ℕ) → first + count ≤ length flat →
-    AreListed flat (range_with_len first count)
-AreListed-range flat first zero within = tt
+    All (IsListed flat) (range_with_len first count)
+AreListed-range flat first zero within = All-nil (IsListed flat)
 AreListed-range flat first (suc count) within =
-    (omega arith, AreListed-range flat (first + 1) count (omega arith))
+    All-cons (IsListed flat) first (range_with_len (first + 1) count) (omega arith)
+    (AreListed-range flat (first + 1) count (omega arith))
 
--- the children's numbers are listed
-AreListed-children : (flat : List Entry) (number : ℕ) → HasItsChildren flat number →
-    AreListed flat (reverse (children_at flat number))
-AreListed-children flat number its =
-    AreListed-reverse flat (children_at flat number)
+-- the children of a node are put on numbers that are listed
+AreListed-pushed : (flat : List Entry) (rest after : List ℕ) (number : ℕ) →
+    HasItsChildren flat number → after ≡ rest ++ reverse (children_at flat number) →
+    All (IsListed flat) rest → All (IsListed flat) after
+AreListed-pushed flat rest after number its pushed listed =
+    let P : List ℕ → Type 0 = All (IsListed flat) in
+    let children : List ℕ = children_at flat number in
+    subst P (sym pushed) (All-append (IsListed flat) rest (reverse children) listed
+    (All-permutation (IsListed flat) children (reverse children) (IsPermutation-reverse children)
     (AreListed-range flat (entry_at flat number).first_child (entry_at flat number).child_count
-    its.within)
-
-pub AreListed-step : (flat : List Entry) (stack rest after : List ℕ) (top : ℕ) →
-    stack ≡ rest ++ top ∷ [] → HasItsChildren flat top →
-    after ≡ rest ++ reverse (children_at flat top) →
-    AreListed flat stack → AreListed flat after
-AreListed-step flat stack rest after top popped its pushed listed =
-    let P : List ℕ → Type 0 = AreListed flat in
-    subst P (sym pushed) (AreListed-append flat rest (reverse (children_at flat top))
-    (AreListed-front flat rest (top ∷ []) (subst P popped listed))
-    (AreListed-children flat top its))
+    its.within)))
 
 pub AreListed_begin : (flat : List Entry) (stack : List ℕ) → HasItsChildren flat 0 →
     stack ≡ [] ++ reverse (children_at flat 0) → AreListed flat stack
+unfolding AreListed
 AreListed_begin flat stack its pushed =
-    let P : List ℕ → Type 0 = AreListed flat in
-    subst P (sym pushed) (AreListed-children flat 0 its)
+    AreListed-pushed flat [] stack 0 its pushed (All-nil (IsListed flat))
+
+module _ (flat : List Entry) (stack rest : List ℕ) (top : ℕ) (popped : stack ≡ rest ++ top ∷ [])
+    (listed : AreListed flat stack) where
+  -- the number on top is listed
+  pub top_listed : top < length flat
+  unfolding AreListed
+  top_listed = (All-pop (IsListed flat) stack rest (Some top) popped listed).1
+
+  -- so are its children's and the rest
+  pub AreListed-step : (after : List ℕ) → HasItsChildren flat top →
+      after ≡ rest ++ reverse (children_at flat top) → AreListed flat after
+  unfolding AreListed
+  AreListed-step after its pushed =
+      AreListed-pushed flat rest after top its pushed
+      (All-pop (IsListed flat) stack rest (Some top) popped listed).0
 
 -- ---- numbers that are added from the last one down
 

@@ -1,8 +1,9 @@
-use Rattle.std.proofs.Common.{◌≡◌, List, ℕ, [], ◌++◌, length, map, reverse, ap, sym, ◌∙◌, append-nil, rules, arith}
+use Rattle.std.proofs.Common.{◌≡◌, List, ℕ, ◌++◌, length, map, reverse, ap, sym, ◌∙◌, append-nil, rules, arith}
 use Rattle.cc_flat.specs.Flat.{Entry, HasItsChildren, children_at, tree_at}
+use Rattle.cc_visits.proofs.FromStack.{from_stack_none}
 use Rattle.cc_zsh.specs.Functions.{Function, function_of}
-use Rattle.cc_zsh.specs.Named.{function_named}
-use Rattle.cc_zsh.proofs.Stack.{AreListed-step, commands_step, functions_by-nil, functions_step, top_listed}
+use Rattle.cc_zsh.specs.Named.{function_named, functions_at}
+use Rattle.cc_zsh.proofs.Stack.{AreListed-step, commands_step, functions_step, top_listed}
 use Rattle.cc_zsh.proofs.functions.commands_of.Goals as goal
 
 pub command-requires : goal.command-requires
@@ -42,16 +43,16 @@ loop-number-preserved c =
           c.loop-number.found.items c.push.new.self.items c.with_full_name.result one _
           step (search rules) (search rules) c.loop-number.invariant.whole;
       listed =
-          AreListed-step flat c.loop-number.stack.items c.pop.new.self.items
-          c.push_children.new.stack.items top c.in-Some.ensures.items its pushed
-          c.loop-number.invariant.listed;
+          AreListed-step flat c.loop-number.stack.items c.pop.new.self.items top
+          c.in-Some.ensures.items c.loop-number.invariant.listed
+          c.push_children.new.stack.items its pushed;
     }
 
 pub returns : goal.returns
 returns c =
     let flat : List Entry = c.args.flat.now in
-    let none : c.loop-number.stack.items ≡ [] = search rules in
+    let none : length c.loop-number.stack.items ≡ 0 = search rules in
     sym (append-nil (map function_named c.loop-number.found.items)) ∙
     ap (λ t. map function_named c.loop-number.found.items ++ t)
-    (sym (functions_by-nil flat c.loop-number.stack.items none)) ∙
+    (sym (from_stack_none (functions_at flat) c.loop-number.stack.items none)) ∙
     c.loop-number.invariant.whole
