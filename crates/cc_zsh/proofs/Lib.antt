@@ -10,6 +10,7 @@ pub mod ZshBlock
 pub mod ZshCutting
 pub mod ZshFunctions
 pub mod ZshLabels
+pub mod ZshLastBytes
 pub mod ZshLines
 pub mod ZshNames
 pub mod ZshNumbers

@@ -1,5 +1,5 @@
 -- The arms of the nodes below the root are read back.
-use Rattle.std.proofs.Common.{◌≡◌, ◌==◌, ℕ, suc, true, false, cond, List, [], ◌∷◌, ◌++◌, map, flat_map, fold, length, Some, None, option_map, codes, refl, sym, ◌∙◌, ap, append_assoc, append-nil}
+use Rattle.std.proofs.Common.{◌≡◌, ℕ, suc, true, false, cond, List, [], ◌∷◌, ◌++◌, map, flat_map, fold, length, Some, None, codes, refl, sym, ◌∙◌, ap, append_assoc, append-nil}
 use Rattle.std.specs.List.{AllByRecursion}
 use Rattle.std.proofs.lemmas.List.{map-append}
 use Rattle.cc_base.proofs.Lines.{IsLine}
@@ -16,8 +16,9 @@ use Rattle.cc_quote.specs.Tokens.Piece.{bare}
 use Rattle.cc_quote.proofs.PosixCutting.{IsOther, IsKept-IsOther, tokens_from, bare_run, double_run}
 use Rattle.cc_visits.specs.Visits.{Keyed, keyed, keys_below, longer_path, paths_below}
 use Rattle.cc_zsh.specs.Nested.{block_text, nested_1, nested_2, nested_3, nested_4, nested_5, nested_6, nested_7, place_text, context_text, nested_begins, nested_text, nested_line, arm_ends, arm_text, arms_text}
-use Rattle.cc_zsh.specs.ZshReader.{Block, Path, State, arm_word, is_line, next, next_arm, read, text_after, text_before}
+use Rattle.cc_zsh.specs.ZshReader.{Block, Path, State, arm_word, is_line, next, next_arm, read, text_after}
 use Rattle.cc_zsh.specs.ZshReader.State.{after_block, after_nested, at_arms, at_block, between_arms, after_arms, malformed}
+use Rattle.cc_zsh.proofs.ZshLastBytes.{before-last}
 use Rattle.cc_zsh.proofs.ZshLines.{reading}
 use Rattle.cc_zsh.proofs.ZshNames.{name_other, plain_name_bytes}
 use Rattle.cc_zsh.proofs.ZshBlock.{context_bytes, IsReadable, block_with, arm_block_read}
@@ -71,14 +72,6 @@ unfolding nested_7 sign byte_of cut is_word arm_word text_after next read
 frame_ends outer blocks path rest (line tail) = refl
 
 -- ---- one arm
-
-before-last : (last : ℕ) (text : List ℕ) → last == last ≡ true →
-    text_before last (text ++ last ∷ []) ≡ Some text
-unfolding text_before
-before-last last [] e = ap (λ b. cond b (Some []) None) e
-before-last last (byte ∷ []) e = ap (option_map (λ before. byte ∷ before)) (before-last last [] e)
-before-last last (byte ∷ next ∷ text) e =
-    ap (option_map (λ before. byte ∷ before)) (before-last last (next ∷ text) e)
 
 word_found : (word : List ℕ) →
     arm_word (bare ((codes "(" ++ word) ++ codes ")") ∷ []) ≡ Some word

@@ -20,6 +20,7 @@ use Rattle.cc_zsh.specs.ZshReader.State.{at_list, between_functions, in_list, ma
 use Rattle.cc_zsh.specs.ZshTable.{description_of, entry_row}
 use Rattle.cc_zsh.proofs.ZshCutting.{Escapes, escapes_append, escapes_same, NoQuote, quoted_token, single_cut, single_run, token_quoted, not_word, word_of-quoted}
 use Rattle.cc_zsh.proofs.ZshOptionWords.{AreNameBytes}
+use Rattle.cc_zsh.proofs.ZshLastBytes.{before-last, before-other}
 use Rattle.cc_zsh.proofs.ZshLines.{reading}
 use Rattle.cc_zsh.proofs.ZshNames.{name_other, name_no_quote}
 
@@ -177,23 +178,6 @@ pub record IsFunction (function : Function) : Type 0 where
   pub label : AreNameBytes (function_label function.name)
   pub name : NoQuote function.name
   pub words : AllByRecursion (λ e. AreNameBytes e.word) function.entries
-
-before-other : (last byte : ℕ) (text : List ℕ) → byte == last ≡ false →
-    text_before last (text ++ byte ∷ []) ≡ None
-unfolding text_before
-before-other last byte [] e = ap (λ b. cond b (Some []) None) e
-before-other last byte (first ∷ []) e =
-    ap (option_map (λ before. first ∷ before)) (before-other last byte [] e)
-before-other last byte (first ∷ next ∷ text) e =
-    ap (option_map (λ before. first ∷ before)) (before-other last byte (next ∷ text) e)
-
-before-last : (last : ℕ) (text : List ℕ) → last == last ≡ true →
-    text_before last (text ++ last ∷ []) ≡ Some text
-unfolding text_before
-before-last last [] e = ap (λ b. cond b (Some []) None) e
-before-last last (byte ∷ []) e = ap (option_map (λ before. byte ∷ before)) (before-last last [] e)
-before-last last (byte ∷ next ∷ text) e =
-    ap (option_map (λ before. byte ∷ before)) (before-last last (next ∷ text) e)
 
 abbrev by_name : List Block → List Description → Option (List ℕ) → State
 by_name blocks ds found = elim found as (λ x. State) [
