@@ -28,8 +28,8 @@ described_text value =
 unfoldable pub named_text : PossibleValue → List ℕ
 named_text value = zsh_escaped_value value.name
 
--- the values of a list that are shown: with their helps, each on a line of its own, where one of them
--- has a help; else the names alone
+-- the values of a list that are shown: with their helps, each on a line of its own, where one of
+-- them has a help; else the names alone
 unfoldable pub described_list : List PossibleValue → List ℕ
 described_list values =
     codes "((" ++ (joined (codes "\n") (map described_text (shown_values values)) ++ codes "))")

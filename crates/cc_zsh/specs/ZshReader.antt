@@ -1,5 +1,5 @@
--- What a zsh script offers, by its tokens: blocks of options, each under its path, and the functions
--- that describe children.
+-- What a zsh script offers, by its tokens: blocks of options, each under its path, and the
+-- functions that describe children.
 use Rattle.std.specs.Prelude.{ℕ, Bool, true, false, List, [], ◌∷◌, ◌++◌, ◌==◌, ◌||◌, if◌then◌else◌, Option, Some, None, option_map, is_some, bytes_eq, codes}
 use Rattle.std.specs.Char.{is_ascii_alphanumeric}
 use Rattle.std.specs.List.{flat_map}

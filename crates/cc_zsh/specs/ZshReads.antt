@@ -8,9 +8,10 @@ use Rattle.cc_zsh.specs.ZshReader.{zsh_parts, zsh_shown}
 use Rattle.cc_zsh.specs.ZshScript.{zsh_script}
 use Rattle.cc_zsh.specs.ZshTable.{all_shown_at, description_of}
 
--- The script reads to what the tree shows at each visible path, path by path: its options and flags,
--- and the visible names of its children with their descriptions. Its functions are exactly those of
--- the tree. The visits are exactly the visible paths, each once, with the nodes that they lead to.
+-- The script reads to what the tree shows at each visible path, path by path: its options and
+-- flags, and the visible names of its children with their descriptions. Its functions are exactly
+-- those of the tree. The visits are exactly the visible paths, each once, with the nodes that they
+-- lead to.
 pub record ZshReads (root : Tree) : Type 0 where
   pub shown : zsh_shown (zsh_script root) ≡ Some (all_shown_at root)
   pub functions : option_map (λ parts. parts.descriptions) (zsh_parts (zsh_script root))

@@ -65,7 +65,8 @@ functions_text root = flat_map function_text (tree_functions root)
 
 unfoldable pub script_text : List ℕ → Tree → List ℕ
 script_text bin_name root =
-    begin_text bin_name ++ (root_text root ++ (middle ++ (functions_text root ++ end_text bin_name)))
+    begin_text bin_name ++ (root_text root ++ (middle
+    ++ (functions_text root ++ end_text bin_name)))
 
 -- the script of a tree
 abbrev pub zsh_script : Tree → List ℕ
