@@ -1,14 +1,16 @@
 -- What the reader asks of plain names.
-use Rattle.std.proofs.Common.{◌≡◌, ◌≢◌, ◌==◌, ◌||◌, ℕ, ◌<◌, Bool, true, false, cond, IsTrue, List, [], ◌∷◌, ◌++◌, flat_map, Option, Some, None, codes, refl, sym, subst, arith}
+use Rattle.std.proofs.Common.{◌≡◌, ◌≢◌, ◌==◌, ◌||◌, ℕ, ◌<◌, Bool, true, false, cond, IsTrue, List, [], ◌∷◌, ◌++◌, flat_map, map, Option, Some, None, codes, refl, sym, subst, arith}
 use Rattle.std.specs.Char.{is_ascii_alphanumeric}
 use Rattle.std.specs.List.{AllByRecursion}
 use Rattle.std.specs.Option.{option_to_list}
 use Rattle.std.specs.Str.{bytes_eq}
 use Rattle.std.proofs.lemmas.Str.{encode_ascii}
 use Rattle.std.proofs.lemmas.Bool.Decides.{nat_tests}
-use Rattle.cc_base.proofs.Members.{AllByRecursion-weaker, AllByRecursion-append}
+use Rattle.cc_base.proofs.Members.{AllByRecursion-weaker, AllByRecursion-append, AllByRecursion-map}
 use Rattle.cc_arg.specs.declared.arg.Arg.{Arg}
-use Rattle.cc_arg.specs.ShownNames.{with_aliases, shown_shorts, shown_longs}
+use Rattle.cc_arg.specs.declared.names.ShownName.{ShownName}
+use Rattle.cc_arg.specs.declared.names.ShownName.TheVariants.{Short, Long}
+use Rattle.cc_arg.specs.ShownNames.{with_aliases, shown_names, shown_shorts, shown_longs}
 use Rattle.cc_command.specs.declared.node.Node.{Node}
 use Rattle.cc_command.specs.Plain.{passes_if_some}
 use Rattle.cc_command.specs.PlainName.{letter, joiner, foreign, name_byte, is_plain_name}
@@ -20,6 +22,7 @@ use Rattle.cc_quote.proofs.PosixCutting.{IsOther}
 use Rattle.cc_command.specs.ArgumentLists.{first_with}
 use Rattle.cc_zsh.specs.Conflicts.{looked_up, excluded, short_word, long_word, short_words, long_words, own_words, conflict_words, conflicts_text}
 use Rattle.cc_zsh.specs.Joined.{joined, joined_after, separator}
+use Rattle.cc_zsh.specs.Options.{name_word}
 use Rattle.cc_zsh.specs.ZshReader.{is_name_byte}
 use Rattle.cc_zsh.proofs.ZshCutting.{NoQuote}
 use Rattle.cc_zsh.proofs.ZshOptionWords.{AreNameBytes, IsDashed, IsFront, dashed_bytes, front_of}
@@ -70,7 +73,7 @@ name_no_quote text h = AllByRecursion-weaker (λ byte. is_name_byte byte ≡ tru
 short_low : (short : ℕ) → is_ascii_alphanumeric short ≡ true → short < 128
 short_low short h = grind (arith, nat_tests)
 
-pub short_dashed : (short : ℕ) → IsPlainShort short → IsDashed (short_word short)
+short_dashed : (short : ℕ) → IsPlainShort short → IsDashed (short_word short)
 short_dashed short h = subst (λ t. IsDashed (45 ∷ t)) (sym (encode_ascii short (short_low short h)))
     (refl, (letter_is short h, tt))
 
@@ -78,26 +81,34 @@ dash_bytes : (text : List ℕ) → AreNameBytes text → IsDashed (codes "--" ++
 unfolding is_name_byte
 dash_bytes text h = (refl, (refl, h))
 
-pub long_dashed : (long : List ℕ) → IsPlainName long → IsDashed (long_word long)
+long_dashed : (long : List ℕ) → IsPlainName long → IsDashed (long_word long)
 long_dashed long h = dash_bytes long (plain_name_bytes long h)
 
-pub plain_shorts : (argument : Arg) → IsPlainArgument argument →
-    AllByRecursion IsPlainShort (shown_shorts argument)
-plain_shorts argument h = by_short argument.short h.short
-  where
-    by_short : (short : Option ℕ) → IsTrue (passes_if_some is_ascii_alphanumeric short) →
-        AllByRecursion IsPlainShort (with_aliases short argument.visible_short_aliases)
-    by_short None k = tt
-    by_short (Some short) k = (k, h.shorts)
+-- the names of a plain argument that are shown
+shown_plain : {Name : Type 0} (is_plain : Name → Bool) (first : Option Name) (aliases : List Name) →
+    IsTrue (passes_if_some is_plain first) →
+    AllByRecursion (λ name. IsTrue (is_plain name)) aliases →
+    AllByRecursion (λ name. IsTrue (is_plain name)) (with_aliases first aliases)
+shown_plain is_plain None aliases h k = tt
+shown_plain is_plain (Some name) aliases h k = (h, k)
 
-pub plain_longs : (argument : Arg) → IsPlainArgument argument →
-    AllByRecursion IsPlainName (shown_longs argument)
-plain_longs argument h = by_long argument.long h.long
-  where
-    by_long : (long : Option (List ℕ)) → IsTrue (passes_if_some is_plain_name long) →
-        AllByRecursion IsPlainName (with_aliases long argument.visible_aliases)
-    by_long None k = tt
-    by_long (Some long) k = (k, h.longs)
+-- a name that is typed with its dashes
+abbrev pub IsDashedName : ShownName → Type 0
+IsDashedName name = IsDashed (name_word name)
+
+pub names_dashed : (argument : Arg) → IsPlainArgument argument →
+    AllByRecursion IsDashedName (shown_names argument)
+names_dashed argument h =
+    AllByRecursion-append IsDashedName (map Short (shown_shorts argument))
+    (map Long (shown_longs argument))
+    (AllByRecursion-map IsDashedName Short (shown_shorts argument)
+    (AllByRecursion-weaker IsPlainShort (λ short. IsDashed (short_word short)) short_dashed
+    (shown_shorts argument) (shown_plain is_ascii_alphanumeric argument.short
+    argument.visible_short_aliases h.short h.shorts)))
+    (AllByRecursion-map IsDashedName Long (shown_longs argument)
+    (AllByRecursion-weaker IsPlainName (λ long. IsDashed (long_word long)) long_dashed
+    (shown_longs argument) (shown_plain is_plain_name argument.long
+    argument.visible_aliases h.long h.longs)))
 
 -- ---- names in conflict
 

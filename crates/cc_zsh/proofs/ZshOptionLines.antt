@@ -3,22 +3,24 @@ use Rattle.std.proofs.Common.{◌≡◌, ℕ, Bool, true, false, cond, List, [],
 use Rattle.std.specs.List.{AllByRecursion}
 use Rattle.std.specs.Option.{option_to_list}
 use Rattle.cc_arg.specs.declared.arg.Arg.{Arg}
-use Rattle.cc_arg.specs.ShownNames.{shown_shorts, shown_longs}
+use Rattle.cc_arg.specs.declared.names.ShownName.{ShownName}
+use Rattle.cc_arg.specs.declared.names.ShownName.TheVariants.{Short, Long}
+use Rattle.cc_arg.specs.ShownNames.{shown_names}
 use Rattle.cc_command.specs.declared.node.Node.{Node}
 use Rattle.cc_command.specs.ArgumentLists.{options, flags}
-use Rattle.cc_command.proofs.PlainParts.{IsPlainName, IsPlainShort, IsPlainArgument, IsPlainNode}
+use Rattle.cc_command.proofs.PlainParts.{IsPlainArgument, IsPlainNode}
 use Rattle.cc_quote.specs.QuotedWord.{line_feeds_as_spaces}
 use Rattle.cc_quote.specs.ZshQuote.{is_help_marked, marked, zsh_escaped_help}
 use Rattle.cc_zsh.specs.Conflicts.{excluded, conflict_words, conflicts_text, short_word, long_word}
-use Rattle.cc_zsh.specs.Options.{is_repeated, repeated_text, help_text, front_text, line_end, short_option, long_option, short_flag, long_flag, option_text, flag_text, options_text, flags_text}
+use Rattle.cc_zsh.specs.Options.{is_repeated, repeated_text, help_text, front_text, line_end, name_word, option_line, flag_line, option_text, flag_text, options_text, flags_text}
 use Rattle.cc_zsh.specs.Values.{values_text}
 use Rattle.cc_zsh.specs.ZshReader.{Bracket}
 use Rattle.cc_zsh.specs.ZshReader.Bracket.{alone, after_plus, after_equals}
-use Rattle.cc_zsh.specs.ZshTable.{option_row, option_rows, flag_rows, node_rows}
+use Rattle.cc_zsh.specs.ZshTable.{bracket_after, option_row, option_rows, flag_rows, node_rows}
 use Rattle.cc_zsh.proofs.ZshCutting.{Escapes, escapes_append, escapes_same, IsEscaped, escaped_same}
 use Rattle.cc_zsh.proofs.ZshOptionWords.{IsDashed, dashed_bytes, IsFront, bracket_text, front_of, star_of, option_word, option_read}
 use Rattle.cc_zsh.proofs.ZshLines.{Adds, adds_append, adds_flat_map, adds_map, line_adds}
-use Rattle.cc_zsh.proofs.ZshNames.{short_dashed, long_dashed, plain_shorts, plain_longs, conflicting_dashed, has_any, conflicts_front, conflicts_are, name_no_quote, front_no_quote}
+use Rattle.cc_zsh.proofs.ZshNames.{IsDashedName, names_dashed, conflicting_dashed, has_any, conflicts_front, conflicts_are, name_no_quote, front_no_quote}
 use Rattle.cc_zsh.proofs.ZshValues.{escaped_values}
 
 star_escapes : (repeated : Bool) → Escapes (star_of repeated) (star_of repeated)
@@ -95,73 +97,53 @@ module _ (above node : Node) (above_plain : AllByRecursion IsPlainArgument above
   front_is = ap (λ t. t ++ repeated_text argument) (conflicts_front (excluded above node argument))
       ∙ ap (λ t. front_of has_front words ++ t) (star_is (is_repeated argument))
 
-  regroup_option : (q conf rep name br ob helps cb values end : List ℕ) →
+  regroup : (q conf rep name br ob helps cb values end : List ℕ) →
       (q ++ (conf ++ rep)) ++ (name ++ (br ++ ((ob ++ (helps ++ cb)) ++ (values ++ end))))
       ≡ q ++ ((conf ++ (rep ++ (name ++ (br ++ (ob ++ (helps ++ (cb ++ values))))))) ++ end)
-  regroup_option q conf rep name br ob helps cb values end = simp append_assoc
+  regroup q conf rep name br ob helps cb values end = simp append_assoc
 
-  regroup_flag : (q conf rep name ob helps cb end : List ℕ) →
-      (q ++ (conf ++ rep)) ++ (name ++ ((ob ++ (helps ++ cb)) ++ end))
-      ≡ q ++ ((conf ++ (rep ++ (name ++ (ob ++ (helps ++ cb))))) ++ end)
-  regroup_flag q conf rep name ob helps cb end = simp append_assoc
-
-  option_line : (name : List ℕ) (bracket : Bracket) → IsDashed name →
+  -- a line under one name adds an option
+  adds_one : (name : List ℕ) (bracket : Bracket) (values : List ℕ) → IsEscaped values →
+      IsDashed name →
       Adds (front_text above node argument ++ (name ++ (bracket_text bracket
-      ++ (help_text argument ++ (values_text argument ++ line_end)))))
+      ++ (help_text argument ++ (values ++ line_end)))))
       (option_row above node argument bracket name ∷ [])
   unfolding front_text help_text
-  option_line name bracket dashed =
+  adds_one name bracket values v dashed =
       subst (λ t. Adds t (option_row above node argument bracket name ∷ []))
       (sym (ap (λ t. (codes "'" ++ t) ++ (name ++ (bracket_text bracket
-      ++ ((codes "[" ++ (zsh_escaped_help help ++ codes "]")) ++ (values_text argument ++ line_end)))))
-      front_is ∙ regroup_option (codes "'") (front_of has_front words)
+      ++ ((codes "[" ++ (zsh_escaped_help help ++ codes "]")) ++ (values ++ line_end)))))
+      front_is ∙ regroup (codes "'") (front_of has_front words)
       (star_of (is_repeated argument)) name (bracket_text bracket) (codes "[")
-      (zsh_escaped_help help) (codes "]") (values_text argument) line_end))
-      (line_of name bracket (values_text argument) (escaped_values argument is.value_names) dashed)
+      (zsh_escaped_help help) (codes "]") values line_end))
+      (line_of name bracket values v dashed)
 
-  flag_line : (name : List ℕ) → IsDashed name →
-      Adds (front_text above node argument ++ (name ++ (help_text argument ++ line_end)))
-      (option_row above node argument alone name ∷ [])
-  unfolding front_text help_text
-  flag_line name dashed =
-      subst (λ t. Adds t (option_row above node argument alone name ∷ []))
-      (sym (ap (λ t. (codes "'" ++ t) ++ (name ++ ((codes "[" ++ (zsh_escaped_help help ++ codes "]"))
-      ++ line_end))) front_is ∙ regroup_flag (codes "'") (front_of has_front words)
-      (star_of (is_repeated argument)) name (codes "[") (zsh_escaped_help help) (codes "]")
-      line_end))
-      (line_of name alone [] (escaped_same [] tt) dashed)
+  option_adds_one : (name : ShownName) → IsDashedName name →
+      Adds (option_line above node argument name)
+      (option_row above node argument (bracket_after name) (name_word name) ∷ [])
+  unfolding option_line
+  option_adds_one (Short short) = adds_one (short_word short) after_plus (values_text argument)
+      (escaped_values argument is.value_names)
+  option_adds_one (Long long) = adds_one (long_word long) after_equals (values_text argument)
+      (escaped_values argument is.value_names)
+
+  flag_adds_one : (name : ShownName) → IsDashedName name →
+      Adds (flag_line above node argument name)
+      (option_row above node argument alone (name_word name) ∷ [])
+  unfolding flag_line
+  flag_adds_one name = adds_one (name_word name) alone [] (escaped_same [] tt)
 
   option_adds : Adds (option_text above node argument) (option_rows above node argument)
-  unfolding option_text short_option long_option
-  option_adds = adds_append (flat_map (short_option above node argument) (shown_shorts argument))
-      (flat_map (long_option above node argument) (shown_longs argument))
-      (map (λ short. option_row above node argument after_plus (short_word short))
-      (shown_shorts argument))
-      (map (λ long. option_row above node argument after_equals (long_word long))
-      (shown_longs argument))
-      (adds_map IsPlainShort (short_option above node argument)
-      (λ short. option_row above node argument after_plus (short_word short))
-      (λ short h. option_line (short_word short) after_plus (short_dashed short h))
-      (shown_shorts argument) (plain_shorts argument is))
-      (adds_map IsPlainName (long_option above node argument)
-      (λ long. option_row above node argument after_equals (long_word long))
-      (λ long h. option_line (long_word long) after_equals (long_dashed long h))
-      (shown_longs argument) (plain_longs argument is))
+  unfolding option_text
+  option_adds = adds_map IsDashedName (option_line above node argument)
+      (λ name. option_row above node argument (bracket_after name) (name_word name))
+      option_adds_one (shown_names argument) (names_dashed argument is)
 
   flag_adds : Adds (flag_text above node argument) (flag_rows above node argument)
-  unfolding flag_text short_flag long_flag
-  flag_adds = adds_append (flat_map (short_flag above node argument) (shown_shorts argument))
-      (flat_map (long_flag above node argument) (shown_longs argument))
-      (map (λ short. option_row above node argument alone (short_word short)) (shown_shorts argument))
-      (map (λ long. option_row above node argument alone (long_word long)) (shown_longs argument))
-      (adds_map IsPlainShort (short_flag above node argument)
-      (λ short. option_row above node argument alone (short_word short))
-      (λ short h. flag_line (short_word short) (short_dashed short h))
-      (shown_shorts argument) (plain_shorts argument is))
-      (adds_map IsPlainName (long_flag above node argument)
-      (λ long. option_row above node argument alone (long_word long))
-      (λ long h. flag_line (long_word long) (long_dashed long h))
-      (shown_longs argument) (plain_longs argument is))
+  unfolding flag_text
+  flag_adds = adds_map IsDashedName (flag_line above node argument)
+      (λ name. option_row above node argument alone (name_word name))
+      flag_adds_one (shown_names argument) (names_dashed argument is)
 
 -- all options and flags of a node
 pub node_adds : (above node : Node) → AllByRecursion IsPlainArgument above.arguments →

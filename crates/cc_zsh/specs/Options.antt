@@ -4,7 +4,9 @@ use Rattle.std.specs.List.{flat_map}
 use Rattle.cc_arg.specs.declared.arg.Arg.{Arg}
 use Rattle.cc_arg.specs.declared.action.ArgAction.{ArgAction}
 use Rattle.cc_arg.specs.declared.action.ArgAction.TheVariants.{Set, Append, Count}
-use Rattle.cc_arg.specs.ShownNames.{shown_longs, shown_shorts}
+use Rattle.cc_arg.specs.declared.names.ShownName.{ShownName}
+use Rattle.cc_arg.specs.declared.names.ShownName.TheVariants.{Short, Long}
+use Rattle.cc_arg.specs.ShownNames.{shown_names}
 use Rattle.cc_command.specs.declared.node.Node.{Node}
 use Rattle.cc_command.specs.ArgumentLists.{flags, options}
 use Rattle.cc_zsh.specs.Conflicts.{conflicts_text, excluded, long_word, short_word}
@@ -39,36 +41,33 @@ front_text above node argument =
 unfoldable pub line_end : List ℕ
 line_end = codes "' \\\n"
 
--- an option's short, and one of its longs
-unfoldable pub short_option : Node → Node → Arg → ℕ → List ℕ
-short_option above node argument short =
-    front_text above node argument ++ (short_word short
-    ++ (codes "+" ++ (help_text argument ++ (values_text argument ++ line_end))))
+-- a name as it is typed
+abbrev pub name_word : ShownName → List ℕ
+name_word (Short short) = short_word short
+name_word (Long long) = long_word long
 
-unfoldable pub long_option : Node → Node → Arg → List ℕ → List ℕ
-long_option above node argument long =
-    front_text above node argument ++ (long_word long
-    ++ (codes "=" ++ (help_text argument ++ (values_text argument ++ line_end))))
+-- how the value of an option may follow its name: a short at once, a long after `=`, and either as
+-- the next word
+abbrev pub value_sign : ShownName → List ℕ
+value_sign (Short _) = codes "+"
+value_sign (Long _) = codes "="
 
--- a flag's
-unfoldable pub short_flag : Node → Node → Arg → ℕ → List ℕ
-short_flag above node argument short =
-    front_text above node argument ++ (short_word short ++ (help_text argument ++ line_end))
+-- an option under one of its names, and a flag
+unfoldable pub option_line : Node → Node → Arg → ShownName → List ℕ
+option_line above node argument name =
+    front_text above node argument ++ (name_word name ++ (value_sign name
+    ++ (help_text argument ++ (values_text argument ++ line_end))))
 
-unfoldable pub long_flag : Node → Node → Arg → List ℕ → List ℕ
-long_flag above node argument long =
-    front_text above node argument ++ (long_word long ++ (help_text argument ++ line_end))
+unfoldable pub flag_line : Node → Node → Arg → ShownName → List ℕ
+flag_line above node argument name =
+    front_text above node argument ++ (name_word name ++ (help_text argument ++ line_end))
 
 -- an option under each of its shown names, shorts first; a flag likewise
 unfoldable pub option_text : Node → Node → Arg → List ℕ
-option_text above node argument =
-    flat_map (short_option above node argument) (shown_shorts argument)
-    ++ flat_map (long_option above node argument) (shown_longs argument)
+option_text above node argument = flat_map (option_line above node argument) (shown_names argument)
 
 unfoldable pub flag_text : Node → Node → Arg → List ℕ
-flag_text above node argument =
-    flat_map (short_flag above node argument) (shown_shorts argument)
-    ++ flat_map (long_flag above node argument) (shown_longs argument)
+flag_text above node argument = flat_map (flag_line above node argument) (shown_names argument)
 
 -- the options and the flags of a node that has this node above it
 unfoldable pub options_text : Node → Node → List ℕ

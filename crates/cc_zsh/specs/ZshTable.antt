@@ -2,16 +2,18 @@
 use Rattle.std.specs.Prelude.{ℕ, List, [], ◌∷◌, ◌++◌, map, unwrap_or}
 use Rattle.std.specs.List.{flat_map}
 use Rattle.cc_arg.specs.declared.arg.Arg.{Arg}
-use Rattle.cc_arg.specs.ShownNames.{shown_longs, shown_shorts}
+use Rattle.cc_arg.specs.declared.names.ShownName.{ShownName}
+use Rattle.cc_arg.specs.declared.names.ShownName.TheVariants.{Short, Long}
+use Rattle.cc_arg.specs.ShownNames.{shown_names}
 use Rattle.cc_command.specs.declared.node.Node.{Node}
 use Rattle.cc_command.specs.ArgumentLists.{flags, options}
 use Rattle.cc_command.specs.Tree.{Tree}
 use Rattle.cc_quote.specs.QuotedWord.{line_feeds_as_spaces}
 use Rattle.cc_visits.specs.Visits.{Keyed, longer_path, path_visits}
-use Rattle.cc_zsh.specs.Conflicts.{conflict_words, excluded, long_word, short_word}
+use Rattle.cc_zsh.specs.Conflicts.{conflict_words, excluded}
 use Rattle.cc_zsh.specs.Functions.{Entry, Function, entries_of}
 use Rattle.cc_zsh.specs.Nested.{function_label}
-use Rattle.cc_zsh.specs.Options.{is_repeated}
+use Rattle.cc_zsh.specs.Options.{is_repeated, name_word}
 use Rattle.cc_zsh.specs.ZshReader.{Bracket, Description, Path, Shown, ZshOption}
 use Rattle.cc_zsh.specs.ZshReader.Bracket.{after_equals, after_plus, alone}
 
@@ -26,18 +28,20 @@ option_row above node argument bracket name = record {
   help = line_feeds_as_spaces (unwrap_or argument.help []);
 }
 
+-- what stands before the bracket of an option
+abbrev pub bracket_after : ShownName → Bracket
+bracket_after (Short _) = after_plus
+bracket_after (Long _) = after_equals
+
 -- an option under each of its shown names, shorts first; a flag likewise
 abbrev pub option_rows : Node → Node → Arg → List ZshOption
 option_rows above node argument =
-    map (λ short. option_row above node argument after_plus (short_word short))
-    (shown_shorts argument)
-    ++ map (λ long. option_row above node argument after_equals (long_word long))
-    (shown_longs argument)
+    map (λ name. option_row above node argument (bracket_after name) (name_word name))
+    (shown_names argument)
 
 abbrev pub flag_rows : Node → Node → Arg → List ZshOption
 flag_rows above node argument =
-    map (λ short. option_row above node argument alone (short_word short)) (shown_shorts argument)
-    ++ map (λ long. option_row above node argument alone (long_word long)) (shown_longs argument)
+    map (λ name. option_row above node argument alone (name_word name)) (shown_names argument)
 
 -- the options and the flags of a node that has this node above it
 abbrev pub node_rows : Node → Node → List ZshOption

@@ -1,17 +1,14 @@
 //! The lines of a command's options and flags.
 
 ghost use Rattle.std.specs.Prelude.{◌≡◌, ◌++◌, unwrap_or};
-ghost use Rattle.std.specs.List.{flat_map};
-ghost use Rattle.std.specs.Option.{option_copied};
-ghost use Rattle.cc_arg.specs.ShownNames.{shown_longs, shown_shorts};
 ghost use Rattle.cc_base.specs.Writes.{Writes};
-ghost use Rattle.cc_zsh.specs.Options.{flag_text, flags_text, front_text, help_text, long_flag, long_option, option_text, options_text, repeated_text, short_flag, short_option};
+ghost use Rattle.cc_zsh.specs.Options.{flag_line, flag_text, flags_text, front_text, help_text, name_word, option_line, option_text, options_text, repeated_text, value_sign};
 
 use crate::conflicts::write_conflicts;
 use crate::names::{write_long, write_short};
 use crate::texts::line_end;
 use crate::values::write_values;
-use cc_arg::{Arg, ArgAction, shown_longs, shown_shorts};
+use cc_arg::{Arg, ArgAction, ShownName, shown_names};
 use cc_base::{Error, Sink, put_all};
 use cc_command::Command;
 use cc_quote::{ZshHelpEscape, put_escaped};
@@ -59,8 +56,10 @@ fn write_option<W: Sink>(
     ensures { Writes W.taken W.failed result sink.old sink.new
         (option_text above.now.node command.now.node argument.now) }
 {
-    write_short_options(above, command, argument, sink)?;
-    write_long_options(above, command, argument, sink)
+    for name in shown_names(argument) {
+        write_option_line(above, command, argument, &name, sink)?;
+    }
+    Ok(())
 }
 
 // Writes a flag under each of its names.
@@ -74,144 +73,66 @@ fn write_flag<W: Sink>(
     ensures { Writes W.taken W.failed result sink.old sink.new
         (flag_text above.now.node command.now.node argument.now) }
 {
-    write_short_flags(above, command, argument, sink)?;
-    write_long_flags(above, command, argument, sink)
-}
-
-fn write_short_options<W: Sink>(
-    above: &Command,
-    command: &Command,
-    argument: &Arg,
-    sink: &mut W,
-) -> Result<(), Error>
-    ensures { Writes W.taken W.failed result sink.old sink.new
-        (flat_map (short_option above.now.node command.now.node argument.now)
-        (shown_shorts argument.now)) }
-{
-    for short in shown_shorts(argument) {
-        write_short_option(above, command, argument, short, sink)?;
+    for name in shown_names(argument) {
+        write_flag_line(above, command, argument, &name, sink)?;
     }
     Ok(())
 }
 
-fn write_long_options<W: Sink>(
+#[tactic(auto, unfolding(crate::specs::Options::option_line))]
+fn write_option_line<W: Sink>(
     above: &Command,
     command: &Command,
     argument: &Arg,
+    name: &ShownName<'_>,
     sink: &mut W,
 ) -> Result<(), Error>
     ensures { Writes W.taken W.failed result sink.old sink.new
-        (flat_map (long_option above.now.node command.now.node argument.now)
-        (shown_longs argument.now)) }
-{
-    for long in shown_longs(argument) {
-        write_long_option(above, command, argument, long, sink)?;
-    }
-    Ok(())
-}
-
-fn write_short_flags<W: Sink>(
-    above: &Command,
-    command: &Command,
-    argument: &Arg,
-    sink: &mut W,
-) -> Result<(), Error>
-    ensures { Writes W.taken W.failed result sink.old sink.new
-        (flat_map (short_flag above.now.node command.now.node argument.now)
-        (shown_shorts argument.now)) }
-{
-    for short in shown_shorts(argument) {
-        write_short_flag(above, command, argument, short, sink)?;
-    }
-    Ok(())
-}
-
-fn write_long_flags<W: Sink>(
-    above: &Command,
-    command: &Command,
-    argument: &Arg,
-    sink: &mut W,
-) -> Result<(), Error>
-    ensures { Writes W.taken W.failed result sink.old sink.new
-        (flat_map (long_flag above.now.node command.now.node argument.now)
-        (shown_longs argument.now)) }
-{
-    for long in shown_longs(argument) {
-        write_long_flag(above, command, argument, long, sink)?;
-    }
-    Ok(())
-}
-
-#[tactic(auto, unfolding(crate::specs::Options::short_option))]
-fn write_short_option<W: Sink>(
-    above: &Command,
-    command: &Command,
-    argument: &Arg,
-    short: char,
-    sink: &mut W,
-) -> Result<(), Error>
-    ensures { Writes W.taken W.failed result sink.old sink.new
-        (short_option above.now.node command.now.node argument.now short) }
+        (option_line above.now.node command.now.node argument.now name.now) }
 {
     write_front(above, command, argument, sink)?;
-    write_short(short, sink)?;
-    put_all(sink, "+".as_bytes())?;
+    write_name(name, sink)?;
+    put_all(sink, value_sign(name).as_bytes())?;
     write_help(argument, sink)?;
     write_values(argument, sink)?;
     put_all(sink, line_end().as_bytes())
 }
 
-#[tactic(auto, unfolding(crate::specs::Options::long_option))]
-fn write_long_option<W: Sink>(
+#[tactic(auto, unfolding(crate::specs::Options::flag_line))]
+fn write_flag_line<W: Sink>(
     above: &Command,
     command: &Command,
     argument: &Arg,
-    long: &str,
+    name: &ShownName<'_>,
     sink: &mut W,
 ) -> Result<(), Error>
     ensures { Writes W.taken W.failed result sink.old sink.new
-        (long_option above.now.node command.now.node argument.now long.now) }
+        (flag_line above.now.node command.now.node argument.now name.now) }
 {
     write_front(above, command, argument, sink)?;
-    write_long(long, sink)?;
-    put_all(sink, "=".as_bytes())?;
-    write_help(argument, sink)?;
-    write_values(argument, sink)?;
-    put_all(sink, line_end().as_bytes())
-}
-
-#[tactic(auto, unfolding(crate::specs::Options::short_flag))]
-fn write_short_flag<W: Sink>(
-    above: &Command,
-    command: &Command,
-    argument: &Arg,
-    short: char,
-    sink: &mut W,
-) -> Result<(), Error>
-    ensures { Writes W.taken W.failed result sink.old sink.new
-        (short_flag above.now.node command.now.node argument.now short) }
-{
-    write_front(above, command, argument, sink)?;
-    write_short(short, sink)?;
+    write_name(name, sink)?;
     write_help(argument, sink)?;
     put_all(sink, line_end().as_bytes())
 }
 
-#[tactic(auto, unfolding(crate::specs::Options::long_flag))]
-fn write_long_flag<W: Sink>(
-    above: &Command,
-    command: &Command,
-    argument: &Arg,
-    long: &str,
-    sink: &mut W,
-) -> Result<(), Error>
-    ensures { Writes W.taken W.failed result sink.old sink.new
-        (long_flag above.now.node command.now.node argument.now long.now) }
+// Writes a name as it is typed.
+fn write_name<W: Sink>(name: &ShownName<'_>, sink: &mut W) -> Result<(), Error>
+    ensures { Writes W.taken W.failed result sink.old sink.new (name_word name.now) }
 {
-    write_front(above, command, argument, sink)?;
-    write_long(long, sink)?;
-    write_help(argument, sink)?;
-    put_all(sink, line_end().as_bytes())
+    match name {
+        ShownName::Short(short) => write_short(*short, sink),
+        ShownName::Long(long) => write_long(long.as_str(), sink),
+    }
+}
+
+// How the value of an option may follow its name.
+fn value_sign(name: &ShownName<'_>) -> &'static str
+    ensures { result.now ≡ value_sign name.now }
+{
+    match name {
+        ShownName::Short(_) => "+",
+        ShownName::Long(_) => "=",
+    }
 }
 
 // Writes what stands before a name: the names of the arguments in conflict, and a star.
