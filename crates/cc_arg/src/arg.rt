@@ -534,18 +534,22 @@ pub fn fill_display_order(argument: &mut Arg, order: usize)
 #[cfg(test)]
 mod tests {
     use super::*;
+    use std::process::Abort;
     use std::test::Fail;
 
-    fn argument(alloc: Global, id: &str) -> Result<Arg, Fail> {
+    // An argument is made in one function and looked at in another that borrows it: each `?` is an
+    // exit at which all that is owned is dropped, and a check of many such exits takes long.
+
+    fn argument(alloc: Global, id: &str) -> Result<Arg, Error> {
         Ok(Arg::new(alloc, String::from_str(alloc, id)?))
     }
 
-    #[test]
-    fn lists_the_shorts(rt: HostRuntime) -> Result<(), Fail> {
-        let argument = argument(rt.alloc(), "file")?
-            .short('f')
-            .visible_short_alias('p')?
-            .short_alias('q')?;
+    fn with_shorts(alloc: Global) -> Result<Arg, Error> {
+        let file = argument(alloc, "file")?.short('f');
+        file.visible_short_alias('p')?.short_alias('q')
+    }
+
+    fn has_its_shorts(rt: &impl Abort, argument: &Arg) -> Result<(), Fail> {
         assert_eq!(rt; argument.get_id(), "file");
         assert_eq!(rt; argument.get_short(), Some('f'));
         assert_eq!(rt; argument.get_visible_short_aliases(), ['p'].as_slice());
@@ -559,12 +563,23 @@ mod tests {
     }
 
     #[test]
-    fn lists_the_longs(rt: HostRuntime) -> Result<(), Fail> {
-        let alloc = rt.alloc();
-        let argument = argument(alloc, "file")?
-            .long(String::from_str(alloc, "file")?)
-            .visible_alias(String::from_str(alloc, "path")?)?
-            .alias(String::from_str(alloc, "source")?)?;
+    fn lists_the_shorts(rt: HostRuntime) -> Result<(), Fail> {
+        let argument = with_shorts(rt.alloc())?;
+        has_its_shorts(&rt, &argument)
+    }
+
+    fn with_long(alloc: Global) -> Result<Arg, Error> {
+        let long = String::from_str(alloc, "file")?;
+        Ok(argument(alloc, "file")?.long(long))
+    }
+
+    fn with_longs(alloc: Global) -> Result<Arg, Error> {
+        let path = String::from_str(alloc, "path")?;
+        let source = String::from_str(alloc, "source")?;
+        with_long(alloc)?.visible_alias(path)?.alias(source)
+    }
+
+    fn has_its_longs(rt: &impl Abort, argument: &Arg) -> Result<(), Fail> {
         assert_eq!(rt; argument.get_long(), Some("file"));
         assert_eq!(rt; argument.get_visible_aliases().len(), 1);
         assert_eq!(rt; argument.get_aliases().len(), 1);
@@ -576,89 +591,139 @@ mod tests {
     }
 
     #[test]
-    fn copies_an_option(rt: HostRuntime) -> Result<(), Fail> {
-        let alloc = rt.alloc();
-        let mut option = argument(alloc, "color")?
-            .short('c')
-            .help(String::from_str(alloc, "Colour")?)
-            .value_name(String::from_str(alloc, "WHEN")?)?
-            .num_args(ValueRange::new(0, 1))
-            .hide(true);
+    fn lists_the_longs(rt: HostRuntime) -> Result<(), Fail> {
+        let argument = with_longs(rt.alloc())?;
+        has_its_longs(&rt, &argument)
+    }
+
+    fn color(alloc: Global) -> Result<Arg, Error> {
+        let help = String::from_str(alloc, "Colour")?;
+        let when = String::from_str(alloc, "WHEN")?;
+        let color = argument(alloc, "color")?.short('c').help(help);
+        let color = color.num_args(ValueRange::new(0, 1)).hide(true);
+        color.value_name(when)
+    }
+
+    fn copy_in_order(alloc: Global) -> Result<Arg, Error> {
+        let mut option = color(alloc)?;
         fill_display_order(&mut option, 3);
         fill_display_order(&mut option, 4);
-        let copy = option.try_clone(alloc)?;
+        option.try_clone(alloc)
+    }
+
+    fn is_the_option(rt: &impl Abort, copy: &Arg) {
         assert_eq!(rt; copy.get_short(), Some('c'));
         assert_eq!(rt; copy.get_help(), Some("Colour"));
         assert_eq!(rt; copy.get_value_names().len(), 1);
         assert_eq!(rt; copy.get_num_args(), Some(ValueRange::new(0, 1)));
         assert_eq!(rt; copy.get_display_order(), 3);
         assert!(rt; copy.takes_values() && copy.is_hide_set());
+    }
+
+    #[test]
+    fn copies_an_option(rt: HostRuntime) -> Result<(), Fail> {
+        let copy = copy_in_order(rt.alloc())?;
+        is_the_option(&rt, &copy);
         Ok(())
+    }
+
+    fn positional(alloc: Global) -> Result<Arg, Error> {
+        let end = String::from_str(alloc, ";")?;
+        let out = String::from_str(alloc, "out")?;
+        let positional = argument(alloc, "in")?.index(2).value_terminator(end);
+        let positional = positional.required(true).last(true).global(true);
+        positional.conflicts_with(out)
+    }
+
+    fn copy_with_index(alloc: Global) -> Result<Arg, Error> {
+        let mut copy = positional(alloc)?.try_clone(alloc)?;
+        fill_index(&mut copy, 1);
+        Ok(copy)
+    }
+
+    fn is_the_positional(rt: &impl Abort, copy: &Arg) {
+        assert_eq!(rt; copy.get_index(), Some(2));
+        assert_eq!(rt; copy.get_value_terminator(), Some(";"));
+        assert_eq!(rt; conflicting_ids(copy).len(), 1);
+        assert_eq!(rt; conflicting_ids(copy)[0].as_str(), "out");
+        assert!(rt; copy.is_required_set() && copy.is_last_set() && copy.is_global_set());
     }
 
     #[test]
     fn copies_a_positional(rt: HostRuntime) -> Result<(), Fail> {
-        let alloc = rt.alloc();
-        let positional = argument(alloc, "in")?
-            .index(2)
-            .value_terminator(String::from_str(alloc, ";")?)
-            .conflicts_with(String::from_str(alloc, "out")?)?
-            .required(true)
-            .last(true)
-            .global(true);
-        let mut copy = positional.try_clone(alloc)?;
-        fill_index(&mut copy, 1);
-        assert_eq!(rt; copy.get_index(), Some(2));
-        assert_eq!(rt; copy.get_value_terminator(), Some(";"));
-        assert_eq!(rt; conflicting_ids(&copy).len(), 1);
-        assert_eq!(rt; conflicting_ids(&copy)[0].as_str(), "out");
-        assert!(rt; copy.is_required_set() && copy.is_last_set() && copy.is_global_set());
+        let copy = copy_with_index(rt.alloc())?;
+        is_the_positional(&rt, &copy);
+        Ok(())
+    }
+
+    fn value(alloc: Global, name: &str) -> Result<PossibleValue, Error> {
+        Ok(PossibleValue::new(String::from_str(alloc, name)?))
+    }
+
+    fn values(alloc: Global) -> Result<Vec<PossibleValue>, Error> {
+        let mut values = Vec::new(alloc);
+        values.push(value(alloc, "auto")?)?;
+        values.push(value(alloc, "never")?)?;
+        Ok(values)
+    }
+
+    fn with_values(alloc: Global) -> Result<Arg, Error> {
+        let values = values(alloc)?;
+        let option = argument(alloc, "color")?.short('c').value_parser(values);
+        Ok(option.value_hint(ValueHint::Other))
+    }
+
+    fn has_its_values(rt: &impl Abort, option: &Arg) -> Result<(), Fail> {
+        assert_eq!(rt; option.get_value_hint(), ValueHint::Other);
+        let listed = possible_values(option).ok_or("no values")?;
+        assert_eq!(rt; listed.len(), 2);
+        assert_eq!(rt; listed[1].get_name(), "never");
         Ok(())
     }
 
     #[test]
     fn lists_the_possible_values_where_values_are_taken(rt: HostRuntime) -> Result<(), Fail> {
-        let alloc = rt.alloc();
-        let mut values = Vec::new(alloc);
-        values.push(PossibleValue::new(String::from_str(alloc, "auto")?))?;
-        values.push(PossibleValue::new(String::from_str(alloc, "never")?))?;
-        let option = argument(alloc, "color")?
-            .short('c')
-            .value_parser(values)
-            .value_hint(ValueHint::Other);
-        assert_eq!(rt; option.get_value_hint(), ValueHint::Other);
-        let copy = option.try_clone(alloc)?;
-        assert_eq!(rt; copy.get_value_hint(), ValueHint::Other);
-        let listed = possible_values(&copy).ok_or("no values")?;
-        assert_eq!(rt; listed.len(), 2);
-        assert_eq!(rt; listed[1].get_name(), "never");
+        let option = with_values(rt.alloc())?;
+        has_its_values(&rt, &option)?;
         let flag = option.action(ArgAction::SetTrue);
         assert!(rt; possible_values(&flag).is_none());
         Ok(())
     }
 
     #[test]
+    fn copies_the_possible_values(rt: HostRuntime) -> Result<(), Fail> {
+        let copy = with_values(rt.alloc())?.try_clone(rt.alloc())?;
+        has_its_values(&rt, &copy)
+    }
+
+    #[test]
     fn lists_no_values_where_none_were_given(rt: HostRuntime) -> Result<(), Fail> {
-        let alloc = rt.alloc();
-        let file = argument(alloc, "file")?;
+        let file = argument(rt.alloc(), "file")?;
         assert_eq!(rt; file.get_value_hint(), ValueHint::Unknown);
         assert!(rt; possible_values(&file).is_none());
-        let empty = file.value_parser(Vec::new(alloc));
-        assert_eq!(rt; possible_values(&empty).ok_or("no list")?.len(), 0);
+        let empty = file.value_parser(Vec::new(rt.alloc()));
+        assert_eq!(rt;
+            possible_values(&empty).map(<[PossibleValue]>::len),
+            Some(0)
+        );
         Ok(())
     }
 
     #[test]
-    fn fills_in_range_and_action(rt: HostRuntime) -> Result<(), Fail> {
-        let alloc = rt.alloc();
-        let mut flag = argument(alloc, "verbose")?
-            .short('v')
-            .action(ArgAction::Count);
+    fn fills_in_the_range_of_an_action(rt: HostRuntime) -> Result<(), Fail> {
+        let flag = argument(rt.alloc(), "verbose")?;
+        let mut flag = flag.short('v').action(ArgAction::Count);
         fill(&mut flag);
         assert_eq!(rt; flag.get_num_args(), Some(ValueRange::new(0, 0)));
         assert_eq!(rt; flag.get_action(), ArgAction::Count);
         assert!(rt; !flag.takes_values());
-        let mut rest = argument(alloc, "rest")?.num_args(ValueRange::new(0, usize::MAX));
+        Ok(())
+    }
+
+    #[test]
+    fn fills_in_action_and_index(rt: HostRuntime) -> Result<(), Fail> {
+        let rest = argument(rt.alloc(), "rest")?;
+        let mut rest = rest.num_args(ValueRange::new(0, usize::MAX));
         fill(&mut rest);
         fill_index(&mut rest, 2);
         assert_eq!(rt; rest.get_action(), ArgAction::Append);

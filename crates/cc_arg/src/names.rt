@@ -79,33 +79,49 @@ pub fn shown_names(argument: &Arg) -> ShownNames<'_>
 #[cfg(test)]
 mod tests {
     use super::*;
+    use cc_base::Error;
+    use std::alloc::Global;
+    use std::process::Abort;
     use std::test::Fail;
 
-    #[test]
-    fn shorts_come_before_longs(rt: HostRuntime) -> Result<(), Fail> {
-        let alloc = rt.alloc();
-        let argument = Arg::new(alloc, String::from_str(alloc, "file")?)
-            .short('f')
-            .visible_short_alias('p')?
-            .short_alias('q')?
-            .long(String::from_str(alloc, "file")?)
-            .visible_alias(String::from_str(alloc, "path")?)?
-            .alias(String::from_str(alloc, "source")?)?;
-        let mut names = shown_names(&argument);
+    fn with_shorts(alloc: Global) -> Result<Arg, Error> {
+        let file = Arg::new(alloc, String::from_str(alloc, "file")?);
+        file.short('f').visible_short_alias('p')?.short_alias('q')
+    }
+
+    fn with_names(alloc: Global) -> Result<Arg, Error> {
+        let file = String::from_str(alloc, "file")?;
+        let path = String::from_str(alloc, "path")?;
+        let source = String::from_str(alloc, "source")?;
+        let argument = with_shorts(alloc)?.long(file);
+        argument.visible_alias(path)?.alias(source)
+    }
+
+    fn has_shorts_before_longs(rt: &impl Abort, argument: &Arg) {
+        let mut names = shown_names(argument);
         assert!(rt; matches!(names.next(), Some(ShownName::Short('f'))));
         assert!(rt; matches!(names.next(), Some(ShownName::Short('p'))));
         assert!(rt; matches!(names.next(), Some(ShownName::Long(name)) if name.as_str() == "file"));
         assert!(rt; matches!(names.next(), Some(ShownName::Long(name)) if name.as_str() == "path"));
         assert!(rt; names.next().is_none());
+    }
+
+    #[test]
+    fn shorts_come_before_longs(rt: HostRuntime) -> Result<(), Fail> {
+        let argument = with_names(rt.alloc())?;
+        has_shorts_before_longs(&rt, &argument);
         Ok(())
+    }
+
+    fn with_aliases_alone(alloc: Global) -> Result<Arg, Error> {
+        let path = String::from_str(alloc, "path")?;
+        let argument = Arg::new(alloc, String::from_str(alloc, "file")?);
+        argument.visible_short_alias('p')?.visible_alias(path)
     }
 
     #[test]
     fn aliases_alone_are_not_shown(rt: HostRuntime) -> Result<(), Fail> {
-        let alloc = rt.alloc();
-        let argument = Arg::new(alloc, String::from_str(alloc, "file")?)
-            .visible_short_alias('p')?
-            .visible_alias(String::from_str(alloc, "path")?)?;
+        let argument = with_aliases_alone(rt.alloc())?;
         assert!(rt; shown_names(&argument).next().is_none());
         Ok(())
     }
