@@ -1,6 +1,7 @@
 -- Small scripts as they are read, and tables and texts of small trees.
-use Rattle.std.proofs.Common.{◌≡◌, ℕ, List, [], ◌∷◌, ◌++◌, Option, Some, None, Bool, true, codes, refl, flat_map}
+use Rattle.std.proofs.Common.{◌≡◌, ℕ, List, [], ◌∷◌, ◌++◌, Option, Some, None, Bool, true, false, codes, refl, is_some}
 use Rattle.std.specs.Char.{encode_utf8}
+use Rattle.std.specs.List.{list_any}
 use Rattle.cc_arg.specs.declared.action.ArgAction.TheVariants.{SetTrue}
 use Rattle.cc_arg.specs.declared.arg.Arg.{Arg}
 use Rattle.cc_arg.specs.declared.possible_value.PossibleValue.{PossibleValue}
@@ -104,40 +105,27 @@ empty_read = refl
 
 -- ---- scripts that can't be read
 
--- after the function of the root nothing stands
-root_with_name : records (line (codes "complete -c app -n \"__fish_app_needs_command a\" -s v")) ≡ None
+unread : list_any (λ script. is_some (records script))
+    -- a name after the function of the root
+    (line (codes "complete -c app -n \"__fish_app_needs_command a\" -s v")
+    -- no name after that of a path
+    ∷ line (codes "complete -c app -n \"__fish_app_using_subcommand\" -s v")
+    -- a function that is neither of the two
+    ∷ line (codes "complete -c app -n \"__fish_app_subcommand a\" -s v")
+    -- an option that is unknown
+    ∷ line (codes "complete -c app -x -s v")
+    -- an option without its operand
+    ∷ line (codes "complete -c app -s")
+    -- two conditions
+    ∷ line (codes "complete -c app -n \"__fish_app_needs_command\" -n \"__fish_app_using_subcommand a\" -s v")
+    -- a quote that is open at the end
+    ∷ (line (codes "complete -c app -s v") ++ codes "complete -c app -s w -d 'open")
+    -- a quote that is open in a text that is read a second time
+    ∷ line (codes "complete -c app -l o -r -f -a \"'open\"")
+    ∷ [])
+    ≡ false
 unfolding fish_sign fish_commands
-root_with_name = refl
-
--- after that of a path a name stands
-path_without_name : records (line (codes "complete -c app -n \"__fish_app_using_subcommand\" -s v")) ≡ None
-unfolding fish_sign fish_commands
-path_without_name = refl
-
-other_function : records (line (codes "complete -c app -n \"__fish_app_subcommand a\" -s v")) ≡ None
-unfolding fish_sign fish_commands
-other_function = refl
-
-unknown_option : records (line (codes "complete -c app -x -s v")) ≡ None
-unfolding fish_sign fish_commands
-unknown_option = refl
-
-no_operand : records (line (codes "complete -c app -s")) ≡ None
-unfolding fish_sign fish_commands
-no_operand = refl
-
-told_twice : records (line (codes "complete -c app -n \"__fish_app_needs_command\" -n \"__fish_app_using_subcommand a\" -s v")) ≡ None
-unfolding fish_sign fish_commands
-told_twice = refl
-
-open_quote : records (line (codes "complete -c app -s v") ++ codes "complete -c app -s w -d 'open") ≡ None
-unfolding fish_sign fish_commands
-open_quote = refl
-
--- a quote that is open in a text that is read a second time
-open_value : records (line (codes "complete -c app -l o -r -f -a \"'open\"")) ≡ None
-unfolding fish_sign fish_commands
-open_value = refl
+unread = refl
 
 -- ---- texts and tables of trees
 

@@ -35,11 +35,11 @@ name_spelled (byte ∷ bytes) h = record { begins = ap begins_word (safe_sign by
 
 -- ---- plain names
 
-letter_safe : (byte : ℕ) → is_ascii_alphanumeric byte ≡ true → is_fish_safe byte ≡ true
+pub letter_safe : (byte : ℕ) → is_ascii_alphanumeric byte ≡ true → is_fish_safe byte ≡ true
 unfolding is_fish_safe
 letter_safe byte h = rw h
 
-joiner_safe : (byte : ℕ) → (byte == dash || byte == underscore) ≡ true → is_fish_safe byte ≡ true
+pub joiner_safe : (byte : ℕ) → (byte == dash || byte == underscore) ≡ true → is_fish_safe byte ≡ true
 unfolding is_fish_safe
 joiner_safe byte h = grind (arith, nat_tests)
 

@@ -3,6 +3,7 @@ use Rattle.std.proofs.Common.{◌≡◌, ℕ, Bool, true, false, List, [], ◌�
 use Rattle.std.proofs.lemmas.Bool.{cases_Bool, and_parts}
 use Rattle.std.proofs.lemmas.Bool.Decides.{nat_tests}
 use Rattle.std.proofs.lemmas.List.Folds.{list_all-append}
+use Rattle.std.specs.Char.{is_ascii_alphanumeric}
 use Rattle.std.specs.List.{list_all, AllByRecursion}
 use Rattle.cc_arg.specs.declared.arg.Arg.{Arg}
 use Rattle.cc_arg.specs.declared.possible_value.PossibleValue.{PossibleValue}
@@ -10,6 +11,7 @@ use Rattle.cc_arg.specs.declared.value_hint.ValueHint.{ValueHint}
 use Rattle.cc_arg.specs.declared.value_hint.ValueHint.TheVariants.{Unknown, Other, AnyPath, FilePath, DirPath, ExecutablePath, CommandName, CommandString, CommandWithArguments, Username, Hostname, Url, EmailAddress}
 use Rattle.cc_arg.specs.Arguments.{possible_values}
 use Rattle.cc_arg.specs.ShownNames.{shown_shorts, shown_longs}
+use Rattle.cc_command.specs.PlainName.{dash}
 use Rattle.cc_command.proofs.PlainParts.{IsPlainArgument}
 use Rattle.cc_quote.specs.Bytes as ascii
 use Rattle.cc_quote.specs.QuotedWord.{line_feeds_as_spaces}
@@ -22,7 +24,7 @@ use Rattle.cc_quote.proofs.FishCutting.{Spells, word_read, word_ends, Adds, adds
 use Rattle.cc_fish.specs.FishScript.{condition_text, short_text, long_text, help_text, value_text, separated, value_lines, list_begin, listed_text, hint_text, value_part, values_text, names_text, front_text}
 use Rattle.cc_fish.specs.FishTable.{value_word}
 use Rattle.cc_fish.specs.RecordReader.{joined_words, offered_of}
-use Rattle.cc_fish.proofs.FishNames.{IsName, name_safe, name_spelled, IsShortName, plain_shorts, plain_longs}
+use Rattle.cc_fish.proofs.FishNames.{IsName, letter_safe, joiner_safe, name_safe, name_spelled, IsShortName, plain_shorts, plain_longs}
 
 -- ---- words in `"`
 
@@ -56,41 +58,9 @@ in_doubles inner word h = record {
 pub adds_operand : (option text word : List ℕ) → Spells option option → Spells text word → Adds (ascii.space ∷ (option ++ ascii.space ∷ text)) (option ∷ word ∷ [])
 adds_operand option text word is h = adds_append (ascii.space ∷ option) (ascii.space ∷ text) (option ∷ []) (word ∷ []) (adds_word option option is) (adds_word text word h)
 
-option_s : Spells (codes "-s") (codes "-s")
-unfolding fish_sign
-option_s = record { begins = refl; spells = refl }
-
-option_l : Spells (codes "-l") (codes "-l")
-unfolding fish_sign
-option_l = record { begins = refl; spells = refl }
-
-option_d : Spells (codes "-d") (codes "-d")
-unfolding fish_sign
-option_d = record { begins = refl; spells = refl }
-
-option_n : Spells (codes "-n") (codes "-n")
-unfolding fish_sign
-option_n = record { begins = refl; spells = refl }
-
-option_c : Spells (codes "-c") (codes "-c")
-unfolding fish_sign
-option_c = record { begins = refl; spells = refl }
-
-option_a : Spells (codes "-a") (codes "-a")
-unfolding fish_sign
-option_a = record { begins = refl; spells = refl }
-
-mark_r : Spells (codes "-r") (codes "-r")
-unfolding fish_sign
-mark_r = record { begins = refl; spells = refl }
-
-mark_f : Spells (codes "-f") (codes "-f")
-unfolding fish_sign
-mark_f = record { begins = refl; spells = refl }
-
-mark_files : Spells (codes "-F") (codes "-F")
-unfolding fish_sign
-mark_files = record { begins = refl; spells = refl }
+-- an option is a letter after `-`
+option_spelled : (letter : ℕ) → is_ascii_alphanumeric letter ≡ true → Spells (dash ∷ letter ∷ []) (dash ∷ letter ∷ [])
+option_spelled letter h = name_spelled (dash ∷ letter ∷ []) (joiner_safe dash refl, (letter_safe letter h, tt))
 
 -- ---- the condition
 
@@ -104,7 +74,7 @@ IsKept (Some text) = list_all is_kept text ≡ true
 
 condition_adds : (when : Option (List ℕ)) → IsKept when → Adds (condition_text when) (condition_words when)
 condition_adds None h = adds_none
-condition_adds (Some text) h = adds_operand (codes "-n") (ascii.double_quote ∷ (text ++ ascii.double_quote ∷ [])) text option_n (in_doubles text text (kept_read text [] h))
+condition_adds (Some text) h = adds_operand (codes "-n") (ascii.double_quote ∷ (text ++ ascii.double_quote ∷ [])) text (option_spelled _ refl) (in_doubles text text (kept_read text [] h))
 
 -- ---- names and help
 
@@ -119,10 +89,10 @@ help_words None = []
 help_words (Some help) = codes "-d" ∷ line_feeds_as_spaces help ∷ []
 
 short_adds : (short : ℕ) → IsShortName short → Adds (short_text short) (short_words short)
-short_adds short h = adds_operand (codes "-s") (encode_utf8 short) (encode_utf8 short) option_s (name_spelled (encode_utf8 short) h)
+short_adds short h = adds_operand (codes "-s") (encode_utf8 short) (encode_utf8 short) (option_spelled _ refl) (name_spelled (encode_utf8 short) h)
 
 long_adds : (long : List ℕ) → IsName long → Adds (long_text long) (long_words long)
-long_adds long h = adds_operand (codes "-l") long long option_l (name_spelled long h)
+long_adds long h = adds_operand (codes "-l") long long (option_spelled _ refl) (name_spelled long h)
 
 single_quoted_spelled : (text : List ℕ) → Spells (single_quoted text) text
 unfolding fish_sign
@@ -131,7 +101,7 @@ single_quoted_spelled text = record { begins = refl; spells = single_quoted_read
 pub help_adds : (help : Option (List ℕ)) → Adds (help_text help) (help_words help)
 unfolding fish_escaped
 help_adds None = adds_none
-help_adds (Some help) = adds_operand (codes "-d") (single_quoted (line_feeds_as_spaces help)) (line_feeds_as_spaces help) option_d (single_quoted_spelled (line_feeds_as_spaces help))
+help_adds (Some help) = adds_operand (codes "-d") (single_quoted (line_feeds_as_spaces help)) (line_feeds_as_spaces help) (option_spelled _ refl) (single_quoted_spelled (line_feeds_as_spaces help))
 
 abbrev pub names_words : Arg → List (List ℕ)
 names_words argument = flat_map short_words (shown_shorts argument) ++ (flat_map long_words (shown_longs argument) ++ help_words argument.help)
@@ -162,25 +132,18 @@ value_once value word =
     ∙ tab_once (word ++ fish_quoted value.name) help
     ∙ ap (λ t. Some (in_double t)) (simp append_assoc)
 
-further_once : (values : List PossibleValue) (word : List ℕ)
-    → advance (Some (in_double word)) (separated (ascii.line_feed ∷ []) (map value_text values)) ≡ Some (in_double (word ++ separated (ascii.line_feed ∷ []) (map value_inner values)))
-unfolding fish_sign
-further_once [] word = rw append-nil
-further_once (value ∷ values) word =
-    let further : List ℕ = separated (ascii.line_feed ∷ []) (map value_text values) in
-    advance-append (value_text value) further (Some (in_double (word ++ ascii.line_feed ∷ [])))
-    ∙ ap (λ place. advance place further) (value_once value (word ++ ascii.line_feed ∷ []))
-    ∙ further_once values ((word ++ ascii.line_feed ∷ []) ++ value_inner value)
-    ∙ ap (λ t. Some (in_double t)) (simp append_assoc)
-
 -- the first reading of listed values
-values_once : (values : List PossibleValue) → advance (Some (in_double [])) (separated [] (map value_text values)) ≡ Some (in_double (separated [] (map value_inner values)))
-values_once [] = refl
-values_once (value ∷ values) =
+values_once : (values : List PossibleValue) (separator word : List ℕ) → list_all is_kept separator ≡ true
+    → advance (Some (in_double word)) (separated separator (map value_text values)) ≡ Some (in_double (word ++ separated separator (map value_inner values)))
+values_once [] separator word h = rw append-nil
+values_once (value ∷ values) separator word h =
     let further : List ℕ = separated (ascii.line_feed ∷ []) (map value_text values) in
-    advance-append (value_text value) further (Some (in_double []))
-    ∙ ap (λ place. advance place further) (value_once value [])
-    ∙ further_once values (value_inner value)
+    advance-append separator (value_text value ++ further) (Some (in_double word))
+    ∙ ap (λ place. advance place (value_text value ++ further)) (kept_read separator word h)
+    ∙ advance-append (value_text value) further (Some (in_double (word ++ separator)))
+    ∙ ap (λ place. advance place further) (value_once value (word ++ separator))
+    ∙ values_once values (ascii.line_feed ∷ []) ((word ++ separator) ++ value_inner value) refl
+    ∙ ap (λ t. Some (in_double t)) (simp append_assoc)
 
 quoted_begins : (text rest : List ℕ) → IsTrue (begins_with_word (fish_quoted text ++ rest))
 unfolding fish_quoted fish_sign
@@ -240,14 +203,14 @@ hint_words _ = codes "-r" ∷ codes "-f" ∷ []
 
 adds_offer : (text word : List ℕ) → Spells text word → Adds (codes " -r -f -a " ++ text) (codes "-r" ∷ codes "-f" ∷ codes "-a" ∷ word ∷ [])
 adds_offer text word h =
-    adds_append (codes " -r") _ _ _ (adds_word (codes "-r") (codes "-r") mark_r)
-    (adds_append (codes " -f") _ _ _ (adds_word (codes "-f") (codes "-f") mark_f) (adds_operand (codes "-a") text word option_a h))
+    adds_append (codes " -r") _ _ _ (adds_word (codes "-r") (codes "-r") (option_spelled _ refl))
+    (adds_append (codes " -f") _ _ _ (adds_word (codes "-f") (codes "-f") (option_spelled _ refl)) (adds_operand (codes "-a") text word (option_spelled _ refl) h))
 
 files_adds : Adds (codes " -r -F") (codes "-r" ∷ codes "-F" ∷ [])
-files_adds = adds_append (codes " -r") (codes " -F") _ _ (adds_word (codes "-r") (codes "-r") mark_r) (adds_word (codes "-F") (codes "-F") mark_files)
+files_adds = adds_append (codes " -r") (codes " -F") _ _ (adds_word (codes "-r") (codes "-r") (option_spelled _ refl)) (adds_word (codes "-F") (codes "-F") (option_spelled _ refl))
 
 no_files_adds : Adds (codes " -r -f") (codes "-r" ∷ codes "-f" ∷ [])
-no_files_adds = adds_append (codes " -r") (codes " -f") _ _ (adds_word (codes "-r") (codes "-r") mark_r) (adds_word (codes "-f") (codes "-f") mark_f)
+no_files_adds = adds_append (codes " -r") (codes " -f") _ _ (adds_word (codes "-r") (codes "-r") (option_spelled _ refl)) (adds_word (codes "-f") (codes "-f") (option_spelled _ refl))
 
 command_adds : Adds (codes " -r -f -a \"(__fish_complete_command)\"") (codes "-r" ∷ codes "-f" ∷ codes "-a" ∷ codes "(__fish_complete_command)" ∷ [])
 unfolding fish_sign
@@ -255,7 +218,7 @@ command_adds = adds_offer (codes "\"(__fish_complete_command)\"") _ (in_doubles 
 
 hint_adds : (hint : ValueHint) → Adds (hint_text hint) (hint_words hint)
 unfolding fish_sign hint_text
-hint_adds Unknown = adds_word (codes "-r") (codes "-r") mark_r
+hint_adds Unknown = adds_word (codes "-r") (codes "-r") (option_spelled _ refl)
 hint_adds AnyPath = files_adds
 hint_adds FilePath = files_adds
 hint_adds ExecutablePath = files_adds
@@ -283,7 +246,7 @@ unfolding listed_text list_begin value_lines
 part_adds (Some values) hint =
     let raw : List ℕ = separated [] (map value_text (shown_of values)) in
     let once : List ℕ = separated [] (map value_inner (shown_of values)) in
-    adds_offer (ascii.double_quote ∷ (raw ++ ascii.double_quote ∷ [])) once (in_doubles raw once (values_once (shown_of values)))
+    adds_offer (ascii.double_quote ∷ (raw ++ ascii.double_quote ∷ [])) once (in_doubles raw once (values_once (shown_of values) [] [] refl))
 part_adds None hint = hint_adds hint
 
 abbrev pub values_words : Arg → List (List ℕ)
@@ -296,10 +259,10 @@ values_adds argument = part_adds (possible_values argument) argument.value_hint
 -- ---- a child's name
 
 pub child_offer_adds : (name : List ℕ) → IsName name → Adds (codes " -a \"" ++ (name ++ codes "\"")) (codes "-a" ∷ name ∷ [])
-child_offer_adds name h = adds_operand (codes "-a") (ascii.double_quote ∷ (name ++ ascii.double_quote ∷ [])) name option_a (in_doubles name name (safe_in_double name [] (name_safe name h)))
+child_offer_adds name h = adds_operand (codes "-a") (ascii.double_quote ∷ (name ++ ascii.double_quote ∷ [])) name (option_spelled _ refl) (in_doubles name name (safe_in_double name [] (name_safe name h)))
 
 pub no_files_mark_adds : (no_files : Bool) → Adds (cond no_files (codes " -f") []) (cond no_files (codes "-f" ∷ []) [])
-no_files_mark_adds true = adds_word (codes "-f") (codes "-f") mark_f
+no_files_mark_adds true = adds_word (codes "-f") (codes "-f") (option_spelled _ refl)
 no_files_mark_adds false = adds_none
 
 -- ---- a record
@@ -317,7 +280,7 @@ pub record_read : (bin_name : List ℕ) (when : Option (List ℕ)) (text : List 
 unfolding front_text
 record_read bin_name when text words rest name is adds =
     let end : List ℕ = ascii.line_feed ∷ rest in
-    let front : Adds (codes " -c " ++ bin_name) (codes "-c" ∷ bin_name ∷ []) = adds_operand (codes "-c") bin_name bin_name option_c (name_spelled bin_name name) in
+    let front : Adds (codes " -c " ++ bin_name) (codes "-c" ∷ bin_name ∷ []) = adds_operand (codes "-c") bin_name bin_name (option_spelled _ refl) (name_spelled bin_name name) in
     ap (commands_from (between []))
     (ap (λ t. codes "complete -c " ++ t)
     (append_assoc bin_name (condition_text when) (text ++ end)

@@ -11,9 +11,7 @@ ghost use Rattle.std.specs.Prelude.{
   encode_utf8,
   if◌then◌else◌,
 };
-ghost use Rattle.std.specs.List.{list_any};
 ghost use Rattle.std.specs.Option.{option_copied};
-ghost use Rattle.cc_arg.specs.Arguments.{is_positional};
 ghost use Rattle.cc_arg.specs.ShownNames.{shown_longs, shown_shorts};
 ghost use Rattle.cc_base.specs.Writes.{Writes};
 ghost use Rattle.cc_command.specs.ArgumentLists.{flags, options};
@@ -185,18 +183,10 @@ fn write_below<W: Sink>(front: &str, command: &Command, sink: &mut W) -> Result<
 fn has_positionals(command: &Command) -> bool
     ensures { result ≡ has_positionals command.now.node }
 {
-    has_positional(command.get_arguments())
-}
-
-fn has_positional(arguments: &[Arg]) -> bool
-    ensures { result ≡ list_any is_positional arguments.now }
-{
-    for argument in arguments {
-        if argument.is_positional() {
-            return true;
-        }
-    }
-    false
+    command
+        .get_arguments()
+        .iter()
+        .any(|argument| argument.is_positional())
 }
 
 fn write_children<W: Sink>(
