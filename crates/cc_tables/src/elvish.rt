@@ -10,9 +10,9 @@ ghost use Rattle.cc_tables.specs.ElvishScript.{completions, elvish_script, funct
 ghost use Rattle.cc_tables.specs.ElvishScript.{head_text, key_end, key_text, node_text, offer_row};
 ghost use Rattle.cc_tables.specs.ElvishScript.{row_begin, row_end, row_text, table_begin};
 ghost use Rattle.cc_tables.specs.ElvishScript.{table_end, table_text, tail, text_begin};
-ghost use Rattle.cc_tables.specs.Offers.{node_offers};
+ghost use Rattle.cc_tables.specs.Offers.{dashes, node_offers};
 
-use crate::offers::{Offer, Rows, full_name, write_rows};
+use crate::offers::{Kind, Offer, Rows, full_name, write_rows};
 use cc_base::{Error, Sink, put_all};
 use cc_command::Command;
 use cc_flat::Flat;
@@ -94,11 +94,16 @@ fn table_end() -> &'static str
     "\n        }"
 }
 
+// The beginning of a row, with the dashes of a name of this kind.
 #[tactic(auto, unfolding(crate::specs::ElvishScript::row_begin))]
-fn row_begin() -> &'static str
-    ensures { result.now ≡ row_begin }
+fn row_begin(kind: Kind) -> &'static str
+    ensures { result.now ≡ row_begin ++ dashes kind }
 {
-    "\n            cand "
+    match kind {
+        Kind::Short => "\n            cand -",
+        Kind::Long => "\n            cand --",
+        Kind::Subcommand => "\n            cand ",
+    }
 }
 
 #[tactic(auto, unfolding(crate::specs::ElvishScript::text_begin))]
@@ -240,9 +245,9 @@ impl Rows for Elvish {
     ghost row_text = { λ _. offer_text };
 
     #[tactic(auto, unfolding(crate::specs::ElvishScript::offer_text, crate::specs::ElvishScript::row_text))]
+    #[inline(always)]
     fn write_row<W: Sink>(&self, offer: &Offer<'_>, sink: &mut W) -> Result<(), Error> {
-        put_all(sink, row_begin().as_bytes())?;
-        put_all(sink, offer.kind.dashes().as_bytes())?;
+        put_all(sink, row_begin(offer.kind).as_bytes())?;
         put_all(sink, offer.name.as_str().as_bytes())?;
         put_all(sink, text_begin().as_bytes())?;
         put_escaped(&ElvishEscape, shown_text(offer), sink)?;

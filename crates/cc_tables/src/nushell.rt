@@ -7,13 +7,13 @@ ghost use Rattle.cc_base.specs.Writes.{Writes};
 ghost use Rattle.cc_command.specs.ArgumentLists.{flags, options};
 ghost use Rattle.cc_flat.specs.Flat.{tree_at};
 ghost use Rattle.cc_quote.specs.QuotedWord.{line_feeds_as_spaces};
-ghost use Rattle.cc_tables.specs.Offers.{argument_offers};
+ghost use Rattle.cc_tables.specs.Offers.{argument_offers, dashes};
 ghost use Rattle.cc_tables.specs.NushellScript.{block_begin, block_end, block_text, content, head};
 ghost use Rattle.cc_tables.specs.NushellScript.{help_begin, help_text, key_end, key_text};
 ghost use Rattle.cc_tables.specs.NushellScript.{line_begin, line_text, node_lines, node_text};
 ghost use Rattle.cc_tables.specs.NushellScript.{nushell_script, offer_text, tail, type_text};
 
-use crate::offers::{Offer, Rows, full_name, write_flags, write_options};
+use crate::offers::{Kind, Offer, Rows, full_name, write_flags, write_options};
 use cc_base::{Error, Sink, put_all};
 use cc_command::Command;
 use cc_flat::Flat;
@@ -60,11 +60,16 @@ fn block_end() -> &'static str
     "  ]\n\n"
 }
 
+// The beginning of a line, with the dashes of a name of this kind.
 #[tactic(auto, unfolding(crate::specs::NushellScript::line_begin))]
-fn line_begin() -> &'static str
-    ensures { result.now ≡ line_begin }
+fn line_begin(kind: Kind) -> &'static str
+    ensures { result.now ≡ line_begin ++ dashes kind }
 {
-    "    "
+    match kind {
+        Kind::Short => "    -",
+        Kind::Long => "    --",
+        Kind::Subcommand => "    ",
+    }
 }
 
 #[tactic(auto, unfolding(crate::specs::NushellScript::help_begin))]
@@ -222,9 +227,9 @@ impl Rows for Lines {
     ghost row_text = { λ lines. offer_text lines.takes_value };
 
     #[tactic(auto, unfolding(crate::specs::NushellScript::offer_text, crate::specs::NushellScript::line_text, crate::specs::NushellScript::content))]
+    #[inline(always)]
     fn write_row<W: Sink>(&self, offer: &Offer<'_>, sink: &mut W) -> Result<(), Error> {
-        put_all(sink, line_begin().as_bytes())?;
-        put_all(sink, offer.kind.dashes().as_bytes())?;
+        put_all(sink, line_begin(offer.kind).as_bytes())?;
         put_all(sink, offer.name.as_str().as_bytes())?;
         put_all(sink, type_text(self.takes_value).as_bytes())?;
         write_help(offer, sink)?;

@@ -4,7 +4,7 @@ ghost use Rattle.std.specs.Prelude.{◌≡◌, ◌++◌, List, ℕ, flat_map, co
 ghost use Rattle.std.specs.Option.{option_copied};
 ghost use Rattle.cc_base.specs.Writes.{Writes};
 ghost use Rattle.cc_tables.specs.Offers.{argument_offer, argument_offers, child_offer};
-ghost use Rattle.cc_tables.specs.Offers.{child_offers, children_offers, dashes, node_offers};
+ghost use Rattle.cc_tables.specs.Offers.{child_offers, children_offers, node_offers};
 ghost use Rattle.cc_tables.specs.Offers.{short_offer};
 ghost use Rattle.cc_command.specs.ArgumentLists.{flags, options};
 ghost use Rattle.cc_command.specs.Names.{full_name, visible_names};
@@ -38,22 +38,6 @@ pub struct Offer<'a> {
     pub fallback: TextRef<'a>,
 }
 
-impl Kind {
-    ghost use Rattle.std.specs.Prelude.{◌≡◌};
-    ghost use Rattle.cc_tables.specs.Offers.{dashes};
-
-    /// The dashes that stand before a name of this kind.
-    pub fn dashes(self) -> &'static str
-        ensures { result.now ≡ dashes self }
-    {
-        match self {
-            Kind::Short => "-",
-            Kind::Long => "--",
-            Kind::Subcommand => "",
-        }
-    }
-}
-
 /// How the rows of offers are written.
 pub trait Rows {
     ghost use Rattle.std.specs.Prelude.{List, ℕ};
@@ -63,7 +47,8 @@ pub trait Rows {
     // the text of the row of an offer
     ghost row_text: { Self → Offer → List ℕ };
 
-    /// Writes the row of an offer.
+    /// Writes the row of an offer. An impl inlines it where the offer is made: its kind is known
+    /// there, and with it the fixed texts.
     fn write_row<W: Sink>(&self, offer: &Offer<'_>, sink: &mut W) -> Result<(), Error>
         ensures { Writes W.taken W.failed result sink.old sink.new (row_text self.now offer.now) };
 }

@@ -12,8 +12,8 @@ ghost use Rattle.cc_tables.specs.PowershellScript.{key_text, kind_begin, kind_te
 ghost use Rattle.cc_tables.specs.PowershellScript.{node_text, offer_row, powershell_script};
 ghost use Rattle.cc_tables.specs.PowershellScript.{result_kind, row_begin, row_end, row_text};
 ghost use Rattle.cc_tables.specs.PowershellScript.{table_begin, table_end, table_text, tail};
-ghost use Rattle.cc_tables.specs.PowershellScript.{text_begin, words_text};
-ghost use Rattle.cc_tables.specs.Offers.{node_offers, word};
+ghost use Rattle.cc_tables.specs.PowershellScript.{text_begin};
+ghost use Rattle.cc_tables.specs.Offers.{dashes, node_offers, word};
 
 use crate::offers::{Kind, Offer, Rows, full_name, write_rows};
 use cc_base::{Error, Sink, put_all};
@@ -102,32 +102,44 @@ fn table_end() -> &'static str
     "\n            break\n        }"
 }
 
+// The beginning of a row, with the dashes of a name of this kind.
 #[tactic(auto, unfolding(crate::specs::PowershellScript::row_begin))]
-fn row_begin() -> &'static str
-    ensures { result.now ≡ row_begin }
+fn row_begin(kind: Kind) -> &'static str
+    ensures { result.now ≡ row_begin ++ dashes kind }
 {
-    "\n            [CompletionResult]::new('"
+    match kind {
+        Kind::Short => "\n            [CompletionResult]::new('-",
+        Kind::Long => "\n            [CompletionResult]::new('--",
+        Kind::Subcommand => "\n            [CompletionResult]::new('",
+    }
 }
 
+// Between the two names of a row, with the dashes of the second.
 #[tactic(auto, unfolding(crate::specs::PowershellScript::list_begin))]
-fn list_begin() -> &'static str
-    ensures { result.now ≡ list_begin }
+fn list_begin(kind: Kind) -> &'static str
+    ensures { result.now ≡ list_begin ++ dashes kind }
 {
-    "', '"
+    match kind {
+        Kind::Short => "', '-",
+        Kind::Long => "', '--",
+        Kind::Subcommand => "', '",
+    }
 }
 
-#[tactic(auto, unfolding(crate::specs::PowershellScript::kind_begin))]
-fn kind_begin() -> &'static str
-    ensures { result.now ≡ kind_begin }
+// Between the second name and the text. The lists of PowerShell take no account of case, so a space
+// tells a capital apart.
+#[tactic(auto, unfolding(crate::specs::PowershellScript::kind_begin, crate::specs::PowershellScript::kind_text, crate::specs::PowershellScript::text_begin))]
+fn details_begin(kind: Kind, name: &str) -> &'static str
+    ensures { result.now ≡ capital_space kind name.now ++ kind_begin ++ kind_text (result_kind kind)
+        ++ text_begin }
 {
-    "', [CompletionResultType]::"
-}
-
-#[tactic(auto, unfolding(crate::specs::PowershellScript::text_begin))]
-fn text_begin() -> &'static str
-    ensures { result.now ≡ text_begin }
-{
-    ", '"
+    match (kind, name.as_bytes()) {
+        (Kind::Short, [byte]) if byte.is_ascii_uppercase() => {
+            " ', [CompletionResultType]::ParameterName, '"
+        }
+        (Kind::Subcommand, _) => "', [CompletionResultType]::ParameterValue, '",
+        _ => "', [CompletionResultType]::ParameterName, '",
+    }
 }
 
 #[tactic(auto, unfolding(crate::specs::PowershellScript::row_end))]
@@ -135,16 +147,6 @@ fn row_end() -> &'static str
     ensures { result.now ≡ row_end }
 {
     "')"
-}
-
-#[tactic(auto, unfolding(crate::specs::PowershellScript::kind_text))]
-fn kind_text(kind: Kind) -> &'static str
-    ensures { result.now ≡ kind_text (result_kind kind) }
-{
-    match kind {
-        Kind::Short | Kind::Long => "ParameterName",
-        Kind::Subcommand => "ParameterValue",
-    }
 }
 
 /// Writes PowerShell scripts.
@@ -272,52 +274,39 @@ impl Rows for PowerShell {
 
     ghost row_text = { λ _. offer_text };
 
-    #[tactic(auto, unfolding(crate::specs::PowershellScript::offer_text, crate::specs::PowershellScript::row_text))]
+    #[tactic(auto, unfolding(crate::specs::PowershellScript::offer_text, crate::specs::PowershellScript::row_text, crate::specs::PowershellScript::words_text))]
+    #[inline(always)]
     fn write_row<W: Sink>(&self, offer: &Offer<'_>, sink: &mut W) -> Result<(), Error> {
         write_words(offer, sink)?;
         write_details(offer, sink)
     }
 }
 
-// Writes what is typed, and what lists show for it.
-#[tactic(auto, unfolding(crate::specs::PowershellScript::words_text))]
+// Writes what is typed, twice: lists show it too.
+#[inline(always)]
 fn write_words<W: Sink>(offer: &Offer<'_>, sink: &mut W) -> Result<(), Error>
-    ensures { Writes W.taken W.failed result sink.old sink.new (words_text (offer_row offer.now)) }
+    ensures { Writes W.taken W.failed result sink.old sink.new
+        (row_begin ++ word offer.now ++ list_begin ++ word offer.now) }
 {
-    put_all(sink, row_begin().as_bytes())?;
-    write_word(offer, sink)?;
-    put_all(sink, list_begin().as_bytes())?;
-    write_word(offer, sink)?;
-    put_all(sink, capital_space(offer).as_bytes())
-}
-
-fn write_word<W: Sink>(offer: &Offer<'_>, sink: &mut W) -> Result<(), Error>
-    ensures { Writes W.taken W.failed result sink.old sink.new (word offer.now) }
-{
-    put_all(sink, offer.kind.dashes().as_bytes())?;
+    put_all(sink, row_begin(offer.kind).as_bytes())?;
+    put_all(sink, offer.name.as_str().as_bytes())?;
+    put_all(sink, list_begin(offer.kind).as_bytes())?;
     put_all(sink, offer.name.as_str().as_bytes())
 }
 
 // Writes the rest of a row: its kind and what describes it.
 #[tactic(auto, unfolding(crate::specs::PowershellScript::details_text))]
+#[inline(always)]
 fn write_details<W: Sink>(offer: &Offer<'_>, sink: &mut W) -> Result<(), Error>
-    ensures { Writes W.taken W.failed result sink.old sink.new (details_text (offer_row offer.now)) }
+    ensures { Writes W.taken W.failed result sink.old sink.new
+        (capital_space offer.now.kind offer.now.name ++ details_text (offer_row offer.now)) }
 {
-    put_all(sink, kind_begin().as_bytes())?;
-    put_all(sink, kind_text(offer.kind).as_bytes())?;
-    put_all(sink, text_begin().as_bytes())?;
+    put_all(
+        sink,
+        details_begin(offer.kind, offer.name.as_str()).as_bytes(),
+    )?;
     put_escaped(&PowershellEscape, shown_text(offer), sink)?;
     put_all(sink, row_end().as_bytes())
-}
-
-// The lists of PowerShell take no account of case, so a space tells a capital apart.
-fn capital_space(offer: &Offer<'_>) -> &'static str
-    ensures { result.now ≡ capital_space offer.now.kind offer.now.name }
-{
-    match (offer.kind, offer.name.as_str().as_bytes()) {
-        (Kind::Short, [byte]) if byte.is_ascii_uppercase() => " ",
-        _ => "",
-    }
 }
 
 // The help or the about where there is one and it is not empty.
