@@ -37,9 +37,5 @@ fn see<'a>(seen: &mut BTreeMap<&'a str, ()>, label: &'a str) -> Result<bool, All
     ensures kept { OnOk result ((word : List ℕ) →
         is_seen seen.new word ≡ (is_seen seen.old word || bytes_eq label.now word)) }
 {
-    if seen.contains_key(label) {
-        return Ok(false);
-    }
-    seen.insert(label, ())?;
-    Ok(true)
+    Ok(seen.insert(label, ())?.is_none())
 }

@@ -109,9 +109,11 @@ pub(crate) fn full_name(command: &Command) -> &str
 fn child_label(alloc: Global, parent: &str, name: &str) -> Result<String, AllocError>
     ensures { IfOk result (λ text. string_bytes text ≡ child_label parent.now name.now) }
 {
-    let mut label = String::from_str(alloc, parent)?;
-    label.push_str("__subcmd__")?;
     let name = replaced(alloc, name, '-', "__subcmd__")?;
+    let added = "__subcmd__".len().saturating_add(name.len());
+    let mut label = String::with_capacity(alloc, parent.len().saturating_add(added))?;
+    label.push_str(parent)?;
+    label.push_str("__subcmd__")?;
     label.push_str(name.as_str())?;
     Ok(label)
 }
@@ -131,6 +133,7 @@ pub(crate) fn replaced(
     for c in text.chars() {
         push_replaced(&mut made, c, character, by)?;
     }
+    made.shrink_to_fit();
     Ok(made)
 }
 
