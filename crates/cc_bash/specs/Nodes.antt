@@ -1,6 +1,6 @@
 -- What the code's nodes, its stack and its cases stand for.
-use Rattle.std.specs.Prelude.{ℕ, suc, ◌<◌, ◌≤◌, List, ◌∷◌, length, map, reverse, flat_map}
-use Rattle.std.specs.List.{AllByRecursion}
+use Rattle.std.specs.Prelude.{ℕ, suc, ◌<◌, ◌≤◌, List, ◌∷◌, length, map}
+use Rattle.std.specs.List.{All}
 use Rattle.cc_command.specs.Tree.{Tree}
 use Rattle.cc_flat.specs.Flat.{Entry, tree_at}
 use Rattle.cc_bash.specs.CaseTable.{Case}
@@ -29,12 +29,9 @@ labelled_from parent level tree =
     labelled_node parent level tree
     ∷ labelled_under (child_label parent tree.node.name) (suc level) tree.children
 
--- the nodes that an item stands for, and those that a stack stands for, its last item first
+-- the nodes that an item stands for
 abbrev pub labelled_by : List Entry → Pending → List Labelled
 labelled_by flat pending = labelled_from pending.parent pending.level (tree_at flat pending.number)
-
-unfoldable pub labelled_by_all : List Entry → List Pending → List Labelled
-labelled_by_all flat stack = flat_map (labelled_by flat) (reverse stack)
 
 -- nodes at this level below a parent with this label, as items
 abbrev pub pending_of : List ℕ → ℕ → List ℕ → List Pending
@@ -42,8 +39,10 @@ pending_of parent level numbers =
     map (λ number. let p : Pending = record { number = number; level = level; parent = parent } in
     p) numbers
 
--- every item's number is in the list, and its level is at most one more
+-- the item's number is in the list, and its level is at most one more
+abbrev pub IsListed : List Entry → Pending → Type 0
+IsListed flat pending = (pending.number < length flat) × (pending.level ≤ suc pending.number)
+
+-- so are those of each item
 abbrev pub AreListed : List Entry → List Pending → Type 0
-AreListed flat stack =
-    AllByRecursion
-    (λ pending. (pending.number < length flat) × (pending.level ≤ suc pending.number)) stack
+AreListed flat stack = All (IsListed flat) stack

@@ -7,7 +7,8 @@ ghost use Rattle.cc_flat.specs.Flat.{HasItsChildren, children_at, tree_at};
 ghost use Rattle.cc_command.specs.Names.{full_name};
 ghost use Rattle.cc_bash.specs.Labels.{child_label, labelled_node, labelled_under, replaced};
 ghost use Rattle.cc_bash.specs.Labels.{sort_text};
-ghost use Rattle.cc_bash.specs.Nodes.{AreListed, labelled_by_all, labelled_of, pending_of};
+ghost use Rattle.cc_bash.specs.Nodes.{AreListed, labelled_by, labelled_of, pending_of};
+ghost use Rattle.cc_visits.specs.Stack.{from_stack};
 
 use cc_base::Text;
 use cc_command::Command;
@@ -61,7 +62,7 @@ fn labelled_pending<'a>(
 ) -> Result<Vec<LabelledNode<'a>>, AllocError>
     requires listed { AreListed flat.now stack.items }
     ensures { IfOk result (λ nodes. map labelled_of nodes.items
-        ≡ labelled_by_all flat.now stack.items) }
+        ≡ from_stack (labelled_by flat.now) stack.items) }
 {
     let mut nodes = Vec::new(alloc);
     while let Some(pending) = stack.pop() {
