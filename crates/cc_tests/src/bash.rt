@@ -1,6 +1,6 @@
 //! Bash scripts.
 
-use crate::fixtures::{built, chain, clashing, colored, helped, hinted};
+use crate::fixtures::{built, chain, clashing, colored, global, helped, hinted};
 use crate::written::{script, script_for};
 use clap_complete::aot::{Bash, Collected};
 use clap_complete::command::{Command, ValueHint};
@@ -131,6 +131,45 @@ fn the_whole_script(rt: HostRuntime) -> Result<(), Fail> {
     Ok(())
 }
 
+// What is set by the first case of the table for this label and word, and else the label itself.
+fn label_after<'a>(
+    alloc: Global,
+    table: &'a str,
+    label: &'a str,
+    word: &str,
+) -> Result<&'a str, Error> {
+    let case = format!(in alloc; "\n            {label},{word})\n                cmd=\"")?;
+    let Some((_, set)) = table.split_once(case.as_str()) else {
+        return Ok(label);
+    };
+    Ok(set.split_once('"').map_or(label, |(first, _)| first))
+}
+
+// The labels that the table of a script leads to from this label: it, then that after each of the
+// words, with a space after each.
+fn labels(alloc: Global, script: &str, label: &str, words: &[&str]) -> Result<String, Error> {
+    let table = script.split_once("esac").map_or("", |(table, _)| table);
+    let mut label = label;
+    let mut labels = format!(in alloc; "{label} ")?;
+    for word in words {
+        label = label_after(alloc, table, label, word)?;
+        labels.push_str(label)?;
+        labels.push(' ')?;
+    }
+    Ok(labels)
+}
+
+const LABELS: &str = "my__app my__app my__app__subcmd__test my__app__subcmd__test ";
+
+#[test]
+fn words_lead_through_the_table(rt: HostRuntime) -> Result<(), Fail> {
+    let script = script_for(rt.alloc(), Bash, helped(rt.alloc()), "my-app")?;
+    let words = ["--flag", "test", "--"];
+    let labels = labels(rt.alloc(), script.as_str(), "my__app", words.as_slice())?;
+    assert_eq!(rt; labels.as_str(), LABELS);
+    Ok(())
+}
+
 // Whether the call failed with a clash of this label.
 fn is_clash(outcome: &Result<(), Error>, label: &str) -> bool {
     match outcome {
@@ -176,6 +215,19 @@ fn values_that_are_shown_are_offered(rt: HostRuntime) -> Result<(), Fail> {
             .contains("opts=\"-c -h --color --help run help\"")
     );
     assert!(rt; script.as_str().contains(COLORED));
+    Ok(())
+}
+
+const GLOBAL: &str = "
+        app__subcmd__run)
+            opts=\"-h --json --help\"
+            if [[ ${cur} == -* || ${COMP_CWORD} -eq 2 ]] ; then
+";
+
+#[test]
+fn a_child_has_the_global_flag_of_its_parent(rt: HostRuntime) -> Result<(), Fail> {
+    let script = script(rt.alloc(), Bash, global(rt.alloc()))?;
+    assert!(rt; script.as_str().contains(GLOBAL));
     Ok(())
 }
 

@@ -1,6 +1,6 @@
 //! Elvish scripts.
 
-use crate::fixtures::{app, bare, chain, described, nested};
+use crate::fixtures::{app, bare, chain, described, global, nested};
 use crate::written::script;
 use clap_complete::Error;
 use clap_complete::aot::Elvish;
@@ -71,6 +71,14 @@ const DESCRIBED: &str = "
         &'app;c'= {
         }";
 
+const GLOBAL: &str = "
+        &'app;run'= {
+            cand --json 'json'
+            cand -h 'Print help'
+            cand --help 'Print help'
+        }
+";
+
 const END: &str = "'= {
             cand --end 'end'
         }";
@@ -108,6 +116,13 @@ fn every_visible_path_has_a_key(rt: HostRuntime) -> Result<(), Fail> {
 fn an_about_is_escaped(rt: HostRuntime) -> Result<(), Fail> {
     let script = script(rt.alloc(), Elvish, described(rt.alloc(), "it's\n[x]:\\"))?;
     assert_eq!(rt; tables(script.as_str()), DESCRIBED);
+    Ok(())
+}
+
+#[test]
+fn a_child_has_the_global_flag_of_its_parent(rt: HostRuntime) -> Result<(), Fail> {
+    let script = script(rt.alloc(), Elvish, global(rt.alloc()))?;
+    assert!(rt; script.as_str().contains(GLOBAL));
     Ok(())
 }
 

@@ -1,7 +1,7 @@
 //! Fish scripts.
 
 use crate::fixtures::{
-    built, chain, colored, deep, described, hinted, listed, named, with_directory,
+    built, chain, colored, deep, described, global, hinted, listed, named, with_directory,
 };
 use crate::written::{script, script_for};
 use clap_complete::aot::{Collected, Fish};
@@ -130,6 +130,18 @@ fn every_visible_path_has_its_records(rt: HostRuntime) -> Result<(), Fail> {
     assert!(rt; script.as_str().contains(SECOND));
     assert!(rt; script.as_str().contains(THIRD));
     assert!(rt; script.as_str().contains(HELP));
+    Ok(())
+}
+
+const GLOBAL: &str = "
+complete -c app -n \"__fish_app_using_subcommand run\" -l json
+complete -c app -n \"__fish_app_using_subcommand run\" -s h -l help -d 'Print help'
+";
+
+#[test]
+fn a_child_has_the_global_flag_of_its_parent(rt: HostRuntime) -> Result<(), Fail> {
+    let script = script(rt.alloc(), Fish, global(rt.alloc()))?;
+    assert!(rt; script.as_str().contains(GLOBAL));
     Ok(())
 }
 

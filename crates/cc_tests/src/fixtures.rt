@@ -117,6 +117,13 @@ pub(crate) fn flag(alloc: Global, short: char, help: &str) -> Result<Command, Er
     with(bare(alloc), Ok(flag.action(ArgAction::SetTrue)))
 }
 
+/// `app` with one flag of this long and help, and no other.
+pub(crate) fn long_flag(alloc: Global, name: &str, help: &str) -> Result<Command, Error> {
+    let help = String::from_str(alloc, help)?;
+    let flag = long(alloc, name)?.help(help);
+    with(bare(alloc), Ok(flag.action(ArgAction::SetTrue)))
+}
+
 /// `app` with a child `c` that says this of itself; nothing is generated.
 pub(crate) fn described(alloc: Global, about: &str) -> Result<Command, Error> {
     let about = String::from_str(alloc, about)?;

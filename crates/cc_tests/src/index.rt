@@ -38,12 +38,19 @@ fn a_word_leads_to_the_child_of_that_name_or_alias(rt: HostRuntime) -> Result<()
     Ok(())
 }
 
+// The parents of the root and of its first child; `None` where it has none.
+fn parents(alloc: Global, root: &Command) -> Result<Option<(Option<usize>, Option<usize>)>, Error> {
+    let flat = Flat::new(alloc, root)?;
+    if flat.len() < 2 {
+        return Ok(None);
+    }
+    Ok(Some((flat.parent(0), flat.parent(1))))
+}
+
 #[test]
 fn a_node_has_its_parent_and_the_root_has_none(rt: HostRuntime) -> Result<(), Fail> {
     let root = my_app(rt.alloc())?;
-    let flat = Flat::new(rt.alloc(), &root)?;
-    assert!(rt; flat.len() > 1);
-    assert_eq!(rt; flat.parent(0), None);
-    assert_eq!(rt; flat.parent(1), Some(0));
+    let parents = parents(rt.alloc(), &root)?;
+    assert_eq!(rt; parents, Some((None, Some(0))));
     Ok(())
 }

@@ -1,6 +1,6 @@
 //! Nushell scripts.
 
-use crate::fixtures::{flag, with_out_below};
+use crate::fixtures::{flag, global, long_flag, with_out_below};
 use crate::written::script;
 use clap_complete::aot::{Generator, Nushell};
 use std::test::Fail;
@@ -27,6 +27,16 @@ export use completions *
 
 const LINE: &str = "\n    -x # a # b   ]\n  ]\n";
 
+const LONG_LINE: &str = "\n    --x # a # b   ]\n  ]\n";
+
+const GLOBAL: &str = "
+  export extern \"app run\" [
+    --json
+    -h # Print help
+    --help # Print help
+  ]
+";
+
 #[test]
 fn every_visible_path_has_a_block(rt: HostRuntime) -> Result<(), Fail> {
     let script = script(rt.alloc(), Nushell, with_out_below(rt.alloc()))?;
@@ -38,6 +48,21 @@ fn every_visible_path_has_a_block(rt: HostRuntime) -> Result<(), Fail> {
 fn a_line_feed_in_a_help_is_a_space(rt: HostRuntime) -> Result<(), Fail> {
     let script = script(rt.alloc(), Nushell, flag(rt.alloc(), 'x', "a # b\n  ]"))?;
     assert!(rt; script.as_str().contains(LINE));
+    Ok(())
+}
+
+#[test]
+fn a_line_feed_in_the_help_of_a_long_is_a_space(rt: HostRuntime) -> Result<(), Fail> {
+    let command = long_flag(rt.alloc(), "x", "a # b\n  ]");
+    let script = script(rt.alloc(), Nushell, command)?;
+    assert!(rt; script.as_str().contains(LONG_LINE));
+    Ok(())
+}
+
+#[test]
+fn a_child_has_the_global_flag_of_its_parent(rt: HostRuntime) -> Result<(), Fail> {
+    let script = script(rt.alloc(), Nushell, global(rt.alloc()))?;
+    assert!(rt; script.as_str().contains(GLOBAL));
     Ok(())
 }
 

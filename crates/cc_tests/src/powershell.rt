@@ -1,6 +1,6 @@
 //! PowerShell scripts.
 
-use crate::fixtures::{app, flag, nested};
+use crate::fixtures::{app, flag, global, nested};
 use crate::written::script;
 use clap_complete::aot::PowerShell;
 use std::test::Fail;
@@ -67,6 +67,15 @@ const NESTED: &str = "
             break
         }";
 
+const GLOBAL: &str = "
+        'app;run' {
+            [CompletionResult]::new('--json', '--json', [CompletionResultType]::ParameterName, 'json')
+            [CompletionResult]::new('-h', '-h', [CompletionResultType]::ParameterName, 'Print help')
+            [CompletionResult]::new('--help', '--help', [CompletionResultType]::ParameterName, 'Print help')
+            break
+        }
+";
+
 const CAPITAL: &str =
     "[CompletionResult]::new('-S', '-S ', [CompletionResultType]::ParameterName, 'S')";
 
@@ -91,6 +100,13 @@ fn options_stand_before_flags(rt: HostRuntime) -> Result<(), Fail> {
 fn every_visible_path_has_a_key(rt: HostRuntime) -> Result<(), Fail> {
     let script = script(rt.alloc(), PowerShell, nested(rt.alloc()))?;
     assert_eq!(rt; tables(script.as_str()), NESTED);
+    Ok(())
+}
+
+#[test]
+fn a_child_has_the_global_flag_of_its_parent(rt: HostRuntime) -> Result<(), Fail> {
+    let script = script(rt.alloc(), PowerShell, global(rt.alloc()))?;
+    assert!(rt; script.contains(GLOBAL));
     Ok(())
 }
 

@@ -26,13 +26,20 @@ fn each_shell_prints_its_text_and_is_read_from_it(rt: HostRuntime) -> Result<(),
 
 #[test]
 fn display_heeds_width_fill_and_alignment(rt: HostRuntime) -> Result<(), Fail> {
-    let right = format!(in rt.alloc(); "{:>6}|", Shell::Bash)?;
-    assert_eq!(rt; right.as_str(), "  bash|");
-    let centred = format!(in rt.alloc(); "{:*^8}", Shell::Fish)?;
-    assert_eq!(rt; centred.as_str(), "**fish**");
-    let left = format!(in rt.alloc(); "{:8}|", Shell::Elvish)?;
-    assert_eq!(rt; left.as_str(), "elvish  |");
-    let shown = format!(in rt.alloc(); "{:?} {:?}", Shell::PowerShell, InvalidShell)?;
+    let alloc = rt.alloc();
+    assert_eq!(rt;
+        format!(in alloc; "{:>6}|", Shell::Bash)?.as_str(),
+        "  bash|"
+    );
+    assert_eq!(rt;
+        format!(in alloc; "{:*^8}", Shell::Fish)?.as_str(),
+        "**fish**"
+    );
+    assert_eq!(rt;
+        format!(in alloc; "{:8}|", Shell::Elvish)?.as_str(),
+        "elvish  |"
+    );
+    let shown = format!(in alloc; "{:?} {:?}", Shell::PowerShell, InvalidShell)?;
     assert_eq!(rt; shown.as_str(), "PowerShell InvalidShell");
     Ok(())
 }
@@ -76,17 +83,33 @@ fn a_shell_is_a_possible_value(rt: HostRuntime) -> Result<(), Fail> {
     Ok(())
 }
 
-// Whether a shell writes the script of its generator, and names the same file.
-fn is_of<G: Generator + Drop + Copy>(
+fn has_the_script_of<G: Generator + Drop>(
     alloc: Global,
     shell: Shell,
     generator: G,
 ) -> Result<bool, Error> {
     let by_shell = script(alloc, shell, nested(alloc))?;
     let by_generator = script(alloc, generator, nested(alloc))?;
+    Ok(by_shell.as_str() == by_generator.as_str())
+}
+
+fn has_the_name_of<G: Generator>(
+    alloc: Global,
+    shell: Shell,
+    generator: &G,
+) -> Result<bool, Error> {
     let name = shell.file_name(alloc, "app")?;
     let its_name = generator.file_name(alloc, "app")?;
-    Ok(by_shell.as_str() == by_generator.as_str() && name.as_str() == its_name.as_str())
+    Ok(name.as_str() == its_name.as_str())
+}
+
+// Whether a shell writes the script of its generator, and names the same file.
+fn is_of<G: Generator + Drop + Copy>(
+    alloc: Global,
+    shell: Shell,
+    generator: G,
+) -> Result<bool, Error> {
+    Ok(has_the_name_of(alloc, shell, &generator)? && has_the_script_of(alloc, shell, generator)?)
 }
 
 #[test]
@@ -122,6 +145,39 @@ fn write_to(
     generate_to(rt, rt.alloc(), shell, command, bin_name, folder)
 }
 
+// How writing the script of a command to a folder ends, and whether the command is then built.
+fn outcome(
+    rt: &HostRuntime,
+    shell: Shell,
+    command: Result<Command, Error>,
+    folder: &str,
+) -> Result<(Result<String, Error>, bool), Error> {
+    let mut command = command?;
+    let written = write_to(rt, shell, &mut command, folder);
+    Ok((written, command.is_built()))
+}
+
+// The path of the file that the script of `app` is written to, which leaves the command built.
+fn written(rt: &HostRuntime, shell: Shell, folder: &str) -> Result<String, Fail> {
+    match outcome(rt, shell, app(rt.alloc()), folder)? {
+        (Ok(path), true) => Ok(path),
+        _ => Err(Fail::from("not written, or not built")),
+    }
+}
+
+fn holds_script(rt: &HostRuntime, path: &str, shell: Shell) -> Result<bool, Fail> {
+    let held = fs::read_to_string(rt, path)?;
+    let wanted = script(rt.alloc(), shell, app(rt.alloc()))?;
+    Ok(held.as_str() == wanted.as_str())
+}
+
+// Whether the script of `app` is written to the file of this name in a folder.
+fn is_written(rt: &HostRuntime, shell: Shell, folder: &str, name: &str) -> Result<bool, Fail> {
+    let path = written(rt, shell, folder)?;
+    let wanted = format!(in rt.alloc(); "{folder}/{name}")?;
+    Ok(path.as_str() == wanted.as_str() && holds_script(rt, path.as_str(), shell)?)
+}
+
 #[test]
 fn each_script_is_written_to_its_file(rt: HostRuntime) -> Result<(), Fail> {
     let folder = folder(&rt, "lagvtsune_written")?;
@@ -129,31 +185,39 @@ fn each_script_is_written_to_its_file(rt: HostRuntime) -> Result<(), Fail> {
         "app.bash", "app.elv", "app.fish", "_app.ps1", "_app", "app.nu",
     ];
     for (shell, name) in Shell::value_variants().iter().zip(names) {
-        let mut command = app(rt.alloc())?;
-        let path = write_to(&rt, *shell, &mut command, folder.as_str())?;
-        let wanted = format!(in rt.alloc(); "{folder}/{name}")?;
-        assert_eq!(rt; path.as_str(), wanted.as_str());
-        assert!(rt; command.is_built());
-        let written = fs::read_to_string(&rt, path.as_str())?;
-        let wanted = script(rt.alloc(), *shell, app(rt.alloc()))?;
-        assert_eq!(rt; written.as_str(), wanted.as_str());
+        assert!(rt; is_written(&rt, *shell, folder.as_str(), name)?, "{name}");
     }
     fs::remove_dir_all(&rt, folder.as_str())?;
     Ok(())
 }
 
+// Makes a file longer, and returns what it held.
+fn lengthened(rt: &HostRuntime, path: &str) -> Result<String, Fail> {
+    let held = fs::read_to_string(rt, path)?;
+    let longer = format!(in rt.alloc(); "{held}# more")?;
+    fs::write(rt, path, longer.as_str())?;
+    Ok(held)
+}
+
+// Whether a file that was longer holds the script of a command and no more.
+fn is_emptied(rt: &HostRuntime, command: &mut Command, folder: &str) -> Result<bool, Fail> {
+    let with_slash = format!(in rt.alloc(); "{folder}/")?;
+    let path = write_to(rt, Shell::Fish, command, with_slash.as_str())?;
+    let wanted = lengthened(rt, path.as_str())?;
+    write_to(rt, Shell::Fish, command, folder)?;
+    let held = fs::read_to_string(rt, path.as_str())?;
+    Ok(held.as_str() == wanted.as_str())
+}
+
+fn is_emptied_for_app(rt: &HostRuntime, folder: &str) -> Result<bool, Fail> {
+    let mut command = app(rt.alloc())?;
+    is_emptied(rt, &mut command, folder)
+}
+
 #[test]
 fn a_file_that_is_there_is_emptied_first(rt: HostRuntime) -> Result<(), Fail> {
     let folder = folder(&rt, "lagvtsune_emptied")?;
-    let mut command = app(rt.alloc())?;
-    let with_slash = format!(in rt.alloc(); "{folder}/")?;
-    let path = write_to(&rt, Shell::Fish, &mut command, with_slash.as_str())?;
-    let wanted = fs::read_to_string(&rt, path.as_str())?;
-    let longer = format!(in rt.alloc(); "{wanted}# more")?;
-    fs::write(&rt, path.as_str(), longer.as_str())?;
-    write_to(&rt, Shell::Fish, &mut command, folder.as_str())?;
-    let written = fs::read_to_string(&rt, path.as_str())?;
-    assert_eq!(rt; written.as_str(), wanted.as_str());
+    assert!(rt; is_emptied_for_app(&rt, folder.as_str())?);
     fs::remove_dir_all(&rt, folder.as_str())?;
     Ok(())
 }
@@ -162,23 +226,26 @@ fn a_file_that_is_there_is_emptied_first(rt: HostRuntime) -> Result<(), Fail> {
 fn a_folder_that_is_not_there_is_a_failed_write(rt: HostRuntime) -> Result<(), Fail> {
     let folder = folder(&rt, "lagvtsune_missing")?;
     fs::remove_dir(&rt, folder.as_str())?;
-    let mut command = app(rt.alloc())?;
-    let written = write_to(&rt, Shell::Bash, &mut command, folder.as_str());
+    let (written, built) = outcome(&rt, Shell::Bash, app(rt.alloc()), folder.as_str())?;
     assert!(rt; matches!(written, Err(Error::Write(ErrorKind::NotFound))));
-    assert!(rt; command.is_built());
+    assert!(rt; built);
     Ok(())
 }
 
 // The system's device that is always full stands in for the file.
+fn fill_up(rt: &HostRuntime, folder: &str) -> Result<(), Fail> {
+    let path = format!(in rt.alloc(); "{folder}/app.fish")?;
+    symlink(rt, "/dev/full", path.as_str())?;
+    Ok(())
+}
+
 #[test]
 fn a_full_disk_is_a_failed_write(rt: HostRuntime) -> Result<(), Fail> {
     let folder = folder(&rt, "lagvtsune_full")?;
-    let path = format!(in rt.alloc(); "{folder}/app.fish")?;
-    symlink(&rt, "/dev/full", path.as_str())?;
-    let mut command = app(rt.alloc())?;
-    let written = write_to(&rt, Shell::Fish, &mut command, folder.as_str());
+    fill_up(&rt, folder.as_str())?;
+    let (written, built) = outcome(&rt, Shell::Fish, app(rt.alloc()), folder.as_str())?;
     assert!(rt; matches!(written, Err(Error::Write(ErrorKind::StorageFull))));
-    assert!(rt; command.is_built());
+    assert!(rt; built);
     fs::remove_dir_all(&rt, folder.as_str())?;
     Ok(())
 }
@@ -186,10 +253,9 @@ fn a_full_disk_is_a_failed_write(rt: HostRuntime) -> Result<(), Fail> {
 #[test]
 fn no_file_is_made_where_a_label_is_shared(rt: HostRuntime) -> Result<(), Fail> {
     let folder = folder(&rt, "lagvtsune_clash")?;
-    let mut command = clashing(rt.alloc())?;
-    let written = write_to(&rt, Shell::Bash, &mut command, folder.as_str());
+    let (written, built) = outcome(&rt, Shell::Bash, clashing(rt.alloc()), folder.as_str())?;
     assert!(rt; matches!(written, Err(Error::LabelClash(_))));
-    assert!(rt; command.is_built());
+    assert!(rt; built);
     // A folder with nothing in it is the only kind that can be removed so.
     fs::remove_dir(&rt, folder.as_str())?;
     Ok(())

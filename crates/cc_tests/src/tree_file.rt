@@ -159,13 +159,18 @@ fn fails_on_other_forms(rt: HostRuntime) -> Result<(), Fail> {
     Ok(())
 }
 
+fn shown(alloc: Global, error: &TreeError) -> Result<String, Fail> {
+    Ok(format!(in alloc; "{error} {error:?}")?)
+}
+
 #[test]
 fn each_error_shows_its_text(rt: HostRuntime) -> Result<(), Fail> {
-    let not_json = format!(in rt.alloc(); "{} {:?}", TreeError::NotJson, TreeError::NotJson)?;
-    assert_eq!(rt; not_json.as_str(), "tree: not JSON NotJson");
-    let bad_form = format!(in rt.alloc(); "{} {:?}", TreeError::BadForm, TreeError::BadForm)?;
-    assert_eq!(rt; bad_form.as_str(), "tree: bad form BadForm");
-    let memory = format!(in rt.alloc(); "{} {:?}", TreeError::Memory, TreeError::Memory)?;
-    assert_eq!(rt; memory.as_str(), "out of memory Memory");
+    let alloc = rt.alloc();
+    let not_json = TreeError::NotJson;
+    assert_eq!(rt; shown(alloc, &not_json)?.as_str(), "tree: not JSON NotJson");
+    let bad_form = TreeError::BadForm;
+    assert_eq!(rt; shown(alloc, &bad_form)?.as_str(), "tree: bad form BadForm");
+    let memory = TreeError::Memory;
+    assert_eq!(rt; shown(alloc, &memory)?.as_str(), "out of memory Memory");
     Ok(())
 }

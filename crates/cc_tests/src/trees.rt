@@ -1,6 +1,6 @@
 //! Trees, as their getters answer them.
 
-use crate::fixtures::{app, built, my_app, nested};
+use crate::fixtures::{app, built, global, my_app, nested};
 use clap_complete::Error;
 use clap_complete::aot::utils::find_subcommand_with_path;
 use clap_complete::command::Command;
@@ -32,6 +32,35 @@ fn building_twice_adds_help_once(rt: HostRuntime) -> Result<(), Fail> {
         let ids = ids_after(rt.alloc(), builds)?;
         assert_eq!(rt; ids.as_str(), "verbose out help ");
     }
+    Ok(())
+}
+
+// The ids of the arguments of the command that a path leads to; `None` where it leads to none.
+fn ids_at(alloc: Global, command: &Command, path: &[&str]) -> Result<Option<String>, Error> {
+    match find_subcommand_with_path(command, path) {
+        Some(found) => Ok(Some(ids(alloc, found)?)),
+        None => Ok(None),
+    }
+}
+
+// Whether these are the ids at a path.
+fn are_ids_at(
+    alloc: Global,
+    command: &Command,
+    path: &[&str],
+    wanted: &str,
+) -> Result<bool, Error> {
+    let found = ids_at(alloc, command, path)?;
+    Ok(found.as_ref().map(String::as_str) == Some(wanted))
+}
+
+#[test]
+fn a_global_argument_goes_to_the_children_that_were_given(rt: HostRuntime) -> Result<(), Fail> {
+    let command = built(rt.alloc(), global(rt.alloc()))?;
+    assert!(rt; are_ids_at(rt.alloc(), &command, &["run"], "json help ")?);
+    assert!(rt; are_ids_at(rt.alloc(), &command, &["help"], "")?);
+    assert!(rt; are_ids_at(rt.alloc(), &command, &["help", "run"], "")?);
+    assert!(rt; are_ids_at(rt.alloc(), &command, &["help", "help"], "")?);
     Ok(())
 }
 

@@ -12,8 +12,18 @@ pub(crate) fn write_script<G: Generator + Drop, W: Sink>(
     command: Result<Command, Error>,
     sink: &mut W,
 ) -> Result<(), Error> {
+    write_script_for(alloc, generator, command, "app", sink)
+}
+
+fn write_script_for<G: Generator + Drop, W: Sink>(
+    alloc: Global,
+    generator: G,
+    command: Result<Command, Error>,
+    name: &str,
+    sink: &mut W,
+) -> Result<(), Error> {
     let mut command = command?;
-    let bin_name = String::from_str(alloc, "app")?;
+    let bin_name = String::from_str(alloc, name)?;
     generate(alloc, generator, &mut command, bin_name, sink)
 }
 
@@ -23,9 +33,7 @@ pub(crate) fn script<G: Generator + Drop>(
     generator: G,
     command: Result<Command, Error>,
 ) -> Result<String, Error> {
-    let mut sink = Collected::new(alloc);
-    write_script(alloc, generator, command, &mut sink)?;
-    Ok(String::from_utf8_lossy(alloc, sink.as_slice())?)
+    script_for(alloc, generator, command, "app")
 }
 
 /// The script of a command for a program of this name.
@@ -36,8 +44,6 @@ pub(crate) fn script_for<G: Generator + Drop>(
     name: &str,
 ) -> Result<String, Error> {
     let mut sink = Collected::new(alloc);
-    let mut command = command?;
-    let bin_name = String::from_str(alloc, name)?;
-    generate(alloc, generator, &mut command, bin_name, &mut sink)?;
+    write_script_for(alloc, generator, command, name, &mut sink)?;
     Ok(String::from_utf8_lossy(alloc, sink.as_slice())?)
 }
