@@ -83,6 +83,11 @@ fn run(alloc: Global) -> Result<Command, Error> {
     plain(alloc, "run")?.visible_alias(alias)
 }
 
+/// `app` with a child `run`, as `nested` has it, and a child `list`; nothing is generated.
+pub(crate) fn nested_and_list(alloc: Global) -> Result<Command, Error> {
+    holding(nested(alloc), plain(alloc, "list"))
+}
+
 /// `app` with a flag `-v`, `--verbose` and a child `run`, shown as `r` too, that has an option
 /// `--out`; nothing is generated.
 pub(crate) fn with_out_below(alloc: Global) -> Result<Command, Error> {

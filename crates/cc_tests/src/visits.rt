@@ -1,5 +1,6 @@
 //! The visits of a small tree in both orders: each key with the node above and the node visited.
 
+use crate::fixtures::nested_and_list;
 use cc_flat::Flat;
 use cc_visits::{Joined, PathStep, PathSteps, TableVisits, Visit};
 use clap_complete::command::Command;
@@ -8,18 +9,6 @@ use std::test::Fail;
 
 // More than the visits and steps of the tree, so that a loop of so many turns sees all.
 const TURNS: usize = 20;
-
-fn named(alloc: Global, name: &str) -> Result<Command, AllocError> {
-    Ok(Command::new(alloc, String::from_str(alloc, name)?))
-}
-
-fn tree(alloc: Global) -> Result<Command, Fail> {
-    let job = named(alloc, "job")?;
-    let alias = String::from_str(alloc, "r")?;
-    let run = named(alloc, "run")?.visible_alias(alias)?.subcommand(job)?;
-    let list = named(alloc, "list")?;
-    Ok(named(alloc, "app")?.subcommand(run)?.subcommand(list)?)
-}
 
 fn push_visit(text: &mut String, visit: &Visit<'_>) -> Result<(), AllocError> {
     text.push_str(visit.key.as_str())?;
@@ -87,7 +76,7 @@ fn first_below(alloc: Global, root: &Command) -> Result<String, AllocError> {
 
 #[test]
 fn a_key_of_the_parent_comes_before_the_next_child(rt: HostRuntime) -> Result<(), Fail> {
-    let root = tree(rt.alloc())?;
+    let root = nested_and_list(rt.alloc())?;
     let text = table_order_of(rt.alloc(), &root)?;
     assert_eq!(rt;
         text.as_str(),
@@ -99,7 +88,7 @@ app;run;job=run/job app;r;job=run/job app;list=app/list "
 
 #[test]
 fn a_path_comes_with_all_below_it(rt: HostRuntime) -> Result<(), Fail> {
-    let root = tree(rt.alloc())?;
+    let root = nested_and_list(rt.alloc())?;
     let text = path_order_of(rt.alloc(), &root)?;
     assert_eq!(rt;
         text.as_str(),
@@ -111,7 +100,7 @@ app;r=app/run app;r;job=run/job | | app;list=app/list | | "
 
 #[test]
 fn below_the_root_its_first_child_comes_first(rt: HostRuntime) -> Result<(), Fail> {
-    let root = tree(rt.alloc())?;
+    let root = nested_and_list(rt.alloc())?;
     let text = first_below(rt.alloc(), &root)?;
     assert_eq!(rt; text.as_str(), "app run=app/run ");
     Ok(())
