@@ -131,7 +131,15 @@ fn the_whole_script(rt: HostRuntime) -> Result<(), Fail> {
     Ok(())
 }
 
-// What is set by the first case of the table for this label and word, and else the label itself.
+// The part of a script that leads the words of the line from label to label.
+fn table(script: &str) -> &str {
+    match script.split_once("esac") {
+        Some((table, _)) => table,
+        None => script,
+    }
+}
+
+// What is set by the first case of a table for this label and word, and else the label itself.
 fn label_after<'a>(
     alloc: Global,
     table: &'a str,
@@ -142,30 +150,27 @@ fn label_after<'a>(
     let Some((_, set)) = table.split_once(case.as_str()) else {
         return Ok(label);
     };
-    Ok(set.split_once('"').map_or(label, |(first, _)| first))
-}
-
-// The labels that the table of a script leads to from this label: it, then that after each of the
-// words, with a space after each.
-fn labels(alloc: Global, script: &str, label: &str, words: &[&str]) -> Result<String, Error> {
-    let table = script.split_once("esac").map_or("", |(table, _)| table);
-    let mut label = label;
-    let mut labels = format!(in alloc; "{label} ")?;
-    for word in words {
-        label = label_after(alloc, table, label, word)?;
-        labels.push_str(label)?;
-        labels.push(' ')?;
+    match set.split_once('"') {
+        Some((after, _)) => Ok(after),
+        None => Ok(label),
     }
-    Ok(labels)
 }
 
-const LABELS: &str = "my__app my__app my__app__subcmd__test my__app__subcmd__test ";
+// The root's label, then the label after each of the words `--flag`, `test` and `--`.
+fn labels(alloc: Global, table: &str) -> Result<String, Error> {
+    let root = "my__app";
+    let first = label_after(alloc, table, root, "--flag")?;
+    let second = label_after(alloc, table, first, "test")?;
+    let third = label_after(alloc, table, second, "--")?;
+    Ok(format!(in alloc; "{root} {first} {second} {third}")?)
+}
+
+const LABELS: &str = "my__app my__app my__app__subcmd__test my__app__subcmd__test";
 
 #[test]
 fn words_lead_through_the_table(rt: HostRuntime) -> Result<(), Fail> {
     let script = script_for(rt.alloc(), Bash, helped(rt.alloc()), "my-app")?;
-    let words = ["--flag", "test", "--"];
-    let labels = labels(rt.alloc(), script.as_str(), "my__app", words.as_slice())?;
+    let labels = labels(rt.alloc(), table(script.as_str()))?;
     assert_eq!(rt; labels.as_str(), LABELS);
     Ok(())
 }
