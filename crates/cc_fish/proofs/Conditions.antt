@@ -1,10 +1,9 @@
 -- The condition of a path is read back.
-use Rattle.std.proofs.Common.{◌≡◌, ℕ, Bool, true, false, List, [], ◌∷◌, ◌++◌, eqb, refl, ap, ◌∙◌, sym, append_assoc, append-nil, inl, inr, ◌⊎◌, Option, Some, None, map, codes, reverse, flat_map, option_map}
+use Rattle.std.proofs.Common.{◌≡◌, ℕ, true, false, List, [], ◌∷◌, ◌++◌, eqb, refl, ap, ◌∙◌, sym, append_assoc, append-nil, inl, inr, Option, Some, None, map, codes, reverse, flat_map, option_map}
 use Rattle.std.proofs.lemmas.Bool.Decides.{eqb_tells}
 use Rattle.std.proofs.lemmas.List.{reverse-append, reverse-reverse}
 use Rattle.std.proofs.lemmas.List.Folds.{list_all-append}
 use Rattle.std.specs.List.{list_all, AllByRecursion}
-use Rattle.cc_command.specs.declared.node.Node.{Node}
 use Rattle.cc_command.specs.PlainName.{dash}
 use Rattle.cc_command.specs.Tree.{Forest, none, more}
 use Rattle.cc_quote.specs.Bytes as ascii

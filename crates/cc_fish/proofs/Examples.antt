@@ -4,7 +4,6 @@ use Rattle.std.specs.Char.{encode_utf8}
 use Rattle.std.specs.List.{list_any}
 use Rattle.cc_arg.specs.declared.action.ArgAction.TheVariants.{SetTrue}
 use Rattle.cc_arg.specs.declared.arg.Arg.{Arg}
-use Rattle.cc_arg.specs.declared.possible_value.PossibleValue.{PossibleValue}
 use Rattle.cc_arg.specs.Arguments.{new_arg}
 use Rattle.cc_arg.specs.PossibleValues.{new_possible_value}
 use Rattle.cc_command.specs.Built.{built_under}
@@ -15,7 +14,7 @@ use Rattle.cc_command.specs.Tree.{Tree, none}
 use Rattle.cc_quote.specs.FishQuote.{fish_sign, is_fish_safe, fish_quoted, fish_quoted_for_eval, fish_help_for_eval_of, fish_escaped}
 use Rattle.cc_quote.specs.FishTokens.{fish_commands}
 use Rattle.cc_visits.specs.Visits.{paths_below}
-use Rattle.cc_fish.specs.FishScript.{value_text, value_lines, list_begin, listed_text, hint_text, values_text, names_text, option_text, flag_text, child_text, options_text, flags_text, below_text, node_text, visit_text, front_text, key_condition, not_seen, spec_text, head_text, body_text, script_text, fish_script}
+use Rattle.cc_fish.specs.FishScript.{value_text, value_lines, list_begin, listed_text, values_text, names_text, option_text, flag_text, child_text, options_text, flags_text, below_text, node_text, visit_text, front_text, key_condition, not_seen, spec_text, head_text, body_text, script_text, fish_script}
 use Rattle.cc_fish.specs.FishTable.{tables}
 use Rattle.cc_fish.specs.RecordReader.{no_record, records}
 use Rattle.cc_fish.specs.Records.{Condition, Record}

@@ -7,14 +7,13 @@ use Rattle.std.proofs.lemmas.Str.{encode_ascii}
 use Rattle.cc_base.proofs.Members.{AllByRecursion-weaker}
 use Rattle.cc_arg.specs.declared.arg.Arg.{Arg}
 use Rattle.cc_arg.specs.ShownNames.{with_aliases, shown_shorts, shown_longs}
-use Rattle.cc_command.specs.declared.node.Node.{Node}
 use Rattle.cc_command.specs.Names.{visible_names}
-use Rattle.cc_command.specs.Plain.{passes_if_some, is_plain_node, is_plain_forest}
-use Rattle.cc_command.specs.PlainName.{NameByte, dash, underscore, letter, joiner, foreign, name_byte, is_joined, is_plain_name}
+use Rattle.cc_command.specs.Plain.{passes_if_some, is_plain_forest}
+use Rattle.cc_command.specs.PlainName.{dash, underscore, letter, joiner, foreign, name_byte, is_joined, is_plain_name}
 use Rattle.cc_command.specs.Tree.{Forest, none, more}
 use Rattle.cc_command.proofs.NameBytes.{plain_bytes}
 use Rattle.cc_command.proofs.PlainParts.{IsPlainName, IsPlainShort, IsPlainArgument, plain_node, plain_more}
-use Rattle.cc_quote.specs.FishQuote.{fish_sign, begins_word, is_fish_safe}
+use Rattle.cc_quote.specs.FishQuote.{begins_word, is_fish_safe}
 use Rattle.cc_quote.proofs.FishWords.{IsSafe, safe_sign, safe_bare}
 use Rattle.cc_quote.proofs.FishCutting.{Spells}
 use Rattle.cc_fish.specs.FishTable.{child_names}

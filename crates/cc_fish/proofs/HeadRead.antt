@@ -1,17 +1,15 @@
 -- The head has no record.
-use Rattle.std.proofs.Common.{◌≡◌, ℕ, Bool, true, false, List, [], ◌∷◌, ◌++◌, refl, ap, ◌∙◌, sym, append_assoc, append-nil, inl, inr, ◌⊎◌, Option, Some, None, map, cond, codes, option_map, not, ◌&&◌, ◌||◌, filter, is_some, encode_utf8, flat_map}
+use Rattle.std.proofs.Common.{◌≡◌, ℕ, Bool, true, false, List, [], ◌∷◌, ◌++◌, refl, ap, ◌∙◌, append_assoc, inr, Option, Some, None, cond, codes, not, ◌&&◌, ◌||◌, filter, is_some, encode_utf8}
 use Rattle.std.specs.List.{AllByRecursion}
-use Rattle.cc_base.proofs.Members.{AllByRecursion-weaker}
 use Rattle.cc_arg.specs.declared.arg.Arg.{Arg}
 use Rattle.cc_arg.specs.Arguments.{is_positional, takes_values}
 use Rattle.cc_arg.specs.ShownNames.{with_aliases, shown_shorts, shown_longs}
-use Rattle.cc_command.specs.declared.node.Node.{Node}
 use Rattle.cc_command.specs.Tree.{Forest, none, more, Tree, has_nodes}
 use Rattle.cc_command.proofs.PlainParts.{IsPlainArgument, IsPlainNode}
 use Rattle.cc_quote.specs.Bytes as ascii
 use Rattle.cc_quote.specs.FishQuote.{fish_sign, is_fish_safe}
 use Rattle.cc_quote.specs.FishQuote.FishPlace.{bare}
-use Rattle.cc_quote.specs.FishTokens.{between, in_word, commands_from, fish_commands}
+use Rattle.cc_quote.specs.FishTokens.{in_word, commands_from, fish_commands}
 use Rattle.cc_quote.proofs.FishWords.{IsSafe}
 use Rattle.cc_quote.proofs.FishCutting.{Adds, adds_word, adds_flat_map, safe_goes_on, word_ends}
 use Rattle.cc_fish.specs.FishScript.{slash_text, first_short, first_long, spec_word, spec_text, specs_text, head_1, head_2, head_3, head_4, head_5, head_6, head_7, head_end, head_back, head_front, head_around, head_text}

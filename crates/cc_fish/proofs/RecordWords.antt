@@ -1,10 +1,9 @@
 -- The words that the text of a record spells.
-use Rattle.std.proofs.Common.{◌≡◌, ℕ, Bool, true, false, List, [], ◌∷◌, ◌++◌, eqb, refl, ap, ◌∙◌, sym, append_assoc, append-nil, inl, inr, ◌⊎◌, Option, Some, None, map, cond, codes, encode_utf8, not, ◌&&◌, unwrap_or, flat_map, filter, option_map, IsTrue, arith}
+use Rattle.std.proofs.Common.{◌≡◌, ℕ, Bool, true, false, List, [], ◌∷◌, ◌++◌, eqb, refl, ap, ◌∙◌, sym, append_assoc, append-nil, inl, inr, Option, Some, None, map, cond, codes, encode_utf8, not, ◌&&◌, unwrap_or, flat_map, filter, option_map, IsTrue, arith}
 use Rattle.std.proofs.lemmas.Bool.{cases_Bool, and_parts}
 use Rattle.std.proofs.lemmas.Bool.Decides.{nat_tests}
-use Rattle.std.proofs.lemmas.List.Folds.{list_all-append}
 use Rattle.std.specs.Char.{is_ascii_alphanumeric}
-use Rattle.std.specs.List.{list_all, AllByRecursion}
+use Rattle.std.specs.List.{list_all}
 use Rattle.cc_arg.specs.declared.arg.Arg.{Arg}
 use Rattle.cc_arg.specs.declared.possible_value.PossibleValue.{PossibleValue}
 use Rattle.cc_arg.specs.declared.value_hint.ValueHint.{ValueHint}
@@ -15,12 +14,11 @@ use Rattle.cc_command.specs.PlainName.{dash}
 use Rattle.cc_command.proofs.PlainParts.{IsPlainArgument}
 use Rattle.cc_quote.specs.Bytes as ascii
 use Rattle.cc_quote.specs.QuotedWord.{line_feeds_as_spaces}
-use Rattle.cc_quote.specs.FishQuote.{FishSign, FishPlace, fish_sign, next_place, advance, begins_word, begins_with_word, is_fish_safe, double_byte, double_escaped, single_quoted, fish_quoted, fish_quoted_for_eval, fish_help_for_eval_of, fish_escaped}
-use Rattle.cc_quote.specs.FishQuote.FishSign.{other}
+use Rattle.cc_quote.specs.FishQuote.{fish_sign, advance, begins_word, begins_with_word, is_fish_safe, double_byte, double_escaped, single_quoted, fish_quoted, fish_quoted_for_eval, fish_help_for_eval_of, fish_escaped}
 use Rattle.cc_quote.specs.FishQuote.FishPlace.{bare, in_double}
 use Rattle.cc_quote.specs.FishTokens.{between, in_word, commands_from, fish_commands}
-use Rattle.cc_quote.proofs.FishWords.{IsSafe, safe_sign, safe_bytes, safe_in_double, double_read, single_quoted_read, fish_quoted_read, advance-append}
-use Rattle.cc_quote.proofs.FishCutting.{Spells, word_read, word_ends, Adds, adds_none, adds_word, adds_append, adds_flat_map, command_read}
+use Rattle.cc_quote.proofs.FishWords.{safe_sign, safe_bytes, safe_in_double, double_read, single_quoted_read, fish_quoted_read, advance-append}
+use Rattle.cc_quote.proofs.FishCutting.{Spells, word_read, Adds, adds_none, adds_word, adds_append, adds_flat_map, command_read}
 use Rattle.cc_fish.specs.FishScript.{condition_text, short_text, long_text, help_text, value_text, separated, value_lines, list_begin, listed_text, hint_text, value_part, values_text, names_text, front_text}
 use Rattle.cc_fish.specs.FishTable.{value_word}
 use Rattle.cc_fish.specs.RecordReader.{joined_words, offered_of}

@@ -1,5 +1,5 @@
 -- The words of a record are read back to the record.
-use Rattle.std.proofs.Common.{◌≡◌, ℕ, Bool, true, false, List, [], ◌∷◌, ◌++◌, refl, ap, ◌∙◌, sym, subst, append_assoc, append-nil, inl, inr, ◌⊎◌, Option, Some, None, IsTrue, map, cond, codes, encode_utf8, is_some, option_map, not, flat_map}
+use Rattle.std.proofs.Common.{◌≡◌, ℕ, Bool, true, false, List, [], ◌∷◌, ◌++◌, refl, ap, ◌∙◌, sym, subst, append_assoc, append-nil, Option, Some, None, IsTrue, map, cond, codes, encode_utf8, is_some, option_map, not, flat_map}
 use Rattle.std.specs.List.{AllByRecursion}
 use Rattle.cc_arg.specs.declared.arg.Arg.{Arg}
 use Rattle.cc_arg.specs.declared.possible_value.PossibleValue.{PossibleValue}
@@ -7,7 +7,6 @@ use Rattle.cc_arg.specs.declared.value_hint.ValueHint.{ValueHint}
 use Rattle.cc_arg.specs.declared.value_hint.ValueHint.TheVariants.{Unknown, Other, AnyPath, FilePath, DirPath, ExecutablePath, CommandName, CommandString, CommandWithArguments, Username, Hostname, Url, EmailAddress}
 use Rattle.cc_arg.specs.Arguments.{possible_values}
 use Rattle.cc_arg.specs.ShownNames.{shown_shorts, shown_longs}
-use Rattle.cc_command.specs.declared.node.Node.{Node}
 use Rattle.cc_command.specs.ArgumentLists.{options, flags}
 use Rattle.cc_command.specs.Names.{visible_names}
 use Rattle.cc_command.specs.Plain.{is_plain_forest}
@@ -18,13 +17,13 @@ use Rattle.cc_quote.specs.QuotedWord.{line_feeds_as_spaces}
 use Rattle.cc_quote.specs.FishQuote.{fish_sign}
 use Rattle.cc_quote.specs.FishTokens.{between, commands_from, fish_commands}
 use Rattle.cc_quote.proofs.FishWords.{IsSafe}
-use Rattle.cc_quote.proofs.FishCutting.{word_read, Adds, adds_none, adds_append, adds_word}
+use Rattle.cc_quote.proofs.FishCutting.{word_read, Adds, adds_append}
 use Rattle.cc_fish.specs.FishScript.{names_text, values_text, help_text, front_text, option_text, flag_text, child_text, children_text, node_text, options_text, flags_text, below_text}
-use Rattle.cc_fish.specs.FishTable.{condition_at, child_names, has_positionals, value_word, hint_marks, hint_offers, value_marks, value_offers, short_names, flag_record, option_record, child_record, child_records, node_records}
+use Rattle.cc_fish.specs.FishTable.{condition_at, child_names, has_positionals, hint_marks, hint_offers, value_marks, value_offers, short_names, flag_record, option_record, child_record, child_records, node_records}
 use Rattle.cc_fish.specs.RecordReader.{joined_words, offered_of, condition, condition_of, told_once, record_from, an_option, the_operand, no_record, records_of, records}
 use Rattle.cc_fish.specs.Records.{Condition, Record}
 use Rattle.cc_fish.proofs.FishNames.{IsName, name_safe, name_spelled, plain_name}
-use Rattle.cc_fish.proofs.RecordWords.{IsKept, condition_words, front_words, names_words, short_words, long_words, help_words, values_words, value_inner, hint_words, shown_of, part_words, names_adds, values_adds, help_adds, values_twice, record_read, child_offer_adds, no_files_mark_adds}
+use Rattle.cc_fish.proofs.RecordWords.{front_words, names_words, short_words, long_words, help_words, values_words, hint_words, shown_of, part_words, names_adds, values_adds, help_adds, values_twice, record_read, child_offer_adds, no_files_mark_adds}
 use Rattle.cc_fish.proofs.Conditions.{path_condition, condition_read, condition_kept}
 
 -- ---- the words of a record, part by part

@@ -1,13 +1,10 @@
 -- The whole script of a plain tree is read back.
-use Rattle.std.proofs.Common.{◌≡◌, ℕ, Bool, true, false, List, [], ◌∷◌, ◌++◌, IsTrue, refl, ap, ◌∙◌, sym, subst, append_assoc, append-nil, Option, Some, None, Result, Ok, Err, map, flat_map, codes, not}
+use Rattle.std.proofs.Common.{◌≡◌, ℕ, Bool, List, [], ◌∷◌, ◌++◌, IsTrue, refl, ap, ◌∙◌, sym, subst, append_assoc, append-nil, Option, Some, None, Result, Ok, Err, map, flat_map, codes, not}
 use Rattle.std.proofs.lemmas.List.Concat.{flat_map-append}
 use Rattle.std.specs.List.{AllByRecursion}
 use Rattle.cc_base.specs.declared.error.Error.{Error}
 use Rattle.cc_base.specs.declared.failures.Failures.{Failures}
 use Rattle.cc_base.specs.Writes.{Writes}
-use Rattle.cc_base.proofs.Members.{AllByRecursion-weaker}
-use Rattle.cc_arg.specs.declared.arg.Arg.{Arg}
-use Rattle.cc_command.specs.declared.node.Node.{Node}
 use Rattle.cc_command.specs.ArgumentLists.{options, flags}
 use Rattle.cc_command.specs.Names.{full_name, visible_names}
 use Rattle.cc_command.specs.Plain.{is_plain_tree}
@@ -15,7 +12,7 @@ use Rattle.cc_command.specs.Tree.{Forest, none, more, Tree}
 use Rattle.cc_command.proofs.PlainParts.{plain_node, plain_tree, plain_full_name}
 use Rattle.cc_lists.specs.Generators.{Generates}
 use Rattle.cc_quote.specs.FishTokens.{fish_commands}
-use Rattle.cc_visits.specs.Visits.{Keyed, keyed, path_visits, path_steps, longer_path, rekeyed, where_entered}
+use Rattle.cc_visits.specs.Visits.{Keyed, path_visits, path_steps, longer_path, rekeyed, where_entered}
 use Rattle.cc_visits.proofs.Entered.{entered_visits}
 use Rattle.cc_visits.proofs.PlainVisits.{IsPlainVisit, plain_visits}
 use Rattle.cc_visits.proofs.SameVisits.{rekeyed-path_visits}

@@ -1,5 +1,5 @@
 -- How a fish script is read: each command whose first word is `complete` is a record.
-use Rattle.std.specs.Prelude.{ℕ, List, [], ◌∷◌, ◌++◌, ◌==◌, Bool, true, false, Option, Some, None, if◌then◌else◌, codes, bytes_eq, map, reverse, option_map}
+use Rattle.std.specs.Prelude.{ℕ, List, [], ◌∷◌, ◌++◌, ◌==◌, true, false, Option, Some, None, if◌then◌else◌, codes, bytes_eq, map, reverse, option_map}
 use Rattle.cc_quote.specs.Bytes.{space}
 use Rattle.cc_quote.specs.FishTokens.{fish_commands}
 use Rattle.cc_fish.specs.Records.{Condition, Record}

@@ -1,4 +1,4 @@
-use Rattle.std.proofs.Common.{◌≡◌, ◌++◌, ◌∙◌, ◌∷◌, [], List, ℕ, ◌<◌, ◌+◌, Bool, true, false, not, cond, drop, filter, map, length, ap, sym, append_assoc, refl, rules, arith, add-one}
+use Rattle.std.proofs.Common.{◌≡◌, ◌++◌, ◌∙◌, ◌∷◌, [], List, ℕ, ◌<◌, ◌+◌, true, not, cond, drop, filter, map, length, ap, sym, append_assoc, rules, arith}
 use Rattle.std.proofs.lemmas.List.{drop_more}
 use Rattle.cc_arg.specs.declared.possible_value.PossibleValue.{PossibleValue}
 use Rattle.cc_fish.specs.FishScript.{separated, value_text}
