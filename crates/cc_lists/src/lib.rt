@@ -1,5 +1,5 @@
 //! What every generator of completion scripts needs: the trait, the call that builds and writes,
-//! and the lists of names that scripts share.
+//! and the lists of names in `utils`.
 #![tactic(auto)]
 
 pub mod generator;

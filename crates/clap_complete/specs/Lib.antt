@@ -34,6 +34,7 @@ pub use Rattle.cc_arg.specs.PossibleValues
 pub use Rattle.cc_arg.specs.ShownNames
 pub use Rattle.cc_arg.specs.declared.action.ArgAction
 pub use Rattle.cc_arg.specs.declared.arg.Arg
+pub use Rattle.cc_arg.specs.declared.names.ShownName
 pub use Rattle.cc_arg.specs.declared.possible_value.PossibleValue
 pub use Rattle.cc_arg.specs.declared.range.ValueRange
 pub use Rattle.cc_arg.specs.declared.value_hint.ValueHint
@@ -65,6 +66,8 @@ pub use Rattle.cc_tables.specs.PowershellReader
 pub use Rattle.cc_tables.specs.PowershellScript
 pub use Rattle.cc_tables.specs.TableReader
 pub use Rattle.cc_tables.specs.Tables
+pub use Rattle.cc_tables.specs.declared.offers.Kind
+pub use Rattle.cc_tables.specs.declared.offers.Offer
 -- bash
 pub use Rattle.cc_bash.specs.Arms as BashArms
 pub use Rattle.cc_bash.specs.CaseTable as BashCaseTable
@@ -86,10 +89,12 @@ pub use Rattle.cc_fish.specs.Records as FishRecords
 pub use Rattle.cc_shell.specs.Files as ScriptFiles
 pub use Rattle.cc_shell.specs.Generators as ShellGenerators
 pub use Rattle.cc_shell.specs.Shells
+pub use Rattle.cc_shell.specs.declared.shell.InvalidShell
 pub use Rattle.cc_shell.specs.declared.shell.Shell
 -- zsh
 pub use Rattle.cc_zsh.specs.Conflicts as ZshConflicts
 pub use Rattle.cc_zsh.specs.Functions as ZshFunctions
+pub use Rattle.cc_zsh.specs.Joined as ZshJoined
 pub use Rattle.cc_zsh.specs.Nested as ZshNested
 pub use Rattle.cc_zsh.specs.Options as ZshOptions
 pub use Rattle.cc_zsh.specs.Positionals as ZshPositionals
