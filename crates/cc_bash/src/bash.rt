@@ -6,10 +6,10 @@ ghost use Rattle.cc_bash.specs.Reads.{BashReads};
 ghost use Rattle.cc_bash.specs.Script.{tree_script};
 
 use crate::clash::shared_label;
-use crate::nodes::{full_name, labelled_nodes, replaced};
+use crate::nodes::{labelled_nodes, replaced};
 use crate::script::write_script;
 use cc_base::{Error, Sink};
-use cc_command::Command;
+use cc_command::{Command, full_name};
 use cc_flat::Flat;
 use cc_lists::Generator;
 use std::alloc::Global;

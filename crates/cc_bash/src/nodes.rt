@@ -4,14 +4,13 @@ ghost use Rattle.std.specs.Prelude.{◌≡◌, ◌++◌, ◌∷◌, [], ◌<◌,
 ghost use Rattle.std.specs.Prelude.{reverse, codes, encode_utf8, IfOk, OnOk};
 ghost use Rattle.std.specs.String.{string_bytes};
 ghost use Rattle.cc_flat.specs.Flat.{HasItsChildren, children_at, tree_at};
-ghost use Rattle.cc_command.specs.Names.{full_name};
 ghost use Rattle.cc_bash.specs.Labels.{child_label, labelled_node, labelled_under, replaced};
 ghost use Rattle.cc_bash.specs.Labels.{sort_text};
 ghost use Rattle.cc_bash.specs.Nodes.{AreListed, labelled_by, labelled_of, pending_of};
 ghost use Rattle.cc_visits.specs.Stack.{from_stack};
 
 use cc_base::Text;
-use cc_command::Command;
+use cc_command::{Command, full_name};
 use cc_flat::Flat;
 use std::alloc::{AllocError, Global};
 
@@ -98,13 +97,6 @@ fn labelled<'a>(
         label: Text::from(label),
         sort_text: Text::from(sort_text),
     })
-}
-
-/// The bin name where there is one, else the name.
-pub(crate) fn full_name(command: &Command) -> &str
-    ensures { result.now ≡ full_name command.now.node }
-{
-    command.get_bin_name().unwrap_or(command.get_name())
 }
 
 fn child_label(alloc: Global, parent: &str, name: &str) -> Result<String, AllocError>

@@ -13,13 +13,13 @@ ghost use Rattle.cc_bash.specs.Texts.{arms_begin};
 
 use crate::arms::{sort_nodes, write_arm, write_arms};
 use crate::cases::{sorted_cases, write_cases};
-use crate::nodes::{LabelledNode, full_name};
+use crate::nodes::LabelledNode;
 use crate::texts::{
     arms_begin, arms_end, cases_begin, function_begins, function_head, otherwise, script_ends,
     sorted, unsorted,
 };
 use cc_base::{Error, Sink, put_all};
-use cc_command::Command;
+use cc_command::{Command, full_name};
 use std::alloc::Global;
 
 /// Writes the script of a command whose root has this label, with these nodes below it.

@@ -13,7 +13,7 @@ use crate::head::write_head;
 use crate::keys::FishKeys;
 use crate::lines::write_visit;
 use cc_base::{Error, Sink};
-use cc_command::Command;
+use cc_command::{Command, full_name};
 use cc_flat::Flat;
 use cc_lists::Generator;
 use cc_visits::{PathStep, PathSteps};
@@ -114,11 +114,4 @@ fn write_steps<W: Sink>(
         write_visit(alloc, bin_name, function, &visit, sink)?;
     }
     Ok(())
-}
-
-// The bin name where there is one, else the name.
-fn full_name(command: &Command) -> &str
-    ensures { result.now ≡ full_name command.now.node }
-{
-    command.get_bin_name().unwrap_or(command.get_name())
 }

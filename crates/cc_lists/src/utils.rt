@@ -4,7 +4,6 @@ ghost use Rattle.std.specs.Prelude.{◌≡◌, ◌++◌, ◌∷◌, [], map, tru
 ghost use Rattle.std.specs.Option.{option_copied};
 ghost use Rattle.std.specs.String.{string_bytes};
 ghost use Rattle.cc_command.specs.ArgumentLists.{flags};
-ghost use Rattle.cc_command.specs.Names.{full_name};
 ghost use Rattle.cc_command.specs.Tree.{forest_of};
 ghost use Rattle.cc_lists.specs.ArgumentNames.{all_longs, all_shorts, aliases_then};
 ghost use Rattle.cc_lists.specs.Subcommands.{all_named, find_path, named, named_siblings, texts_of};
@@ -12,7 +11,7 @@ ghost use Rattle.cc_lists.specs.Subcommands.{all_named, find_path, named, named_
 use cc_arg::Arg;
 pub use cc_arg::possible_values;
 use cc_base::{Error, Text};
-use cc_command::Command;
+use cc_command::{Command, full_name};
 use std::alloc::{AllocError, Global};
 
 /// The names of the children: of each its name, then each visible alias, with the child's full
@@ -100,12 +99,6 @@ fn push_named(
         push_pair(found, alloc, name, full_name)?;
     }
     Ok(())
-}
-
-fn full_name(command: &Command) -> &str
-    ensures { result.now ≡ full_name command.now.node }
-{
-    command.get_bin_name().unwrap_or(command.get_name())
 }
 
 // Adds a name with the full name of its command.

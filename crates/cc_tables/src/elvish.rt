@@ -12,9 +12,9 @@ ghost use Rattle.cc_tables.specs.ElvishScript.{row_begin, row_end, row_text, tab
 ghost use Rattle.cc_tables.specs.ElvishScript.{table_end, table_text, tail, text_begin};
 ghost use Rattle.cc_tables.specs.Offers.{dashes, node_offers};
 
-use crate::offers::{Kind, Offer, Rows, full_name, write_rows};
+use crate::offers::{Kind, Offer, Rows, write_rows};
 use cc_base::{Error, Sink, put_all};
-use cc_command::Command;
+use cc_command::{Command, full_name};
 use cc_flat::Flat;
 use cc_lists::Generator;
 use cc_quote::{ElvishEscape, put_escaped};

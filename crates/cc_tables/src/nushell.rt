@@ -13,9 +13,9 @@ ghost use Rattle.cc_tables.specs.NushellScript.{help_begin, help_text, key_end, 
 ghost use Rattle.cc_tables.specs.NushellScript.{line_begin, line_text, node_lines, node_text};
 ghost use Rattle.cc_tables.specs.NushellScript.{nushell_script, offer_text, tail, type_text};
 
-use crate::offers::{Kind, Offer, Rows, full_name, write_flags, write_options};
+use crate::offers::{Kind, Offer, Rows, write_flags, write_options};
 use cc_base::{Error, Sink, put_all};
-use cc_command::Command;
+use cc_command::{Command, full_name};
 use cc_flat::Flat;
 use cc_lists::Generator;
 use cc_quote::{Escape, put_escaped};

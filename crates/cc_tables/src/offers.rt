@@ -7,7 +7,7 @@ ghost use Rattle.cc_tables.specs.Offers.{argument_offer, argument_offers, child_
 ghost use Rattle.cc_tables.specs.Offers.{child_offers, children_offers, node_offers};
 ghost use Rattle.cc_tables.specs.Offers.{short_offer};
 ghost use Rattle.cc_command.specs.ArgumentLists.{flags, options};
-ghost use Rattle.cc_command.specs.Names.{full_name, visible_names};
+ghost use Rattle.cc_command.specs.Names.{visible_names};
 ghost use Rattle.cc_command.specs.Tree.{forest_of};
 
 use cc_arg::{Arg, ShownName, shown_names};
@@ -197,11 +197,4 @@ fn write_child_name<R: Rows, W: Sink>(
         fallback: TextRef::new(name),
     };
     rows.write_row(&offer, sink)
-}
-
-/// The bin name where there is one, else the name.
-pub fn full_name(command: &Command) -> &str
-    ensures { result.now ≡ full_name command.now.node }
-{
-    command.get_bin_name().unwrap_or(command.get_name())
 }

@@ -15,9 +15,9 @@ ghost use Rattle.cc_tables.specs.PowershellScript.{table_begin, table_end, table
 ghost use Rattle.cc_tables.specs.PowershellScript.{text_begin};
 ghost use Rattle.cc_tables.specs.Offers.{dashes, node_offers, word};
 
-use crate::offers::{Kind, Offer, Rows, full_name, write_rows};
+use crate::offers::{Kind, Offer, Rows, write_rows};
 use cc_base::{Error, Sink, put_all};
-use cc_command::Command;
+use cc_command::{Command, full_name};
 use cc_flat::Flat;
 use cc_lists::Generator;
 use cc_quote::{PowershellEscape, put_escaped};

@@ -14,10 +14,10 @@ ghost use Rattle.cc_zsh.specs.Functions.{entries_of, entries_text, entry, entry_
 ghost use Rattle.cc_zsh.specs.Named.{AreListed, function_named, functions_by};
 ghost use Rattle.cc_zsh.specs.ZshScript.{functions_text};
 
-use crate::names::{full_name, write_label};
+use crate::names::write_label;
 use crate::texts::{entries_end, function_1, function_2, function_3, function_4, function_5};
 use cc_base::{Error, Sink, put_all};
-use cc_command::Command;
+use cc_command::{Command, full_name};
 use cc_flat::Flat;
 use cc_quote::{ZshHelpEscape, put_escaped};
 use std::alloc::{AllocError, Global};

@@ -2,12 +2,10 @@
 
 ghost use Rattle.std.specs.Prelude.{◌≡◌, codes, unwrap_or};
 ghost use Rattle.cc_base.specs.Writes.{Writes};
-ghost use Rattle.cc_command.specs.Names.{full_name};
 ghost use Rattle.cc_zsh.specs.Conflicts.{long_word, short_word};
 ghost use Rattle.cc_zsh.specs.Nested.{function_label, unspaced};
 
 use cc_base::{Error, Sink, put_all};
-use cc_command::Command;
 use cc_quote::{Escape, put_escaped};
 use memchr::memchr;
 
@@ -26,13 +24,6 @@ pub(crate) fn write_long<W: Sink>(long: &str, sink: &mut W) -> Result<(), Error>
 {
     put_all(sink, "--".as_bytes())?;
     put_all(sink, long.as_bytes())
-}
-
-/// The bin name where there is one, else the name.
-pub(crate) fn full_name(command: &Command) -> &str
-    ensures { result.now ≡ full_name command.now.node }
-{
-    command.get_bin_name().unwrap_or(command.get_name())
 }
 
 /// Writes the name of the function that describes the children of the command with this full name.

@@ -11,7 +11,7 @@ ghost use Rattle.cc_zsh.specs.Nested.{arms_text, below_text, block_text, childre
 ghost use Rattle.cc_zsh.specs.Steps.{enter_text, leave_text, nested_closes, nested_opens, step_text};
 
 use crate::keys::LastNames;
-use crate::names::{full_name, write_dashed, write_label};
+use crate::names::{write_dashed, write_label};
 use crate::options::{write_flags, write_options};
 use crate::positionals::write_positionals;
 use crate::texts::{
@@ -19,7 +19,7 @@ use crate::texts::{
     nested_2, nested_3, nested_4, nested_5, nested_6, nested_7,
 };
 use cc_base::{Error, Sink, put_all};
-use cc_command::Command;
+use cc_command::{Command, full_name};
 use cc_flat::Flat;
 use cc_visits::{PathStep, PathSteps, Visit};
 use std::alloc::{AllocError, Global};

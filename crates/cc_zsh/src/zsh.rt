@@ -8,11 +8,10 @@ ghost use Rattle.cc_zsh.specs.ZshReads.{ZshReads};
 ghost use Rattle.cc_zsh.specs.ZshScript.{begin_text, defined_text, end_text, script_text, zsh_script};
 
 use crate::functions::write_functions;
-use crate::names::full_name;
 use crate::nested::write_root;
 use crate::texts::{begin_1, begin_2, begin_3, end_1, end_2, end_3, end_4, end_5, middle};
 use cc_base::{Error, Sink, put_all};
-use cc_command::Command;
+use cc_command::{Command, full_name};
 use cc_flat::Flat;
 use cc_lists::Generator;
 use std::alloc::Global;

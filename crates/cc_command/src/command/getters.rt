@@ -2,7 +2,7 @@
 
 ghost use Rattle.std.specs.Prelude.{◌≡◌, ◌&&◌, is_some, unwrap_or};
 ghost use Rattle.std.specs.Option.{option_copied};
-ghost use Rattle.cc_command.specs.Names.{has_name, contains_name, visible_names};
+ghost use Rattle.cc_command.specs.Names.{has_name, contains_name, full_name, visible_names};
 ghost use Rattle.cc_command.specs.ArgumentLists.{flags, options, positionals};
 ghost use Rattle.cc_command.specs.Marked.{StaysIfMarked};
 ghost use Rattle.cc_command.specs.Iterators.{flags_left, names_left, options_left};
@@ -148,6 +148,13 @@ impl Command {
             || contains_name(self.node.visible_aliases.as_slice(), word)
             || contains_name(self.node.aliases.as_slice(), word)
     }
+}
+
+/// The bin name where there is one, else the name.
+pub fn full_name(command: &Command) -> &str
+    ensures { result.now ≡ full_name command.now.node }
+{
+    command.get_bin_name().unwrap_or(command.get_name())
 }
 
 pub(super) fn contains_name(names: &[Text], word: &str) -> bool
