@@ -111,7 +111,7 @@ fn write_first_short<W: Sink>(argument: &Arg, sink: &mut W) -> Result<(), Error>
     put_all(sink, slash(argument).as_bytes())
 }
 
-// Writes the long.
+// Writes the first of the longs, where there is one.
 fn write_first_long<W: Sink>(argument: &Arg, sink: &mut W) -> Result<(), Error>
     ensures { Writes W.taken W.failed result sink.old sink.new
         (first_long (shown_longs argument.now)) }

@@ -220,7 +220,6 @@ fn write_table<W: Sink>(key: &str, command: &Command, sink: &mut W) -> Result<()
     put_all(sink, table_end().as_bytes())
 }
 
-// Writes the rows of a table.
 #[tactic(auto, using(crate::proofs::ElvishTexts::rows_of_offers))]
 fn write_table_rows<W: Sink>(command: &Command, sink: &mut W) -> Result<(), Error>
     ensures { Writes W.taken W.failed result sink.old sink.new

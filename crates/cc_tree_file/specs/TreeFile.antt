@@ -42,7 +42,3 @@ ReadsTree bytes (Err Memory) = ⊤
 abbrev pub HoldsTree : Option (List ℕ) → Tree → Type 0
 HoldsTree None command = ⊥
 HoldsTree (Some bytes) command = Describes bytes (Some command)
-
--- the file can't be read, or its bytes describe no command
-abbrev pub HoldsNoTree : Option (List ℕ) → Type 0
-HoldsNoTree file = (command : Tree) → HoldsTree file command → ⊥

@@ -120,7 +120,6 @@ fn commands_of<'a>(
     Ok(found)
 }
 
-// A command with its full name.
 fn with_full_name(command: &Command) -> Named<'_>
     ensures { function_named result ≡ function_of command.now.node command.now.children }
 {
@@ -172,7 +171,6 @@ fn is_again(last: Option<&str>, name: &str) -> bool
     }
 }
 
-// Writes the function of a command.
 #[tactic(auto, unfolding(crate::specs::Functions::function_text))]
 fn write_function<W: Sink>(command: &Named<'_>, sink: &mut W) -> Result<(), Error>
     ensures { Writes W.taken W.failed result sink.old sink.new

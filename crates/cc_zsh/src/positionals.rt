@@ -70,7 +70,6 @@ fn takes_all(has_children: bool, argument: &Arg) -> bool
     takes_rest(has_children, argument) && !argument.get_value_terminator().is_some()
 }
 
-// Writes a positional.
 #[tactic(auto, unfolding(crate::specs::Positionals::positional_text))]
 fn write_positional<W: Sink>(has_children: bool, argument: &Arg, sink: &mut W) -> Result<(), Error>
     ensures { Writes W.taken W.failed result sink.old sink.new

@@ -57,7 +57,7 @@ fn write_script<W: Sink>(alloc: Global, flat: &Flat<'_>, sink: &mut W) -> Result
     write_parts(alloc, flat, full_name(flat.command(0)), sink)
 }
 
-// Writes its parts.
+// Writes the frame, in it the block of the root with all nested ones, then the functions.
 #[tactic(auto, unfolding(crate::specs::ZshScript::script_text))]
 fn write_parts<W: Sink>(
     alloc: Global,

@@ -263,6 +263,21 @@ mod tests {
         Ok(())
     }
 
+    // In bash `a-b` has the label of `b` below `a`.
+    const CLASH: &str = "{\"name\": \"app\", \"subcommands\": [
+        {\"name\": \"a-b\"}, {\"name\": \"a\", \"subcommands\": [{\"name\": \"b\"}]}]}";
+
+    #[test]
+    fn reports_two_commands_with_one_label(rt: HostRuntime) -> Result<(), Fail> {
+        let refusal = failed(rt.alloc(), "bash", Some(CLASH.as_bytes()))?;
+        assert_eq!(rt; refusal.status, 1);
+        assert_eq!(rt;
+            refusal.text.as_str(),
+            "two commands share the label app__subcmd__a__subcmd__b\n"
+        );
+        Ok(())
+    }
+
     #[test]
     fn reports_a_file_of_another_form(rt: HostRuntime) -> Result<(), Fail> {
         let refusal = failed(rt.alloc(), "elvish", Some(b"{\"name\":1.5}"))?;
