@@ -1,11 +1,12 @@
 //! Bash scripts.
 
-use crate::fixtures::{built, chain, clashing, colored, global, helped, hinted};
+use crate::fixtures::{built, chain, clashing, colored, global, helped, hinted, inherited};
 use crate::written::{script, script_for};
 use clap_complete::aot::{Bash, Collected};
 use clap_complete::command::{Command, ValueHint};
 use clap_complete::{Error, Generator, generate};
 use std::alloc::Global;
+use std::fmt::Write;
 use std::test::Fail;
 
 const HELPED: &str = "_my__app() {
@@ -233,6 +234,82 @@ const GLOBAL: &str = "
 fn a_child_has_the_global_flag_of_its_parent(rt: HostRuntime) -> Result<(), Fail> {
     let script = script(rt.alloc(), Bash, global(rt.alloc()))?;
     assert!(rt; script.as_str().contains(GLOBAL));
+    Ok(())
+}
+
+const CASES: &str = "
+        case \"${cmd},${i}\" in
+            \",$1\")
+                cmd=\"app\"
+                ;;
+            app,help)
+                cmd=\"app__subcmd__help\"
+                ;;
+            app,r)
+                cmd=\"app__subcmd__run\"
+                ;;
+            app,run)
+                cmd=\"app__subcmd__run\"
+                ;;
+            app__subcmd__help,help)
+                cmd=\"app__subcmd__help__subcmd__help\"
+                ;;
+            app__subcmd__help,run)
+                cmd=\"app__subcmd__help__subcmd__run\"
+                ;;
+            app__subcmd__help__subcmd__run,job)
+                cmd=\"app__subcmd__help__subcmd__run__subcmd__job\"
+                ;;
+            app__subcmd__run,job)
+                cmd=\"app__subcmd__run__subcmd__job\"
+                ;;
+            *)
+                ;;
+        ";
+
+const ARMS: &str = "        app)
+            opts=\"--json run r help\"
+            if [[ ${cur} == -* || ${COMP_CWORD} -eq 1 ]] ; then
+        app__subcmd__help)
+            opts=\"run help\"
+            if [[ ${cur} == -* || ${COMP_CWORD} -eq 2 ]] ; then
+        app__subcmd__help__subcmd__help)
+            opts=\"\"
+            if [[ ${cur} == -* || ${COMP_CWORD} -eq 3 ]] ; then
+        app__subcmd__help__subcmd__run)
+            opts=\"job\"
+            if [[ ${cur} == -* || ${COMP_CWORD} -eq 3 ]] ; then
+        app__subcmd__help__subcmd__run__subcmd__job)
+            opts=\"\"
+            if [[ ${cur} == -* || ${COMP_CWORD} -eq 4 ]] ; then
+        app__subcmd__run)
+            opts=\"--json job\"
+            if [[ ${cur} == -* || ${COMP_CWORD} -eq 2 ]] ; then
+        app__subcmd__run__subcmd__job)
+            opts=\"-v --verbose --json\"
+            if [[ ${cur} == -* || ${COMP_CWORD} -eq 3 ]] ; then
+";
+
+// The label of each arm, with the lines of what it offers and of its level.
+fn arms(alloc: Global, script: &str) -> Result<String, Error> {
+    let mut arms = String::new(alloc);
+    for line in script.lines() {
+        if line.starts_with("        app")
+            || line.starts_with("            opts=")
+            || line.starts_with("            if [[ ${cur} ")
+        {
+            writeln!(arms, "{line}")?;
+        }
+    }
+    Ok(arms)
+}
+
+#[test]
+fn a_global_flag_goes_to_all_below_but_the_generated_help(rt: HostRuntime) -> Result<(), Fail> {
+    let script = script(rt.alloc(), Bash, inherited(rt.alloc()))?;
+    assert!(rt; table(script.as_str()).ends_with(CASES));
+    let arms = arms(rt.alloc(), script.as_str())?;
+    assert_eq!(rt; arms.as_str(), ARMS);
     Ok(())
 }
 

@@ -29,3 +29,44 @@ pub fn write_if_plain<W: Sink>(
     generate(alloc, Elvish, command, bin_name, sink)?;
     Ok(true)
 }
+
+#[cfg(test)]
+mod tests {
+    use super::*;
+    use crate::fixtures::{nested, quoted};
+    use crate::written::script;
+    use clap_complete::aot::Collected;
+    use std::test::Fail;
+
+    // What the call for a command returns, and what it writes.
+    fn outcome(
+        alloc: Global,
+        command: Result<Command, Error>,
+        name: &str,
+    ) -> Result<(bool, String), Error> {
+        let mut command = command?;
+        let bin_name = String::from_str(alloc, name)?;
+        let mut sink = Collected::new(alloc);
+        let written = write_if_plain(alloc, &mut command, bin_name, &mut sink)?;
+        let script = String::from_utf8_lossy(alloc, sink.as_slice())?;
+        Ok((written, script))
+    }
+
+    #[test]
+    fn a_plain_command_is_written(rt: HostRuntime) -> Result<(), Fail> {
+        let (written, taken) = outcome(rt.alloc(), nested(rt.alloc()), "app")?;
+        let wanted = script(rt.alloc(), Elvish, nested(rt.alloc()))?;
+        assert!(rt; written);
+        assert_eq!(rt; taken.as_str(), wanted.as_str());
+        Ok(())
+    }
+
+    #[test]
+    fn a_command_or_name_that_is_not_plain_is_not_written(rt: HostRuntime) -> Result<(), Fail> {
+        let (written, taken) = outcome(rt.alloc(), quoted(rt.alloc()), "app")?;
+        assert_eq!(rt; (written, taken.as_str()), (false, ""));
+        let (written, taken) = outcome(rt.alloc(), nested(rt.alloc()), "a--b")?;
+        assert_eq!(rt; (written, taken.as_str()), (false, ""));
+        Ok(())
+    }
+}

@@ -1,7 +1,7 @@
 //! What `Debug` shows of values that programs print.
 
 use clap_complete::Error;
-use clap_complete::aot::{Elvish, PowerShell};
+use clap_complete::aot::{Bash, Elvish, Fish, Nushell, PowerShell, Zsh};
 use clap_complete::command::{ArgAction, ValueRange};
 use std::test::Fail;
 
@@ -26,5 +26,12 @@ fn shows_generators_and_errors(rt: HostRuntime) -> Result<(), Fail> {
         format!(in rt.alloc(); "{error:?}")?.as_str(),
         "NoCompletion"
     );
+    Ok(())
+}
+
+#[test]
+fn shows_the_other_generators(rt: HostRuntime) -> Result<(), Fail> {
+    let shown = format!(in rt.alloc(); "{Bash:?} {Fish:?} {Nushell:?} {Zsh:?}")?;
+    assert_eq!(rt; shown.as_str(), "Bash Fish Nushell Zsh");
     Ok(())
 }

@@ -1,6 +1,6 @@
 //! Elvish scripts.
 
-use crate::fixtures::{app, bare, chain, described, global, nested};
+use crate::fixtures::{app, bare, chain, described, global, inherited, nested};
 use crate::written::script;
 use clap_complete::Error;
 use clap_complete::aot::Elvish;
@@ -79,6 +79,43 @@ const GLOBAL: &str = "
         }
 ";
 
+const INHERITED: &str = "
+        &'app'= {
+            cand --json 'json'
+            cand run 'run'
+            cand r 'r'
+            cand help 'Print this message or the help of the given subcommand(s)'
+        }
+        &'app;run'= {
+            cand --json 'json'
+            cand job 'job'
+        }
+        &'app;r'= {
+            cand --json 'json'
+            cand job 'job'
+        }
+        &'app;run;job'= {
+            cand -v 'Be loud'
+            cand --verbose 'Be loud'
+            cand --json 'json'
+        }
+        &'app;r;job'= {
+            cand -v 'Be loud'
+            cand --verbose 'Be loud'
+            cand --json 'json'
+        }
+        &'app;help'= {
+            cand run 'run'
+            cand help 'Print this message or the help of the given subcommand(s)'
+        }
+        &'app;help;run'= {
+            cand job 'job'
+        }
+        &'app;help;run;job'= {
+        }
+        &'app;help;help'= {
+        }";
+
 const END: &str = "'= {
             cand --end 'end'
         }";
@@ -123,6 +160,13 @@ fn an_about_is_escaped(rt: HostRuntime) -> Result<(), Fail> {
 fn a_child_has_the_global_flag_of_its_parent(rt: HostRuntime) -> Result<(), Fail> {
     let script = script(rt.alloc(), Elvish, global(rt.alloc()))?;
     assert!(rt; script.as_str().contains(GLOBAL));
+    Ok(())
+}
+
+#[test]
+fn a_global_flag_goes_to_all_below_but_the_generated_help(rt: HostRuntime) -> Result<(), Fail> {
+    let script = script(rt.alloc(), Elvish, inherited(rt.alloc()))?;
+    assert_eq!(rt; tables(script.as_str()), INHERITED);
     Ok(())
 }
 

@@ -1,7 +1,8 @@
 //! Fish scripts.
 
 use crate::fixtures::{
-    built, chain, colored, deep, described, global, hinted, listed, named, with_directory,
+    built, chain, colored, deep, described, global, hinted, inherited, listed, named,
+    with_directory,
 };
 use crate::written::{script, script_for};
 use clap_complete::aot::{Collected, Fish};
@@ -142,6 +143,34 @@ complete -c app -n \"__fish_app_using_subcommand run\" -s h -l help -d 'Print he
 fn a_child_has_the_global_flag_of_its_parent(rt: HostRuntime) -> Result<(), Fail> {
     let script = script(rt.alloc(), Fish, global(rt.alloc()))?;
     assert!(rt; script.as_str().contains(GLOBAL));
+    Ok(())
+}
+
+// The last line of the head, and all records.
+const INHERITED: &str = "
+end
+
+complete -c app -n \"__fish_app_needs_command\" -l json
+complete -c app -n \"__fish_app_needs_command\" -f -a \"run\"
+complete -c app -n \"__fish_app_needs_command\" -f -a \"r\"
+complete -c app -n \"__fish_app_needs_command\" -f -a \"help\" -d 'Print this message or the help of the given subcommand(s)'
+complete -c app -n \"__fish_app_using_subcommand run; and not __fish_seen_subcommand_from job\" -l json
+complete -c app -n \"__fish_app_using_subcommand run; and not __fish_seen_subcommand_from job\" -f -a \"job\"
+complete -c app -n \"__fish_app_using_subcommand run; and __fish_seen_subcommand_from job\" -s v -l verbose -d 'Be loud'
+complete -c app -n \"__fish_app_using_subcommand run; and __fish_seen_subcommand_from job\" -l json
+complete -c app -n \"__fish_app_using_subcommand r; and not __fish_seen_subcommand_from job\" -l json
+complete -c app -n \"__fish_app_using_subcommand r; and not __fish_seen_subcommand_from job\" -f -a \"job\"
+complete -c app -n \"__fish_app_using_subcommand r; and __fish_seen_subcommand_from job\" -s v -l verbose -d 'Be loud'
+complete -c app -n \"__fish_app_using_subcommand r; and __fish_seen_subcommand_from job\" -l json
+complete -c app -n \"__fish_app_using_subcommand help; and not __fish_seen_subcommand_from run help\" -f -a \"run\"
+complete -c app -n \"__fish_app_using_subcommand help; and not __fish_seen_subcommand_from run help\" -f -a \"help\" -d 'Print this message or the help of the given subcommand(s)'
+complete -c app -n \"__fish_app_using_subcommand help; and __fish_seen_subcommand_from run; and not __fish_seen_subcommand_from job\" -f -a \"job\"
+";
+
+#[test]
+fn a_global_flag_goes_to_all_below_but_the_generated_help(rt: HostRuntime) -> Result<(), Fail> {
+    let script = script(rt.alloc(), Fish, inherited(rt.alloc()))?;
+    assert!(rt; script.as_str().ends_with(INHERITED));
     Ok(())
 }
 

@@ -201,6 +201,12 @@ pub(crate) fn colored(alloc: Global) -> Result<Command, Error> {
     holding(command, named(alloc, "run"))
 }
 
+/// The same option and child; nothing is generated.
+pub(crate) fn colored_alone(alloc: Global) -> Result<Command, Error> {
+    let command = with(plain(alloc, "app"), color(alloc));
+    holding(command, plain(alloc, "run"))
+}
+
 fn color(alloc: Global) -> Result<Arg, Error> {
     let help = String::from_str(alloc, "Colour")?;
     let when = String::from_str(alloc, "WHEN")?;
@@ -279,6 +285,32 @@ fn json(alloc: Global) -> Result<Arg, Error> {
 
 fn yaml(alloc: Global) -> Result<Arg, Error> {
     Ok(long(alloc, "yaml")?.action(ArgAction::SetTrue))
+}
+
+/// `app` with the flags `-q`, `--yaml`, `-y`, which has the id `yaml` too, and `--json`, which
+/// excludes `yaml`, `toml`, which is the id of no argument, and `quiet`, in this order.
+pub(crate) fn excluding(alloc: Global) -> Result<Command, Error> {
+    let command = with(with(bare(alloc), quiet(alloc)), yaml(alloc));
+    with(with(command, second_yaml(alloc)), json_alone(alloc))
+}
+
+fn second_yaml(alloc: Global) -> Result<Arg, Error> {
+    let yaml = Arg::new(alloc, String::from_str(alloc, "yaml")?);
+    Ok(yaml.short('y').action(ArgAction::SetTrue))
+}
+
+fn json_alone(alloc: Global) -> Result<Arg, Error> {
+    let toml = String::from_str(alloc, "toml")?;
+    let quiet = String::from_str(alloc, "quiet")?;
+    json(alloc)?.conflicts_with(toml)?.conflicts_with(quiet)
+}
+
+/// `app` with a global flag `--json`, a child `run`, shown as `r` too, that has a child `job` with a
+/// flag `-v`, `--verbose`, and the generated child `help`; no other is generated, and no flag.
+pub(crate) fn inherited(alloc: Global) -> Result<Command, Error> {
+    let job = with(plain(alloc, "job"), verbose(alloc));
+    let app = with(bare(alloc), json(alloc));
+    holding(app, holding(run(alloc), job))
 }
 
 /// `app` with an option `--n` of 0 or 1 values, a positional `in` that is required and one `rest`

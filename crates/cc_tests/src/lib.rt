@@ -1,6 +1,7 @@
-//! Tests that cross crates: whole scripts against their known text, sinks that take little or
-//! fail, and every call that allocates with memory enough. Beside them stands a caller
-//! whose contract says what its script reads to.
+//! Tests of the library as a whole: scripts against their known text, sinks that take little or
+//! fail, and every call that allocates with memory enough. Some modules, as `quoting` and `visits`,
+//! test one crate below alone. Beside them stands a caller whose contract says what its script reads
+//! to.
 #![tactic(auto)]
 
 #[cfg(test)]

@@ -6,6 +6,7 @@ use clap_complete::aot::{Bash, Elvish, Fish, InvalidShell, Nushell, PowerShell, 
 use clap_complete::command::Command;
 use clap_complete::{Error, Generator, Shell, generate_to};
 use std::alloc::Global;
+use std::hash::{DefaultHasher, Hash, Hasher};
 use std::io::ErrorKind;
 use std::os::unix::fs::symlink;
 use std::test::Fail;
@@ -49,12 +50,32 @@ fn no_other_text_is_a_shell(rt: HostRuntime) {
     for text in ["", "Bash", "bash ", "tcsh", "pwsh", "nu"] {
         assert_eq!(rt; text.parse::<Shell>(), Err(InvalidShell));
     }
-    let invalid = Shell::parse(rt.alloc(), "Bash");
-    let Err(Error::InvalidVariant(message)) = invalid else {
-        assert!(rt; false);
-        return;
-    };
-    assert_eq!(rt; message.as_str(), "invalid variant: Bash");
+    assert!(rt; is_refused(rt.alloc(), "Bash", "invalid variant: Bash"));
+    assert!(rt; is_refused(rt.alloc(), "nu", "invalid variant: nu"));
+}
+
+// Whether a text is refused as no shell with this message.
+fn is_refused(alloc: Global, text: &str, message: &str) -> bool {
+    match Shell::parse(alloc, text) {
+        Err(Error::InvalidVariant(shown)) => shown.as_str() == message,
+        _ => false,
+    }
+}
+
+fn hash_of(shell: Shell) -> u64 {
+    let mut state = DefaultHasher::new();
+    shell.hash(&mut state);
+    state.finish()
+}
+
+#[test]
+fn equal_shells_have_equal_hashes(rt: HostRuntime) -> Result<(), Fail> {
+    for shell in Shell::value_variants() {
+        let printed = format!(in rt.alloc(); "{shell}")?;
+        let read = Shell::parse(rt.alloc(), printed.as_str())?;
+        assert_eq!(rt; hash_of(read), hash_of(*shell));
+    }
+    Ok(())
 }
 
 #[test]
@@ -123,8 +144,8 @@ fn a_shell_writes_the_script_of_its_generator(rt: HostRuntime) -> Result<(), Fai
     Ok(())
 }
 
-// A folder of this name that was just made, with nothing in it.
-fn folder(rt: &HostRuntime, name: &str) -> Result<String, Fail> {
+/// A folder of this name that was just made, with nothing in it.
+pub(crate) fn folder(rt: &HostRuntime, name: &str) -> Result<String, Fail> {
     let folder = env::temp_dir(rt)?.join(rt.alloc(), name)?;
     let folder = folder.into_string();
     if fs::exists(rt, folder.as_str())? {
@@ -165,7 +186,8 @@ fn written(rt: &HostRuntime, shell: Shell, folder: &str) -> Result<String, Fail>
     }
 }
 
-fn holds_script(rt: &HostRuntime, path: &str, shell: Shell) -> Result<bool, Fail> {
+/// Whether a file holds the script of `app`.
+pub(crate) fn holds_script(rt: &HostRuntime, path: &str, shell: Shell) -> Result<bool, Fail> {
     let held = fs::read_to_string(rt, path)?;
     let wanted = script(rt.alloc(), shell, app(rt.alloc()))?;
     Ok(held.as_str() == wanted.as_str())
@@ -173,21 +195,41 @@ fn holds_script(rt: &HostRuntime, path: &str, shell: Shell) -> Result<bool, Fail
 
 // Whether the script of `app` is written to the file of this name in a folder.
 fn is_written(rt: &HostRuntime, shell: Shell, folder: &str, name: &str) -> Result<bool, Fail> {
-    let path = written(rt, shell, folder)?;
     let wanted = format!(in rt.alloc(); "{folder}/{name}")?;
-    Ok(path.as_str() == wanted.as_str() && holds_script(rt, path.as_str(), shell)?)
+    is_written_at(rt, shell, folder, wanted.as_str())
 }
+
+// The same for the path of the file.
+fn is_written_at(rt: &HostRuntime, shell: Shell, folder: &str, wanted: &str) -> Result<bool, Fail> {
+    let path = written(rt, shell, folder)?;
+    Ok(path.as_str() == wanted && holds_script(rt, wanted, shell)?)
+}
+
+/// The file of each shell for the program `app`, in the order of the shells.
+pub(crate) const FILES: [&str; 6] = [
+    "app.bash", "app.elv", "app.fish", "_app.ps1", "_app", "app.nu",
+];
 
 #[test]
 fn each_script_is_written_to_its_file(rt: HostRuntime) -> Result<(), Fail> {
     let folder = folder(&rt, "lagvtsune_written")?;
-    let names = [
-        "app.bash", "app.elv", "app.fish", "_app.ps1", "_app", "app.nu",
-    ];
-    for (shell, name) in Shell::value_variants().iter().zip(names) {
+    for (shell, name) in Shell::value_variants().iter().zip(FILES) {
         assert!(rt; is_written(&rt, *shell, folder.as_str(), name)?, "{name}");
     }
     fs::remove_dir_all(&rt, folder.as_str())?;
+    Ok(())
+}
+
+// The files and the folder stand where the test runs.
+#[test]
+fn a_folder_that_ends_in_a_slash_or_is_empty_adds_no_slash(rt: HostRuntime) -> Result<(), Fail> {
+    fs::create_dir(&rt, "out")?;
+    assert!(rt; is_written_at(&rt, Shell::PowerShell, "out/", "out/_app.ps1")?);
+    fs::remove_dir_all(&rt, "out")?;
+    assert!(rt; is_written_at(&rt, Shell::Zsh, "", "_app")?);
+    fs::remove_file(&rt, "_app")?;
+    assert!(rt; is_written_at(&rt, Shell::Nushell, "", "app.nu")?);
+    fs::remove_file(&rt, "app.nu")?;
     Ok(())
 }
 
@@ -245,6 +287,24 @@ fn a_full_disk_is_a_failed_write(rt: HostRuntime) -> Result<(), Fail> {
     fill_up(&rt, folder.as_str())?;
     let (written, built) = outcome(&rt, Shell::Fish, app(rt.alloc()), folder.as_str())?;
     assert!(rt; matches!(written, Err(Error::Write(ErrorKind::StorageFull))));
+    assert!(rt; built);
+    fs::remove_dir_all(&rt, folder.as_str())?;
+    Ok(())
+}
+
+// A folder stands in the file's place.
+fn block(rt: &HostRuntime, folder: &str) -> Result<(), Fail> {
+    let path = format!(in rt.alloc(); "{folder}/app.bash")?;
+    fs::create_dir(rt, path.as_str())?;
+    Ok(())
+}
+
+#[test]
+fn a_folder_in_the_place_of_the_file_is_a_failed_write(rt: HostRuntime) -> Result<(), Fail> {
+    let folder = folder(&rt, "lagvtsune_blocked")?;
+    block(&rt, folder.as_str())?;
+    let (written, built) = outcome(&rt, Shell::Bash, app(rt.alloc()), folder.as_str())?;
+    assert!(rt; matches!(written, Err(Error::Write(ErrorKind::IsADirectory))));
     assert!(rt; built);
     fs::remove_dir_all(&rt, folder.as_str())?;
     Ok(())

@@ -1,6 +1,6 @@
 //! Scripts written to sinks that take little, fail, take nothing, or measure what they take.
 
-use crate::fixtures::{app, helped, many, nested};
+use crate::fixtures::{app, colored, colored_alone, helped, many, nested};
 use crate::written::{script, write_script};
 use clap_complete::aot::{Counted, Sink};
 use clap_complete::command::Command;
@@ -85,11 +85,19 @@ fn same_copies_by_bytes(alloc: Global, shell: Shell) -> Result<bool, Error> {
     Ok(taken.as_str() == whole.as_str())
 }
 
+// The same of possible values.
+fn same_values_by_bytes(alloc: Global, shell: Shell) -> Result<bool, Error> {
+    let whole = script(alloc, shell, colored(alloc))?;
+    let taken = by_bytes(alloc, shell, colored(alloc))?;
+    Ok(taken.as_str() == whole.as_str())
+}
+
 #[test]
 fn one_byte_a_call_is_the_same_script(rt: HostRuntime) -> Result<(), Fail> {
     for shell in Shell::value_variants() {
         assert!(rt; same_by_bytes(rt.alloc(), *shell)?);
         assert!(rt; same_copies_by_bytes(rt.alloc(), *shell)?);
+        assert!(rt; same_values_by_bytes(rt.alloc(), *shell)?);
     }
     Ok(())
 }
@@ -151,10 +159,29 @@ fn reports(
     reports_each(alloc, shell, &mut command, kinds, whole.as_str())
 }
 
+// The same over a fixture with children and possible values.
+fn reports_values(
+    alloc: Global,
+    shell: Shell,
+    kinds: (Option<ErrorKind>, Option<ErrorKind>),
+) -> Result<bool, Error> {
+    let whole = script(alloc, shell, colored_alone(alloc))?;
+    let mut command = colored_alone(alloc)?;
+    reports_each(alloc, shell, &mut command, kinds, whole.as_str())
+}
+
 #[test]
 fn a_writer_that_fails_is_reported(rt: HostRuntime) -> Result<(), Fail> {
     for shell in Shell::value_variants() {
         assert!(rt; reports(rt.alloc(), *shell, (BROKEN, BROKEN))?);
+    }
+    Ok(())
+}
+
+#[test]
+fn a_writer_that_fails_on_a_tree_with_values_is_reported(rt: HostRuntime) -> Result<(), Fail> {
+    for shell in Shell::value_variants() {
+        assert!(rt; reports_values(rt.alloc(), *shell, (BROKEN, BROKEN))?);
     }
     Ok(())
 }

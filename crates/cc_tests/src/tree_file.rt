@@ -22,6 +22,7 @@ const COMMAND: &str = "{\"name\": \"app\", \"bin_name\": \"the-app\", \"about\":
     \"version\": \"1.2\", \"subcommand_help_heading\": \"Tasks\", \"aliases\": [\"ap\"],
     \"visible_aliases\": [\"a\"], \"display_order\": 7, \"hide\": true,
     \"disable_help_flag\": true, \"disable_help_subcommand\": true,
+    \"allow_external_subcommands\": true,
     \"subcommands\": [{\"name\": \"run\"}, {\"name\": \"stop\"}]}";
 
 #[test]
@@ -40,9 +41,33 @@ fn has_the_fields_of_a_command(rt: &impl Abort, command: &Command) -> Result<(),
     assert_eq!(rt; first(command.get_visible_aliases()), Some("a"));
     assert_eq!(rt; command.get_display_order(), 7);
     assert!(rt; command.is_hide_set());
+    assert!(rt; command.is_allow_external_subcommands_set());
     assert_eq!(rt; command.get_subcommands().len(), 2);
     let id = command.get_arguments().first().map(Arg::get_id);
     assert_eq!(rt; id, Some("version"));
+    Ok(())
+}
+
+// Whether a command allows external subcommands and is hidden, and with how many children it is
+// built.
+fn marks_of_command(alloc: Global, text: &str) -> Result<(bool, bool, usize), Fail> {
+    let mut command = read(alloc, text)?;
+    command.build(alloc)?;
+    let external = command.is_allow_external_subcommands_set();
+    let children = command.get_subcommands().len();
+    Ok((external, command.is_hide_set(), children))
+}
+
+#[test]
+fn each_mark_of_a_command_has_its_key(rt: HostRuntime) -> Result<(), Fail> {
+    let external = "{\"name\": \"a\", \"allow_external_subcommands\": true,
+        \"subcommands\": [{\"name\": \"b\"}]}";
+    assert_eq!(rt; marks_of_command(rt.alloc(), external)?, (true, false, 2));
+    let hide = "{\"name\": \"a\", \"hide\": true, \"subcommands\": [{\"name\": \"b\"}]}";
+    assert_eq!(rt; marks_of_command(rt.alloc(), hide)?, (false, true, 2));
+    let alone = "{\"name\": \"a\", \"disable_help_subcommand\": true,
+        \"subcommands\": [{\"name\": \"b\"}]}";
+    assert_eq!(rt; marks_of_command(rt.alloc(), alone)?, (false, false, 1));
     Ok(())
 }
 
@@ -67,7 +92,8 @@ const ARGUMENT: &str = "{\"name\": \"app\", \"args\": [{\"id\": \"o\", \"short\"
     \"short_aliases\": [\"x\"], \"visible_short_aliases\": [\"y\"], \"aliases\": [\"old\"],
     \"visible_aliases\": [\"output\"], \"value_names\": [\"FILE\"], \"value_hint\": \"FilePath\",
     \"possible_values\": [{\"name\": \"a\"}, {\"name\": \"b\", \"help\": \"B\", \"hide\": true}],
-    \"hide\": true}]}";
+    \"conflicts_with\": [\"none\", \"p\"], \"index\": 3, \"value_terminator\": \";\",
+    \"required\": true, \"last\": true, \"global\": true, \"hide\": true}, {\"id\": \"p\"}]}";
 
 #[test]
 fn each_key_of_an_argument_sets_its_field(rt: HostRuntime) -> Result<(), Fail> {
@@ -76,6 +102,55 @@ fn each_key_of_an_argument_sets_its_field(rt: HostRuntime) -> Result<(), Fail> {
         Some(arg) => has_the_fields_of_an_argument(&rt, arg),
         None => Err(Fail::from("no argument")),
     }
+}
+
+// The id of the only argument in conflict with the first one of a command.
+fn conflict_of_first(alloc: Global, command: &Command) -> Result<Option<&str>, Fail> {
+    let Some(first) = command.get_arguments().first() else {
+        return Ok(None);
+    };
+    match command.get_arg_conflicts_with(alloc, first)?.as_slice() {
+        [other] => Ok(Some(other.get_id())),
+        _ => Ok(None),
+    }
+}
+
+#[test]
+fn an_argument_has_the_conflicts_of_its_key(rt: HostRuntime) -> Result<(), Fail> {
+    let command = read(rt.alloc(), ARGUMENT)?;
+    assert_eq!(rt; conflict_of_first(rt.alloc(), &command)?, Some("p"));
+    Ok(())
+}
+
+// Whether the first argument of a command is required, the last, global and hidden.
+fn marks(alloc: Global, text: &str) -> Result<(bool, bool, bool, bool), Fail> {
+    let command = read(alloc, text)?;
+    match command.get_arguments().first() {
+        Some(arg) => Ok(marks_of(arg)),
+        None => Err(Fail::from("no argument")),
+    }
+}
+
+fn marks_of(arg: &Arg) -> (bool, bool, bool, bool) {
+    (
+        arg.is_required_set(),
+        arg.is_last_set(),
+        arg.is_global_set(),
+        arg.is_hide_set(),
+    )
+}
+
+#[test]
+fn each_mark_of_an_argument_has_its_key(rt: HostRuntime) -> Result<(), Fail> {
+    let required = "{\"name\": \"a\", \"args\": [{\"id\": \"o\", \"required\": true}]}";
+    assert_eq!(rt; marks(rt.alloc(), required)?, (true, false, false, false));
+    let last = "{\"name\": \"a\", \"args\": [{\"id\": \"o\", \"last\": true}]}";
+    assert_eq!(rt; marks(rt.alloc(), last)?, (false, true, false, false));
+    let global = "{\"name\": \"a\", \"args\": [{\"id\": \"o\", \"global\": true}]}";
+    assert_eq!(rt; marks(rt.alloc(), global)?, (false, false, true, false));
+    let hide = "{\"name\": \"a\", \"args\": [{\"id\": \"o\", \"hide\": true}]}";
+    assert_eq!(rt; marks(rt.alloc(), hide)?, (false, false, false, true));
+    Ok(())
 }
 
 fn has_the_fields_of_an_argument(rt: &impl Abort, arg: &Arg) -> Result<(), Fail> {
@@ -94,7 +169,9 @@ fn has_the_fields_of_an_argument(rt: &impl Abort, arg: &Arg) -> Result<(), Fail>
     assert_eq!(rt; first(arg.get_visible_aliases()), Some("output"));
     assert_eq!(rt; first(arg.get_value_names()), Some("FILE"));
     assert_eq!(rt; arg.get_value_hint(), ValueHint::FilePath);
-    assert!(rt; arg.is_hide_set());
+    assert_eq!(rt; arg.get_index(), Some(3));
+    assert_eq!(rt; arg.get_value_terminator(), Some(";"));
+    assert_eq!(rt; marks_of(arg), (true, true, true, true));
     has_the_possible_values(rt, possible_values(arg))
 }
 

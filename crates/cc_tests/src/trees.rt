@@ -1,10 +1,11 @@
 //! Trees, as their getters answer them.
 
-use crate::fixtures::{app, built, global, my_app, nested};
+use crate::fixtures::{app, built, excluding, global, my_app, nested};
 use clap_complete::Error;
 use clap_complete::aot::utils::find_subcommand_with_path;
 use clap_complete::command::Command;
 use std::alloc::Global;
+use std::fmt::Write;
 use std::test::Fail;
 
 // The ids of the arguments, with a space after each.
@@ -107,5 +108,30 @@ fn a_path_leads_through_unbuilt_commands(rt: HostRuntime) -> Result<(), Fail> {
         name_at(&command, ["test", "config"].as_slice()),
         Some("config")
     );
+    Ok(())
+}
+
+// The ids and longs of the arguments in conflict with the last one, with a space after each.
+fn conflicts_of_last(alloc: Global, command: &Command) -> Result<String, Error> {
+    let mut line = String::new(alloc);
+    let Some(last) = command.get_arguments().last() else {
+        return Ok(line);
+    };
+    for other in command.get_arg_conflicts_with(alloc, last)? {
+        write!(
+            line,
+            "{}:{} ",
+            other.get_id(),
+            other.get_long().unwrap_or("")
+        )?;
+    }
+    Ok(line)
+}
+
+#[test]
+fn a_conflict_is_the_first_argument_with_its_id(rt: HostRuntime) -> Result<(), Fail> {
+    let command = excluding(rt.alloc())?;
+    let conflicts = conflicts_of_last(rt.alloc(), &command)?;
+    assert_eq!(rt; conflicts.as_str(), "yaml:yaml quiet: ");
     Ok(())
 }
