@@ -1,7 +1,7 @@
 //! An argument: its builders and getters.
 
 ghost use Rattle.std.specs.Prelude.{◌≡◌, [], ◌∷◌, ◌++◌, Some, None, Option, unwrap_or};
-ghost use Rattle.std.specs.Prelude.{IfOk, IfErr};
+ghost use Rattle.std.specs.Prelude.{IfOk, IfErr, OnOk};
 ghost use Rattle.std.specs.Option.{option_map, option_copied};
 ghost use Rattle.std.specs.String.{string_bytes};
 ghost use Rattle.cc_arg.specs.Aliases.{shorts_left, longs_left};
@@ -14,7 +14,7 @@ use crate::possible_value::{PossibleValue, copy_of_given};
 use crate::range::ValueRange;
 use crate::value_hint::ValueHint;
 use cc_base::{Error, Items, Text};
-use std::alloc::Global;
+use std::alloc::{AllocError, Global};
 
 /// An argument of a command. It is a positional where it has neither a short nor a long, and else
 /// an option or a flag, as it takes values or not.
@@ -99,8 +99,8 @@ impl Arg {
             arg ≡ record self { short_aliases = self.short_aliases ++ alias ∷ [] }) }
         ensures memory { IfErr result (λ error. error ≡ Error.Memory) }
     {
-        self.short_aliases.push(alias)?;
-        Ok(self)
+        let added = self.short_aliases.push(alias);
+        Ok(added.map(|()| self)?)
     }
 
     /// Adds a short that is shown. Fails with `Memory` alone.
@@ -109,8 +109,8 @@ impl Arg {
             record self { visible_short_aliases = self.visible_short_aliases ++ alias ∷ [] }) }
         ensures memory { IfErr result (λ error. error ≡ Error.Memory) }
     {
-        self.visible_short_aliases.push(alias)?;
-        Ok(self)
+        let added = self.visible_short_aliases.push(alias);
+        Ok(added.map(|()| self)?)
     }
 
     /// Adds a long that works and is not shown. Fails with `Memory` alone.
@@ -119,8 +119,8 @@ impl Arg {
             arg ≡ record self { aliases = self.aliases ++ string_bytes alias ∷ [] }) }
         ensures memory { IfErr result (λ error. error ≡ Error.Memory) }
     {
-        self.aliases.push(Text::from(alias))?;
-        Ok(self)
+        let added = self.aliases.push(Text::from(alias));
+        Ok(added.map(|()| self)?)
     }
 
     /// Adds a long that is shown. Fails with `Memory` alone.
@@ -129,8 +129,8 @@ impl Arg {
             record self { visible_aliases = self.visible_aliases ++ string_bytes alias ∷ [] }) }
         ensures memory { IfErr result (λ error. error ≡ Error.Memory) }
     {
-        self.visible_aliases.push(Text::from(alias))?;
-        Ok(self)
+        let added = self.visible_aliases.push(Text::from(alias));
+        Ok(added.map(|()| self)?)
     }
 
     /// Sets the help.
@@ -163,8 +163,8 @@ impl Arg {
             arg ≡ record self { value_names = self.value_names ++ string_bytes name ∷ [] }) }
         ensures memory { IfErr result (λ error. error ≡ Error.Memory) }
     {
-        self.value_names.push(Text::from(name))?;
-        Ok(self)
+        let added = self.value_names.push(Text::from(name));
+        Ok(added.map(|()| self)?)
     }
 
     /// Sets the possible values.
@@ -206,8 +206,8 @@ impl Arg {
             arg ≡ record self { conflicts = self.conflicts ++ string_bytes id ∷ [] }) }
         ensures memory { IfErr result (λ error. error ≡ Error.Memory) }
     {
-        self.conflicts.push(Text::from(id))?;
-        Ok(self)
+        let added = self.conflicts.push(Text::from(id));
+        Ok(added.map(|()| self)?)
     }
 
     /// Says whether the argument has to be given.
@@ -424,29 +424,78 @@ impl Arg {
         ensures equal { IfOk result (λ copy. copy ≡ self.now) }
         ensures memory { IfErr result (λ error. error ≡ Error.Memory) }
     {
-        Ok(Arg {
-            id: self.id.try_clone(alloc)?,
+        let mut copy = self.without_texts(alloc, self.id.try_clone(alloc)?);
+        let copied = self.copy_texts_to(&mut copy, alloc);
+        Ok(copied.map(|()| copy)?)
+    }
+
+    // A copy under this id, with no other text and no list.
+    fn without_texts(&self, alloc: Global, id: Text) -> Arg
+        ensures { result ≡ record self.now {
+          id = id;
+          short_aliases = [];
+          visible_short_aliases = [];
+          long = None;
+          aliases = [];
+          visible_aliases = [];
+          help = None;
+          value_names = [];
+          possible_values = None;
+          value_terminator = None;
+          conflicts = [];
+        } }
+    {
+        Arg {
+            id,
             short: self.short,
-            short_aliases: Items::copy_of(alloc, self.short_aliases.as_slice())?,
-            visible_short_aliases: Items::copy_of(alloc, self.visible_short_aliases.as_slice())?,
-            long: Text::copy_of_some(alloc, self.get_long())?,
-            aliases: Items::copy_of_texts(alloc, self.aliases.as_slice())?,
-            visible_aliases: Items::copy_of_texts(alloc, self.visible_aliases.as_slice())?,
-            help: Text::copy_of_some(alloc, self.get_help())?,
+            short_aliases: Items::new(alloc),
+            visible_short_aliases: Items::new(alloc),
+            long: None,
+            aliases: Items::new(alloc),
+            visible_aliases: Items::new(alloc),
+            help: None,
             action: self.action,
             num_args: self.num_args,
-            value_names: Items::copy_of_texts(alloc, self.value_names.as_slice())?,
-            possible_values: copy_of_given(alloc, &self.possible_values)?,
+            value_names: Items::new(alloc),
+            possible_values: None,
             value_hint: self.value_hint,
-            value_terminator: Text::copy_of_some(alloc, self.get_value_terminator())?,
+            value_terminator: None,
             index: self.index,
             display_order: self.display_order,
-            conflicts: Items::copy_of_texts(alloc, self.conflicts.as_slice())?,
+            conflicts: Items::new(alloc),
             required: self.required,
             last: self.last,
             global: self.global,
             hide: self.hide,
-        })
+        }
+    }
+
+    // Gives a copy the texts and lists that it lacks.
+    fn copy_texts_to(&self, copy: &mut Arg, alloc: Global) -> Result<(), AllocError>
+        ensures ok { OnOk result (copy.new ≡ record copy.old {
+          short_aliases = self.now.short_aliases;
+          visible_short_aliases = self.now.visible_short_aliases;
+          long = self.now.long;
+          aliases = self.now.aliases;
+          visible_aliases = self.now.visible_aliases;
+          help = self.now.help;
+          value_names = self.now.value_names;
+          possible_values = self.now.possible_values;
+          value_terminator = self.now.value_terminator;
+          conflicts = self.now.conflicts;
+        }) }
+    {
+        copy.short_aliases = Items::copy_of(alloc, self.short_aliases.as_slice())?;
+        copy.visible_short_aliases = Items::copy_of(alloc, self.visible_short_aliases.as_slice())?;
+        copy.long = Text::copy_of_some(alloc, self.get_long())?;
+        copy.aliases = Items::copy_of_texts(alloc, self.aliases.as_slice())?;
+        copy.visible_aliases = Items::copy_of_texts(alloc, self.visible_aliases.as_slice())?;
+        copy.help = Text::copy_of_some(alloc, self.get_help())?;
+        copy.value_names = Items::copy_of_texts(alloc, self.value_names.as_slice())?;
+        copy.possible_values = copy_of_given(alloc, &self.possible_values)?;
+        copy.value_terminator = Text::copy_of_some(alloc, self.get_value_terminator())?;
+        copy.conflicts = Items::copy_of_texts(alloc, self.conflicts.as_slice())?;
+        Ok(())
     }
 
     // The range that counts: the given one, or the one that the action and the value names imply.

@@ -86,7 +86,7 @@ fn with_short(arg: Arg, tree: &Value) -> Result<Arg, TreeError>
     ensures { GivesSame result (form.with_short (view tree.now) arg) }
 {
     match tree.get("short") {
-        Some(value) => Ok(arg.short(character(value)?)),
+        Some(value) => character(value).map(|short| arg.short(short)),
         None => Ok(arg),
     }
 }
@@ -95,7 +95,7 @@ fn with_long(alloc: Global, arg: Arg, tree: &Value) -> Result<Arg, TreeError>
     ensures { GivesSame result (form.with_long (view tree.now) arg) }
 {
     match tree.get("long") {
-        Some(value) => Ok(arg.long(text(alloc, value)?)),
+        Some(value) => text(alloc, value).map(|long| arg.long(long)),
         None => Ok(arg),
     }
 }
@@ -104,7 +104,7 @@ fn with_help(alloc: Global, arg: Arg, tree: &Value) -> Result<Arg, TreeError>
     ensures { GivesSame result (form.with_help (view tree.now) arg) }
 {
     match tree.get("help") {
-        Some(value) => Ok(arg.help(text(alloc, value)?)),
+        Some(value) => text(alloc, value).map(|help| arg.help(help)),
         None => Ok(arg),
     }
 }
@@ -123,7 +123,7 @@ fn with_action(arg: Arg, tree: &Value) -> Result<Arg, TreeError>
     ensures { GivesSame result (form.with_action (view tree.now) arg) }
 {
     match tree.get("action") {
-        Some(value) => Ok(arg.action(action(value)?)),
+        Some(value) => action(value).map(|action| arg.action(action)),
         None => Ok(arg),
     }
 }
@@ -132,7 +132,7 @@ fn with_num_args(arg: Arg, tree: &Value) -> Result<Arg, TreeError>
     ensures { GivesSame result (form.with_num_args (view tree.now) arg) }
 {
     match tree.get("num_args") {
-        Some(value) => Ok(arg.num_args(range(value)?)),
+        Some(value) => range(value).map(|range| arg.num_args(range)),
         None => Ok(arg),
     }
 }
@@ -141,7 +141,7 @@ fn with_value_names(alloc: Global, arg: Arg, tree: &Value) -> Result<Arg, TreeEr
     ensures { GivesSame result (form.with_value_names (view tree.now) arg) }
 {
     match tree.get("value_names") {
-        Some(value) => add_value_names(arg, texts(alloc, value)?),
+        Some(value) => texts(alloc, value).and_then(|names| add_value_names(arg, names)),
         None => Ok(arg),
     }
 }
@@ -160,7 +160,7 @@ fn with_possible_values(alloc: Global, arg: Arg, tree: &Value) -> Result<Arg, Tr
     ensures { GivesSame result (form.with_possible_values (view tree.now) arg) }
 {
     match tree.get("possible_values") {
-        Some(value) => Ok(arg.value_parser(possible_values(alloc, value)?)),
+        Some(value) => possible_values(alloc, value).map(|values| arg.value_parser(values)),
         None => Ok(arg),
     }
 }
@@ -169,7 +169,7 @@ fn with_value_hint(arg: Arg, tree: &Value) -> Result<Arg, TreeError>
     ensures { GivesSame result (form.with_value_hint (view tree.now) arg) }
 {
     match tree.get("value_hint") {
-        Some(value) => Ok(arg.value_hint(hint(value)?)),
+        Some(value) => hint(value).map(|hint| arg.value_hint(hint)),
         None => Ok(arg),
     }
 }
@@ -186,7 +186,7 @@ fn with_index(arg: Arg, tree: &Value) -> Result<Arg, TreeError>
     ensures { GivesSame result (form.with_index (view tree.now) arg) }
 {
     match tree.get("index") {
-        Some(value) => Ok(arg.index(number(value)?)),
+        Some(value) => number(value).map(|index| arg.index(index)),
         None => Ok(arg),
     }
 }
@@ -195,7 +195,7 @@ fn with_value_terminator(alloc: Global, arg: Arg, tree: &Value) -> Result<Arg, T
     ensures { GivesSame result (form.with_value_terminator (view tree.now) arg) }
 {
     match tree.get("value_terminator") {
-        Some(value) => Ok(arg.value_terminator(text(alloc, value)?)),
+        Some(value) => text(alloc, value).map(|terminator| arg.value_terminator(terminator)),
         None => Ok(arg),
     }
 }
@@ -204,7 +204,7 @@ fn with_conflicts(alloc: Global, arg: Arg, tree: &Value) -> Result<Arg, TreeErro
     ensures { GivesSame result (form.with_conflicts (view tree.now) arg) }
 {
     match tree.get("conflicts_with") {
-        Some(value) => add_conflicts(arg, texts(alloc, value)?),
+        Some(value) => texts(alloc, value).and_then(|ids| add_conflicts(arg, ids)),
         None => Ok(arg),
     }
 }
@@ -232,7 +232,7 @@ fn with_required(arg: Arg, tree: &Value) -> Result<Arg, TreeError>
     ensures { GivesSame result (form.with_required (view tree.now) arg) }
 {
     match tree.get("required") {
-        Some(value) => Ok(arg.required(boolean(value)?)),
+        Some(value) => boolean(value).map(|required| arg.required(required)),
         None => Ok(arg),
     }
 }
@@ -241,7 +241,7 @@ fn with_last(arg: Arg, tree: &Value) -> Result<Arg, TreeError>
     ensures { GivesSame result (form.with_last (view tree.now) arg) }
 {
     match tree.get("last") {
-        Some(value) => Ok(arg.last(boolean(value)?)),
+        Some(value) => boolean(value).map(|last| arg.last(last)),
         None => Ok(arg),
     }
 }
@@ -250,7 +250,7 @@ fn with_global(arg: Arg, tree: &Value) -> Result<Arg, TreeError>
     ensures { GivesSame result (form.with_global (view tree.now) arg) }
 {
     match tree.get("global") {
-        Some(value) => Ok(arg.global(boolean(value)?)),
+        Some(value) => boolean(value).map(|global| arg.global(global)),
         None => Ok(arg),
     }
 }
@@ -259,7 +259,7 @@ fn with_hide(arg: Arg, tree: &Value) -> Result<Arg, TreeError>
     ensures { GivesSame result (form.with_hide (view tree.now) arg) }
 {
     match tree.get("hide") {
-        Some(value) => Ok(arg.hide(boolean(value)?)),
+        Some(value) => boolean(value).map(|hide| arg.hide(hide)),
         None => Ok(arg),
     }
 }
@@ -277,7 +277,7 @@ fn with_short_aliases(alloc: Global, arg: Arg, tree: &Value) -> Result<Arg, Tree
     ensures { GivesSame result (form.with_short_aliases (view tree.now) arg) }
 {
     match tree.get("short_aliases") {
-        Some(value) => add_short_aliases(arg, characters(alloc, value)?),
+        Some(value) => characters(alloc, value).and_then(|names| add_short_aliases(arg, names)),
         None => Ok(arg),
     }
 }
@@ -296,7 +296,9 @@ fn with_visible_short_aliases(alloc: Global, arg: Arg, tree: &Value) -> Result<A
     ensures { GivesSame result (form.with_visible_short_aliases (view tree.now) arg) }
 {
     match tree.get("visible_short_aliases") {
-        Some(value) => add_visible_short_aliases(arg, characters(alloc, value)?),
+        Some(value) => characters(alloc, value).and_then(|names| add_visible_short_aliases(
+            arg, names,
+        )),
         None => Ok(arg),
     }
 }
@@ -315,7 +317,7 @@ fn with_aliases(alloc: Global, arg: Arg, tree: &Value) -> Result<Arg, TreeError>
     ensures { GivesSame result (form.with_aliases (view tree.now) arg) }
 {
     match tree.get("aliases") {
-        Some(value) => add_aliases(arg, texts(alloc, value)?),
+        Some(value) => texts(alloc, value).and_then(|names| add_aliases(arg, names)),
         None => Ok(arg),
     }
 }
@@ -334,7 +336,7 @@ fn with_visible_aliases(alloc: Global, arg: Arg, tree: &Value) -> Result<Arg, Tr
     ensures { GivesSame result (form.with_visible_aliases (view tree.now) arg) }
 {
     match tree.get("visible_aliases") {
-        Some(value) => add_visible_aliases(arg, texts(alloc, value)?),
+        Some(value) => texts(alloc, value).and_then(|names| add_visible_aliases(arg, names)),
         None => Ok(arg),
     }
 }

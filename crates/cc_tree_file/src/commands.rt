@@ -108,7 +108,7 @@ fn with_bin_name(alloc: Global, command: Command, tree: &Value) -> Result<Comman
     ensures { GivesSame result (form.with_bin_name (view tree.now) command) }
 {
     match tree.get("bin_name") {
-        Some(value) => Ok(command.bin_name(text(alloc, value)?)),
+        Some(value) => text(alloc, value).map(|name| command.bin_name(name)),
         None => Ok(command),
     }
 }
@@ -117,7 +117,7 @@ fn with_about(alloc: Global, command: Command, tree: &Value) -> Result<Command, 
     ensures { GivesSame result (form.with_about (view tree.now) command) }
 {
     match tree.get("about") {
-        Some(value) => Ok(command.about(text(alloc, value)?)),
+        Some(value) => text(alloc, value).map(|about| command.about(about)),
         None => Ok(command),
     }
 }
@@ -126,7 +126,7 @@ fn with_version(alloc: Global, command: Command, tree: &Value) -> Result<Command
     ensures { GivesSame result (form.with_version (view tree.now) command) }
 {
     match tree.get("version") {
-        Some(value) => Ok(command.version(text(alloc, value)?)),
+        Some(value) => text(alloc, value).map(|version| command.version(version)),
         None => Ok(command),
     }
 }
@@ -139,7 +139,7 @@ fn with_subcommand_help_heading(
     ensures { GivesSame result (form.with_subcommand_help_heading (view tree.now) command) }
 {
     match tree.get("subcommand_help_heading") {
-        Some(value) => Ok(command.subcommand_help_heading(text(alloc, value)?)),
+        Some(value) => text(alloc, value).map(|heading| command.subcommand_help_heading(heading)),
         None => Ok(command),
     }
 }
@@ -155,7 +155,7 @@ fn with_aliases(alloc: Global, command: Command, tree: &Value) -> Result<Command
     ensures { GivesSame result (form.with_aliases (view tree.now) command) }
 {
     match tree.get("aliases") {
-        Some(value) => add_aliases(command, texts(alloc, value)?),
+        Some(value) => texts(alloc, value).and_then(|names| add_aliases(command, names)),
         None => Ok(command),
     }
 }
@@ -175,7 +175,7 @@ fn with_visible_aliases(alloc: Global, command: Command, tree: &Value) -> Result
     ensures { GivesSame result (form.with_visible_aliases (view tree.now) command) }
 {
     match tree.get("visible_aliases") {
-        Some(value) => add_visible_aliases(command, texts(alloc, value)?),
+        Some(value) => texts(alloc, value).and_then(|names| add_visible_aliases(command, names)),
         None => Ok(command),
     }
 }
@@ -195,7 +195,7 @@ fn with_display_order(command: Command, tree: &Value) -> Result<Command, TreeErr
     ensures { GivesSame result (form.with_display_order (view tree.now) command) }
 {
     match tree.get("display_order") {
-        Some(value) => Ok(command.display_order(number(value)?)),
+        Some(value) => number(value).map(|order| command.display_order(order)),
         None => Ok(command),
     }
 }
@@ -214,7 +214,7 @@ fn with_hide(command: Command, tree: &Value) -> Result<Command, TreeError>
     ensures { GivesSame result (form.with_hide (view tree.now) command) }
 {
     match tree.get("hide") {
-        Some(value) => Ok(command.hide(boolean(value)?)),
+        Some(value) => boolean(value).map(|hide| command.hide(hide)),
         None => Ok(command),
     }
 }
@@ -223,7 +223,7 @@ fn with_disable_help_flag(command: Command, tree: &Value) -> Result<Command, Tre
     ensures { GivesSame result (form.with_disable_help_flag (view tree.now) command) }
 {
     match tree.get("disable_help_flag") {
-        Some(value) => Ok(command.disable_help_flag(boolean(value)?)),
+        Some(value) => boolean(value).map(|disable| command.disable_help_flag(disable)),
         None => Ok(command),
     }
 }
@@ -232,7 +232,7 @@ fn with_disable_version_flag(command: Command, tree: &Value) -> Result<Command, 
     ensures { GivesSame result (form.with_disable_version_flag (view tree.now) command) }
 {
     match tree.get("disable_version_flag") {
-        Some(value) => Ok(command.disable_version_flag(boolean(value)?)),
+        Some(value) => boolean(value).map(|disable| command.disable_version_flag(disable)),
         None => Ok(command),
     }
 }
@@ -241,7 +241,7 @@ fn with_disable_help_subcommand(command: Command, tree: &Value) -> Result<Comman
     ensures { GivesSame result (form.with_disable_help_subcommand (view tree.now) command) }
 {
     match tree.get("disable_help_subcommand") {
-        Some(value) => Ok(command.disable_help_subcommand(boolean(value)?)),
+        Some(value) => boolean(value).map(|disable| command.disable_help_subcommand(disable)),
         None => Ok(command),
     }
 }
@@ -250,7 +250,7 @@ fn with_allow_external_subcommands(command: Command, tree: &Value) -> Result<Com
     ensures { GivesSame result (form.with_allow_external_subcommands (view tree.now) command) }
 {
     match tree.get("allow_external_subcommands") {
-        Some(value) => Ok(command.allow_external_subcommands(boolean(value)?)),
+        Some(value) => boolean(value).map(|allow| command.allow_external_subcommands(allow)),
         None => Ok(command),
     }
 }
@@ -272,7 +272,8 @@ fn add_args(alloc: Global, command: Command, value: &Value) -> Result<Command, T
     let items = value.as_array().ok_or(TreeError::BadForm)?;
     let mut command = command;
     for item in items {
-        command = command.arg(arg(alloc, item)?).map_err(builder_error)?;
+        let added = arg(alloc, item).and_then(|arg| command.arg(arg).map_err(builder_error));
+        command = added?;
     }
     Ok(command)
 }

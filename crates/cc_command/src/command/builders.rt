@@ -55,8 +55,8 @@ impl Command {
         ensures memory { IfErr result (λ error. error ≡ Error.Memory) }
     {
         self.node.built = false;
-        self.node.aliases.push(Text::from(alias))?;
-        Ok(self)
+        let added = self.node.aliases.push(Text::from(alias));
+        Ok(added.map(|()| self)?)
     }
 
     /// Adds a name that is shown.
@@ -67,8 +67,8 @@ impl Command {
         ensures memory { IfErr result (λ error. error ≡ Error.Memory) }
     {
         self.node.built = false;
-        self.node.visible_aliases.push(Text::from(alias))?;
-        Ok(self)
+        let added = self.node.visible_aliases.push(Text::from(alias));
+        Ok(added.map(|()| self)?)
     }
 
     /// Says whether the command is left out of help texts.
@@ -111,8 +111,8 @@ impl Command {
             fill_display_order(&mut argument, self.node.next_order);
             self.node.next_order = self.node.next_order.saturating_add(1);
         }
-        self.node.arguments.push(argument)?;
-        Ok(self)
+        let added = self.node.arguments.push(argument);
+        Ok(added.map(|()| self)?)
     }
 
     /// Adds a child. It takes the command's next display order, unless it has its own; the order
@@ -124,8 +124,8 @@ impl Command {
         self.node.built = false;
         child.fill_display_order(self.node.next_order);
         self.node.next_order = self.node.next_order.saturating_add(1);
-        push_child(&mut self.children, child)?;
-        Ok(self)
+        let added = push_child(&mut self.children, child);
+        Ok(added.map(|()| self)?)
     }
 
     /// Says whether the flag `help` is left out.

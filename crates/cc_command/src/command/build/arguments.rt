@@ -28,17 +28,19 @@ pub(super) fn built_node(
       built = true;
     }) }
 {
-    Ok(Node {
-        name: node.name.try_clone(alloc)?,
+    let arguments = finished(node, alloc, given)?;
+    let name = node.name.try_clone(alloc)?;
+    let mut built = Node {
+        name,
         bin_name,
-        about: copy_of_some(alloc, &node.about)?,
-        version: copy_of_some(alloc, &node.version)?,
-        aliases: Items::copy_of_texts(alloc, node.aliases.as_slice())?,
-        visible_aliases: Items::copy_of_texts(alloc, node.visible_aliases.as_slice())?,
-        subcommand_help_heading: copy_of_some(alloc, &node.subcommand_help_heading)?,
+        about: None,
+        version: None,
+        aliases: Items::new(alloc),
+        visible_aliases: Items::new(alloc),
+        subcommand_help_heading: None,
         display_order: node.display_order,
         next_order: node.next_order,
-        arguments: finished(node, alloc, given)?,
+        arguments,
         hide: node.hide,
         disable_help_flag: node.disable_help_flag,
         disable_version_flag: node.disable_version_flag,
@@ -46,7 +48,27 @@ pub(super) fn built_node(
         allow_external_subcommands: node.allow_external_subcommands,
         generated: node.generated,
         built: true,
-    })
+    };
+    let copied = copy_texts_to(&mut built, alloc, node);
+    copied.map(|()| built)
+}
+
+// Gives a copy of a node the texts and aliases that it lacks.
+fn copy_texts_to(copy: &mut Node, alloc: Global, node: &Node) -> Result<(), AllocError>
+    ensures ok { OnOk result (copy.new ≡ record copy.old {
+      about = node.now.about;
+      version = node.now.version;
+      aliases = node.now.aliases;
+      visible_aliases = node.now.visible_aliases;
+      subcommand_help_heading = node.now.subcommand_help_heading;
+    }) }
+{
+    copy.about = copy_of_some(alloc, &node.about)?;
+    copy.version = copy_of_some(alloc, &node.version)?;
+    copy.aliases = Items::copy_of_texts(alloc, node.aliases.as_slice())?;
+    copy.visible_aliases = Items::copy_of_texts(alloc, node.visible_aliases.as_slice())?;
+    copy.subcommand_help_heading = copy_of_some(alloc, &node.subcommand_help_heading)?;
+    Ok(())
 }
 
 fn copy_of_some(alloc: Global, text: &Option<Text>) -> Result<Option<Text>, AllocError>
@@ -152,10 +174,11 @@ fn push_if_missing(arguments: &mut Vec<Arg>, argument: Arg) -> Result<(), AllocE
     ensures ok { OnOk result
         (arguments.new.items ≡ with_missing arguments.old.items (argument ∷ [])) }
 {
-    if !has_id(arguments, argument.get_id()) {
-        arguments.push(argument)?;
+    if has_id(arguments, argument.get_id()) {
+        drop(argument);
+        return Ok(());
     }
-    Ok(())
+    Ok(arguments.push(argument)?)
 }
 
 fn push_copy_if_missing(
@@ -206,11 +229,11 @@ fn lacks_index(argument: &Arg) -> bool
 fn help_argument(alloc: Global) -> Result<Arg, AllocError>
     ensures ok { IfOk result (λ argument. argument ≡ help_argument) }
 {
-    let mut argument = Arg::new(alloc, String::from_str(alloc, help_name())?)
-        .short('h')
-        .long(String::from_str(alloc, help_name())?)
-        .help(String::from_str(alloc, help_help())?)
-        .action(ArgAction::Help);
+    let id = String::from_str(alloc, help_name())?;
+    let long = String::from_str(alloc, help_name())?;
+    let help = String::from_str(alloc, help_help())?;
+    let mut argument = Arg::new(alloc, id).short('h').long(long).help(help);
+    argument = argument.action(ArgAction::Help);
     fill_display_order(&mut argument, 999);
     Ok(argument)
 }
@@ -219,11 +242,11 @@ fn help_argument(alloc: Global) -> Result<Arg, AllocError>
 fn version_argument(alloc: Global) -> Result<Arg, AllocError>
     ensures ok { IfOk result (λ argument. argument ≡ version_argument) }
 {
-    let mut argument = Arg::new(alloc, String::from_str(alloc, version_name())?)
-        .short('V')
-        .long(String::from_str(alloc, version_name())?)
-        .help(String::from_str(alloc, version_help())?)
-        .action(ArgAction::Version);
+    let id = String::from_str(alloc, version_name())?;
+    let long = String::from_str(alloc, version_name())?;
+    let help = String::from_str(alloc, version_help())?;
+    let mut argument = Arg::new(alloc, id).short('V').long(long).help(help);
+    argument = argument.action(ArgAction::Version);
     fill_display_order(&mut argument, 999);
     Ok(argument)
 }

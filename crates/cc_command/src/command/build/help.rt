@@ -110,9 +110,11 @@ fn generated_node(
     ensures ok { IfOk result (λ node.
         node ≡ generated_node name.now bin_name (option_copied about.entry) order hide) }
 {
-    let mut node = Node::new(alloc, Text::copy_of(alloc, name)?);
+    let name = Text::copy_of(alloc, name)?;
+    let about = Text::copy_of_some(alloc, about)?;
+    let mut node = Node::new(alloc, name);
     node.bin_name = Some(bin_name);
-    node.about = Text::copy_of_some(alloc, about)?;
+    node.about = about;
     node.display_order = Some(order);
     node.hide = hide;
     node.disable_help_flag = true;
