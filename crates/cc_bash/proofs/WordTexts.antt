@@ -1,6 +1,6 @@
 -- Words that are written one after another.
-use Rattle.std.proofs.Common.{◌≡◌, ℕ, suc, ◌+◌, ◌<◌, Bool, true, false, ◌||◌, List, [], ◌∷◌, ◌++◌, flat_map, filter, length, drop, get_or, refl, sym, ap, ◌∙◌, append_assoc, add-one}
-use Rattle.std.proofs.Math.Seq.{drop-cons}
+use Rattle.std.proofs.Common.{◌≡◌, ℕ, Bool, true, false, ◌||◌, List, [], ◌∷◌, ◌++◌, flat_map, filter, refl, sym, ap, ◌∙◌, append_assoc}
+use Rattle.std.proofs.Math.Bool.{or_assoc}
 use Rattle.cc_arg.specs.declared.arg.Arg.{Arg}
 use Rattle.cc_arg.specs.Arguments.{is_positional}
 use Rattle.cc_command.specs.Tree.{Forest, Tree}
@@ -48,10 +48,6 @@ words_step begun now first rest before taken whole step is so_far =
     ∙ ap (λ b. before ++ (words_after begun first ++ words_after b rest)) is
     ∙ ap (λ t. before ++ t) (sym (words_after_append begun first rest)) ∙ so_far
 
-or_assoc : (a b c : Bool) → ((a || b) || c) ≡ (a || (b || c))
-or_assoc true b c = refl
-or_assoc false b c = refl
-
 -- and so of whether there is a word
 pub begun_step : (begun now whole : Bool) (first rest : List (List ℕ)) →
     now ≡ (begun || has_words first) →
@@ -59,10 +55,6 @@ pub begun_step : (begun now whole : Bool) (first rest : List (List ℕ)) →
 begun_step begun now whole first rest is so_far =
     ap (λ b. b || has_words rest) is ∙ or_assoc begun (has_words first) (has_words rest)
     ∙ ap (λ b. begun || b) (sym (has_words_append first rest)) ∙ so_far
-
-pub or_true : (b : Bool) → (b || true) ≡ true
-or_true true = refl
-or_true false = refl
 
 -- the texts of the elements that pass, where the first one does
 pub kept_first : {X Y : Type 0} (test : X → Bool) (f : X → List Y) (x : X) (xs : List X) →
@@ -111,8 +103,3 @@ words_written tree arguments children one two three same below is1 is2 is3 =
     ++ flat_map long_words tree.node.arguments)
     ++ flat_map value_names (filter is_positional tree.node.arguments)) ++ sibling_names f))
     below
-
--- one element of a list, and those after it
-pub one_more : {X : Type 0} → (xs : List X) (i : ℕ) (d x : X) → i < length xs → x ≡ get_or xs i d →
-    drop i xs ≡ x ∷ drop (i + 1) xs
-one_more xs i d x lt at = rw add-one (drop-cons xs i d lt ∙ ap (λ y. y ∷ drop (suc i) xs) (sym at))

@@ -1,10 +1,11 @@
 -- What the tests of plainness promise, part by part.
-use Rattle.std.proofs.Common.{ℕ, ◌&&◌, IsTrue, List, Option, Some, None, unwrap_or, inl, inr, subst}
+use Rattle.std.proofs.Common.{ℕ, Bool, ◌&&◌, IsTrue, List, Option, Some, None, unwrap_or, inl, inr, subst}
 use Rattle.std.specs.Char.{is_ascii_alphanumeric}
 use Rattle.std.specs.List.{AllByRecursion, list_all}
 use Rattle.cc_base.proofs.Booleans.{both_true, each_passes}
 use Rattle.cc_base.proofs.Members.{AllByRecursion-weaker, AllByRecursion-filter}
 use Rattle.cc_arg.specs.declared.arg.Arg.{Arg}
+use Rattle.cc_arg.specs.ShownNames.{with_aliases}
 use Rattle.cc_command.specs.declared.node.Node.{Node}
 use Rattle.cc_command.specs.Tree.{Forest, none, more, Tree, IsSibling}
 use Rattle.cc_command.specs.ArgumentLists.{is_option, is_flag, options, flags}
@@ -34,6 +35,13 @@ pub record IsPlainArgument (argument : Arg) : Type 0 where
   pub long : IsTrue (passes_if_some is_plain_name argument.long)
   pub longs : AllByRecursion IsPlainName argument.visible_aliases
   pub hidden_longs : AllByRecursion IsPlainName argument.aliases
+
+-- the names of a plain argument that are shown
+pub shown_plain : {Name : Type 0} (is_plain : Name → Bool) (first : Option Name) (aliases : List Name) →
+    IsTrue (passes_if_some is_plain first) → AllByRecursion (λ name. IsTrue (is_plain name)) aliases →
+    AllByRecursion (λ name. IsTrue (is_plain name)) (with_aliases first aliases)
+shown_plain is_plain None aliases h k = tt
+shown_plain is_plain (Some name) aliases h k = (h, k)
 
 pub plain_argument : (argument : Arg) → IsTrue (is_plain_argument argument) → IsPlainArgument argument
 plain_argument argument h =

@@ -4,9 +4,9 @@ use Rattle.std.specs.Prelude.{⊤}
 use Rattle.std.proofs.lemmas.Bool.Decides.{Decides-eqb, nat_tests}
 use Rattle.cc_quote.specs.Bytes as ascii
 use Rattle.cc_quote.specs.FishPlaces.{place_at, ends_word, character_place, character_word, is_bare}
-use Rattle.cc_quote.specs.FishQuote.{FishSign, FishPlace, fish_sign, after_backslash, place_after, advance, spelled, fish_word_from, fish_double_from, fish_double_of}
+use Rattle.cc_quote.specs.FishQuote.{FishSign, FishPlace, fish_sign, place_after, advance, spelled, fish_word_from, fish_double_from, fish_double_of}
 use Rattle.cc_quote.specs.FishQuote.FishSign.{blank, line_feed, single, double, backslash, dollar, hash, other}
-use Rattle.cc_quote.specs.FishQuote.FishPlace.{bare, bare_escape, in_double}
+use Rattle.cc_quote.specs.FishQuote.FishPlace.{bare, in_double}
 use Rattle.cc_quote.specs.declared.fish_reader.Place.{Place}
 use Rattle.cc_quote.specs.declared.fish_reader.Place.TheVariants.{Bare, BareEscaped, InSingle, InSingleEscaped, InDouble, InDoubleEscaped}
 use Rattle.cc_quote.proofs.Characters.{AreHigh, IsCharacter, character}

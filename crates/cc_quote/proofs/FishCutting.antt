@@ -1,12 +1,12 @@
 -- How a fish script is cut into the words of its commands, whatever follows the part that each lemma speaks of.
-use Rattle.std.proofs.Common.{◌≡◌, ℕ, Bool, true, false, List, [], ◌∷◌, ◌++◌, refl, ap, ◌∙◌, sym, append_assoc, append-nil, inl, inr, ◌⊎◌, Option, Some, None, IsTrue, map, flat_map, codes}
+use Rattle.std.proofs.Common.{◌≡◌, ℕ, List, [], ◌∷◌, ◌++◌, refl, ap, ◌∙◌, sym, append_assoc, append-nil, inl, inr, ◌⊎◌, Some, None, IsTrue, flat_map}
 use Rattle.std.specs.List.{AllByRecursion}
 use Rattle.cc_quote.specs.Bytes as ascii
 use Rattle.cc_quote.specs.FishQuote.{FishSign, FishPlace, fish_sign, next_place, advance, begins_word, begins_with_word}
 use Rattle.cc_quote.specs.FishQuote.FishSign.{blank, line_feed, single, double, backslash, dollar, hash, other}
-use Rattle.cc_quote.specs.FishQuote.FishPlace.{bare, in_single, in_double}
-use Rattle.cc_quote.specs.FishTokens.{CommandPlace, between, comment, in_word, commands_from}
-use Rattle.cc_quote.proofs.FishWords.{IsSafe, safe_bare, advance-append}
+use Rattle.cc_quote.specs.FishQuote.FishPlace.{bare}
+use Rattle.cc_quote.specs.FishTokens.{between, in_word, commands_from}
+use Rattle.cc_quote.proofs.FishWords.{IsSafe, safe_bare}
 use Rattle.cc_quote.proofs.FishReaders.{option_cases, advance_none}
 
 -- a text before which a word ends

@@ -1,12 +1,11 @@
 -- Quoted texts of fish lead the reader of a word to the text.
-use Rattle.std.proofs.Common.{◌≡◌, ℕ, Bool, true, false, List, [], ◌∷◌, ◌++◌, refl, ap, ◌∙◌, sym, append_assoc, append-nil, inl, inr, ◌⊎◌, Option, Some, None, ◌||◌, ◌==◌, arith, codes, map}
+use Rattle.std.proofs.Common.{◌≡◌, ℕ, true, false, List, [], ◌∷◌, ◌++◌, refl, ap, ◌∙◌, sym, append_assoc, append-nil, inl, inr, Option, Some, None, ◌==◌, arith, codes}
 use Rattle.std.proofs.lemmas.Bool.{cases_Bool, ne_eqb, and_parts}
 use Rattle.std.proofs.lemmas.Bool.Decides.{nat_tests}
-use Rattle.std.specs.List.{flat_map, list_all, AllByRecursion}
-use Rattle.std.proofs.lemmas.List.Concat.{flat_map-append}
-use Rattle.cc_quote.specs.FishQuote.{FishSign, FishPlace, fish_sign, next_place, advance, begins_word, is_fish_safe, is_fish_safe_word, single_byte, single_escaped, double_byte, double_escaped, single_quoted, fish_quoted}
-use Rattle.cc_quote.specs.FishQuote.FishSign.{blank, line_feed, single, double, backslash, dollar, hash, other}
-use Rattle.cc_quote.specs.FishQuote.FishPlace.{bare, bare_escape, in_single, single_escape, in_double, double_escape}
+use Rattle.std.specs.List.{list_all, AllByRecursion}
+use Rattle.cc_quote.specs.FishQuote.{FishPlace, fish_sign, next_place, advance, is_fish_safe, single_byte, single_escaped, double_byte, double_escaped, single_quoted, fish_quoted}
+use Rattle.cc_quote.specs.FishQuote.FishSign.{other}
+use Rattle.cc_quote.specs.FishQuote.FishPlace.{bare, in_single, in_double}
 
 -- a text of bytes that need no quotes
 abbrev pub IsSafe : List ℕ → Type 0

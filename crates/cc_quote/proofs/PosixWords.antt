@@ -15,7 +15,7 @@ use Rattle.cc_quote.proofs.Characters.IsCharacter.{low, high}
 -- ---- one byte
 
 -- the byte of a sign
-byte_of-sign : (byte : ℕ) → byte_of (sign byte) ≡ byte
+pub byte_of-sign : (byte : ℕ) → byte_of (sign byte) ≡ byte
 unfolding sign byte_of
 byte_of-sign byte = grind (arith, nat_tests)
 

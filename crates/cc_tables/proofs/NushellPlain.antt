@@ -1,6 +1,6 @@
 -- The Nushell script of a plain tree reads to the tree's blocks.
 use Rattle.std.proofs.Common.{◌≡◌, ◌≢◌, ◌==◌, ◌||◌, ℕ, Bool, true, false, IsTrue, List, map}
-use Rattle.std.proofs.Common.{flat_map, codes, refl, ap, ◌∙◌, inl, inr}
+use Rattle.std.proofs.Common.{flat_map, refl, ap, ◌∙◌, inl, inr}
 use Rattle.std.specs.List.{AllByRecursion}
 use Rattle.std.proofs.lemmas.Bool.Decides.{eqb_tells}
 use Rattle.cc_base.proofs.Members.{AllByRecursion-weaker, AllByRecursion-append, AllByRecursion-map}

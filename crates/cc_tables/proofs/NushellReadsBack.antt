@@ -5,11 +5,11 @@ use Rattle.std.proofs.Common.{refl, sym, ap, ◌∙◌, append_assoc, append-nil
 use Rattle.std.proofs.lemmas.Bool.Decides.{nat_tests}
 use Rattle.std.specs.List.{AllByRecursion}
 use Rattle.std.proofs.lemmas.List.{reverse-append, reverse-reverse}
-use Rattle.cc_base.proofs.Members.{AllByRecursion-append, AllByRecursion-from_IsIn}
+use Rattle.cc_base.proofs.Members.{AllByRecursion-append}
 use Rattle.cc_quote.specs.Bytes.{line_feed, space}
 use Rattle.cc_quote.specs.QuotedWord.{line_feeds_as_spaces, space_for_line_feed}
 use Rattle.cc_tables.specs.NushellReader.{State, Sign, after, after_first, after_name, before}
-use Rattle.cc_tables.specs.NushellReader.{between, closed, closes, ends_name, holds, in_block}
+use Rattle.cc_tables.specs.NushellReader.{between, closed, ends_name, holds, in_block}
 use Rattle.cc_tables.specs.NushellReader.{in_block_sign, key_sign, line_read, lines_from, name_of}
 use Rattle.cc_tables.specs.NushellReader.{next, nushell_blocks, opens, other, read, record_of, sign}
 use Rattle.cc_tables.specs.NushellScript.{Line, block_begin, block_end, block_text, content, head}

@@ -1,6 +1,6 @@
 -- What is offered at a plain node: words of the bytes that plain names have.
 use Rattle.std.proofs.Common.{◌≡◌, ◌≢◌, ◌==◌, ◌||◌, ℕ, Bool, true, false, cond, IsTrue, List, []}
-use Rattle.std.proofs.Common.{◌∷◌, ◌++◌, map, flat_map, encode_utf8, Option, Some, None, subst, sym}
+use Rattle.std.proofs.Common.{◌∷◌, ◌++◌, map, flat_map, encode_utf8, subst, sym}
 use Rattle.std.proofs.Common.{arith}
 use Rattle.std.specs.Char.{is_ascii_alphanumeric}
 use Rattle.std.specs.List.{AllByRecursion}
@@ -9,18 +9,18 @@ use Rattle.std.proofs.lemmas.Str.{encode_ascii}
 use Rattle.cc_base.proofs.Members.{AllByRecursion-weaker, AllByRecursion-append, AllByRecursion-map}
 use Rattle.cc_base.proofs.Members.{AllByRecursion-flat_map}
 use Rattle.cc_arg.specs.declared.arg.Arg.{Arg}
-use Rattle.cc_arg.specs.ShownNames.{with_aliases, shown_names, shown_shorts, shown_longs}
+use Rattle.cc_arg.specs.ShownNames.{shown_names, shown_shorts, shown_longs}
 use Rattle.cc_arg.specs.declared.names.ShownName.TheVariants.{Short as ShownShort}
 use Rattle.cc_arg.specs.declared.names.ShownName.TheVariants.{Long as ShownLong}
 use Rattle.cc_command.specs.declared.node.Node.{Node}
 use Rattle.cc_command.specs.Tree.{Forest, none, more, Tree}
 use Rattle.cc_command.specs.ArgumentLists.{options, flags}
 use Rattle.cc_command.specs.Names.{visible_names}
-use Rattle.cc_command.specs.Plain.{is_plain_forest, passes_if_some}
+use Rattle.cc_command.specs.Plain.{is_plain_forest}
 use Rattle.cc_command.specs.PlainName.{name_byte, foreign, joiner, letter, is_plain_name, is_joined}
 use Rattle.cc_command.proofs.NameBytes.{plain_bytes}
 use Rattle.cc_command.proofs.PlainParts.{IsPlainName, IsPlainShort, IsPlainArgument, IsPlainBelow}
-use Rattle.cc_command.proofs.PlainParts.{plain_node, plain_more}
+use Rattle.cc_command.proofs.PlainParts.{plain_node, plain_more, shown_plain}
 use Rattle.cc_tables.specs.Offers.{word, short_offer, long_offer, argument_offer, argument_offers}
 use Rattle.cc_tables.specs.Offers.{child_offer, child_offers, children_offers, node_offers}
 use Rattle.cc_tables.specs.declared.offers.Offer.{Offer}
@@ -66,12 +66,6 @@ child_plain : (child : Node) (name : List ℕ) → IsPlainName name → IsPlainO
 unfolding is_plain_name is_joined
 child_plain child [] h = cc
 child_plain child (byte ∷ name) h = record { is_some = λ e. cc; bytes = plain_bytes (byte ∷ name) h }
-
--- the names of a plain argument that are shown
-shown_plain : {Name : Type 0} (is_plain : Name → Bool) (first : Option Name) (aliases : List Name) → IsTrue (passes_if_some is_plain first) → AllByRecursion (λ name. IsTrue (is_plain name)) aliases →
-    AllByRecursion (λ name. IsTrue (is_plain name)) (with_aliases first aliases)
-shown_plain is_plain None aliases h k = tt
-shown_plain is_plain (Some name) aliases h k = (h, k)
 
 -- the offers of a plain argument
 argument_plain : (argument : Arg) → IsPlainArgument argument → ArePlainOffers (argument_offers argument)

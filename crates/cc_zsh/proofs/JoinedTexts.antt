@@ -1,6 +1,7 @@
 -- Texts that are written one after another.
-use Rattle.std.proofs.Common.{◌≡◌, ℕ, suc, ◌+◌, ◌<◌, Bool, true, false, ◌||◌, not, cond, List, [], ◌∷◌, ◌++◌, map, length, drop, get_or, refl, sym, ap, ◌∙◌, append_assoc, add-one}
-use Rattle.std.proofs.Math.Seq.{drop-cons}
+use Rattle.std.proofs.Common.{◌≡◌, ℕ, ◌+◌, ◌<◌, Bool, true, false, ◌||◌, not, cond, List, [], ◌∷◌, ◌++◌, map, length, drop, get_or, refl, sym, ap, ◌∙◌, append_assoc}
+use Rattle.std.proofs.Math.Bool.{or_assoc}
+use Rattle.cc_base.proofs.Lists.{one_more}
 use Rattle.cc_arg.specs.declared.possible_value.PossibleValue.{PossibleValue}
 use Rattle.cc_zsh.specs.Joined.{has_texts, joined_after, separator}
 use Rattle.cc_zsh.specs.Values.{shown_values}
@@ -37,10 +38,6 @@ joined_step between begun now first rest before taken whole step is so_far =
     ∙ ap (λ b. before ++ (joined_after between begun first ++ joined_after between b rest)) is
     ∙ ap (λ t. before ++ t) (sym (joined_append between begun first rest)) ∙ so_far
 
-or_assoc : (a b c : Bool) → ((a || b) || c) ≡ (a || (b || c))
-or_assoc true b c = refl
-or_assoc false b c = refl
-
 -- two parts that are written in turn are the whole, and so of whether there is a text
 pub joined_two : (between : List ℕ) (begun now : Bool) (first rest : List (List ℕ)) →
     now ≡ (begun || has_texts first) →
@@ -56,15 +53,6 @@ pub begun_two : (begun now end : Bool) (first rest : List (List ℕ)) →
 begun_two begun now end first rest is then =
     then ∙ ap (λ b. b || has_texts rest) is ∙ or_assoc begun (has_texts first) (has_texts rest)
     ∙ ap (λ b. begun || b) (sym (has_texts_append first rest))
-
-pub or_true : (b : Bool) → (b || true) ≡ true
-or_true true = refl
-or_true false = refl
-
--- one element of a list, and those after it
-pub one_more : {X : Type 0} → (xs : List X) (i : ℕ) (d x : X) → i < length xs → x ≡ get_or xs i d →
-    drop i xs ≡ x ∷ drop (i + 1) xs
-one_more xs i d x lt at = rw add-one (drop-cons xs i d lt ∙ ap (λ y. y ∷ drop (suc i) xs) (sym at))
 
 -- the texts of the values that are shown, where the first is
 shown_first : (between : List ℕ) (text : PossibleValue → List ℕ) (begun : Bool)

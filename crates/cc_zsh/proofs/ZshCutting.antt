@@ -10,6 +10,7 @@ use Rattle.cc_quote.specs.PosixTokens.Place.{between, in_single}
 use Rattle.cc_quote.specs.Tokens.{Piece, Token, is_word}
 use Rattle.cc_quote.specs.Tokens.Piece.{bare}
 use Rattle.cc_quote.proofs.PosixCutting.{tokens_from}
+use Rattle.cc_quote.proofs.PosixWords.{byte_of-sign}
 use Rattle.cc_zsh.specs.ZshReader.{piece_text, word_of, named_function}
 
 -- ---- one token
@@ -25,11 +26,6 @@ cut_word pieces text (byte ∷ word) =
 -- the token of a text that is escaped between `'`
 abbrev pub quoted_token : List ℕ → Token
 quoted_token word = cut_word [] [] word
-
--- the byte of a sign
-byte_of-sign : (byte : ℕ) → byte_of (sign byte) ≡ byte
-unfolding sign byte_of
-byte_of-sign byte = grind (arith, nat_tests)
 
 no_quote_sign : (byte : ℕ) → byte == 39 ≡ false → sign byte ≢ single_quote
 unfolding sign

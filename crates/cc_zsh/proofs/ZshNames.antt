@@ -10,12 +10,12 @@ use Rattle.cc_base.proofs.Members.{AllByRecursion-weaker, AllByRecursion-append,
 use Rattle.cc_arg.specs.declared.arg.Arg.{Arg}
 use Rattle.cc_arg.specs.declared.names.ShownName.{ShownName}
 use Rattle.cc_arg.specs.declared.names.ShownName.TheVariants.{Short, Long}
-use Rattle.cc_arg.specs.ShownNames.{with_aliases, shown_names, shown_shorts, shown_longs}
+use Rattle.cc_arg.specs.ShownNames.{shown_names, shown_shorts, shown_longs}
 use Rattle.cc_command.specs.declared.node.Node.{Node}
 use Rattle.cc_command.specs.Plain.{passes_if_some}
 use Rattle.cc_command.specs.PlainName.{letter, joiner, foreign, name_byte, is_plain_name}
 use Rattle.cc_command.proofs.NameBytes.{plain_bytes}
-use Rattle.cc_command.proofs.PlainParts.{IsPlainName, IsPlainShort, IsPlainArgument}
+use Rattle.cc_command.proofs.PlainParts.{IsPlainName, IsPlainShort, IsPlainArgument, shown_plain}
 use Rattle.cc_quote.specs.PosixTokens.{sign}
 use Rattle.cc_quote.specs.PosixTokens.Sign.{other}
 use Rattle.cc_quote.proofs.PosixCutting.{IsOther}
@@ -83,14 +83,6 @@ dash_bytes text h = (refl, (refl, h))
 
 long_dashed : (long : List ℕ) → IsPlainName long → IsDashed (long_word long)
 long_dashed long h = dash_bytes long (plain_name_bytes long h)
-
--- the names of a plain argument that are shown
-shown_plain : {Name : Type 0} (is_plain : Name → Bool) (first : Option Name) (aliases : List Name) →
-    IsTrue (passes_if_some is_plain first) →
-    AllByRecursion (λ name. IsTrue (is_plain name)) aliases →
-    AllByRecursion (λ name. IsTrue (is_plain name)) (with_aliases first aliases)
-shown_plain is_plain None aliases h k = tt
-shown_plain is_plain (Some name) aliases h k = (h, k)
 
 -- a name that is typed with its dashes
 abbrev pub IsDashedName : ShownName → Type 0

@@ -1,7 +1,8 @@
 use Rattle.std.proofs.Common.{◌++◌, ◌||◌, ◌+◌, drop, ap, sym, ◌∙◌, rules, flat_map}
+use Rattle.cc_base.proofs.Lists.{one_more}
 use Rattle.cc_bash.specs.Arms.{long_words}
 use Rattle.cc_bash.specs.Words.{has_words, words_after}
-use Rattle.cc_bash.proofs.WordTexts.{begun_step, one_more, words_step}
+use Rattle.cc_bash.proofs.WordTexts.{begun_step, words_step}
 use Rattle.cc_bash.proofs.words.write_longs.Goals as goal
 
 pub loop-argument-preserved : goal.loop-argument-preserved

@@ -1,8 +1,9 @@
 use Rattle.std.proofs.Common.{◌≡◌, ◌++◌, ◌||◌, ◌+◌, true, drop, ap, sym, ◌∙◌, rules, flat_map, filter}
+use Rattle.cc_base.proofs.Lists.{one_more}
 use Rattle.cc_arg.specs.Arguments.{is_positional}
 use Rattle.cc_bash.specs.Arms.{value_names}
 use Rattle.cc_bash.specs.Words.{has_words, words_after}
-use Rattle.cc_bash.proofs.WordTexts.{begun_step, kept_first, one_more, words_step}
+use Rattle.cc_bash.proofs.WordTexts.{begun_step, kept_first, words_step}
 use Rattle.cc_bash.proofs.words.write_positional_values.Goals as goal
 
 pub loop-argument-preserved : goal.loop-argument-preserved

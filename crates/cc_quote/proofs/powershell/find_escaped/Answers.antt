@@ -1,5 +1,5 @@
 use Rattle.std.proofs.Common.{◌∙◌, sym}
-use Rattle.cc_quote.proofs.PowershellSearch.{IsNext, all_left, next_place, no_place, goes_on}
+use Rattle.cc_quote.proofs.PowershellSearch.{all_left, next_place, no_place, goes_on}
 use Rattle.cc_quote.proofs.powershell.find_escaped.Goals as goal
 
 pub loop-at-init : goal.loop-at-init

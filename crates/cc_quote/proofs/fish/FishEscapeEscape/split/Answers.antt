@@ -1,4 +1,4 @@
-use Rattle.std.proofs.Common.{◌∙◌, length, arith, rules, ap, slice_index}
+use Rattle.std.proofs.Common.{◌∙◌, arith, ap, slice_index}
 use Rattle.std.proofs.lemmas.Slice.{between_from_start}
 use Rattle.memchr.specs.Find.{is_byte3}
 use Rattle.cc_quote.specs.FishQuote.{fish_escaped}

@@ -1,4 +1,4 @@
-use Rattle.std.proofs.Common.{◌∙◌, length, arith, rules, ap, slice_index}
+use Rattle.std.proofs.Common.{◌∙◌, arith, ap, slice_index}
 use Rattle.std.proofs.lemmas.Slice.{between_from_start}
 use Rattle.cc_quote.specs.QuotedWord.{line_feeds_as_spaces}
 use Rattle.cc_quote.specs.FishQuote.{single_escaped, double_escaped}
