@@ -1,0 +1,61 @@
+//! What a command lists of its arguments and names by kind, and which commands are plain.
+
+use crate::checks::same;
+use crate::fixtures::{APP_WITH_INPUT, NESTED, QUOTED, built_tree, tree};
+use cc_arg::Arg;
+use cc_command::{Command, is_plain_name};
+use std::process::Abort;
+
+// The id, and nothing where there is no argument.
+fn id(argument: Option<&Arg>) -> &str {
+    match argument {
+        Some(argument) => argument.get_id(),
+        None => "",
+    }
+}
+
+fn has_each_kind(rt: &impl Abort, app: &Command) {
+    let mut options = app.get_opts();
+    same(rt, id(options.next()), "out");
+    assert!(rt; options.next().is_none());
+    let mut flags = app.get_flags();
+    same(rt, id(flags.next()), "verbose");
+    same(rt, id(flags.next()), "help");
+    assert!(rt; flags.next().is_none());
+    let mut positionals = app.get_positionals();
+    same(rt, id(positionals.next()), "input");
+    assert!(rt; positionals.next().is_none());
+}
+
+#[test]
+fn arguments_are_listed_by_kind(rt: HostRuntime) {
+    has_each_kind(&rt, &built_tree(&rt, rt.alloc(), APP_WITH_INPUT));
+}
+
+// The child that a word leads to, and else the command itself.
+fn child<'a>(command: &'a Command, word: &str) -> &'a Command {
+    command.find_subcommand(word).unwrap_or(command)
+}
+
+fn is_run(rt: &impl Abort, run: &Command) {
+    let mut names = run.get_name_and_visible_aliases();
+    same(rt, names.next(), Some("run"));
+    same(rt, names.next(), Some("r"));
+    same(rt, names.next(), None);
+    assert!(rt; run.has_subcommands());
+    assert!(rt; !child(run, "job").has_subcommands());
+}
+
+#[test]
+fn a_command_is_shown_by_its_name_and_visible_aliases(rt: HostRuntime) {
+    let app = tree(&rt, rt.alloc(), NESTED);
+    is_run(&rt, child(&app, "r"));
+}
+
+#[test]
+fn a_built_command_is_plain_and_one_with_a_quote_is_not(rt: HostRuntime) {
+    assert!(rt; built_tree(&rt, rt.alloc(), APP_WITH_INPUT).is_plain());
+    assert!(rt; !tree(&rt, rt.alloc(), QUOTED).is_plain());
+    assert!(rt; is_plain_name("sub-command_2"));
+    assert!(rt; !is_plain_name("a--b"));
+}

@@ -1,0 +1,153 @@
+//! The lists that generators share.
+
+use crate::checks::is;
+use crate::fixtures::{MY_APP, NESTED, built_tree};
+use cc_base::Error;
+use cc_command::Command;
+use cc_lists::utils;
+use std::alloc::Global;
+use std::fmt::Write;
+
+const ALL: &str = "test: my-cmd test
+hello: my-cmd hello
+help: my-cmd help
+config: my-cmd test config
+help: my-cmd test help
+config: my-cmd test help config
+help: my-cmd test help help
+test: my-cmd help test
+hello: my-cmd help hello
+help: my-cmd help help
+config: my-cmd help test config
+";
+
+// Adds the shorts and their visible aliases, with a space after each.
+fn push_shorts(line: &mut String, alloc: Global, command: &Command) -> Result<(), Error> {
+    for short in utils::shorts_and_visible_aliases(alloc, command)? {
+        line.push(short)?;
+        line.push(' ')?;
+    }
+    Ok(())
+}
+
+// Adds the longs and their visible aliases, with a space after each.
+fn push_longs(line: &mut String, alloc: Global, command: &Command) -> Result<(), Error> {
+    for long in utils::longs_and_visible_aliases(alloc, command)? {
+        line.push_str(long.as_str())?;
+        line.push(' ')?;
+    }
+    Ok(())
+}
+
+// The shorts and then the longs, each with its visible aliases.
+fn shorts_and_longs(alloc: Global, command: &Command) -> Result<String, Error> {
+    let mut line = String::new(alloc);
+    push_shorts(&mut line, alloc, command)?;
+    push_longs(&mut line, alloc, command)?;
+    Ok(line)
+}
+
+// The same of the command that a word leads to.
+fn shorts_and_longs_of(alloc: Global, command: &Command, word: &str) -> Result<String, Error> {
+    match utils::find_subcommand_with_path(command, [word].as_slice()) {
+        Some(child) => shorts_and_longs(alloc, child),
+        None => Ok(String::new(alloc)),
+    }
+}
+
+// The longs of the flags, with a space after each.
+fn longs_of_flags(alloc: Global, command: &Command) -> Result<String, Error> {
+    let mut longs = String::new(alloc);
+    for flag in utils::flags(alloc, command)? {
+        longs.push_str(flag.get_long().unwrap_or(""))?;
+        longs.push(' ')?;
+    }
+    Ok(longs)
+}
+
+// The longs of the flags of the command that a word leads to.
+fn longs_of_flags_of(alloc: Global, command: &Command, word: &str) -> Result<String, Error> {
+    match utils::find_subcommand_with_path(command, [word].as_slice()) {
+        Some(child) => longs_of_flags(alloc, child),
+        None => Ok(String::new(alloc)),
+    }
+}
+
+#[test]
+fn visible_aliases_stand_before_the_name(rt: HostRuntime) {
+    let command = built_tree(&rt, rt.alloc(), MY_APP);
+    is(
+        &rt,
+        shorts_and_longs_of(rt.alloc(), &command, "test"),
+        "p f h path file help ",
+    );
+}
+
+#[test]
+fn generated_flags_stand_behind(rt: HostRuntime) {
+    let command = built_tree(&rt, rt.alloc(), MY_APP);
+    is(
+        &rt,
+        shorts_and_longs(rt.alloc(), &command),
+        "h V help version ",
+    );
+}
+
+#[test]
+fn flags_take_no_values(rt: HostRuntime) {
+    let command = built_tree(&rt, rt.alloc(), MY_APP);
+    is(
+        &rt,
+        longs_of_flags_of(rt.alloc(), &command, "test"),
+        "file help ",
+    );
+}
+
+#[test]
+fn generated_flags_are_flags(rt: HostRuntime) {
+    let command = built_tree(&rt, rt.alloc(), MY_APP);
+    is(&rt, longs_of_flags(rt.alloc(), &command), "help version ");
+}
+
+// The pairs, a line for each.
+fn lines(alloc: Global, pairs: &[(String, String)]) -> Result<String, Error> {
+    let mut lines = String::new(alloc);
+    for (name, full_name) in pairs {
+        writeln!(lines, "{name}: {full_name}")?;
+    }
+    Ok(lines)
+}
+
+// The lines of all commands below a command; none of one that is not built.
+fn all_lines(alloc: Global, command: &Command) -> Result<String, Error> {
+    if !command.is_built() {
+        return Ok(String::new(alloc));
+    }
+    let pairs = utils::all_subcommands(alloc, command)?;
+    lines(alloc, pairs.as_slice())
+}
+
+#[test]
+fn children_stand_before_what_is_below_them(rt: HostRuntime) {
+    let command = built_tree(&rt, rt.alloc(), MY_APP);
+    is(&rt, all_lines(rt.alloc(), &command), ALL);
+}
+
+// The lines of the children of a command; none of one that is not built.
+fn child_lines(alloc: Global, command: &Command) -> Result<String, Error> {
+    if !command.is_built() {
+        return Ok(String::new(alloc));
+    }
+    let pairs = utils::subcommands(alloc, command)?;
+    lines(alloc, pairs.as_slice())
+}
+
+#[test]
+fn a_child_is_listed_under_each_visible_name(rt: HostRuntime) {
+    let command = built_tree(&rt, rt.alloc(), NESTED);
+    is(
+        &rt,
+        child_lines(rt.alloc(), &command),
+        "run: app run\nr: app run\n",
+    );
+}
