@@ -19,13 +19,12 @@ fn push_all(line: &mut String, texts: &[Text]) -> Result<(), Error> {
     Ok(())
 }
 
-// The visible longs, the hidden ones and the value names of a copy.
-fn names_of_copy(alloc: Global, arg: &Arg) -> Result<String, Error> {
+// The visible longs, the hidden ones and the value names.
+fn names(alloc: Global, arg: &Arg) -> Result<String, Error> {
     let mut line = String::new(alloc);
-    let copy = arg.try_clone(alloc)?;
-    push_all(&mut line, copy.get_visible_aliases())?;
-    push_all(&mut line, copy.get_aliases())?;
-    push_all(&mut line, copy.get_value_names())?;
+    push_all(&mut line, arg.get_visible_aliases())?;
+    push_all(&mut line, arg.get_aliases())?;
+    push_all(&mut line, arg.get_value_names())?;
     Ok(line)
 }
 
@@ -48,7 +47,10 @@ fn an_argument_keeps_its_names_and_is_copied(rt: HostRuntime) {
     let arg = with_value_name(rt.alloc()).expect(&rt, "no argument");
     same(&rt, arg.get_visible_short_aliases(), ['p'].as_slice());
     same(&rt, arg.get_short_aliases(), ['q'].as_slice());
-    is(&rt, names_of_copy(rt.alloc(), &arg), "path old FILE ");
+    let copy = arg.try_clone(rt.alloc()).expect(&rt, "no copy");
+    is(&rt, names(rt.alloc(), &copy), "path old FILE ");
+    drop(copy);
+    drop(arg);
 }
 
 // The visible aliases and the hidden ones.
@@ -59,14 +61,25 @@ fn aliases(alloc: Global, command: &Command) -> Result<String, Error> {
     Ok(line)
 }
 
-// A command with aliases of each kind and an argument.
-fn test(alloc: Global) -> Result<Command, Error> {
+fn aliased(alloc: Global) -> Result<Command, Error> {
     let name = String::from_str(alloc, "test")?;
     let hidden = String::from_str(alloc, "t")?;
+    Command::new(alloc, name).alias(hidden)
+}
+
+fn with_file(alloc: Global) -> Result<Command, Error> {
+    with(file(alloc), aliased(alloc))
+}
+
+fn with(arg: Result<Arg, Error>, command: Result<Command, Error>) -> Result<Command, Error> {
+    let arg = arg?;
+    command?.arg(arg)
+}
+
+// A command with aliases of each kind and an argument.
+fn test(alloc: Global) -> Result<Command, Error> {
     let shown = String::from_str(alloc, "tests")?;
-    let file = file(alloc)?;
-    let test = Command::new(alloc, name).alias(hidden)?.arg(file)?;
-    test.visible_alias(shown)
+    with_file(alloc)?.visible_alias(shown)
 }
 
 #[test]
@@ -74,6 +87,7 @@ fn a_command_keeps_its_aliases_and_its_arguments(rt: HostRuntime) {
     let command = test(rt.alloc()).expect(&rt, "no command");
     is(&rt, aliases(rt.alloc(), &command), "tests t ");
     same(&rt, command.get_arguments().len(), 1);
+    drop(command);
 }
 
 // A command as generators ask for it: with a bin name, and built.
@@ -87,6 +101,7 @@ fn a_command_keeps_its_children_and_is_built(rt: HostRuntime) {
     let command = ready(&rt, rt.alloc(), NESTED);
     same(&rt, command.get_subcommands().len(), 1);
     assert!(rt; command.is_ready());
+    drop(command);
 }
 
 // A copy of a copy of a copy.

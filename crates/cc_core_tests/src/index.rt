@@ -10,18 +10,24 @@ use std::process::Abort;
 
 // What a word leads to from a command.
 fn found(alloc: Global, root: &Command, word: &str) -> Result<Option<Found>, Error> {
-    let flat = Flat::new(alloc, root)?;
-    let index = Index::new(alloc, flat)?;
+    let index = Index::new(alloc, Flat::new(alloc, root)?)?;
+    let found = found_in(&index, word);
+    drop(index);
+    Ok(found)
+}
+
+fn found_in(index: &Index<'_>, word: &str) -> Option<Found> {
     if index.flat().len() == 0 {
-        return Ok(None);
+        return None;
     }
-    Ok(index.find(0, word))
+    index.find(0, word)
 }
 
 // Fails unless a word leads to this from the root of `myapp`.
 fn leads(rt: &impl Abort, alloc: Global, word: &str, wanted: Option<Found>) {
     let root = tree(rt, alloc, MY_APP);
     same(rt, found(alloc, &root, word).expect(rt, "no index"), wanted);
+    drop(root);
 }
 
 #[test]
@@ -40,17 +46,18 @@ fn a_word_leads_to_the_child_of_that_name_or_alias(rt: HostRuntime) {
 }
 
 // The parents of the root and of its first child; `None` where it has none.
-fn parents(alloc: Global, root: &Command) -> Result<Option<(Option<usize>, Option<usize>)>, Error> {
-    let flat = Flat::new(alloc, root)?;
+fn parents(flat: &Flat<'_>) -> Option<(Option<usize>, Option<usize>)> {
     if flat.len() < 2 {
-        return Ok(None);
+        return None;
     }
-    Ok(Some((flat.parent(0), flat.parent(1))))
+    Some((flat.parent(0), flat.parent(1)))
 }
 
 #[test]
 fn a_node_has_its_parent_and_the_root_has_none(rt: HostRuntime) {
     let root = tree(&rt, rt.alloc(), MY_APP);
-    let parents = parents(rt.alloc(), &root).expect(&rt, "no nodes");
-    same(&rt, parents, Some((None, Some(0))));
+    let flat = Flat::new(rt.alloc(), &root).expect(&rt, "no nodes");
+    same(&rt, parents(&flat), Some((None, Some(0))));
+    drop(flat);
+    drop(root);
 }

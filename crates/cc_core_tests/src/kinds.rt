@@ -29,7 +29,9 @@ fn has_each_kind(rt: &impl Abort, app: &Command) {
 
 #[test]
 fn arguments_are_listed_by_kind(rt: HostRuntime) {
-    has_each_kind(&rt, &built_tree(&rt, rt.alloc(), APP_WITH_INPUT));
+    let app = built_tree(&rt, rt.alloc(), APP_WITH_INPUT);
+    has_each_kind(&rt, &app);
+    drop(app);
 }
 
 // The child that a word leads to, and else the command itself.
@@ -50,12 +52,19 @@ fn is_run(rt: &impl Abort, run: &Command) {
 fn a_command_is_shown_by_its_name_and_visible_aliases(rt: HostRuntime) {
     let app = tree(&rt, rt.alloc(), NESTED);
     is_run(&rt, child(&app, "r"));
+    drop(app);
+}
+
+fn is_plain(command: Command) -> bool {
+    let plain = command.is_plain();
+    drop(command);
+    plain
 }
 
 #[test]
 fn a_built_command_is_plain_and_one_with_a_quote_is_not(rt: HostRuntime) {
-    assert!(rt; built_tree(&rt, rt.alloc(), APP_WITH_INPUT).is_plain());
-    assert!(rt; !tree(&rt, rt.alloc(), QUOTED).is_plain());
+    assert!(rt; is_plain(built_tree(&rt, rt.alloc(), APP_WITH_INPUT)));
+    assert!(rt; !is_plain(tree(&rt, rt.alloc(), QUOTED)));
     assert!(rt; is_plain_name("sub-command_2"));
     assert!(rt; !is_plain_name("a--b"));
 }

@@ -81,6 +81,7 @@ fn visible_aliases_stand_before_the_name(rt: HostRuntime) {
         shorts_and_longs_of(rt.alloc(), &command, "test"),
         "p f h path file help ",
     );
+    drop(command);
 }
 
 #[test]
@@ -91,6 +92,7 @@ fn generated_flags_stand_behind(rt: HostRuntime) {
         shorts_and_longs(rt.alloc(), &command),
         "h V help version ",
     );
+    drop(command);
 }
 
 #[test]
@@ -101,12 +103,14 @@ fn flags_take_no_values(rt: HostRuntime) {
         longs_of_flags_of(rt.alloc(), &command, "test"),
         "file help ",
     );
+    drop(command);
 }
 
 #[test]
 fn generated_flags_are_flags(rt: HostRuntime) {
     let command = built_tree(&rt, rt.alloc(), MY_APP);
     is(&rt, longs_of_flags(rt.alloc(), &command), "help version ");
+    drop(command);
 }
 
 // The pairs, a line for each.
@@ -131,6 +135,7 @@ fn all_lines(alloc: Global, command: &Command) -> Result<String, Error> {
 fn children_stand_before_what_is_below_them(rt: HostRuntime) {
     let command = built_tree(&rt, rt.alloc(), MY_APP);
     is(&rt, all_lines(rt.alloc(), &command), ALL);
+    drop(command);
 }
 
 // The lines of the children of a command; none of one that is not built.
@@ -150,4 +155,5 @@ fn a_child_is_listed_under_each_visible_name(rt: HostRuntime) {
         child_lines(rt.alloc(), &command),
         "run: app run\nr: app run\n",
     );
+    drop(command);
 }

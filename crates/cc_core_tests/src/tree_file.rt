@@ -22,7 +22,9 @@ const COMMAND: &str = "{\"name\": \"app\", \"bin_name\": \"the-app\", \"about\":
 
 #[test]
 fn each_key_of_a_command_sets_its_field(rt: HostRuntime) {
-    has_the_fields_of_a_command(&rt, &built_tree(&rt, rt.alloc(), COMMAND));
+    let command = built_tree(&rt, rt.alloc(), COMMAND);
+    has_the_fields_of_a_command(&rt, &command);
+    drop(command);
 }
 
 fn has_the_fields_of_a_command(rt: &impl Abort, command: &Command) {
@@ -45,8 +47,13 @@ fn has_the_fields_of_a_command(rt: &impl Abort, command: &Command) {
 fn marks_of_command(rt: &impl Abort, alloc: Global, text: &str) -> (bool, bool, usize) {
     let command = built_tree(rt, alloc, text);
     let external = command.is_allow_external_subcommands_set();
-    let children = command.get_subcommands().len();
-    (external, command.is_hide_set(), children)
+    let marks = (
+        external,
+        command.is_hide_set(),
+        command.get_subcommands().len(),
+    );
+    drop(command);
+    marks
 }
 
 #[test]
@@ -77,6 +84,7 @@ fn each_mark_of_a_command_has_its_key(rt: HostRuntime) {
 fn the_last_value_of_a_key_counts(rt: HostRuntime) {
     let command = tree(&rt, rt.alloc(), "{\"name\": \"a\", \"name\": \"b\"}");
     same(&rt, command.get_name(), "b");
+    drop(command);
 }
 
 #[test]
@@ -84,6 +92,7 @@ fn a_version_flag_is_disabled_by_its_key(rt: HostRuntime) {
     let text = "{\"name\": \"app\", \"version\": \"1.2\", \"disable_version_flag\": true}";
     let command = built_tree(&rt, rt.alloc(), text);
     same(&rt, command.get_arguments().len(), 1);
+    drop(command);
 }
 
 const ARGUMENT: &str = "{\"name\": \"app\", \"args\": [{\"id\": \"o\", \"short\": \"ö\",
@@ -99,6 +108,7 @@ fn each_key_of_an_argument_sets_its_field(rt: HostRuntime) {
     let command = tree(&rt, rt.alloc(), ARGUMENT);
     let arg = command.get_arguments().first();
     has_the_fields_of_an_argument(&rt, arg.expect(&rt, "no argument"));
+    drop(command);
 }
 
 // The id of the only argument in conflict with the first one of a command.
@@ -117,12 +127,15 @@ fn an_argument_has_the_conflicts_of_its_key(rt: HostRuntime) {
     let command = tree(&rt, rt.alloc(), ARGUMENT);
     let conflict = conflict_of_first(rt.alloc(), &command);
     same(&rt, conflict.expect(&rt, "no conflict"), Some("p"));
+    drop(command);
 }
 
 // Whether the first argument of a command is required, the last, global and hidden.
 fn marks(rt: &impl Abort, alloc: Global, text: &str) -> (bool, bool, bool, bool) {
     let command = tree(rt, alloc, text);
-    marks_of(command.get_arguments().first().expect(rt, "no argument"))
+    let marks = marks_of(command.get_arguments().first().expect(rt, "no argument"));
+    drop(command);
+    marks
 }
 
 fn marks_of(arg: &Arg) -> (bool, bool, bool, bool) {
@@ -207,21 +220,30 @@ fn nested(alloc: Global, parents: u8) -> Result<String, AllocError> {
     Ok(text)
 }
 
-fn read_below(alloc: Global, parents: u8) -> Result<Command, TreeError> {
-    let text = nested(alloc, parents)?;
-    read_tree(alloc, text.as_str().as_bytes())
+// Why a text describes no tree; `None` where it does.
+fn error(alloc: Global, text: &str) -> Option<TreeError> {
+    let tree = read_tree(alloc, text.as_bytes());
+    let error = tree.map(drop);
+    error.err()
+}
+
+fn error_below(rt: &impl Abort, alloc: Global, parents: u8) -> Option<TreeError> {
+    let text = nested(alloc, parents).expect(rt, "no text");
+    error(alloc, text.as_str())
 }
 
 // Each parent is an object and a list, so 63 of them and a child nest 127 deep.
 #[test]
 fn reads_as_deep_as_json_nests(rt: HostRuntime) {
-    assert!(rt; read_below(rt.alloc(), 63).is_ok());
-    assert!(rt; matches!(read_below(rt.alloc(), 64), Err(TreeError::NotJson)));
+    assert!(rt; error_below(&rt, rt.alloc(), 63).is_none());
+    assert!(rt; matches!(error_below(&rt, rt.alloc(), 64), Some(TreeError::NotJson)));
 }
 
 fn has_a_bad_form(rt: &impl Abort, alloc: Global, text: &str) {
-    let tree = read_tree(alloc, text.as_bytes());
-    assert!(rt; matches!(&tree, Err(TreeError::BadForm)), "{text}");
+    assert!(rt;
+        matches!(error(alloc, text), Some(TreeError::BadForm)),
+        "{text}"
+    );
 }
 
 #[test]

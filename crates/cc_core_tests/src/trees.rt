@@ -25,6 +25,7 @@ fn building_twice_adds_help_once(rt: HostRuntime) {
     is(&rt, ids(rt.alloc(), &once), "verbose out help ");
     let twice = built(&rt, rt.alloc(), once);
     is(&rt, ids(rt.alloc(), &twice), "verbose out help ");
+    drop(twice);
 }
 
 // The ids of the arguments of the command that a path leads to; `none` where it leads to none.
@@ -42,6 +43,7 @@ fn a_global_argument_goes_to_the_children_that_were_given(rt: HostRuntime) {
     is(&rt, ids_at(rt.alloc(), &command, &["help"]), "");
     is(&rt, ids_at(rt.alloc(), &command, &["help", "run"]), "");
     is(&rt, ids_at(rt.alloc(), &command, &["help", "help"]), "");
+    drop(command);
 }
 
 // A command that was built, and then built again under another name.
@@ -62,6 +64,7 @@ fn full_name_of_job(command: &Command) -> Option<&str> {
 fn a_new_bin_name_and_a_new_build_rename_the_tree(rt: HostRuntime) {
     let command = renamed(&rt, rt.alloc(), tree(&rt, rt.alloc(), NESTED));
     same(&rt, full_name_of_job(&command), Some("z run job"));
+    drop(command);
 }
 
 // The name of the command that a path leads to.
@@ -75,12 +78,14 @@ fn a_path_of_names_and_aliases_leads_to_a_command(rt: HostRuntime) {
     same(&rt, name_at(&command, &["r", "job"]), Some("job"));
     same(&rt, name_at(&command, &["job"]), None);
     same(&rt, name_at(&command, &[]), Some("app"));
+    drop(command);
 }
 
 #[test]
 fn a_path_leads_through_unbuilt_commands(rt: HostRuntime) {
     let command = tree(&rt, rt.alloc(), MY_APP);
     same(&rt, name_at(&command, &["test", "config"]), Some("config"));
+    drop(command);
 }
 
 // The ids and longs of the arguments in conflict with the last one, with a space after each.
@@ -108,4 +113,5 @@ fn a_conflict_is_the_first_argument_with_its_id(rt: HostRuntime) {
         conflicts_of_last(rt.alloc(), &command),
         "yaml:yaml quiet: ",
     );
+    drop(command);
 }

@@ -1,5 +1,6 @@
 //! Actions, ranges, hints and possible values.
 
+use crate::arguments::copy_of;
 use crate::checks::same;
 use cc_arg::{Arg, ArgAction, PossibleValue, ValueHint, ValueRange, possible_values};
 use cc_base::Error;
@@ -53,12 +54,17 @@ fn is_plain(rt: &impl Abort, value: &PossibleValue) {
     assert!(rt; !value.is_hide_set());
 }
 
-// A copy of an argument that may be the hidden value alone.
-fn copy_with_hidden(alloc: Global) -> Result<Arg, Error> {
-    let id = String::from_str(alloc, "color")?;
+fn hidden_alone(alloc: Global) -> Result<Vec<PossibleValue>, Error> {
     let mut values = Vec::new(alloc);
     values.push(hidden(alloc)?)?;
-    Arg::new(alloc, id).value_parser(values).try_clone(alloc)
+    Ok(values)
+}
+
+// An argument that may be the hidden value alone.
+fn with_hidden(alloc: Global) -> Result<Arg, Error> {
+    let id = String::from_str(alloc, "color")?;
+    let values = hidden_alone(alloc)?;
+    Ok(Arg::new(alloc, id).value_parser(values))
 }
 
 fn has_hidden(rt: &impl Abort, copy: &Arg) {
@@ -72,6 +78,10 @@ fn has_hidden(rt: &impl Abort, copy: &Arg) {
 
 #[test]
 fn a_value_holds_name_help_and_hide(rt: HostRuntime) {
-    is_plain(&rt, &plain(rt.alloc()).expect(&rt, "no value"));
-    has_hidden(&rt, &copy_with_hidden(rt.alloc()).expect(&rt, "no copy"));
+    let plain = plain(rt.alloc()).expect(&rt, "no value");
+    is_plain(&rt, &plain);
+    drop(plain);
+    let copy = copy_of(rt.alloc(), with_hidden(rt.alloc())).expect(&rt, "no copy");
+    has_hidden(&rt, &copy);
+    drop(copy);
 }
