@@ -188,10 +188,11 @@ fn is_clash(outcome: &Result<(), Error>, label: &str) -> bool {
 
 // Whether the call for two commands with one label reports it, and how much is written.
 fn clash(alloc: Global) -> Result<(bool, usize), Error> {
+    let bin_name = String::from_str(alloc, "p")?;
     let mut sink = Collected::new(alloc);
     let mut command = clashing(alloc)?;
-    let bin_name = String::from_str(alloc, "p")?;
     let result = generate(alloc, Bash, &mut command, bin_name, &mut sink);
+    drop(command);
     let reported = is_clash(&result, "p__subcmd__a__subcmd__b");
     Ok((reported, sink.as_slice().len()))
 }

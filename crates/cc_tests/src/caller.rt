@@ -19,7 +19,9 @@ fn outcome(
     let bin_name = String::from_str(alloc, name)?;
     let mut sink = Collected::new(alloc);
     let mut command = command?;
-    let written = write_if_plain(alloc, &mut command, bin_name, &mut sink)?;
+    let written = write_if_plain(alloc, &mut command, bin_name, &mut sink);
+    drop(command);
+    let written = written?;
     let script = String::from_utf8_lossy(alloc, sink.as_slice())?;
     Ok((written, script))
 }

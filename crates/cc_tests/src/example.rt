@@ -50,6 +50,7 @@ fn a_program_writes_the_scripts_of_all_shells(rt: HostRuntime) {
     let folder = folder(&rt, "lagvtsune_example");
     let mut command = app(rt.alloc()).expect(&rt, "no command");
     write_scripts(&rt, &mut command, folder.as_str()).expect(&rt, "not written");
+    drop(command);
     for (shell, name) in Shell::value_variants().iter().zip(FILES) {
         holds_script_in(&rt, folder.as_str(), name, *shell);
     }

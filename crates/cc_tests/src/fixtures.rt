@@ -1,5 +1,6 @@
-//! Small trees. Each step that may run out of memory is a function of its own, since a check of
-//! many such steps in one function takes long.
+//! Small trees. Texts are made before the command or the argument that takes them, and what holds
+//! one ends with a call of `drop`: to prove a drop that no call is, at a `?` or at the end of a
+//! scope, takes seconds.
 
 use clap_complete::Error;
 use clap_complete::command::{Arg, ArgAction, Command, PossibleValue, ValueHint, ValueRange};
@@ -166,8 +167,9 @@ pub(crate) fn colored_alone(alloc: Global) -> Result<Command, Error> {
 fn color(alloc: Global) -> Result<Arg, Error> {
     let help = String::from_str(alloc, "Colour")?;
     let when = String::from_str(alloc, "WHEN")?;
+    let colors = colors(alloc)?;
     let color = long(alloc, "color")?.short('c').help(help);
-    Ok(color.value_parser(colors(alloc)?).value_name(when)?)
+    color.value_parser(colors).value_name(when)
 }
 
 fn colors(alloc: Global) -> Result<Vec<PossibleValue>, Error> {
@@ -194,7 +196,8 @@ pub(crate) fn with_directory(alloc: Global) -> Result<Command, Error> {
 
 /// `app` with an option `--one` that may be this value, which has this help.
 pub(crate) fn listed(alloc: Global, name: &str, help: &str) -> Result<Command, Error> {
-    let one = long(alloc, "one")?.value_parser(helped_value(alloc, name, help)?);
+    let values = helped_value(alloc, name, help)?;
+    let one = long(alloc, "one")?.value_parser(values);
     with(bare(alloc), Ok(one))
 }
 
@@ -278,6 +281,11 @@ fn rest(alloc: Global) -> Result<Arg, Error> {
 /// A command that was built.
 pub(crate) fn built(alloc: Global, command: Result<Command, Error>) -> Result<Command, Error> {
     let mut command = command?;
-    command.build(alloc)?;
-    Ok(command)
+    match command.build(alloc) {
+        Ok(()) => Ok(command),
+        Err(error) => {
+            drop(command);
+            Err(error)
+        }
+    }
 }

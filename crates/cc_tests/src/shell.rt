@@ -219,6 +219,7 @@ fn outcome<R: Abort + AllocGlobal + Files>(
     let mut command = command.expect(rt, "no command");
     let written = write_to(rt, shell, &mut command, folder);
     assert!(rt; command.is_built());
+    drop(command);
     written
 }
 
@@ -316,6 +317,7 @@ fn a_file_that_is_there_is_emptied_first(rt: HostRuntime) {
     let folder = folder(&rt, "lagvtsune_emptied");
     let mut command = app(rt.alloc()).expect(&rt, "no command");
     is_emptied(&rt, &mut command, folder.as_str());
+    drop(command);
     remove(&rt, folder.as_str());
 }
 

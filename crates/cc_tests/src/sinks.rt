@@ -68,8 +68,11 @@ fn narrow_sink(alloc: Global, room: usize, kind: Option<ErrorKind>) -> Counted<N
 // The script as a writer takes it that takes one byte a call.
 fn by_bytes(alloc: Global, shell: Shell, command: Result<Command, Error>) -> Result<String, Error> {
     let mut sink = narrow_sink(alloc, usize::MAX, None);
-    write_script(alloc, shell, command, &mut sink)?;
-    Ok(String::from_utf8_lossy(alloc, sink.get_ref().held.as_slice())?)
+    let written = write_script(alloc, shell, command, &mut sink);
+    let text = String::from_utf8_lossy(alloc, sink.get_ref().held.as_slice());
+    drop(sink);
+    written?;
+    Ok(text?)
 }
 
 // Fails unless two scripts are the same.
@@ -150,7 +153,9 @@ fn reports(
 ) -> Result<bool, Error> {
     let whole = script(alloc, shell, app(alloc))?;
     let mut command = app(alloc)?;
-    reports_each(alloc, shell, &mut command, kinds, whole.as_str())
+    let reports = reports_each(alloc, shell, &mut command, kinds, whole.as_str());
+    drop(command);
+    reports
 }
 
 // The same over a fixture with children and possible values.
@@ -161,7 +166,9 @@ fn reports_values(
 ) -> Result<bool, Error> {
     let whole = script(alloc, shell, colored_alone(alloc))?;
     let mut command = colored_alone(alloc)?;
-    reports_each(alloc, shell, &mut command, kinds, whole.as_str())
+    let reports = reports_each(alloc, shell, &mut command, kinds, whole.as_str());
+    drop(command);
+    reports
 }
 
 #[test]

@@ -23,9 +23,11 @@ fn write_script_for<G: Generator + Drop, W: Sink>(
     name: &str,
     sink: &mut W,
 ) -> Result<(), Error> {
-    let mut command = command?;
     let bin_name = String::from_str(alloc, name)?;
-    generate(alloc, generator, &mut command, bin_name, sink)
+    let mut command = command?;
+    let written = generate(alloc, generator, &mut command, bin_name, sink);
+    drop(command);
+    written
 }
 
 /// The script of a command for the program `app`.
@@ -72,5 +74,7 @@ pub(crate) fn twice<G: Generator>(
 ) -> Result<String, Error> {
     let bin_name = String::from_str(alloc, name)?;
     let command = built(alloc, Ok(command?.bin_name(bin_name)))?;
-    by_methods(alloc, generator, &command)
+    let text = by_methods(alloc, generator, &command);
+    drop(command);
+    text
 }
