@@ -1,13 +1,14 @@
 //! Bash scripts.
 
-use crate::fixtures::{built, chain, clashing, colored, global, helped, hinted, inherited};
-use crate::written::{script, script_for};
+use crate::checks::{has, is, same};
+use crate::fixtures::{chain, clashing, colored, global, helped, hinted, inherited};
+use crate::written::{script, script_for, twice};
 use clap_complete::aot::{Bash, Collected};
-use clap_complete::command::{Command, ValueHint};
+use clap_complete::command::ValueHint;
 use clap_complete::{Error, Generator, generate};
 use std::alloc::Global;
 use std::fmt::Write;
-use std::test::Fail;
+use std::process::Abort;
 
 const HELPED: &str = "_my__app() {
     local i cur prev opts cmd
@@ -126,10 +127,12 @@ fi
 ";
 
 #[test]
-fn the_whole_script(rt: HostRuntime) -> Result<(), Fail> {
-    let script = script_for(rt.alloc(), Bash, helped(rt.alloc()), "my-app")?;
-    assert_eq!(rt; script.as_str(), HELPED);
-    Ok(())
+fn the_whole_script(rt: HostRuntime) {
+    is(
+        &rt,
+        script_for(rt.alloc(), Bash, helped(rt.alloc()), "my-app"),
+        HELPED,
+    );
 }
 
 // The part of a script that leads the words of the line from label to label.
@@ -169,11 +172,10 @@ fn labels(alloc: Global, table: &str) -> Result<String, Error> {
 const LABELS: &str = "my__app my__app my__app__subcmd__test my__app__subcmd__test";
 
 #[test]
-fn words_lead_through_the_table(rt: HostRuntime) -> Result<(), Fail> {
-    let script = script_for(rt.alloc(), Bash, helped(rt.alloc()), "my-app")?;
-    let labels = labels(rt.alloc(), table(script.as_str()))?;
-    assert_eq!(rt; labels.as_str(), LABELS);
-    Ok(())
+fn words_lead_through_the_table(rt: HostRuntime) {
+    let script = script_for(rt.alloc(), Bash, helped(rt.alloc()), "my-app");
+    let script = script.expect(&rt, "no script");
+    is(&rt, labels(rt.alloc(), table(script.as_str())), LABELS);
 }
 
 // Whether the call failed with a clash of this label.
@@ -186,18 +188,18 @@ fn is_clash(outcome: &Result<(), Error>, label: &str) -> bool {
 
 // Whether the call for two commands with one label reports it, and how much is written.
 fn clash(alloc: Global) -> Result<(bool, usize), Error> {
+    let bin_name = String::from_str(alloc, "p")?;
     let mut sink = Collected::new(alloc);
     let mut command = clashing(alloc)?;
-    let bin_name = String::from_str(alloc, "p")?;
     let result = generate(alloc, Bash, &mut command, bin_name, &mut sink);
+    drop(command);
     let reported = is_clash(&result, "p__subcmd__a__subcmd__b");
     Ok((reported, sink.as_slice().len()))
 }
 
 #[test]
-fn a_label_of_two_commands_is_reported_and_nothing_is_written(rt: HostRuntime) -> Result<(), Fail> {
-    assert_eq!(rt; clash(rt.alloc())?, (true, 0));
-    Ok(())
+fn a_label_of_two_commands_is_reported_and_nothing_is_written(rt: HostRuntime) {
+    same(&rt, clash(rt.alloc()).expect(&rt, "not called"), (true, 0));
 }
 
 const COLORED: &str = "
@@ -213,15 +215,10 @@ const COLORED: &str = "
                 *)";
 
 #[test]
-fn values_that_are_shown_are_offered(rt: HostRuntime) -> Result<(), Fail> {
-    let script = script(rt.alloc(), Bash, colored(rt.alloc()))?;
-    assert!(rt;
-        script
-            .as_str()
-            .contains("opts=\"-c -h --color --help run help\"")
-    );
-    assert!(rt; script.as_str().contains(COLORED));
-    Ok(())
+fn values_that_are_shown_are_offered(rt: HostRuntime) {
+    let opts = "opts=\"-c -h --color --help run help\"";
+    has(&rt, script(rt.alloc(), Bash, colored(rt.alloc())), opts);
+    has(&rt, script(rt.alloc(), Bash, colored(rt.alloc())), COLORED);
 }
 
 const GLOBAL: &str = "
@@ -231,10 +228,8 @@ const GLOBAL: &str = "
 ";
 
 #[test]
-fn a_child_has_the_global_flag_of_its_parent(rt: HostRuntime) -> Result<(), Fail> {
-    let script = script(rt.alloc(), Bash, global(rt.alloc()))?;
-    assert!(rt; script.as_str().contains(GLOBAL));
-    Ok(())
+fn a_child_has_the_global_flag_of_its_parent(rt: HostRuntime) {
+    has(&rt, script(rt.alloc(), Bash, global(rt.alloc())), GLOBAL);
 }
 
 const CASES: &str = "
@@ -305,12 +300,10 @@ fn arms(alloc: Global, script: &str) -> Result<String, Error> {
 }
 
 #[test]
-fn a_global_flag_goes_to_all_below_but_the_generated_help(rt: HostRuntime) -> Result<(), Fail> {
-    let script = script(rt.alloc(), Bash, inherited(rt.alloc()))?;
+fn a_global_flag_goes_to_all_below_but_the_generated_help(rt: HostRuntime) {
+    let script = script(rt.alloc(), Bash, inherited(rt.alloc())).expect(&rt, "no script");
     assert!(rt; table(script.as_str()).ends_with(CASES));
-    let arms = arms(rt.alloc(), script.as_str())?;
-    assert_eq!(rt; arms.as_str(), ARMS);
-    Ok(())
+    is(&rt, arms(rt.alloc(), script.as_str()), ARMS);
 }
 
 const FILE: &str = "
@@ -354,57 +347,34 @@ const UNKNOWN: &str = "
                     return 0
                     ;;";
 
-// Whether the script of an option with this hint has these lines.
-fn offers(alloc: Global, hint: ValueHint, lines: &str) -> Result<bool, Error> {
-    Ok(
-        script(alloc, Bash, hinted(alloc, hint))?
-            .as_str()
-            .contains(lines),
-    )
+// Fails unless the script of an option with this hint has these lines.
+fn offers(rt: &impl Abort, alloc: Global, hint: ValueHint, lines: &str) {
+    has(rt, script(alloc, Bash, hinted(alloc, hint)), lines);
 }
 
 #[test]
-fn each_hint_has_its_lines(rt: HostRuntime) -> Result<(), Fail> {
-    assert!(rt; offers(rt.alloc(), ValueHint::FilePath, FILE)?);
-    assert!(rt; offers(rt.alloc(), ValueHint::DirPath, DIRECTORY)?);
-    assert!(rt; offers(rt.alloc(), ValueHint::Other, OTHER)?);
-    assert!(rt; offers(rt.alloc(), ValueHint::Unknown, UNKNOWN)?);
-    Ok(())
+fn each_hint_has_its_lines(rt: HostRuntime) {
+    offers(&rt, rt.alloc(), ValueHint::FilePath, FILE);
+    offers(&rt, rt.alloc(), ValueHint::DirPath, DIRECTORY);
+    offers(&rt, rt.alloc(), ValueHint::Other, OTHER);
+    offers(&rt, rt.alloc(), ValueHint::Unknown, UNKNOWN);
 }
 
 #[test]
-fn the_last_of_two_hundred_commands_has_the_level_two_hundred(rt: HostRuntime) -> Result<(), Fail> {
-    let script = script(rt.alloc(), Bash, chain(rt.alloc()))?;
+fn the_last_of_two_hundred_commands_has_the_level_two_hundred(rt: HostRuntime) {
+    let script = script(rt.alloc(), Bash, chain(rt.alloc())).expect(&rt, "no script");
     assert!(rt; script.as_str().contains("${COMP_CWORD} -eq 200 ]] ; then"));
     assert!(rt; !script.as_str().contains("${COMP_CWORD} -eq 201 ]] ; then"));
-    Ok(())
-}
-
-// What the methods write of a command that is ready.
-fn twice(alloc: Global, command: &Command) -> Result<String, Error> {
-    let mut sink = Collected::new(alloc);
-    if command.is_ready() {
-        Bash.generate(alloc, command, &mut sink)?;
-        Bash.try_generate(alloc, command, &mut sink)?;
-    }
-    Ok(String::from_utf8_lossy(alloc, sink.as_slice())?)
-}
-
-fn ready(alloc: Global) -> Result<Command, Error> {
-    let bin_name = String::from_str(alloc, "my-app")?;
-    built(alloc, Ok(helped(alloc)?.bin_name(bin_name)))
 }
 
 #[test]
-fn the_methods_write_the_script(rt: HostRuntime) -> Result<(), Fail> {
-    let written = twice(rt.alloc(), &ready(rt.alloc())?)?;
-    assert_eq!(rt; written.as_str().strip_prefix(HELPED), Some(HELPED));
-    Ok(())
+fn the_methods_write_the_script(rt: HostRuntime) {
+    let written = twice(rt.alloc(), &Bash, helped(rt.alloc()), "my-app");
+    let written = written.expect(&rt, "no script");
+    same(&rt, written.as_str().strip_prefix(HELPED), Some(HELPED));
 }
 
 #[test]
-fn the_file_is_named_after_the_program(rt: HostRuntime) -> Result<(), Fail> {
-    let file = Bash.file_name(rt.alloc(), "app")?;
-    assert_eq!(rt; file.as_str(), "app.bash");
-    Ok(())
+fn the_file_is_named_after_the_program(rt: HostRuntime) {
+    is(&rt, Bash.file_name(rt.alloc(), "app"), "app.bash");
 }

@@ -1,37 +1,26 @@
-//! What `Debug` shows of values that programs print.
+//! What `Debug` shows of generators and errors.
 
+use crate::checks::is;
 use clap_complete::Error;
 use clap_complete::aot::{Bash, Elvish, Fish, Nushell, PowerShell, Zsh};
-use clap_complete::command::{ArgAction, ValueRange};
-use std::test::Fail;
+use std::alloc::{AllocError, Global};
+use std::fmt::Debug;
 
-#[test]
-fn shows_actions_and_ranges(rt: HostRuntime) -> Result<(), Fail> {
-    let action = ArgAction::SetTrue;
-    assert_eq!(rt; format!(in rt.alloc(); "{action:?}")?.as_str(), "SetTrue");
-    let range = format!(in rt.alloc(); "{:?}", ValueRange::new(0, 2))?;
-    assert_eq!(rt; range.as_str(), "ValueRange { least: 0, greatest: 2 }");
-    Ok(())
+fn shown<T: Debug + Drop>(alloc: Global, value: T) -> Result<String, AllocError> {
+    format!(in alloc; "{value:?}")
 }
 
 #[test]
-fn shows_generators_and_errors(rt: HostRuntime) -> Result<(), Fail> {
-    assert_eq!(rt; format!(in rt.alloc(); "{Elvish:?}")?.as_str(), "Elvish");
-    assert_eq!(rt;
-        format!(in rt.alloc(); "{PowerShell:?}")?.as_str(),
-        "PowerShell"
-    );
-    let error = Error::NoCompletion;
-    assert_eq!(rt;
-        format!(in rt.alloc(); "{error:?}")?.as_str(),
-        "NoCompletion"
-    );
-    Ok(())
+fn shows_generators_and_errors(rt: HostRuntime) {
+    is(&rt, shown(rt.alloc(), Elvish), "Elvish");
+    is(&rt, shown(rt.alloc(), PowerShell), "PowerShell");
+    is(&rt, shown(rt.alloc(), Error::NoCompletion), "NoCompletion");
 }
 
 #[test]
-fn shows_the_other_generators(rt: HostRuntime) -> Result<(), Fail> {
-    let shown = format!(in rt.alloc(); "{Bash:?} {Fish:?} {Nushell:?} {Zsh:?}")?;
-    assert_eq!(rt; shown.as_str(), "Bash Fish Nushell Zsh");
-    Ok(())
+fn shows_the_other_generators(rt: HostRuntime) {
+    is(&rt, shown(rt.alloc(), Bash), "Bash");
+    is(&rt, shown(rt.alloc(), Fish), "Fish");
+    is(&rt, shown(rt.alloc(), Nushell), "Nushell");
+    is(&rt, shown(rt.alloc(), Zsh), "Zsh");
 }

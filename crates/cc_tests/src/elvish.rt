@@ -1,5 +1,6 @@
 //! Elvish scripts.
 
+use crate::checks::{has, same};
 use crate::fixtures::{app, bare, chain, described, global, inherited, nested};
 use crate::written::script;
 use clap_complete::Error;
@@ -7,7 +8,7 @@ use clap_complete::aot::Elvish;
 use clap_complete::command::Command;
 use std::alloc::Global;
 use std::fmt::Write;
-use std::test::Fail;
+use std::process::Abort;
 
 const HEAD: &str = "
 use builtin;
@@ -128,55 +129,53 @@ fn tables(script: &str) -> &str {
     rest.strip_suffix(TAIL).unwrap_or(script)
 }
 
-#[test]
-fn a_command_without_arguments_has_an_empty_table(rt: HostRuntime) -> Result<(), Fail> {
-    let script = script(rt.alloc(), Elvish, bare(rt.alloc()))?;
-    assert_eq!(rt; tables(script.as_str()), BARE);
-    Ok(())
+// Fails unless this stands in the frame of the script of a command.
+fn has_tables(rt: &impl Abort, alloc: Global, command: Result<Command, Error>, wanted: &str) {
+    let script = script(alloc, Elvish, command).expect(rt, "no script");
+    same(rt, tables(script.as_str()), wanted);
 }
 
 #[test]
-fn options_stand_before_flags(rt: HostRuntime) -> Result<(), Fail> {
-    let script = script(rt.alloc(), Elvish, app(rt.alloc()))?;
-    assert_eq!(rt; tables(script.as_str()), APP);
-    Ok(())
+fn a_command_without_arguments_has_an_empty_table(rt: HostRuntime) {
+    has_tables(&rt, rt.alloc(), bare(rt.alloc()), BARE);
 }
 
 #[test]
-fn every_visible_path_has_a_key(rt: HostRuntime) -> Result<(), Fail> {
-    let script = script(rt.alloc(), Elvish, nested(rt.alloc()))?;
-    assert_eq!(rt; tables(script.as_str()), NESTED);
-    Ok(())
+fn options_stand_before_flags(rt: HostRuntime) {
+    has_tables(&rt, rt.alloc(), app(rt.alloc()), APP);
 }
 
 #[test]
-fn an_about_is_escaped(rt: HostRuntime) -> Result<(), Fail> {
-    let script = script(rt.alloc(), Elvish, described(rt.alloc(), "it's\n[x]:\\"))?;
-    assert_eq!(rt; tables(script.as_str()), DESCRIBED);
-    Ok(())
+fn every_visible_path_has_a_key(rt: HostRuntime) {
+    has_tables(&rt, rt.alloc(), nested(rt.alloc()), NESTED);
 }
 
 #[test]
-fn a_child_has_the_global_flag_of_its_parent(rt: HostRuntime) -> Result<(), Fail> {
-    let script = script(rt.alloc(), Elvish, global(rt.alloc()))?;
-    assert!(rt; script.as_str().contains(GLOBAL));
-    Ok(())
+fn an_about_is_escaped(rt: HostRuntime) {
+    has_tables(
+        &rt,
+        rt.alloc(),
+        described(rt.alloc(), "it's\n[x]:\\"),
+        DESCRIBED,
+    );
 }
 
 #[test]
-fn a_global_flag_goes_to_all_below_but_the_generated_help(rt: HostRuntime) -> Result<(), Fail> {
-    let script = script(rt.alloc(), Elvish, inherited(rt.alloc()))?;
-    assert_eq!(rt; tables(script.as_str()), INHERITED);
-    Ok(())
+fn a_child_has_the_global_flag_of_its_parent(rt: HostRuntime) {
+    has(&rt, script(rt.alloc(), Elvish, global(rt.alloc())), GLOBAL);
 }
 
 #[test]
-fn a_chain_of_two_hundred_commands_has_two_hundred_keys(rt: HostRuntime) -> Result<(), Fail> {
-    let script = script(rt.alloc(), Elvish, chain(rt.alloc()))?;
-    assert_eq!(rt; script.split("\n        &'").count(), 201);
-    let wanted = last_table(rt.alloc())?;
+fn a_global_flag_goes_to_all_below_but_the_generated_help(rt: HostRuntime) {
+    has_tables(&rt, rt.alloc(), inherited(rt.alloc()), INHERITED);
+}
+
+#[test]
+fn a_chain_of_two_hundred_commands_has_two_hundred_keys(rt: HostRuntime) {
+    let script = script(rt.alloc(), Elvish, chain(rt.alloc())).expect(&rt, "no script");
+    same(&rt, script.split("\n        &'").count(), 201);
+    let wanted = last_table(rt.alloc()).expect(&rt, "no table");
     assert!(rt; tables(script.as_str()).ends_with(wanted.as_str()));
-    Ok(())
 }
 
 // The table of the last command of the chain.

@@ -1,13 +1,12 @@
 //! The library as a program uses it. `elvish_script` and `write_scripts` stand in the README too.
 
+use crate::checks::has;
 use crate::fixtures::app;
-use crate::shell::{FILES, folder, holds_script};
+use crate::shell::{FILES, folder, holds_script_in, remove};
 use clap_complete::aot::{Collected, Elvish};
 use clap_complete::command::{Arg, Command};
 use clap_complete::{Error, Shell, generate, generate_to};
 use std::alloc::Global;
-use std::fs;
-use std::test::Fail;
 
 fn elvish_script(alloc: Global) -> Result<Vec<u8>, Error> {
     let out = Arg::new(alloc, String::from_str(alloc, "out")?).short('o');
@@ -27,12 +26,15 @@ const TABLE: &str = "
     ]
 ";
 
+// The same as a text.
+fn text(alloc: Global) -> Result<String, Error> {
+    let script = elvish_script(alloc)?;
+    Ok(String::from_utf8_lossy(alloc, script.as_slice())?)
+}
+
 #[test]
-fn a_program_makes_a_script(rt: HostRuntime) -> Result<(), Fail> {
-    let script = elvish_script(rt.alloc())?;
-    let script = String::from_utf8_lossy(rt.alloc(), script.as_slice())?;
-    assert!(rt; script.as_str().contains(TABLE));
-    Ok(())
+fn a_program_makes_a_script(rt: HostRuntime) {
+    has(&rt, text(rt.alloc()), TABLE);
 }
 
 fn write_scripts(rt: &HostRuntime, command: &mut Command, out_dir: &str) -> Result<(), Error> {
@@ -43,19 +45,14 @@ fn write_scripts(rt: &HostRuntime, command: &mut Command, out_dir: &str) -> Resu
     Ok(())
 }
 
-fn write_scripts_of_app(rt: &HostRuntime, out_dir: &str) -> Result<(), Error> {
-    let mut command = app(rt.alloc())?;
-    write_scripts(rt, &mut command, out_dir)
-}
-
 #[test]
-fn a_program_writes_the_scripts_of_all_shells(rt: HostRuntime) -> Result<(), Fail> {
-    let folder = folder(&rt, "lagvtsune_example")?;
-    write_scripts_of_app(&rt, folder.as_str())?;
+fn a_program_writes_the_scripts_of_all_shells(rt: HostRuntime) {
+    let folder = folder(&rt, "lagvtsune_example");
+    let mut command = app(rt.alloc()).expect(&rt, "no command");
+    write_scripts(&rt, &mut command, folder.as_str()).expect(&rt, "not written");
+    drop(command);
     for (shell, name) in Shell::value_variants().iter().zip(FILES) {
-        let path = format!(in rt.alloc(); "{folder}/{name}")?;
-        assert!(rt; holds_script(&rt, path.as_str(), *shell)?, "{name}");
+        holds_script_in(&rt, folder.as_str(), name, *shell);
     }
-    fs::remove_dir_all(&rt, folder.as_str())?;
-    Ok(())
+    remove(&rt, folder.as_str());
 }

@@ -1,15 +1,15 @@
 //! Fish scripts.
 
+use crate::checks::{ends, has, is, same};
 use crate::fixtures::{
-    built, chain, colored, deep, described, global, hinted, inherited, listed, named,
-    with_directory,
+    chain, colored, deep, described, global, hinted, inherited, listed, named, with_directory,
 };
-use crate::written::{script, script_for};
-use clap_complete::aot::{Collected, Fish};
-use clap_complete::command::{Command, ValueHint};
-use clap_complete::{Error, Generator};
+use crate::written::{script, script_for, twice};
+use clap_complete::Generator;
+use clap_complete::aot::Fish;
+use clap_complete::command::ValueHint;
 use std::alloc::Global;
-use std::test::Fail;
+use std::process::Abort;
 
 const COLORED: &str =
     "# Print an optspec for argparse to handle cmd's options that are independent of any subcommand.
@@ -48,10 +48,12 @@ complete -c my-app -n \"__fish_my_app_using_subcommand help; and not __fish_seen
 ";
 
 #[test]
-fn the_whole_script(rt: HostRuntime) -> Result<(), Fail> {
-    let script = script_for(rt.alloc(), Fish, colored(rt.alloc()), "my-app")?;
-    assert_eq!(rt; script.as_str(), COLORED);
-    Ok(())
+fn the_whole_script(rt: HostRuntime) {
+    is(
+        &rt,
+        script_for(rt.alloc(), Fish, colored(rt.alloc()), "my-app"),
+        COLORED,
+    );
 }
 
 const OPTION: &str = "
@@ -59,57 +61,45 @@ complete -c app -n \"__fish_app_needs_command\" -s c -l color -d 'Colour' -r -f 
 ";
 
 #[test]
-fn values_that_are_shown_are_offered(rt: HostRuntime) -> Result<(), Fail> {
-    let script = script(rt.alloc(), Fish, colored(rt.alloc()))?;
-    assert!(rt; script.as_str().contains(OPTION));
-    assert!(rt;
-        script
-            .as_str()
-            .contains("\n    string join \\n c/color= h/help\n")
-    );
-    Ok(())
+fn values_that_are_shown_are_offered(rt: HostRuntime) {
+    has(&rt, script(rt.alloc(), Fish, colored(rt.alloc())), OPTION);
+    let specs = "\n    string join \\n c/color= h/help\n";
+    has(&rt, script(rt.alloc(), Fish, colored(rt.alloc())), specs);
 }
 
 #[test]
-fn a_command_without_children_has_no_head(rt: HostRuntime) -> Result<(), Fail> {
-    let script = script(rt.alloc(), Fish, named(rt.alloc(), "app"))?;
-    assert_eq!(rt;
-        script.as_str(),
-        "complete -c app -s h -l help -d 'Print help'\n"
+fn a_command_without_children_has_no_head(rt: HostRuntime) {
+    let wanted = "complete -c app -s h -l help -d 'Print help'\n";
+    is(
+        &rt,
+        script(rt.alloc(), Fish, named(rt.alloc(), "app")),
+        wanted,
     );
-    Ok(())
 }
 
 #[test]
-fn a_hint_calls_a_function_of_fish(rt: HostRuntime) -> Result<(), Fail> {
-    let script = script(rt.alloc(), Fish, with_directory(rt.alloc()))?;
-    assert_eq!(rt;
-        script.as_str().lines().next(),
-        Some("complete -c app -l dir -r -f -a \"(__fish_complete_directories)\"")
-    );
-    Ok(())
+fn a_hint_calls_a_function_of_fish(rt: HostRuntime) {
+    let script = script(rt.alloc(), Fish, with_directory(rt.alloc())).expect(&rt, "no script");
+    let wanted = "complete -c app -l dir -r -f -a \"(__fish_complete_directories)\"";
+    same(&rt, script.as_str().lines().next(), Some(wanted));
 }
 
 #[test]
-fn an_about_is_escaped(rt: HostRuntime) -> Result<(), Fail> {
-    let script = script(rt.alloc(), Fish, described(rt.alloc(), "it's\n[x]:\\"))?;
-    assert!(rt;
-        script
-            .as_str()
-            .ends_with(" -f -a \"c\" -d 'it\\'s [x]:\\\\'\n")
+fn an_about_is_escaped(rt: HostRuntime) {
+    ends(
+        &rt,
+        script(rt.alloc(), Fish, described(rt.alloc(), "it's\n[x]:\\")),
+        " -f -a \"c\" -d 'it\\'s [x]:\\\\'\n",
     );
-    Ok(())
 }
 
 #[test]
-fn a_value_is_escaped_for_two_readings(rt: HostRuntime) -> Result<(), Fail> {
-    let script = script(rt.alloc(), Fish, listed(rt.alloc(), "v", "$HOME \"x\""))?;
-    assert!(rt;
-        script
-            .as_str()
-            .contains(" -a \"v\\t'\\$HOME \\\"x\\\"'\"\n")
+fn a_value_is_escaped_for_two_readings(rt: HostRuntime) {
+    has(
+        &rt,
+        script(rt.alloc(), Fish, listed(rt.alloc(), "v", "$HOME \"x\"")),
+        " -a \"v\\t'\\$HOME \\\"x\\\"'\"\n",
     );
-    Ok(())
 }
 
 const SECOND: &str = "
@@ -126,12 +116,14 @@ complete -c p -n \"__fish_p_using_subcommand help; and __fish_seen_subcommand_fr
 ";
 
 #[test]
-fn every_visible_path_has_its_records(rt: HostRuntime) -> Result<(), Fail> {
-    let script = script_for(rt.alloc(), Fish, deep(rt.alloc()), "p")?;
-    assert!(rt; script.as_str().contains(SECOND));
-    assert!(rt; script.as_str().contains(THIRD));
-    assert!(rt; script.as_str().contains(HELP));
-    Ok(())
+fn every_visible_path_has_its_records(rt: HostRuntime) {
+    for records in [SECOND, THIRD, HELP] {
+        has(
+            &rt,
+            script_for(rt.alloc(), Fish, deep(rt.alloc()), "p"),
+            records,
+        );
+    }
 }
 
 const GLOBAL: &str = "
@@ -140,10 +132,8 @@ complete -c app -n \"__fish_app_using_subcommand run\" -s h -l help -d 'Print he
 ";
 
 #[test]
-fn a_child_has_the_global_flag_of_its_parent(rt: HostRuntime) -> Result<(), Fail> {
-    let script = script(rt.alloc(), Fish, global(rt.alloc()))?;
-    assert!(rt; script.as_str().contains(GLOBAL));
-    Ok(())
+fn a_child_has_the_global_flag_of_its_parent(rt: HostRuntime) {
+    has(&rt, script(rt.alloc(), Fish, global(rt.alloc())), GLOBAL);
 }
 
 // The last line of the head, and all records.
@@ -168,66 +158,53 @@ complete -c app -n \"__fish_app_using_subcommand help; and __fish_seen_subcomman
 ";
 
 #[test]
-fn a_global_flag_goes_to_all_below_but_the_generated_help(rt: HostRuntime) -> Result<(), Fail> {
-    let script = script(rt.alloc(), Fish, inherited(rt.alloc()))?;
-    assert!(rt; script.as_str().ends_with(INHERITED));
-    Ok(())
+fn a_global_flag_goes_to_all_below_but_the_generated_help(rt: HostRuntime) {
+    ends(
+        &rt,
+        script(rt.alloc(), Fish, inherited(rt.alloc())),
+        INHERITED,
+    );
 }
 
 const LAST: &str =
     "; and __fish_seen_subcommand_from n198; and __fish_seen_subcommand_from n199\" -l end\n";
 
 #[test]
-fn the_last_of_two_hundred_commands_has_its_record(rt: HostRuntime) -> Result<(), Fail> {
-    let script = script(rt.alloc(), Fish, chain(rt.alloc()))?;
-    assert_eq!(rt; script.as_str().split("\ncomplete -c app ").count(), 201);
+fn the_last_of_two_hundred_commands_has_its_record(rt: HostRuntime) {
+    let script = script(rt.alloc(), Fish, chain(rt.alloc())).expect(&rt, "no script");
+    same(
+        &rt,
+        script.as_str().split("\ncomplete -c app ").count(),
+        201,
+    );
     assert!(rt; script.as_str().ends_with(LAST));
-    Ok(())
 }
 
-// Whether the script of an option with this hint is this line.
-fn offers(alloc: Global, hint: ValueHint, line: &str) -> Result<bool, Error> {
-    Ok(script(alloc, Fish, hinted(alloc, hint))?.as_str() == line)
+// Fails unless the script of an option with this hint is this line.
+fn offers(rt: &impl Abort, alloc: Global, hint: ValueHint, line: &str) {
+    is(rt, script(alloc, Fish, hinted(alloc, hint)), line);
 }
 
 #[test]
-fn each_hint_has_its_marks(rt: HostRuntime) -> Result<(), Fail> {
+fn each_hint_has_its_marks(rt: HostRuntime) {
     let unknown = "complete -c app -l path -r\n";
     let file = "complete -c app -l path -r -F\n";
     let other = "complete -c app -l path -r -f\n";
     let user = "complete -c app -l path -r -f -a \"(__fish_complete_users)\"\n";
-    assert!(rt; offers(rt.alloc(), ValueHint::Unknown, unknown)?);
-    assert!(rt; offers(rt.alloc(), ValueHint::FilePath, file)?);
-    assert!(rt; offers(rt.alloc(), ValueHint::Url, other)?);
-    assert!(rt; offers(rt.alloc(), ValueHint::Username, user)?);
-    Ok(())
-}
-
-// What the methods write of a command that is ready.
-fn twice(alloc: Global, command: &Command) -> Result<String, Error> {
-    let mut sink = Collected::new(alloc);
-    if command.is_ready() {
-        Fish.generate(alloc, command, &mut sink)?;
-        Fish.try_generate(alloc, command, &mut sink)?;
-    }
-    Ok(String::from_utf8_lossy(alloc, sink.as_slice())?)
-}
-
-fn ready(alloc: Global) -> Result<Command, Error> {
-    let bin_name = String::from_str(alloc, "my-app")?;
-    built(alloc, Ok(colored(alloc)?.bin_name(bin_name)))
+    offers(&rt, rt.alloc(), ValueHint::Unknown, unknown);
+    offers(&rt, rt.alloc(), ValueHint::FilePath, file);
+    offers(&rt, rt.alloc(), ValueHint::Url, other);
+    offers(&rt, rt.alloc(), ValueHint::Username, user);
 }
 
 #[test]
-fn the_methods_write_the_script(rt: HostRuntime) -> Result<(), Fail> {
-    let written = twice(rt.alloc(), &ready(rt.alloc())?)?;
-    assert_eq!(rt; written.as_str().strip_prefix(COLORED), Some(COLORED));
-    Ok(())
+fn the_methods_write_the_script(rt: HostRuntime) {
+    let written = twice(rt.alloc(), &Fish, colored(rt.alloc()), "my-app");
+    let written = written.expect(&rt, "no script");
+    same(&rt, written.as_str().strip_prefix(COLORED), Some(COLORED));
 }
 
 #[test]
-fn the_file_is_named_after_the_program(rt: HostRuntime) -> Result<(), Fail> {
-    let file = Fish.file_name(rt.alloc(), "app")?;
-    assert_eq!(rt; file.as_str(), "app.fish");
-    Ok(())
+fn the_file_is_named_after_the_program(rt: HostRuntime) {
+    is(&rt, Fish.file_name(rt.alloc(), "app"), "app.fish");
 }

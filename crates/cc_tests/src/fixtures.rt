@@ -1,5 +1,6 @@
-//! Small trees. Each step that may run out of memory is a function of its own, since a check of
-//! many such steps in one function takes long.
+//! Small trees. Texts are made before the command or the argument that takes them, and what holds
+//! one ends with a call of `drop`: to prove a drop that no call is, at a `?` or at the end of a
+//! scope, takes seconds.
 
 use clap_complete::Error;
 use clap_complete::command::{Arg, ArgAction, Command, PossibleValue, ValueHint, ValueRange};
@@ -50,12 +51,6 @@ pub(crate) fn app(alloc: Global) -> Result<Command, Error> {
     with(with(named(alloc, "app"), verbose(alloc)), out(alloc))
 }
 
-/// `app` with a positional `input` too.
-pub(crate) fn app_with_input(alloc: Global) -> Result<Command, Error> {
-    let id = String::from_str(alloc, "input")?;
-    with(app(alloc), Ok(Arg::new(alloc, id)))
-}
-
 /// `app` with a positional whose id holds a quote.
 pub(crate) fn quoted(alloc: Global) -> Result<Command, Error> {
     let id = String::from_str(alloc, "it's")?;
@@ -83,35 +78,11 @@ fn run(alloc: Global) -> Result<Command, Error> {
     plain(alloc, "run")?.visible_alias(alias)
 }
 
-/// `app` with a child `run`, as `nested` has it, and a child `list`; nothing is generated.
-pub(crate) fn nested_and_list(alloc: Global) -> Result<Command, Error> {
-    holding(nested(alloc), plain(alloc, "list"))
-}
-
 /// `app` with a flag `-v`, `--verbose` and a child `run`, shown as `r` too, that has an option
 /// `--out`; nothing is generated.
 pub(crate) fn with_out_below(alloc: Global) -> Result<Command, Error> {
     let run = with(run(alloc), out(alloc));
     holding(with(plain(alloc, "app"), verbose(alloc)), run)
-}
-
-/// `test`, hidden as `t`, with a flag `-f`, `--file`, shown as `-p` and `--path` too, and hidden as
-/// `-q` and `--old`.
-pub(crate) fn test(alloc: Global) -> Result<Command, Error> {
-    let alias = String::from_str(alloc, "t")?;
-    with(named(alloc, "test")?.alias(alias), file(alloc))
-}
-
-/// The flag of `test`.
-pub(crate) fn file(alloc: Global) -> Result<Arg, Error> {
-    let alias = String::from_str(alloc, "path")?;
-    let hidden = String::from_str(alloc, "old")?;
-    let shown = with_shorts(long(alloc, "file")?)?.visible_alias(alias)?;
-    shown.action(ArgAction::SetTrue).alias(hidden)
-}
-
-fn with_shorts(arg: Arg) -> Result<Arg, Error> {
-    arg.short('f').visible_short_alias('p')?.short_alias('q')
 }
 
 /// `app` with one flag of this short and help, and no other.
@@ -174,20 +145,6 @@ pub(crate) fn helped(alloc: Global) -> Result<Command, Error> {
     holding(named(alloc, "my-app"), named(alloc, "test"))
 }
 
-/// `myapp`, called `my-cmd`, of a version, with the children `test`, which has a flag and holds
-/// `config`, and `hello`.
-pub(crate) fn my_app(alloc: Global) -> Result<Command, Error> {
-    let test = holding(test(alloc), named(alloc, "config"));
-    holding(holding(versioned(alloc), test), named(alloc, "hello"))
-}
-
-fn versioned(alloc: Global) -> Result<Command, Error> {
-    let bin_name = String::from_str(alloc, "my-cmd")?;
-    let version = String::from_str(alloc, "3.0")?;
-    let command = named(alloc, "myapp")?;
-    Ok(command.bin_name(bin_name).version(version))
-}
-
 /// `p` with the children `a-b` and `a`, which holds `b`.
 pub(crate) fn clashing(alloc: Global) -> Result<Command, Error> {
     let a = holding(named(alloc, "a"), named(alloc, "b"));
@@ -210,8 +167,9 @@ pub(crate) fn colored_alone(alloc: Global) -> Result<Command, Error> {
 fn color(alloc: Global) -> Result<Arg, Error> {
     let help = String::from_str(alloc, "Colour")?;
     let when = String::from_str(alloc, "WHEN")?;
+    let colors = colors(alloc)?;
     let color = long(alloc, "color")?.short('c').help(help);
-    Ok(color.value_parser(colors(alloc)?).value_name(when)?)
+    color.value_parser(colors).value_name(when)
 }
 
 fn colors(alloc: Global) -> Result<Vec<PossibleValue>, Error> {
@@ -238,7 +196,8 @@ pub(crate) fn with_directory(alloc: Global) -> Result<Command, Error> {
 
 /// `app` with an option `--one` that may be this value, which has this help.
 pub(crate) fn listed(alloc: Global, name: &str, help: &str) -> Result<Command, Error> {
-    let one = long(alloc, "one")?.value_parser(helped_value(alloc, name, help)?);
+    let values = helped_value(alloc, name, help)?;
+    let one = long(alloc, "one")?.value_parser(values);
     with(bare(alloc), Ok(one))
 }
 
@@ -287,24 +246,6 @@ fn yaml(alloc: Global) -> Result<Arg, Error> {
     Ok(long(alloc, "yaml")?.action(ArgAction::SetTrue))
 }
 
-/// `app` with the flags `-q`, `--yaml`, `-y`, which has the id `yaml` too, and `--json`, which
-/// excludes `yaml`, `toml`, which is the id of no argument, and `quiet`, in this order.
-pub(crate) fn excluding(alloc: Global) -> Result<Command, Error> {
-    let command = with(with(bare(alloc), quiet(alloc)), yaml(alloc));
-    with(with(command, second_yaml(alloc)), json_alone(alloc))
-}
-
-fn second_yaml(alloc: Global) -> Result<Arg, Error> {
-    let yaml = Arg::new(alloc, String::from_str(alloc, "yaml")?);
-    Ok(yaml.short('y').action(ArgAction::SetTrue))
-}
-
-fn json_alone(alloc: Global) -> Result<Arg, Error> {
-    let toml = String::from_str(alloc, "toml")?;
-    let quiet = String::from_str(alloc, "quiet")?;
-    json(alloc)?.conflicts_with(toml)?.conflicts_with(quiet)
-}
-
 /// `app` with a global flag `--json`, a child `run`, shown as `r` too, that has a child `job` with a
 /// flag `-v`, `--verbose`, and the generated child `help`; no other is generated, and no flag.
 pub(crate) fn inherited(alloc: Global) -> Result<Command, Error> {
@@ -340,6 +281,11 @@ fn rest(alloc: Global) -> Result<Arg, Error> {
 /// A command that was built.
 pub(crate) fn built(alloc: Global, command: Result<Command, Error>) -> Result<Command, Error> {
     let mut command = command?;
-    command.build(alloc)?;
-    Ok(command)
+    match command.build(alloc) {
+        Ok(()) => Ok(command),
+        Err(error) => {
+            drop(command);
+            Err(error)
+        }
+    }
 }

@@ -1,14 +1,14 @@
-//! Tests of the library as a whole: scripts against their known text, sinks that take little or
-//! fail, and every call that allocates with memory enough. Some modules, as `quoting` and `visits`,
-//! test one crate below alone. Beside them stands a caller whose contract says what its script reads
-//! to.
+//! Tests of the library as programs use it: scripts against their known text, sinks that take little
+//! or fail, files, and the caller of `cc_caller`. The tests that know no shell stand in
+//! `cc_core_tests`.
 #![tactic(auto)]
 
 #[cfg(test)]
 mod bash;
+#[cfg(test)]
 mod caller;
 #[cfg(test)]
-mod calls;
+mod checks;
 #[cfg(test)]
 mod debug;
 #[cfg(test)]
@@ -20,30 +20,14 @@ mod fish;
 #[cfg(test)]
 mod fixtures;
 #[cfg(test)]
-mod index;
-#[cfg(test)]
-mod kinds;
-#[cfg(test)]
-mod lists;
-#[cfg(test)]
 mod nushell;
 #[cfg(test)]
 mod powershell;
-#[cfg(test)]
-mod quoting;
 #[cfg(test)]
 mod shell;
 #[cfg(test)]
 mod sinks;
 #[cfg(test)]
-mod tree_file;
-#[cfg(test)]
-mod trees;
-#[cfg(test)]
-mod visits;
-#[cfg(test)]
 mod written;
 #[cfg(test)]
 mod zsh;
-
-pub use crate::caller::write_if_plain;

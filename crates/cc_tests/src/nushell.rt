@@ -1,9 +1,9 @@
 //! Nushell scripts.
 
+use crate::checks::{has, is};
 use crate::fixtures::{flag, global, long_flag, with_out_below};
 use crate::written::script;
 use clap_complete::aot::{Generator, Nushell};
-use std::test::Fail;
 
 const SCRIPT: &str = "module completions {
 
@@ -38,37 +38,35 @@ const GLOBAL: &str = "
 ";
 
 #[test]
-fn every_visible_path_has_a_block(rt: HostRuntime) -> Result<(), Fail> {
-    let script = script(rt.alloc(), Nushell, with_out_below(rt.alloc()))?;
-    assert_eq!(rt; script.as_str(), SCRIPT);
-    Ok(())
+fn every_visible_path_has_a_block(rt: HostRuntime) {
+    is(
+        &rt,
+        script(rt.alloc(), Nushell, with_out_below(rt.alloc())),
+        SCRIPT,
+    );
 }
 
 #[test]
-fn a_line_feed_in_a_help_is_a_space(rt: HostRuntime) -> Result<(), Fail> {
-    let script = script(rt.alloc(), Nushell, flag(rt.alloc(), 'x', "a # b\n  ]"))?;
-    assert!(rt; script.as_str().contains(LINE));
-    Ok(())
+fn a_line_feed_in_a_help_is_a_space(rt: HostRuntime) {
+    has(
+        &rt,
+        script(rt.alloc(), Nushell, flag(rt.alloc(), 'x', "a # b\n  ]")),
+        LINE,
+    );
 }
 
 #[test]
-fn a_line_feed_in_the_help_of_a_long_is_a_space(rt: HostRuntime) -> Result<(), Fail> {
+fn a_line_feed_in_the_help_of_a_long_is_a_space(rt: HostRuntime) {
     let command = long_flag(rt.alloc(), "x", "a # b\n  ]");
-    let script = script(rt.alloc(), Nushell, command)?;
-    assert!(rt; script.as_str().contains(LONG_LINE));
-    Ok(())
+    has(&rt, script(rt.alloc(), Nushell, command), LONG_LINE);
 }
 
 #[test]
-fn a_child_has_the_global_flag_of_its_parent(rt: HostRuntime) -> Result<(), Fail> {
-    let script = script(rt.alloc(), Nushell, global(rt.alloc()))?;
-    assert!(rt; script.as_str().contains(GLOBAL));
-    Ok(())
+fn a_child_has_the_global_flag_of_its_parent(rt: HostRuntime) {
+    has(&rt, script(rt.alloc(), Nushell, global(rt.alloc())), GLOBAL);
 }
 
 #[test]
-fn the_file_has_the_name_of_the_program(rt: HostRuntime) -> Result<(), Fail> {
-    let file = Nushell.file_name(rt.alloc(), "app")?;
-    assert_eq!(rt; file.as_str(), "app.nu");
-    Ok(())
+fn the_file_has_the_name_of_the_program(rt: HostRuntime) {
+    is(&rt, Nushell.file_name(rt.alloc(), "app"), "app.nu");
 }

@@ -1,9 +1,13 @@
 //! PowerShell scripts.
 
+use crate::checks::{has, same};
 use crate::fixtures::{app, flag, global, nested};
 use crate::written::script;
+use clap_complete::Error;
 use clap_complete::aot::PowerShell;
-use std::test::Fail;
+use clap_complete::command::Command;
+use std::alloc::Global;
+use std::process::Abort;
 
 const HEAD: &str = "
 using namespace System.Management.Automation
@@ -89,39 +93,45 @@ fn tables(script: &str) -> &str {
     rest.strip_suffix(TAIL).unwrap_or(script)
 }
 
-#[test]
-fn options_stand_before_flags(rt: HostRuntime) -> Result<(), Fail> {
-    let script = script(rt.alloc(), PowerShell, app(rt.alloc()))?;
-    assert_eq!(rt; tables(script.as_str()), APP);
-    Ok(())
+// Fails unless this stands in the frame of the script of a command.
+fn has_tables(rt: &impl Abort, alloc: Global, command: Result<Command, Error>, wanted: &str) {
+    let script = script(alloc, PowerShell, command).expect(rt, "no script");
+    same(rt, tables(script.as_str()), wanted);
 }
 
 #[test]
-fn every_visible_path_has_a_key(rt: HostRuntime) -> Result<(), Fail> {
-    let script = script(rt.alloc(), PowerShell, nested(rt.alloc()))?;
-    assert_eq!(rt; tables(script.as_str()), NESTED);
-    Ok(())
+fn options_stand_before_flags(rt: HostRuntime) {
+    has_tables(&rt, rt.alloc(), app(rt.alloc()), APP);
 }
 
 #[test]
-fn a_child_has_the_global_flag_of_its_parent(rt: HostRuntime) -> Result<(), Fail> {
-    let script = script(rt.alloc(), PowerShell, global(rt.alloc()))?;
-    assert!(rt; script.contains(GLOBAL));
-    Ok(())
+fn every_visible_path_has_a_key(rt: HostRuntime) {
+    has_tables(&rt, rt.alloc(), nested(rt.alloc()), NESTED);
 }
 
 #[test]
-fn a_capital_short_has_a_space_and_an_empty_help_counts_as_none(
-    rt: HostRuntime,
-) -> Result<(), Fail> {
-    let script = script(rt.alloc(), PowerShell, flag(rt.alloc(), 'S', ""))?;
-    assert!(rt; script.contains(CAPITAL));
-    Ok(())
+fn a_child_has_the_global_flag_of_its_parent(rt: HostRuntime) {
+    has(
+        &rt,
+        script(rt.alloc(), PowerShell, global(rt.alloc())),
+        GLOBAL,
+    );
 }
 
 #[test]
-fn a_curly_quote_is_doubled_by_a_straight_one(rt: HostRuntime) -> Result<(), Fail> {
-    let script = script(rt.alloc(), PowerShell, flag(rt.alloc(), 's', "it’s"))?;
-    assert!(rt; script.contains(CURLY));
-    Ok(())
+fn a_capital_short_has_a_space_and_an_empty_help_counts_as_none(rt: HostRuntime) {
+    has(
+        &rt,
+        script(rt.alloc(), PowerShell, flag(rt.alloc(), 'S', "")),
+        CAPITAL,
+    );
+}
+
+#[test]
+fn a_curly_quote_is_doubled_by_a_straight_one(rt: HostRuntime) {
+    has(
+        &rt,
+        script(rt.alloc(), PowerShell, flag(rt.alloc(), 's', "it’s")),
+        CURLY,
+    );
 }

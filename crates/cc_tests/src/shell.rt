@@ -1,7 +1,8 @@
-//! `Shell` by text, path and value, and scripts written to files.
+//! `Shell` by text, path and value, its methods, and scripts written to files.
 
+use crate::checks::{holds, is, same};
 use crate::fixtures::{app, clashing, nested};
-use crate::written::script;
+use crate::written::{script, twice};
 use clap_complete::aot::{Bash, Elvish, Fish, InvalidShell, Nushell, PowerShell, Zsh};
 use clap_complete::command::Command;
 use clap_complete::{Error, Generator, Shell, generate_to};
@@ -9,46 +10,55 @@ use std::alloc::Global;
 use std::hash::{DefaultHasher, Hash, Hasher};
 use std::io::ErrorKind;
 use std::os::unix::fs::symlink;
-use std::test::Fail;
+use std::process::Abort;
+use std::rt::{Env, Files};
 use std::{env, fs};
 
-#[test]
-fn each_shell_prints_its_text_and_is_read_from_it(rt: HostRuntime) -> Result<(), Fail> {
-    let texts = ["bash", "elvish", "fish", "powershell", "zsh", "nushell"];
-    assert_eq!(rt; Shell::value_variants().len(), texts.len());
-    for (shell, text) in Shell::value_variants().iter().zip(texts) {
-        let printed = format!(in rt.alloc(); "{shell}")?;
-        assert_eq!(rt; printed.as_str(), text);
-        assert_eq!(rt; text.parse::<Shell>(), Ok(*shell));
-        assert!(rt; Shell::parse(rt.alloc(), text)? == *shell);
-    }
-    Ok(())
+// Fails unless a shell prints this text and is read from it.
+fn prints(rt: &impl Abort, alloc: Global, shell: Shell, text: &str) {
+    is(rt, format!(in alloc; "{shell}"), text);
+    same(rt, text.parse::<Shell>(), Ok(shell));
+    same(rt, Shell::parse(alloc, text).expect(rt, "no shell"), shell);
 }
 
 #[test]
-fn display_heeds_width_fill_and_alignment(rt: HostRuntime) -> Result<(), Fail> {
-    let alloc = rt.alloc();
-    assert_eq!(rt;
-        format!(in alloc; "{:>6}|", Shell::Bash)?.as_str(),
-        "  bash|"
+fn each_shell_prints_its_text_and_is_read_from_it(rt: HostRuntime) {
+    let texts = ["bash", "elvish", "fish", "powershell", "zsh", "nushell"];
+    same(&rt, Shell::value_variants().len(), texts.len());
+    for (shell, text) in Shell::value_variants().iter().zip(texts) {
+        prints(&rt, rt.alloc(), *shell, text);
+    }
+}
+
+#[test]
+fn display_heeds_width_fill_and_alignment(rt: HostRuntime) {
+    is(
+        &rt,
+        format!(in rt.alloc(); "{:>6}|", Shell::Bash),
+        "  bash|",
     );
-    assert_eq!(rt;
-        format!(in alloc; "{:*^8}", Shell::Fish)?.as_str(),
-        "**fish**"
+    is(
+        &rt,
+        format!(in rt.alloc(); "{:*^8}", Shell::Fish),
+        "**fish**",
     );
-    assert_eq!(rt;
-        format!(in alloc; "{:8}|", Shell::Elvish)?.as_str(),
-        "elvish  |"
+    is(
+        &rt,
+        format!(in rt.alloc(); "{:8}|", Shell::Elvish),
+        "elvish  |",
     );
-    let shown = format!(in alloc; "{:?} {:?}", Shell::PowerShell, InvalidShell)?;
-    assert_eq!(rt; shown.as_str(), "PowerShell InvalidShell");
-    Ok(())
+}
+
+#[test]
+fn debug_shows_the_variant(rt: HostRuntime) {
+    let shown = format!(in rt.alloc(); "{:?} {:?}", Shell::PowerShell, InvalidShell);
+    is(&rt, shown, "PowerShell InvalidShell");
 }
 
 #[test]
 fn no_other_text_is_a_shell(rt: HostRuntime) {
     for text in ["", "Bash", "bash ", "tcsh", "pwsh", "nu"] {
-        assert_eq!(rt; text.parse::<Shell>(), Err(InvalidShell));
+        same(&rt, text.parse::<Shell>(), Err(InvalidShell));
     }
     assert!(rt; is_refused(rt.alloc(), "Bash", "invalid variant: Bash"));
     assert!(rt; is_refused(rt.alloc(), "nu", "invalid variant: nu"));
@@ -68,40 +78,47 @@ fn hash_of(shell: Shell) -> u64 {
     state.finish()
 }
 
+// Fails unless the shell that is read from what a shell prints has the same hash.
+fn has_the_hash_of_its_copy(rt: &impl Abort, alloc: Global, shell: Shell) {
+    let printed = format!(in alloc; "{shell}").expect(rt, "no text");
+    let read = Shell::parse(alloc, printed.as_str()).expect(rt, "no shell");
+    same(rt, hash_of(read), hash_of(shell));
+}
+
 #[test]
-fn equal_shells_have_equal_hashes(rt: HostRuntime) -> Result<(), Fail> {
+fn equal_shells_have_equal_hashes(rt: HostRuntime) {
     for shell in Shell::value_variants() {
-        let printed = format!(in rt.alloc(); "{shell}")?;
-        let read = Shell::parse(rt.alloc(), printed.as_str())?;
-        assert_eq!(rt; hash_of(read), hash_of(*shell));
+        has_the_hash_of_its_copy(&rt, rt.alloc(), *shell);
     }
-    Ok(())
+}
+
+// Fails unless a path leads to this shell.
+fn leads(rt: &impl Abort, path: &str, wanted: Option<Shell>) {
+    same(rt, Shell::from_shell_path(path), wanted);
 }
 
 #[test]
 fn a_path_leads_to_a_shell(rt: HostRuntime) {
-    let found = |path: &str| Shell::from_shell_path(path);
-    assert_eq!(rt; found("/bin/bash"), Some(Shell::Bash));
-    assert_eq!(rt; found("/bin/bash/"), Some(Shell::Bash));
-    assert_eq!(rt; found("bash.exe"), Some(Shell::Bash));
-    assert_eq!(rt; found("/usr/bin/pwsh"), Some(Shell::PowerShell));
-    assert_eq!(rt; found("powershell_ise.exe"), Some(Shell::PowerShell));
+    leads(&rt, "/bin/bash", Some(Shell::Bash));
+    leads(&rt, "/bin/bash/", Some(Shell::Bash));
+    leads(&rt, "bash.exe", Some(Shell::Bash));
+    leads(&rt, "/usr/bin/pwsh", Some(Shell::PowerShell));
+    leads(&rt, "powershell_ise.exe", Some(Shell::PowerShell));
     for path in ["/opt/my_custom_shell", ".bash", "", "/", "BASH"] {
-        assert_eq!(rt; found(path), None);
+        leads(&rt, path, None);
     }
-    assert_eq!(rt; found("/usr/bin/nu"), Some(Shell::Nushell));
-    assert_eq!(rt; Shell::from_env(Some("/bin/zsh")), Some(Shell::Zsh));
-    assert_eq!(rt; Shell::from_env(None), None);
+    leads(&rt, "/usr/bin/nu", Some(Shell::Nushell));
+    same(&rt, Shell::from_env(Some("/bin/zsh")), Some(Shell::Zsh));
+    same(&rt, Shell::from_env(None), None);
 }
 
 #[test]
-fn a_shell_is_a_possible_value(rt: HostRuntime) -> Result<(), Fail> {
-    let value = Shell::Elvish.to_possible_value(rt.alloc())?;
-    assert_eq!(rt;
-        value.as_ref().map(|value| value.get_name()),
-        Some("elvish")
-    );
-    Ok(())
+fn a_shell_is_a_possible_value(rt: HostRuntime) {
+    let value = Shell::Elvish
+        .to_possible_value(rt.alloc())
+        .expect(&rt, "out of memory");
+    let name = value.as_ref().map(|value| value.get_name());
+    same(&rt, name, Some("elvish"));
 }
 
 fn has_the_script_of<G: Generator + Drop>(
@@ -134,30 +151,56 @@ fn is_of<G: Generator + Drop + Copy>(
 }
 
 #[test]
-fn a_shell_writes_the_script_of_its_generator(rt: HostRuntime) -> Result<(), Fail> {
-    assert!(rt; is_of(rt.alloc(), Shell::Bash, Bash)?);
-    assert!(rt; is_of(rt.alloc(), Shell::Elvish, Elvish)?);
-    assert!(rt; is_of(rt.alloc(), Shell::Fish, Fish)?);
-    assert!(rt; is_of(rt.alloc(), Shell::PowerShell, PowerShell)?);
-    assert!(rt; is_of(rt.alloc(), Shell::Zsh, Zsh)?);
-    assert!(rt; is_of(rt.alloc(), Shell::Nushell, Nushell)?);
-    Ok(())
+fn a_shell_writes_the_script_of_its_generator(rt: HostRuntime) {
+    holds(&rt, is_of(rt.alloc(), Shell::Bash, Bash));
+    holds(&rt, is_of(rt.alloc(), Shell::Elvish, Elvish));
+    holds(&rt, is_of(rt.alloc(), Shell::Fish, Fish));
+    holds(&rt, is_of(rt.alloc(), Shell::PowerShell, PowerShell));
+    holds(&rt, is_of(rt.alloc(), Shell::Zsh, Zsh));
+    holds(&rt, is_of(rt.alloc(), Shell::Nushell, Nushell));
+}
+
+#[test]
+fn each_table_shell_has_its_file(rt: HostRuntime) {
+    is(&rt, Elvish.file_name(rt.alloc(), "app"), "app.elv");
+    is(&rt, PowerShell.file_name(rt.alloc(), "app"), "_app.ps1");
+}
+
+// Fails unless the methods of a shell write the script of `nested`, each once.
+fn writes_its_script(rt: &impl Abort, alloc: Global, shell: Shell) {
+    let wanted = script(alloc, shell, nested(alloc)).expect(rt, "no script");
+    let written = twice(alloc, &shell, nested(alloc), "app").expect(rt, "no script");
+    let behind = written.as_str().strip_prefix(wanted.as_str());
+    same(rt, behind, Some(wanted.as_str()));
+}
+
+#[test]
+fn the_methods_of_a_shell_write_its_script(rt: HostRuntime) {
+    for shell in Shell::value_variants() {
+        writes_its_script(&rt, rt.alloc(), *shell);
+    }
 }
 
 /// A folder of this name that was just made, with nothing in it.
-pub(crate) fn folder(rt: &HostRuntime, name: &str) -> Result<String, Fail> {
-    let folder = env::temp_dir(rt)?.join(rt.alloc(), name)?;
+pub(crate) fn folder<R: Abort + AllocGlobal + Env + Files>(rt: &R, name: &str) -> String {
+    let above = env::temp_dir(rt).expect(rt, "no folder above");
+    let folder = above.join(rt.alloc(), name).expect(rt, "no path");
     let folder = folder.into_string();
-    if fs::exists(rt, folder.as_str())? {
-        fs::remove_dir_all(rt, folder.as_str())?;
+    if fs::exists(rt, folder.as_str()).expect(rt, "not seen") {
+        remove(rt, folder.as_str());
     }
-    fs::create_dir(rt, folder.as_str())?;
-    Ok(folder)
+    fs::create_dir(rt, folder.as_str()).expect(rt, "no folder");
+    folder
+}
+
+/// Removes a folder with all that it holds.
+pub(crate) fn remove<R: Abort + AllocGlobal + Files>(rt: &R, folder: &str) {
+    fs::remove_dir_all(rt, folder).expect(rt, "not removed");
 }
 
 // Writes the script of a command to a file in a folder.
-fn write_to(
-    rt: &HostRuntime,
+fn write_to<R: Abort + AllocGlobal + Files>(
+    rt: &R,
     shell: Shell,
     command: &mut Command,
     folder: &str,
@@ -166,43 +209,56 @@ fn write_to(
     generate_to(rt, rt.alloc(), shell, command, bin_name, folder)
 }
 
-// How writing the script of a command to a folder ends, and whether the command is then built.
-fn outcome(
-    rt: &HostRuntime,
+// How writing the script of a command to a folder ends, which leaves the command built.
+fn outcome<R: Abort + AllocGlobal + Files>(
+    rt: &R,
     shell: Shell,
     command: Result<Command, Error>,
     folder: &str,
-) -> Result<(Result<String, Error>, bool), Error> {
-    let mut command = command?;
+) -> Result<String, Error> {
+    let mut command = command.expect(rt, "no command");
     let written = write_to(rt, shell, &mut command, folder);
-    Ok((written, command.is_built()))
+    assert!(rt; command.is_built());
+    drop(command);
+    written
 }
 
-// The path of the file that the script of `app` is written to, which leaves the command built.
-fn written(rt: &HostRuntime, shell: Shell, folder: &str) -> Result<String, Fail> {
-    match outcome(rt, shell, app(rt.alloc()), folder)? {
-        (Ok(path), true) => Ok(path),
-        _ => Err(Fail::from("not written, or not built")),
-    }
+/// Fails unless a file holds the script of `app`.
+pub(crate) fn holds_script<R: Abort + AllocGlobal + Files>(rt: &R, path: &str, shell: Shell) {
+    let held = fs::read_to_string(rt, path).expect(rt, "no file");
+    is(
+        rt,
+        script(rt.alloc(), shell, app(rt.alloc())),
+        held.as_str(),
+    );
 }
 
-/// Whether a file holds the script of `app`.
-pub(crate) fn holds_script(rt: &HostRuntime, path: &str, shell: Shell) -> Result<bool, Fail> {
-    let held = fs::read_to_string(rt, path)?;
-    let wanted = script(rt.alloc(), shell, app(rt.alloc()))?;
-    Ok(held.as_str() == wanted.as_str())
+// The path of a file in a folder.
+fn path_in<R: Abort + AllocGlobal + Files>(rt: &R, folder: &str, name: &str) -> String {
+    format!(in rt.alloc(); "{folder}/{name}").expect(rt, "no path")
 }
 
-// Whether the script of `app` is written to the file of this name in a folder.
-fn is_written(rt: &HostRuntime, shell: Shell, folder: &str, name: &str) -> Result<bool, Fail> {
-    let wanted = format!(in rt.alloc(); "{folder}/{name}")?;
-    is_written_at(rt, shell, folder, wanted.as_str())
+/// Fails unless the file of this name in a folder holds the script of `app`.
+pub(crate) fn holds_script_in<R: Abort + AllocGlobal + Files>(
+    rt: &R,
+    folder: &str,
+    name: &str,
+    shell: Shell,
+) {
+    let path = path_in(rt, folder, name);
+    holds_script(rt, path.as_str(), shell);
+}
+
+// Fails unless the script of `app` is written to the file of this name in a folder.
+fn is_written<R: Abort + AllocGlobal + Files>(rt: &R, shell: Shell, folder: &str, name: &str) {
+    let wanted = path_in(rt, folder, name);
+    is_written_at(rt, shell, folder, wanted.as_str());
 }
 
 // The same for the path of the file.
-fn is_written_at(rt: &HostRuntime, shell: Shell, folder: &str, wanted: &str) -> Result<bool, Fail> {
-    let path = written(rt, shell, folder)?;
-    Ok(path.as_str() == wanted && holds_script(rt, wanted, shell)?)
+fn is_written_at<R: Abort + AllocGlobal + Files>(rt: &R, shell: Shell, folder: &str, wanted: &str) {
+    is(rt, outcome(rt, shell, app(rt.alloc()), folder), wanted);
+    holds_script(rt, wanted, shell);
 }
 
 /// The file of each shell for the program `app`, in the order of the shells.
@@ -211,112 +267,98 @@ pub(crate) const FILES: [&str; 6] = [
 ];
 
 #[test]
-fn each_script_is_written_to_its_file(rt: HostRuntime) -> Result<(), Fail> {
-    let folder = folder(&rt, "lagvtsune_written")?;
+fn each_script_is_written_to_its_file(rt: HostRuntime) {
+    let folder = folder(&rt, "lagvtsune_written");
     for (shell, name) in Shell::value_variants().iter().zip(FILES) {
-        assert!(rt; is_written(&rt, *shell, folder.as_str(), name)?, "{name}");
+        is_written(&rt, *shell, folder.as_str(), name);
     }
-    fs::remove_dir_all(&rt, folder.as_str())?;
-    Ok(())
+    remove(&rt, folder.as_str());
+}
+
+fn remove_file<R: Abort + AllocGlobal + Files>(rt: &R, path: &str) {
+    fs::remove_file(rt, path).expect(rt, "not removed");
 }
 
 // The files and the folder stand where the test runs.
 #[test]
-fn a_folder_that_ends_in_a_slash_or_is_empty_adds_no_slash(rt: HostRuntime) -> Result<(), Fail> {
-    fs::create_dir(&rt, "out")?;
-    assert!(rt; is_written_at(&rt, Shell::PowerShell, "out/", "out/_app.ps1")?);
-    fs::remove_dir_all(&rt, "out")?;
-    assert!(rt; is_written_at(&rt, Shell::Zsh, "", "_app")?);
-    fs::remove_file(&rt, "_app")?;
-    assert!(rt; is_written_at(&rt, Shell::Nushell, "", "app.nu")?);
-    fs::remove_file(&rt, "app.nu")?;
-    Ok(())
+fn a_folder_that_ends_in_a_slash_or_is_empty_adds_no_slash(rt: HostRuntime) {
+    fs::create_dir(&rt, "out").expect(&rt, "no folder");
+    is_written_at(&rt, Shell::PowerShell, "out/", "out/_app.ps1");
+    remove(&rt, "out");
+    is_written_at(&rt, Shell::Zsh, "", "_app");
+    remove_file(&rt, "_app");
+    is_written_at(&rt, Shell::Nushell, "", "app.nu");
+    remove_file(&rt, "app.nu");
 }
 
 // Makes a file longer, and returns what it held.
-fn lengthened(rt: &HostRuntime, path: &str) -> Result<String, Fail> {
-    let held = fs::read_to_string(rt, path)?;
-    let longer = format!(in rt.alloc(); "{held}# more")?;
-    fs::write(rt, path, longer.as_str())?;
-    Ok(held)
+fn lengthened<R: Abort + AllocGlobal + Files>(rt: &R, path: &str) -> String {
+    let held = fs::read_to_string(rt, path).expect(rt, "no file");
+    let longer = format!(in rt.alloc(); "{held}# more").expect(rt, "no text");
+    fs::write(rt, path, longer.as_str()).expect(rt, "not written");
+    held
 }
 
-// Whether a file that was longer holds the script of a command and no more.
-fn is_emptied(rt: &HostRuntime, command: &mut Command, folder: &str) -> Result<bool, Fail> {
-    let with_slash = format!(in rt.alloc(); "{folder}/")?;
-    let path = write_to(rt, Shell::Fish, command, with_slash.as_str())?;
-    let wanted = lengthened(rt, path.as_str())?;
-    write_to(rt, Shell::Fish, command, folder)?;
-    let held = fs::read_to_string(rt, path.as_str())?;
-    Ok(held.as_str() == wanted.as_str())
-}
-
-fn is_emptied_for_app(rt: &HostRuntime, folder: &str) -> Result<bool, Fail> {
-    let mut command = app(rt.alloc())?;
-    is_emptied(rt, &mut command, folder)
-}
-
-#[test]
-fn a_file_that_is_there_is_emptied_first(rt: HostRuntime) -> Result<(), Fail> {
-    let folder = folder(&rt, "lagvtsune_emptied")?;
-    assert!(rt; is_emptied_for_app(&rt, folder.as_str())?);
-    fs::remove_dir_all(&rt, folder.as_str())?;
-    Ok(())
+// Fails unless a file that was longer holds the script of a command and no more.
+fn is_emptied<R: Abort + AllocGlobal + Files>(rt: &R, command: &mut Command, folder: &str) {
+    let with_slash = path_in(rt, folder, "");
+    let path = write_to(rt, Shell::Fish, command, with_slash.as_str()).expect(rt, "not written");
+    let wanted = lengthened(rt, path.as_str());
+    is(
+        rt,
+        write_to(rt, Shell::Fish, command, folder),
+        path.as_str(),
+    );
+    is(rt, fs::read_to_string(rt, path.as_str()), wanted.as_str());
 }
 
 #[test]
-fn a_folder_that_is_not_there_is_a_failed_write(rt: HostRuntime) -> Result<(), Fail> {
-    let folder = folder(&rt, "lagvtsune_missing")?;
-    fs::remove_dir(&rt, folder.as_str())?;
-    let (written, built) = outcome(&rt, Shell::Bash, app(rt.alloc()), folder.as_str())?;
-    assert!(rt; matches!(written, Err(Error::Write(ErrorKind::NotFound))));
-    assert!(rt; built);
-    Ok(())
+fn a_file_that_is_there_is_emptied_first(rt: HostRuntime) {
+    let folder = folder(&rt, "lagvtsune_emptied");
+    let mut command = app(rt.alloc()).expect(&rt, "no command");
+    is_emptied(&rt, &mut command, folder.as_str());
+    drop(command);
+    remove(&rt, folder.as_str());
+}
+
+// Fails unless writing the script of `app` to a folder fails with this kind.
+fn fails<R: Abort + AllocGlobal + Files>(rt: &R, shell: Shell, folder: &str, wanted: ErrorKind) {
+    let written = outcome(rt, shell, app(rt.alloc()), folder);
+    assert!(rt; matches!(written, Err(Error::Write(kind)) if kind == wanted));
+}
+
+#[test]
+fn a_folder_that_is_not_there_is_a_failed_write(rt: HostRuntime) {
+    let folder = folder(&rt, "lagvtsune_missing");
+    remove(&rt, folder.as_str());
+    fails(&rt, Shell::Bash, folder.as_str(), ErrorKind::NotFound);
 }
 
 // The system's device that is always full stands in for the file.
-fn fill_up(rt: &HostRuntime, folder: &str) -> Result<(), Fail> {
-    let path = format!(in rt.alloc(); "{folder}/app.fish")?;
-    symlink(rt, "/dev/full", path.as_str())?;
-    Ok(())
-}
-
 #[test]
-fn a_full_disk_is_a_failed_write(rt: HostRuntime) -> Result<(), Fail> {
-    let folder = folder(&rt, "lagvtsune_full")?;
-    fill_up(&rt, folder.as_str())?;
-    let (written, built) = outcome(&rt, Shell::Fish, app(rt.alloc()), folder.as_str())?;
-    assert!(rt; matches!(written, Err(Error::Write(ErrorKind::StorageFull))));
-    assert!(rt; built);
-    fs::remove_dir_all(&rt, folder.as_str())?;
-    Ok(())
+fn a_full_disk_is_a_failed_write(rt: HostRuntime) {
+    let folder = folder(&rt, "lagvtsune_full");
+    let path = path_in(&rt, folder.as_str(), "app.fish");
+    symlink(&rt, "/dev/full", path.as_str()).expect(&rt, "no link");
+    fails(&rt, Shell::Fish, folder.as_str(), ErrorKind::StorageFull);
+    remove(&rt, folder.as_str());
 }
 
 // A folder stands in the file's place.
-fn block(rt: &HostRuntime, folder: &str) -> Result<(), Fail> {
-    let path = format!(in rt.alloc(); "{folder}/app.bash")?;
-    fs::create_dir(rt, path.as_str())?;
-    Ok(())
+#[test]
+fn a_folder_in_the_place_of_the_file_is_a_failed_write(rt: HostRuntime) {
+    let folder = folder(&rt, "lagvtsune_blocked");
+    let path = path_in(&rt, folder.as_str(), "app.bash");
+    fs::create_dir(&rt, path.as_str()).expect(&rt, "no folder");
+    fails(&rt, Shell::Bash, folder.as_str(), ErrorKind::IsADirectory);
+    remove(&rt, folder.as_str());
 }
 
 #[test]
-fn a_folder_in_the_place_of_the_file_is_a_failed_write(rt: HostRuntime) -> Result<(), Fail> {
-    let folder = folder(&rt, "lagvtsune_blocked")?;
-    block(&rt, folder.as_str())?;
-    let (written, built) = outcome(&rt, Shell::Bash, app(rt.alloc()), folder.as_str())?;
-    assert!(rt; matches!(written, Err(Error::Write(ErrorKind::IsADirectory))));
-    assert!(rt; built);
-    fs::remove_dir_all(&rt, folder.as_str())?;
-    Ok(())
-}
-
-#[test]
-fn no_file_is_made_where_a_label_is_shared(rt: HostRuntime) -> Result<(), Fail> {
-    let folder = folder(&rt, "lagvtsune_clash")?;
-    let (written, built) = outcome(&rt, Shell::Bash, clashing(rt.alloc()), folder.as_str())?;
+fn no_file_is_made_where_a_label_is_shared(rt: HostRuntime) {
+    let folder = folder(&rt, "lagvtsune_clash");
+    let written = outcome(&rt, Shell::Bash, clashing(rt.alloc()), folder.as_str());
     assert!(rt; matches!(written, Err(Error::LabelClash(_))));
-    assert!(rt; built);
     // A folder with nothing in it is the only kind that can be removed so.
-    fs::remove_dir(&rt, folder.as_str())?;
-    Ok(())
+    fs::remove_dir(&rt, folder.as_str()).expect(&rt, "not removed");
 }

@@ -1,5 +1,6 @@
 //! Scripts written to sinks that take little, fail, take nothing, or measure what they take.
 
+use crate::checks::{holds, is};
 use crate::fixtures::{app, colored, colored_alone, helped, many, nested};
 use crate::written::{script, write_script};
 use clap_complete::aot::{Counted, Sink};
@@ -7,7 +8,7 @@ use clap_complete::command::Command;
 use clap_complete::{Error, Shell, generate};
 use std::alloc::Global;
 use std::io::{self, ErrorKind, Write};
-use std::test::Fail;
+use std::process::Abort;
 
 // A writer that takes one byte a call, and fails once it holds `room` bytes; with no kind it then
 // takes nothing.
@@ -67,39 +68,35 @@ fn narrow_sink(alloc: Global, room: usize, kind: Option<ErrorKind>) -> Counted<N
 // The script as a writer takes it that takes one byte a call.
 fn by_bytes(alloc: Global, shell: Shell, command: Result<Command, Error>) -> Result<String, Error> {
     let mut sink = narrow_sink(alloc, usize::MAX, None);
-    write_script(alloc, shell, command, &mut sink)?;
-    Ok(String::from_utf8_lossy(alloc, sink.get_ref().held.as_slice())?)
+    let written = write_script(alloc, shell, command, &mut sink);
+    let text = String::from_utf8_lossy(alloc, sink.get_ref().held.as_slice());
+    drop(sink);
+    written?;
+    Ok(text?)
 }
 
-// Whether a writer that takes one byte a call gets the whole script.
-fn same_by_bytes(alloc: Global, shell: Shell) -> Result<bool, Error> {
-    let whole = script(alloc, shell, nested(alloc))?;
-    let taken = by_bytes(alloc, shell, nested(alloc))?;
-    Ok(taken.as_str() == whole.as_str())
+// Fails unless two scripts are the same.
+fn are_same(rt: &impl Abort, taken: Result<String, Error>, whole: Result<String, Error>) {
+    let whole = whole.expect(rt, "no script");
+    is(rt, taken, whole.as_str());
 }
 
-// The same of copies below `help`.
-fn same_copies_by_bytes(alloc: Global, shell: Shell) -> Result<bool, Error> {
-    let whole = script(alloc, shell, helped(alloc))?;
-    let taken = by_bytes(alloc, shell, helped(alloc))?;
-    Ok(taken.as_str() == whole.as_str())
-}
-
-// The same of possible values.
-fn same_values_by_bytes(alloc: Global, shell: Shell) -> Result<bool, Error> {
-    let whole = script(alloc, shell, colored(alloc))?;
-    let taken = by_bytes(alloc, shell, colored(alloc))?;
-    Ok(taken.as_str() == whole.as_str())
+// Fails unless a writer that takes one byte a call gets the whole scripts of trees with children,
+// with copies below `help` and with possible values.
+fn is_same_by_bytes(rt: &impl Abort, alloc: Global, shell: Shell) {
+    let taken = by_bytes(alloc, shell, nested(alloc));
+    are_same(rt, taken, script(alloc, shell, nested(alloc)));
+    let taken = by_bytes(alloc, shell, helped(alloc));
+    are_same(rt, taken, script(alloc, shell, helped(alloc)));
+    let taken = by_bytes(alloc, shell, colored(alloc));
+    are_same(rt, taken, script(alloc, shell, colored(alloc)));
 }
 
 #[test]
-fn one_byte_a_call_is_the_same_script(rt: HostRuntime) -> Result<(), Fail> {
+fn one_byte_a_call_is_the_same_script(rt: HostRuntime) {
     for shell in Shell::value_variants() {
-        assert!(rt; same_by_bytes(rt.alloc(), *shell)?);
-        assert!(rt; same_copies_by_bytes(rt.alloc(), *shell)?);
-        assert!(rt; same_values_by_bytes(rt.alloc(), *shell)?);
+        is_same_by_bytes(&rt, rt.alloc(), *shell);
     }
-    Ok(())
 }
 
 // How the script of a command ends over a writer that takes `room` bytes: the kind of the write
@@ -156,7 +153,9 @@ fn reports(
 ) -> Result<bool, Error> {
     let whole = script(alloc, shell, app(alloc))?;
     let mut command = app(alloc)?;
-    reports_each(alloc, shell, &mut command, kinds, whole.as_str())
+    let reports = reports_each(alloc, shell, &mut command, kinds, whole.as_str());
+    drop(command);
+    reports
 }
 
 // The same over a fixture with children and possible values.
@@ -167,31 +166,30 @@ fn reports_values(
 ) -> Result<bool, Error> {
     let whole = script(alloc, shell, colored_alone(alloc))?;
     let mut command = colored_alone(alloc)?;
-    reports_each(alloc, shell, &mut command, kinds, whole.as_str())
+    let reports = reports_each(alloc, shell, &mut command, kinds, whole.as_str());
+    drop(command);
+    reports
 }
 
 #[test]
-fn a_writer_that_fails_is_reported(rt: HostRuntime) -> Result<(), Fail> {
+fn a_writer_that_fails_is_reported(rt: HostRuntime) {
     for shell in Shell::value_variants() {
-        assert!(rt; reports(rt.alloc(), *shell, (BROKEN, BROKEN))?);
+        holds(&rt, reports(rt.alloc(), *shell, (BROKEN, BROKEN)));
     }
-    Ok(())
 }
 
 #[test]
-fn a_writer_that_fails_on_a_tree_with_values_is_reported(rt: HostRuntime) -> Result<(), Fail> {
+fn a_writer_that_fails_on_a_tree_with_values_is_reported(rt: HostRuntime) {
     for shell in Shell::value_variants() {
-        assert!(rt; reports_values(rt.alloc(), *shell, (BROKEN, BROKEN))?);
+        holds(&rt, reports_values(rt.alloc(), *shell, (BROKEN, BROKEN)));
     }
-    Ok(())
 }
 
 #[test]
-fn a_writer_that_takes_nothing_more_is_reported(rt: HostRuntime) -> Result<(), Fail> {
+fn a_writer_that_takes_nothing_more_is_reported(rt: HostRuntime) {
     for shell in Shell::value_variants() {
-        assert!(rt; reports(rt.alloc(), *shell, (None, ZERO))?);
+        holds(&rt, reports(rt.alloc(), *shell, (None, ZERO)));
     }
-    Ok(())
 }
 
 // What a measuring writer counts of the script of many options.
@@ -201,12 +199,15 @@ fn handed_on(alloc: Global, shell: Shell) -> Result<Measured, Error> {
     Ok(sink.into_inner())
 }
 
+fn is_in_short_slices(rt: &impl Abort, alloc: Global, shell: Shell) {
+    let measured = handed_on(alloc, shell).expect(rt, "no script");
+    assert!(rt; measured.all > 5_000);
+    assert!(rt; measured.most <= 1_024);
+}
+
 #[test]
-fn no_slice_of_a_long_script_is_long(rt: HostRuntime) -> Result<(), Fail> {
+fn no_slice_of_a_long_script_is_long(rt: HostRuntime) {
     for shell in Shell::value_variants() {
-        let measured = handed_on(rt.alloc(), *shell)?;
-        assert!(rt; measured.all > 5_000);
-        assert!(rt; measured.most <= 1_024);
+        is_in_short_slices(&rt, rt.alloc(), *shell);
     }
-    Ok(())
 }

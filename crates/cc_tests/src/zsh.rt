@@ -1,12 +1,10 @@
 //! Zsh scripts.
 
+use crate::checks::{has, is};
 use crate::fixtures::{colored, counted, global, helped, placed};
 use crate::written::{script, script_for};
+use clap_complete::Generator;
 use clap_complete::aot::Zsh;
-use clap_complete::command::Command;
-use clap_complete::{Error, Generator};
-use std::alloc::Global;
-use std::test::Fail;
 
 const HELPED: &str = "#compdef my-app
 
@@ -111,15 +109,12 @@ fi
 ";
 
 #[test]
-fn the_whole_script(rt: HostRuntime) -> Result<(), Fail> {
-    let script = script_for(rt.alloc(), Zsh, helped(rt.alloc()), "my-app")?;
-    assert_eq!(rt; script.as_str(), HELPED);
-    Ok(())
-}
-
-// Whether the script of a command has these lines.
-fn has(alloc: Global, command: Result<Command, Error>, lines: &str) -> Result<bool, Error> {
-    Ok(script(alloc, Zsh, command)?.as_str().contains(lines))
+fn the_whole_script(rt: HostRuntime) {
+    is(
+        &rt,
+        script_for(rt.alloc(), Zsh, helped(rt.alloc()), "my-app"),
+        HELPED,
+    );
 }
 
 const COLORED: &str = "
@@ -128,9 +123,8 @@ const COLORED: &str = "
 ";
 
 #[test]
-fn values_that_are_shown_are_offered(rt: HostRuntime) -> Result<(), Fail> {
-    assert!(rt; has(rt.alloc(), colored(rt.alloc()), COLORED)?);
-    Ok(())
+fn values_that_are_shown_are_offered(rt: HostRuntime) {
+    has(&rt, script(rt.alloc(), Zsh, colored(rt.alloc())), COLORED);
 }
 
 const COUNTED: &str = "
@@ -140,9 +134,8 @@ const COUNTED: &str = "
 ";
 
 #[test]
-fn conflicts_and_repeated_flags_are_told(rt: HostRuntime) -> Result<(), Fail> {
-    assert!(rt; has(rt.alloc(), counted(rt.alloc()), COUNTED)?);
-    Ok(())
+fn conflicts_and_repeated_flags_are_told(rt: HostRuntime) {
+    has(&rt, script(rt.alloc(), Zsh, counted(rt.alloc())), COUNTED);
 }
 
 const GLOBAL: &str = "(run)
@@ -155,9 +148,8 @@ _arguments \"${_arguments_options[@]}\" : \\
 ";
 
 #[test]
-fn a_global_flag_is_in_conflict_with_what_its_parent_has(rt: HostRuntime) -> Result<(), Fail> {
-    assert!(rt; has(rt.alloc(), global(rt.alloc()), GLOBAL)?);
-    Ok(())
+fn a_global_flag_is_in_conflict_with_what_its_parent_has(rt: HostRuntime) {
+    has(&rt, script(rt.alloc(), Zsh, global(rt.alloc())), GLOBAL);
 }
 
 const PLACED: &str = "
@@ -168,14 +160,11 @@ const PLACED: &str = "
 ";
 
 #[test]
-fn positionals_say_how_many_words_they_take(rt: HostRuntime) -> Result<(), Fail> {
-    assert!(rt; has(rt.alloc(), placed(rt.alloc()), PLACED)?);
-    Ok(())
+fn positionals_say_how_many_words_they_take(rt: HostRuntime) {
+    has(&rt, script(rt.alloc(), Zsh, placed(rt.alloc())), PLACED);
 }
 
 #[test]
-fn the_file_is_named_after_the_program(rt: HostRuntime) -> Result<(), Fail> {
-    let file = Zsh.file_name(rt.alloc(), "app")?;
-    assert_eq!(rt; file.as_str(), "_app");
-    Ok(())
+fn the_file_is_named_after_the_program(rt: HostRuntime) {
+    is(&rt, Zsh.file_name(rt.alloc(), "app"), "_app");
 }

@@ -85,28 +85,40 @@ fn refusal_of(alloc: Global, error: &Error) -> Refusal
 #[cfg(test)]
 mod tests {
     use super::plan;
+    use crate::checks::same;
     use crate::types::{Plan, Refusal};
-    use std::alloc::Global;
+    use std::alloc::{AllocError, Global};
     use std::convert::AsStr;
-    use std::test::Fail;
+    use std::process::Abort;
 
-    fn planned(alloc: Global, words: &[&str]) -> Result<Result<Plan, Refusal>, Fail> {
+    fn texts(alloc: Global, words: &[&str]) -> Result<Vec<String>, AllocError> {
         let mut all = Vec::new(alloc);
         for word in words {
             all.push(String::from_str(alloc, word)?)?;
         }
-        Ok(plan(alloc, all.as_slice()))
+        Ok(all)
     }
 
-    fn failed(alloc: Global, words: &[&str]) -> Result<Refusal, Fail> {
-        match planned(alloc, words)? {
-            Ok(_) => Err(Fail::from("a plan")),
-            Err(refusal) => Ok(refusal),
+    fn planned(rt: &impl Abort, alloc: Global, words: &[&str]) -> Result<Plan, Refusal> {
+        let words = texts(alloc, words).expect(rt, "no words");
+        plan(alloc, words.as_slice())
+    }
+
+    fn failed(rt: &impl Abort, alloc: Global, words: &[&str]) -> Refusal {
+        match planned(rt, alloc, words) {
+            Ok(_) => panic!(rt; "a plan"),
+            Err(refusal) => refusal,
         }
     }
 
+    // Fails unless the plan is a script with these values.
+    fn is_script(rt: &impl Abort, plan: Plan, wanted: (&str, &str, &str)) {
+        let Plan::Script(shell, bin, tree) = plan;
+        same(rt, (shell.as_str(), bin.as_str(), tree.as_str()), wanted);
+    }
+
     #[test]
-    fn asks_for_a_script(rt: HostRuntime) -> Result<(), Fail> {
+    fn asks_for_a_script(rt: HostRuntime) {
         let words = [
             "complgen",
             "script",
@@ -115,36 +127,31 @@ mod tests {
             "--bin=app",
             "tree.json",
         ];
-        let Ok(Plan::Script(shell, bin, tree)) = planned(rt.alloc(), words.as_slice())? else {
-            return Err(Fail::from("no plan"));
-        };
-        assert!(rt; shell.as_str() == "elvish" && bin.as_str() == "app");
-        assert!(rt; tree.as_str() == "tree.json");
-        Ok(())
+        let plan = planned(&rt, rt.alloc(), words.as_slice()).expect(&rt, "no plan");
+        is_script(&rt, plan, ("elvish", "app", "tree.json"));
     }
 
     #[test]
-    fn fails_on_bad_words(rt: HostRuntime) -> Result<(), Fail> {
-        let refusal = failed(rt.alloc(), &["complgen", "script"])?;
+    fn fails_on_missing_words(rt: HostRuntime) {
+        let refusal = failed(&rt, rt.alloc(), &["complgen", "script"]);
         let text = "error: the following required arguments were not provided:\n  \
             --shell <SHELL>\n  --bin <NAME>\n  <TREE>\n\n\
             Usage: complgen script --shell <SHELL> --bin <NAME> <TREE>\n\n\
             For more information, try '--help'.\n";
-        assert_eq!(rt; refusal.status, 2);
-        assert_eq!(rt; refusal.text.as_str(), text);
-        let unknown = failed(
-            rt.alloc(),
-            &["complgen", "register", "--bin", "app", "tree.json"],
-        )?;
-        assert_eq!(rt; unknown.status, 2);
-        Ok(())
+        same(&rt, (refusal.status, refusal.text.as_str()), (2, text));
     }
 
     #[test]
-    fn shows_help(rt: HostRuntime) -> Result<(), Fail> {
-        let refusal = failed(rt.alloc(), &["complgen", "--help"])?;
-        assert_eq!(rt; refusal.status, 0);
+    fn fails_on_unknown_words(rt: HostRuntime) {
+        let words = ["complgen", "register", "--bin", "app", "tree.json"];
+        let refusal = failed(&rt, rt.alloc(), words.as_slice());
+        same(&rt, refusal.status, 2);
+    }
+
+    #[test]
+    fn shows_help(rt: HostRuntime) {
+        let refusal = failed(&rt, rt.alloc(), &["complgen", "--help"]);
+        same(&rt, refusal.status, 0);
         assert!(rt; refusal.text.as_str().contains("Usage: complgen <COMMAND>"));
-        Ok(())
     }
 }

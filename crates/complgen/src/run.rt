@@ -128,31 +128,34 @@ fn with_text(text: Result<String, AllocError>) -> Refusal
 #[cfg(test)]
 mod tests {
     use super::{run, script};
+    use crate::checks::{has, same};
     use crate::types::{Plan, Refusal};
     use clap_complete::aot::Collected;
-    use std::alloc::Global;
+    use std::alloc::{AllocError, Global};
     use std::convert::AsStr;
-    use std::test::Fail;
+    use std::process::Abort;
 
-    // How a script for this shell, over this file, fails.
-    fn failed(alloc: Global, shell: &str, file: Option<&[u8]>) -> Result<Refusal, Fail> {
+    fn plan(alloc: Global, shell: &str) -> Result<Plan, AllocError> {
         let bin = String::from_str(alloc, "app")?;
         let tree = String::from_str(alloc, "tree.json")?;
-        let plan = Plan::Script(String::from_str(alloc, shell)?, bin, tree);
+        Ok(Plan::Script(String::from_str(alloc, shell)?, bin, tree))
+    }
+
+    // Fails unless a script for this shell, over this file, ends with this text at status 1, and
+    // nothing is written.
+    fn fails(rt: &impl Abort, alloc: Global, shell: &str, file: Option<&[u8]>, wanted: &str) {
+        let plan = plan(alloc, shell).expect(rt, "no plan");
         let mut out = Collected::new(alloc);
         match run(alloc, &plan, file, &mut out) {
-            Ok(()) => Err(Fail::from("a script")),
-            Err(_) if !out.as_slice().is_empty() => Err(Fail::from("something was written")),
-            Err(refusal) => Ok(refusal),
+            Ok(()) => panic!(rt; "a script"),
+            Err(refusal) => same(rt, (refusal.status, refusal.text.as_str()), (1, wanted)),
         }
+        assert!(rt; out.as_slice().is_empty());
     }
 
     #[test]
-    fn reports_a_shell_before_the_tree(rt: HostRuntime) -> Result<(), Fail> {
-        let refusal = failed(rt.alloc(), "tcsh", None)?;
-        assert_eq!(rt; refusal.status, 1);
-        assert_eq!(rt; refusal.text.as_str(), "invalid variant: tcsh\n");
-        Ok(())
+    fn reports_a_shell_before_the_tree(rt: HostRuntime) {
+        fails(&rt, rt.alloc(), "tcsh", None, "invalid variant: tcsh\n");
     }
 
     // A tree with a child.
@@ -160,15 +163,11 @@ mod tests {
         {\"name\": \"run\", \"visible_aliases\": [\"r\"], \"aliases\": [\"go\"]}]}";
 
     // The script for this shell of the tree in a file.
-    fn script_of(alloc: Global, shell: &str, file: &[u8]) -> Result<Vec<u8>, Fail> {
-        let bin = String::from_str(alloc, "app")?;
-        let path = String::from_str(alloc, "tree.json")?;
-        let plan = Plan::Script(String::from_str(alloc, shell)?, bin, path);
+    fn script_of(alloc: Global, shell: &str, file: &[u8]) -> Result<String, Refusal> {
+        let plan = plan(alloc, shell)?;
         let mut out = Collected::new(alloc);
-        match run(alloc, &plan, Some(file), &mut out) {
-            Ok(()) => Ok(out.into_vec()),
-            Err(_) => Err(Fail::from("no script")),
-        }
+        run(alloc, &plan, Some(file), &mut out)?;
+        Ok(String::from_utf8_lossy(alloc, out.as_slice())?)
     }
 
     // In the gate there is memory enough. With `rt try --test --fail-alloc 1` the first allocation
@@ -180,42 +179,39 @@ mod tests {
         match script(rt.alloc(), "elvish", "app", file, &mut out) {
             Ok(()) => assert!(rt; !out.as_slice().is_empty()),
             Err(refusal) => {
-                assert_eq!(rt; refusal.text.as_str(), "out of memory\n");
+                same(&rt, refusal.text.as_str(), "out of memory\n");
                 assert!(rt; out.as_slice().is_empty());
             }
         }
     }
 
     #[test]
-    fn writes_the_keys_of_a_child(rt: HostRuntime) -> Result<(), Fail> {
-        let script = script_of(rt.alloc(), "elvish", PARENT.as_bytes())?;
-        let script = String::from_utf8_lossy(rt.alloc(), script.as_slice())?;
+    fn writes_the_keys_of_a_child(rt: HostRuntime) {
+        let script = script_of(rt.alloc(), "elvish", PARENT.as_bytes()).expect(&rt, "no script");
         assert!(rt; script.as_str().contains("&'app'= {"));
         assert!(rt; script.as_str().contains("&'app;run'= {"));
         assert!(rt; script.as_str().contains("&'app;r'= {"));
         assert!(rt; !script.as_str().contains("app;go"));
-        Ok(())
     }
 
     #[test]
-    fn writes_for_powershell(rt: HostRuntime) -> Result<(), Fail> {
-        let script = script_of(rt.alloc(), "powershell", PARENT.as_bytes())?;
-        let script = String::from_utf8_lossy(rt.alloc(), script.as_slice())?;
-        assert!(rt;
-            script
-                .as_str()
-                .contains("Register-ArgumentCompleter -Native -CommandName 'app'")
+    fn writes_for_powershell(rt: HostRuntime) {
+        let head = "Register-ArgumentCompleter -Native -CommandName 'app'";
+        has(
+            &rt,
+            script_of(rt.alloc(), "powershell", PARENT.as_bytes()),
+            head,
         );
-        assert!(rt; script.as_str().contains("'app;r' {"));
-        Ok(())
+        has(
+            &rt,
+            script_of(rt.alloc(), "powershell", PARENT.as_bytes()),
+            "'app;r' {",
+        );
     }
 
     #[test]
-    fn reports_a_file_that_is_not_there(rt: HostRuntime) -> Result<(), Fail> {
-        let refusal = failed(rt.alloc(), "elvish", None)?;
-        assert_eq!(rt; refusal.status, 1);
-        assert_eq!(rt; refusal.text.as_str(), "tree: unreadable\n");
-        Ok(())
+    fn reports_a_file_that_is_not_there(rt: HostRuntime) {
+        fails(&rt, rt.alloc(), "elvish", None, "tree: unreadable\n");
     }
 
     // A brace left open, an empty file, bytes that are not UTF-8, and a number too large for a
@@ -223,17 +219,14 @@ mod tests {
     const NOT_JSON: [&[u8]; 4] = [b"{", b"", b"{\"name\":\"\xff\"}", b"{\"name\":1e999}"];
 
     #[test]
-    fn reports_a_file_that_is_not_json(rt: HostRuntime) -> Result<(), Fail> {
+    fn reports_a_file_that_is_not_json(rt: HostRuntime) {
         for bytes in NOT_JSON {
-            let refusal = failed(rt.alloc(), "elvish", Some(bytes))?;
-            assert_eq!(rt; refusal.status, 1);
-            assert_eq!(rt; refusal.text.as_str(), "tree: not JSON\n");
+            fails(&rt, rt.alloc(), "elvish", Some(bytes), "tree: not JSON\n");
         }
-        Ok(())
     }
 
     // Adds a text so many times.
-    fn push_times(text: &mut String, part: &str, times: usize) -> Result<(), Fail> {
+    fn push_times(text: &mut String, part: &str, times: usize) -> Result<(), AllocError> {
         for _ in 0..times {
             text.push_str(part)?;
         }
@@ -241,26 +234,32 @@ mod tests {
     }
 
     #[test]
-    fn reports_a_million_open_brackets(rt: HostRuntime) -> Result<(), Fail> {
+    fn reports_a_million_open_brackets(rt: HostRuntime) {
         let mut text = String::new(rt.alloc());
-        push_times(&mut text, "[", 1_000_000)?;
-        let refusal = failed(rt.alloc(), "elvish", Some(text.as_bytes()))?;
-        assert_eq!(rt; refusal.status, 1);
-        assert_eq!(rt; refusal.text.as_str(), "tree: not JSON\n");
-        Ok(())
+        push_times(&mut text, "[", 1_000_000).expect(&rt, "no text");
+        fails(
+            &rt,
+            rt.alloc(),
+            "elvish",
+            Some(text.as_bytes()),
+            "tree: not JSON\n",
+        );
     }
 
     // Each parent is an object and a list, so 63 of them and a child nest as deep as JSON may.
-    #[test]
-    fn writes_the_script_of_the_deepest_tree(rt: HostRuntime) -> Result<(), Fail> {
-        let mut text = String::new(rt.alloc());
+    fn deepest(alloc: Global) -> Result<String, AllocError> {
+        let mut text = String::new(alloc);
         push_times(&mut text, "{\"name\":\"a\",\"subcommands\":[", 63)?;
         text.push_str("{\"name\":\"a\"}")?;
         push_times(&mut text, "]}", 63)?;
-        let script = script_of(rt.alloc(), "elvish", text.as_bytes())?;
-        let script = String::from_utf8_lossy(rt.alloc(), script.as_slice())?;
-        assert!(rt; script.as_str().contains("&'app;a;a;a'= {"));
-        Ok(())
+        Ok(text)
+    }
+
+    #[test]
+    fn writes_the_script_of_the_deepest_tree(rt: HostRuntime) {
+        let text = deepest(rt.alloc()).expect(&rt, "no text");
+        let script = script_of(rt.alloc(), "elvish", text.as_bytes());
+        has(&rt, script, "&'app;a;a;a'= {");
     }
 
     // In bash `a-b` has the label of `b` below `a`.
@@ -268,21 +267,19 @@ mod tests {
         {\"name\": \"a-b\"}, {\"name\": \"a\", \"subcommands\": [{\"name\": \"b\"}]}]}";
 
     #[test]
-    fn reports_two_commands_with_one_label(rt: HostRuntime) -> Result<(), Fail> {
-        let refusal = failed(rt.alloc(), "bash", Some(CLASH.as_bytes()))?;
-        assert_eq!(rt; refusal.status, 1);
-        assert_eq!(rt;
-            refusal.text.as_str(),
-            "two commands share the label app__subcmd__a__subcmd__b\n"
-        );
-        Ok(())
+    fn reports_two_commands_with_one_label(rt: HostRuntime) {
+        let wanted = "two commands share the label app__subcmd__a__subcmd__b\n";
+        fails(&rt, rt.alloc(), "bash", Some(CLASH.as_bytes()), wanted);
     }
 
     #[test]
-    fn reports_a_file_of_another_form(rt: HostRuntime) -> Result<(), Fail> {
-        let refusal = failed(rt.alloc(), "elvish", Some(b"{\"name\":1.5}"))?;
-        assert_eq!(rt; refusal.status, 1);
-        assert_eq!(rt; refusal.text.as_str(), "tree: bad form\n");
-        Ok(())
+    fn reports_a_file_of_another_form(rt: HostRuntime) {
+        fails(
+            &rt,
+            rt.alloc(),
+            "elvish",
+            Some(b"{\"name\":1.5}"),
+            "tree: bad form\n",
+        );
     }
 }

@@ -69,23 +69,21 @@ impl From<AllocError> for Refusal {
 #[cfg(test)]
 mod tests {
     use super::*;
-    use std::test::Fail;
+    use crate::checks::is;
 
-    #[test]
-    fn debug_shows_each_field(rt: HostRuntime) -> Result<(), Fail> {
-        let alloc = rt.alloc();
+    fn script(alloc: Global) -> Result<Plan, AllocError> {
         let shell = String::from_str(alloc, "elvish")?;
         let bin = String::from_str(alloc, "app")?;
-        let plan = Plan::Script(shell, bin, String::from_str(alloc, "tree.json")?);
-        let shown = format!(in alloc; "{plan:?}")?;
-        assert_eq!(rt;
-            shown.as_str(),
-            "Script(\"elvish\", \"app\", \"tree.json\")"
-        );
+        Ok(Plan::Script(shell, bin, String::from_str(alloc, "tree.json")?))
+    }
+
+    #[test]
+    fn debug_shows_each_field(rt: HostRuntime) {
+        let plan = script(rt.alloc()).expect(&rt, "no plan");
+        let wanted = "Script(\"elvish\", \"app\", \"tree.json\")";
+        is(&rt, format!(in rt.alloc(); "{plan:?}"), wanted);
         let refusal = Refusal::from(AllocError);
-        let shown = format!(in alloc; "{refusal:?}")?;
         let wanted = "Refusal { status: 1, text: \"out of memory\\n\" }";
-        assert_eq!(rt; shown.as_str(), wanted);
-        Ok(())
+        is(&rt, format!(in rt.alloc(); "{refusal:?}"), wanted);
     }
 }

@@ -1,12 +1,12 @@
-//! The lists that generators share, and the names of their files.
+//! The lists that generators share.
 
-use crate::fixtures::{built, my_app, nested};
-use clap_complete::aot::{Elvish, PowerShell, utils};
-use clap_complete::command::Command;
-use clap_complete::{Error, Generator};
+use crate::checks::is;
+use crate::fixtures::{MY_APP, NESTED, built_tree};
+use cc_base::Error;
+use cc_command::Command;
+use cc_lists::utils;
 use std::alloc::Global;
 use std::fmt::Write;
-use std::test::Fail;
 
 const ALL: &str = "test: my-cmd test
 hello: my-cmd hello
@@ -74,35 +74,43 @@ fn longs_of_flags_of(alloc: Global, command: &Command, word: &str) -> Result<Str
 }
 
 #[test]
-fn visible_aliases_stand_before_the_name(rt: HostRuntime) -> Result<(), Fail> {
-    let command = built(rt.alloc(), my_app(rt.alloc()))?;
-    let names = shorts_and_longs_of(rt.alloc(), &command, "test")?;
-    assert_eq!(rt; names.as_str(), "p f h path file help ");
-    Ok(())
+fn visible_aliases_stand_before_the_name(rt: HostRuntime) {
+    let command = built_tree(&rt, rt.alloc(), MY_APP);
+    is(
+        &rt,
+        shorts_and_longs_of(rt.alloc(), &command, "test"),
+        "p f h path file help ",
+    );
+    drop(command);
 }
 
 #[test]
-fn generated_flags_stand_behind(rt: HostRuntime) -> Result<(), Fail> {
-    let command = built(rt.alloc(), my_app(rt.alloc()))?;
-    let names = shorts_and_longs(rt.alloc(), &command)?;
-    assert_eq!(rt; names.as_str(), "h V help version ");
-    Ok(())
+fn generated_flags_stand_behind(rt: HostRuntime) {
+    let command = built_tree(&rt, rt.alloc(), MY_APP);
+    is(
+        &rt,
+        shorts_and_longs(rt.alloc(), &command),
+        "h V help version ",
+    );
+    drop(command);
 }
 
 #[test]
-fn flags_take_no_values(rt: HostRuntime) -> Result<(), Fail> {
-    let command = built(rt.alloc(), my_app(rt.alloc()))?;
-    let longs = longs_of_flags_of(rt.alloc(), &command, "test")?;
-    assert_eq!(rt; longs.as_str(), "file help ");
-    Ok(())
+fn flags_take_no_values(rt: HostRuntime) {
+    let command = built_tree(&rt, rt.alloc(), MY_APP);
+    is(
+        &rt,
+        longs_of_flags_of(rt.alloc(), &command, "test"),
+        "file help ",
+    );
+    drop(command);
 }
 
 #[test]
-fn generated_flags_are_flags(rt: HostRuntime) -> Result<(), Fail> {
-    let command = built(rt.alloc(), my_app(rt.alloc()))?;
-    let longs = longs_of_flags(rt.alloc(), &command)?;
-    assert_eq!(rt; longs.as_str(), "help version ");
-    Ok(())
+fn generated_flags_are_flags(rt: HostRuntime) {
+    let command = built_tree(&rt, rt.alloc(), MY_APP);
+    is(&rt, longs_of_flags(rt.alloc(), &command), "help version ");
+    drop(command);
 }
 
 // The pairs, a line for each.
@@ -124,11 +132,10 @@ fn all_lines(alloc: Global, command: &Command) -> Result<String, Error> {
 }
 
 #[test]
-fn children_stand_before_what_is_below_them(rt: HostRuntime) -> Result<(), Fail> {
-    let command = built(rt.alloc(), my_app(rt.alloc()))?;
-    let lines = all_lines(rt.alloc(), &command)?;
-    assert_eq!(rt; lines.as_str(), ALL);
-    Ok(())
+fn children_stand_before_what_is_below_them(rt: HostRuntime) {
+    let command = built_tree(&rt, rt.alloc(), MY_APP);
+    is(&rt, all_lines(rt.alloc(), &command), ALL);
+    drop(command);
 }
 
 // The lines of the children of a command; none of one that is not built.
@@ -141,17 +148,12 @@ fn child_lines(alloc: Global, command: &Command) -> Result<String, Error> {
 }
 
 #[test]
-fn a_child_is_listed_under_each_visible_name(rt: HostRuntime) -> Result<(), Fail> {
-    let command = built(rt.alloc(), nested(rt.alloc()))?;
-    let lines = child_lines(rt.alloc(), &command)?;
-    assert_eq!(rt; lines.as_str(), "run: app run\nr: app run\n");
-    Ok(())
-}
-
-#[test]
-fn each_shell_has_its_file(rt: HostRuntime) -> Result<(), Fail> {
-    let alloc = rt.alloc();
-    assert_eq!(rt; Elvish.file_name(alloc, "app")?.as_str(), "app.elv");
-    assert_eq!(rt; PowerShell.file_name(alloc, "app")?.as_str(), "_app.ps1");
-    Ok(())
+fn a_child_is_listed_under_each_visible_name(rt: HostRuntime) {
+    let command = built_tree(&rt, rt.alloc(), NESTED);
+    is(
+        &rt,
+        child_lines(rt.alloc(), &command),
+        "run: app run\nr: app run\n",
+    );
+    drop(command);
 }

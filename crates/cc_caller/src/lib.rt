@@ -1,0 +1,32 @@
+//! A caller of the library whose contract says what the script that it writes reads to.
+#![tactic(auto)]
+
+ghost use Rattle.std.specs.Prelude.{Some};
+ghost use Rattle.std.specs.String.{string_bytes};
+ghost use Rattle.clap_complete.specs.Built.{built_under};
+ghost use Rattle.cc_caller.specs.PlainScript.{TakesPlain};
+
+use clap_complete::aot::{Elvish, Sink};
+use clap_complete::command::{Command, is_plain_name};
+use clap_complete::{Error, generate};
+use std::alloc::Global;
+
+/// Writes the Elvish script of a plain command under a plain bin name, and returns whether it did:
+/// `Ok(false)` where one of them is not plain, and then nothing is written.
+///
+/// Fails with `Memory` and `Write` as `generate` does.
+pub fn write_if_plain<W: Sink>(
+    alloc: Global,
+    command: &mut Command,
+    bin_name: String,
+    sink: &mut W,
+) -> Result<bool, Error>
+    ensures { TakesPlain result (W.taken sink.old) (W.taken sink.new)
+        (built_under (Some (string_bytes bin_name)) command.old) }
+{
+    if !command.is_plain() || !is_plain_name(bin_name.as_str()) {
+        return Ok(false);
+    }
+    generate(alloc, Elvish, command, bin_name, sink)?;
+    Ok(true)
+}

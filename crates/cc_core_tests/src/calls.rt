@@ -1,0 +1,118 @@
+//! Calls that allocate, with memory enough: they do not fail, and return what they
+//! are to return. The other modules here run the rest of them.
+
+use crate::arguments::with_shorts;
+use crate::checks::{is, same};
+use crate::fixtures::{NESTED, built, tree};
+use cc_arg::{Arg, ArgAction};
+use cc_base::{Error, Text};
+use cc_command::Command;
+use std::alloc::Global;
+use std::process::Abort;
+
+// Adds the texts, with a space after each.
+fn push_all(line: &mut String, texts: &[Text]) -> Result<(), Error> {
+    for text in texts {
+        line.push_str(text.as_str())?;
+        line.push(' ')?;
+    }
+    Ok(())
+}
+
+// The visible longs, the hidden ones and the value names.
+fn names(alloc: Global, arg: &Arg) -> Result<String, Error> {
+    let mut line = String::new(alloc);
+    push_all(&mut line, arg.get_visible_aliases())?;
+    push_all(&mut line, arg.get_aliases())?;
+    push_all(&mut line, arg.get_value_names())?;
+    Ok(line)
+}
+
+// A flag with names of each kind, shown and hidden.
+fn file(alloc: Global) -> Result<Arg, Error> {
+    let path = String::from_str(alloc, "path")?;
+    let old = String::from_str(alloc, "old")?;
+    let file = String::from_str(alloc, "file")?;
+    let flag = with_shorts(alloc)?.long(file).action(ArgAction::SetTrue);
+    flag.visible_alias(path)?.alias(old)
+}
+
+fn with_value_name(alloc: Global) -> Result<Arg, Error> {
+    let name = String::from_str(alloc, "FILE")?;
+    file(alloc)?.value_name(name)
+}
+
+#[test]
+fn an_argument_keeps_its_names_and_is_copied(rt: HostRuntime) {
+    let arg = with_value_name(rt.alloc()).expect(&rt, "no argument");
+    same(&rt, arg.get_visible_short_aliases(), ['p'].as_slice());
+    same(&rt, arg.get_short_aliases(), ['q'].as_slice());
+    let copy = arg.try_clone(rt.alloc()).expect(&rt, "no copy");
+    is(&rt, names(rt.alloc(), &copy), "path old FILE ");
+    drop(copy);
+    drop(arg);
+}
+
+// The visible aliases and the hidden ones.
+fn aliases(alloc: Global, command: &Command) -> Result<String, Error> {
+    let mut line = String::new(alloc);
+    push_all(&mut line, command.get_visible_aliases())?;
+    push_all(&mut line, command.get_aliases())?;
+    Ok(line)
+}
+
+fn aliased(alloc: Global) -> Result<Command, Error> {
+    let name = String::from_str(alloc, "test")?;
+    let hidden = String::from_str(alloc, "t")?;
+    Command::new(alloc, name).alias(hidden)
+}
+
+fn with_file(alloc: Global) -> Result<Command, Error> {
+    with(file(alloc), aliased(alloc))
+}
+
+fn with(arg: Result<Arg, Error>, command: Result<Command, Error>) -> Result<Command, Error> {
+    let arg = arg?;
+    command?.arg(arg)
+}
+
+// A command with aliases of each kind and an argument.
+fn test(alloc: Global) -> Result<Command, Error> {
+    let shown = String::from_str(alloc, "tests")?;
+    with_file(alloc)?.visible_alias(shown)
+}
+
+#[test]
+fn a_command_keeps_its_aliases_and_its_arguments(rt: HostRuntime) {
+    let command = test(rt.alloc()).expect(&rt, "no command");
+    is(&rt, aliases(rt.alloc(), &command), "tests t ");
+    same(&rt, command.get_arguments().len(), 1);
+    drop(command);
+}
+
+// A command as generators ask for it: with a bin name, and built.
+fn ready(rt: &impl Abort, alloc: Global, text: &str) -> Command {
+    let bin_name = String::from_str(alloc, "app").expect(rt, "no name");
+    built(rt, alloc, tree(rt, alloc, text).bin_name(bin_name))
+}
+
+#[test]
+fn a_command_keeps_its_children_and_is_built(rt: HostRuntime) {
+    let command = ready(&rt, rt.alloc(), NESTED);
+    same(&rt, command.get_subcommands().len(), 1);
+    assert!(rt; command.is_ready());
+    drop(command);
+}
+
+// A copy of a copy of a copy.
+fn copied(alloc: Global, text: &str) -> Result<Option<Text>, Error> {
+    let copy = Text::copy_of(alloc, text)?;
+    let copy = copy.try_clone(alloc)?;
+    Ok(Text::copy_of_some(alloc, Some(copy.as_str()))?)
+}
+
+#[test]
+fn a_text_is_copied(rt: HostRuntime) {
+    let copy = copied(rt.alloc(), "a b").expect(&rt, "out of memory");
+    same(&rt, copy.as_ref().map(Text::as_str), Some("a b"));
+}

@@ -1,0 +1,63 @@
+//! Words that lead from a command to its children, over the numbered nodes.
+
+use crate::checks::same;
+use crate::fixtures::{MY_APP, tree};
+use cc_base::Error;
+use cc_command::Command;
+use cc_flat::{Flat, Found, Index};
+use std::alloc::Global;
+use std::process::Abort;
+
+// What a word leads to from a command.
+fn found(alloc: Global, root: &Command, word: &str) -> Result<Option<Found>, Error> {
+    let index = Index::new(alloc, Flat::new(alloc, root)?)?;
+    let found = found_in(&index, word);
+    drop(index);
+    Ok(found)
+}
+
+fn found_in(index: &Index<'_>, word: &str) -> Option<Found> {
+    if index.flat().len() == 0 {
+        return None;
+    }
+    index.find(0, word)
+}
+
+// Fails unless a word leads to this from the root of `myapp`.
+fn leads(rt: &impl Abort, alloc: Global, word: &str, wanted: Option<Found>) {
+    let root = tree(rt, alloc, MY_APP);
+    same(rt, found(alloc, &root, word).expect(rt, "no index"), wanted);
+    drop(root);
+}
+
+#[test]
+fn a_word_leads_to_the_child_of_that_name_or_alias(rt: HostRuntime) {
+    let shown = Found {
+        child: 1,
+        visible: true,
+    };
+    let hidden = Found {
+        child: 1,
+        visible: false,
+    };
+    leads(&rt, rt.alloc(), "test", Some(shown));
+    leads(&rt, rt.alloc(), "t", Some(hidden));
+    leads(&rt, rt.alloc(), "config", None);
+}
+
+// The parents of the root and of its first child; `None` where it has none.
+fn parents(flat: &Flat<'_>) -> Option<(Option<usize>, Option<usize>)> {
+    if flat.len() < 2 {
+        return None;
+    }
+    Some((flat.parent(0), flat.parent(1)))
+}
+
+#[test]
+fn a_node_has_its_parent_and_the_root_has_none(rt: HostRuntime) {
+    let root = tree(&rt, rt.alloc(), MY_APP);
+    let flat = Flat::new(rt.alloc(), &root).expect(&rt, "no nodes");
+    same(&rt, parents(&flat), Some((None, Some(0))));
+    drop(flat);
+    drop(root);
+}

@@ -1,0 +1,30 @@
+//! Tests of the crates below `clap_complete` that know no shell: arguments, trees, tree files, lists,
+//! visits and quoted words. They need few crates, so that the merge gate can prove them early.
+#![tactic(auto)]
+
+#[cfg(test)]
+mod arguments;
+#[cfg(test)]
+mod calls;
+#[cfg(test)]
+mod checks;
+#[cfg(test)]
+mod debug;
+#[cfg(test)]
+mod fixtures;
+#[cfg(test)]
+mod index;
+#[cfg(test)]
+mod kinds;
+#[cfg(test)]
+mod lists;
+#[cfg(test)]
+mod quoting;
+#[cfg(test)]
+mod tree_file;
+#[cfg(test)]
+mod trees;
+#[cfg(test)]
+mod values;
+#[cfg(test)]
+mod visits;

@@ -1,0 +1,168 @@
+//! The writers and readers of quoted words.
+
+use crate::checks::{is, is_none, same};
+use cc_base::{Collected, Error};
+use cc_quote::{
+    ElvishEscape, PowershellEscape, elvish_escape, elvish_word, fish_double, fish_escape,
+    fish_help_for_eval, fish_quote, fish_quote_for_eval, fish_word, posix_quote, posix_word,
+    powershell_escape, powershell_word, push_escaped, put_escaped, zsh_escape_help,
+    zsh_escape_value, zsh_unescape,
+};
+use std::alloc::{AllocError, Global};
+use std::process::Abort;
+
+// Fails unless this word was read, and what follows it.
+fn reads(rt: &impl Abort, read: Result<Option<(String, &str)>, Error>, word: &str, rest: &str) {
+    let (shown, behind) = read.expect(rt, "out of memory").expect(rt, "no word");
+    same(rt, shown.as_str(), word);
+    same(rt, behind, rest);
+}
+
+#[test]
+fn elvish_escapes(rt: HostRuntime) {
+    is(
+        &rt,
+        elvish_escape(rt.alloc(), "it's\n[x]:\\"),
+        "it''s [x]:\\",
+    );
+}
+
+#[test]
+fn elvish_reads_words(rt: HostRuntime) {
+    let alloc = rt.alloc();
+    reads(
+        &rt,
+        elvish_word(alloc, "'it''s [x]:\\' more"),
+        "it's [x]:\\",
+        " more",
+    );
+    reads(&rt, elvish_word(alloc, "it's more"), "it's", " more");
+    is_none(&rt, elvish_word(alloc, "'it''s"));
+}
+
+// What two escapes write to a sink.
+fn written(alloc: Global) -> Result<String, Error> {
+    let mut sink = Collected::new(alloc);
+    put_escaped(&ElvishEscape, "it's\n’", &mut sink)?;
+    put_escaped(&PowershellEscape, "’it's\n", &mut sink)?;
+    Ok(String::from_utf8_lossy(alloc, sink.as_slice())?)
+}
+
+// What two escapes append to a text.
+fn appended(alloc: Global) -> Result<String, AllocError> {
+    let mut made = String::from_str(alloc, "'")?;
+    push_escaped(&PowershellEscape, "’'–“b”", &mut made)?;
+    push_escaped(&ElvishEscape, "’'", &mut made)?;
+    Ok(made)
+}
+
+#[test]
+fn an_escape_is_written_and_appended(rt: HostRuntime) {
+    is(&rt, written(rt.alloc()), "it''s ’'’it''s ");
+    is(&rt, appended(rt.alloc()), "''’''–“b”’''");
+}
+
+#[test]
+fn fish_quotes(rt: HostRuntime) {
+    let alloc = rt.alloc();
+    is(&rt, fish_quote(alloc, ""), "''");
+    is(&rt, fish_quote(alloc, "dyn\\amic"), "'dyn\\\\amic'");
+    is(&rt, fish_quote_for_eval(alloc, "auto"), "auto");
+    is(
+        &rt,
+        fish_quote_for_eval(alloc, "/p/$var/c"),
+        "'/p/\\$var/c'",
+    );
+}
+
+#[test]
+fn fish_escapes(rt: HostRuntime) {
+    let help = fish_help_for_eval(rt.alloc(), "it's \\ \"$x\"");
+    is(&rt, help, "'it\\\\'s \\\\\\\\ \\\"\\$x\\\"'");
+    is(
+        &rt,
+        fish_escape(rt.alloc(), "it's\n[x]:\\"),
+        "it\\'s [x]:\\\\",
+    );
+}
+
+#[test]
+fn fish_reads_words(rt: HostRuntime) {
+    let text = "a#\\t'\\'\\\\\\n'\"é\\$\\x\\\ny\"\\é\\ z w";
+    reads(
+        &rt,
+        fish_word(rt.alloc(), text),
+        "a#\t'\\\\né$\\xyé z",
+        " w",
+    );
+    for none in ["", " a", "# a", "'a", "a\\", "\"a"] {
+        is_none(&rt, fish_word(rt.alloc(), none));
+    }
+}
+
+#[test]
+fn fish_reads_double_quotes(rt: HostRuntime) {
+    let alloc = rt.alloc();
+    reads(
+        &rt,
+        fish_double(alloc, "\"it's\\\\ é\"more"),
+        "it's\\ é",
+        "more",
+    );
+    is_none(&rt, fish_double(alloc, "a\""));
+    is_none(&rt, fish_double(alloc, "\"a\\\""));
+}
+
+#[test]
+fn posix_quotes(rt: HostRuntime) {
+    let alloc = rt.alloc();
+    is(&rt, posix_quote(alloc, "a'b"), "'a'\\''b'");
+    is(&rt, posix_quote(alloc, "a/b:c"), "a/b:c");
+    is(&rt, posix_quote(alloc, ""), "''");
+}
+
+#[test]
+fn posix_reads_words(rt: HostRuntime) {
+    let alloc = rt.alloc();
+    reads(&rt, posix_word(alloc, "'a'\\''b' c"), "a'b", " c");
+    reads(
+        &rt,
+        posix_word(alloc, "\"a\\$b\\c\"é\\ y\\\nz w"),
+        "a$b\\cé yz",
+        " w",
+    );
+    is_none(&rt, posix_word(alloc, "'a"));
+    is_none(&rt, posix_word(alloc, "a\\"));
+}
+
+#[test]
+fn powershell_escapes(rt: HostRuntime) {
+    is(&rt, powershell_escape(rt.alloc(), "it’s"), "it'’s");
+}
+
+#[test]
+fn powershell_reads_words(rt: HostRuntime) {
+    let alloc = rt.alloc();
+    reads(&rt, powershell_word(alloc, "'it'’s' more"), "it’s", " more");
+    reads(&rt, powershell_word(alloc, "it’s more"), "it’s", " more");
+    is_none(&rt, powershell_word(alloc, "’it''s"));
+}
+
+#[test]
+fn zsh_escapes(rt: HostRuntime) {
+    let text = "\\ [foo]() `bar https://$PATH";
+    let value = "\\\\\\ \\[foo\\]\\(\\)\\ \\`bar\\ https\\://\\$PATH";
+    is(&rt, zsh_escape_value(rt.alloc(), text), value);
+    let help = "\\\\ \\[foo\\]() \\`bar https\\://\\$PATH";
+    is(&rt, zsh_escape_help(rt.alloc(), text), help);
+    let help = zsh_escape_help(rt.alloc(), "a]b[c:d\\e'f\ng");
+    is(&rt, help, "a\\]b\\[c\\:d\\\\e'\\''f g");
+}
+
+#[test]
+fn zsh_takes_backslashes_off(rt: HostRuntime) {
+    let read = zsh_unescape(rt.alloc(), "a\\]b\\é\\\\e f").expect(&rt, "out of memory");
+    let read = read.expect(&rt, "a backslash is last");
+    same(&rt, read.as_str(), "a]bé\\e f");
+    is_none(&rt, zsh_unescape(rt.alloc(), "a\\\\\\"));
+}

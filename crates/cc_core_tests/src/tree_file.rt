@@ -1,0 +1,293 @@
+//! Tree files: what each key sets, how deep they nest, and which are no trees.
+
+use crate::checks::{is, same};
+use crate::fixtures::{built_tree, tree};
+use cc_arg::{Arg, ArgAction, PossibleValue, ValueHint, possible_values};
+use cc_base::{Error, Text};
+use cc_command::Command;
+use cc_tree_file::{TreeError, read_tree};
+use std::alloc::{AllocError, Global};
+use std::process::Abort;
+
+fn first(texts: &[Text]) -> Option<&str> {
+    texts.first().map(Text::as_str)
+}
+
+const COMMAND: &str = "{\"name\": \"app\", \"bin_name\": \"the-app\", \"about\": \"Does it\",
+    \"version\": \"1.2\", \"subcommand_help_heading\": \"Tasks\", \"aliases\": [\"ap\"],
+    \"visible_aliases\": [\"a\"], \"display_order\": 7, \"hide\": true,
+    \"disable_help_flag\": true, \"disable_help_subcommand\": true,
+    \"allow_external_subcommands\": true,
+    \"subcommands\": [{\"name\": \"run\"}, {\"name\": \"stop\"}]}";
+
+#[test]
+fn each_key_of_a_command_sets_its_field(rt: HostRuntime) {
+    let command = built_tree(&rt, rt.alloc(), COMMAND);
+    has_the_fields_of_a_command(&rt, &command);
+    drop(command);
+}
+
+fn has_the_fields_of_a_command(rt: &impl Abort, command: &Command) {
+    same(rt, command.get_name(), "app");
+    same(rt, command.get_bin_name(), Some("the-app"));
+    same(rt, command.get_about(), Some("Does it"));
+    same(rt, command.get_subcommand_help_heading(), Some("Tasks"));
+    same(rt, first(command.get_aliases()), Some("ap"));
+    same(rt, first(command.get_visible_aliases()), Some("a"));
+    same(rt, command.get_display_order(), 7);
+    assert!(rt; command.is_hide_set());
+    assert!(rt; command.is_allow_external_subcommands_set());
+    same(rt, command.get_subcommands().len(), 2);
+    let id = command.get_arguments().first().map(Arg::get_id);
+    same(rt, id, Some("version"));
+}
+
+// Whether a command allows external subcommands and is hidden, and with how many children it is
+// built.
+fn marks_of_command(rt: &impl Abort, alloc: Global, text: &str) -> (bool, bool, usize) {
+    let command = built_tree(rt, alloc, text);
+    let external = command.is_allow_external_subcommands_set();
+    let marks = (
+        external,
+        command.is_hide_set(),
+        command.get_subcommands().len(),
+    );
+    drop(command);
+    marks
+}
+
+#[test]
+fn each_mark_of_a_command_has_its_key(rt: HostRuntime) {
+    let external = "{\"name\": \"a\", \"allow_external_subcommands\": true,
+        \"subcommands\": [{\"name\": \"b\"}]}";
+    same(
+        &rt,
+        marks_of_command(&rt, rt.alloc(), external),
+        (true, false, 2),
+    );
+    let hide = "{\"name\": \"a\", \"hide\": true, \"subcommands\": [{\"name\": \"b\"}]}";
+    same(
+        &rt,
+        marks_of_command(&rt, rt.alloc(), hide),
+        (false, true, 2),
+    );
+    let alone = "{\"name\": \"a\", \"disable_help_subcommand\": true,
+        \"subcommands\": [{\"name\": \"b\"}]}";
+    same(
+        &rt,
+        marks_of_command(&rt, rt.alloc(), alone),
+        (false, false, 1),
+    );
+}
+
+#[test]
+fn the_last_value_of_a_key_counts(rt: HostRuntime) {
+    let command = tree(&rt, rt.alloc(), "{\"name\": \"a\", \"name\": \"b\"}");
+    same(&rt, command.get_name(), "b");
+    drop(command);
+}
+
+#[test]
+fn a_version_flag_is_disabled_by_its_key(rt: HostRuntime) {
+    let text = "{\"name\": \"app\", \"version\": \"1.2\", \"disable_version_flag\": true}";
+    let command = built_tree(&rt, rt.alloc(), text);
+    same(&rt, command.get_arguments().len(), 1);
+    drop(command);
+}
+
+const ARGUMENT: &str = "{\"name\": \"app\", \"args\": [{\"id\": \"o\", \"short\": \"ö\",
+    \"long\": \"out\", \"help\": \"Where to\", \"action\": \"Append\", \"num_args\": [1, null],
+    \"short_aliases\": [\"x\"], \"visible_short_aliases\": [\"y\"], \"aliases\": [\"old\"],
+    \"visible_aliases\": [\"output\"], \"value_names\": [\"FILE\"], \"value_hint\": \"FilePath\",
+    \"possible_values\": [{\"name\": \"a\"}, {\"name\": \"b\", \"help\": \"B\", \"hide\": true}],
+    \"conflicts_with\": [\"none\", \"p\"], \"index\": 3, \"value_terminator\": \";\",
+    \"required\": true, \"last\": true, \"global\": true, \"hide\": true}, {\"id\": \"p\"}]}";
+
+#[test]
+fn each_key_of_an_argument_sets_its_field(rt: HostRuntime) {
+    let command = tree(&rt, rt.alloc(), ARGUMENT);
+    let arg = command.get_arguments().first();
+    has_the_fields_of_an_argument(&rt, arg.expect(&rt, "no argument"));
+    drop(command);
+}
+
+// The id of the only argument in conflict with the first one of a command.
+fn conflict_of_first(alloc: Global, command: &Command) -> Result<Option<&str>, Error> {
+    let Some(first) = command.get_arguments().first() else {
+        return Ok(None);
+    };
+    match command.get_arg_conflicts_with(alloc, first)?.as_slice() {
+        [other] => Ok(Some(other.get_id())),
+        _ => Ok(None),
+    }
+}
+
+#[test]
+fn an_argument_has_the_conflicts_of_its_key(rt: HostRuntime) {
+    let command = tree(&rt, rt.alloc(), ARGUMENT);
+    let conflict = conflict_of_first(rt.alloc(), &command);
+    same(&rt, conflict.expect(&rt, "no conflict"), Some("p"));
+    drop(command);
+}
+
+// Whether the first argument of a command is required, the last, global and hidden.
+fn marks(rt: &impl Abort, alloc: Global, text: &str) -> (bool, bool, bool, bool) {
+    let command = tree(rt, alloc, text);
+    let marks = marks_of(command.get_arguments().first().expect(rt, "no argument"));
+    drop(command);
+    marks
+}
+
+fn marks_of(arg: &Arg) -> (bool, bool, bool, bool) {
+    (
+        arg.is_required_set(),
+        arg.is_last_set(),
+        arg.is_global_set(),
+        arg.is_hide_set(),
+    )
+}
+
+#[test]
+fn each_mark_of_an_argument_has_its_key(rt: HostRuntime) {
+    let required = "{\"name\": \"a\", \"args\": [{\"id\": \"o\", \"required\": true}]}";
+    same(
+        &rt,
+        marks(&rt, rt.alloc(), required),
+        (true, false, false, false),
+    );
+    let last = "{\"name\": \"a\", \"args\": [{\"id\": \"o\", \"last\": true}]}";
+    same(
+        &rt,
+        marks(&rt, rt.alloc(), last),
+        (false, true, false, false),
+    );
+    let global = "{\"name\": \"a\", \"args\": [{\"id\": \"o\", \"global\": true}]}";
+    same(
+        &rt,
+        marks(&rt, rt.alloc(), global),
+        (false, false, true, false),
+    );
+    let hide = "{\"name\": \"a\", \"args\": [{\"id\": \"o\", \"hide\": true}]}";
+    same(
+        &rt,
+        marks(&rt, rt.alloc(), hide),
+        (false, false, false, true),
+    );
+}
+
+fn has_the_fields_of_an_argument(rt: &impl Abort, arg: &Arg) {
+    same(rt, arg.get_id(), "o");
+    same(rt, arg.get_short(), Some('ö'));
+    same(rt, arg.get_long(), Some("out"));
+    same(rt, arg.get_help(), Some("Where to"));
+    same(rt, arg.get_action(), ArgAction::Append);
+    let greatest = arg.get_num_args().map(|range| range.max_values());
+    same(rt, greatest, Some(usize::MAX));
+    same(rt, arg.get_short_aliases(), ['x'].as_slice());
+    same(rt, arg.get_visible_short_aliases(), ['y'].as_slice());
+    same(rt, first(arg.get_aliases()), Some("old"));
+    same(rt, first(arg.get_visible_aliases()), Some("output"));
+    same(rt, first(arg.get_value_names()), Some("FILE"));
+    same(rt, arg.get_value_hint(), ValueHint::FilePath);
+    same(rt, arg.get_index(), Some(3));
+    same(rt, arg.get_value_terminator(), Some(";"));
+    same(rt, marks_of(arg), (true, true, true, true));
+    has_the_possible_values(rt, possible_values(arg));
+}
+
+fn has_the_possible_values(rt: &impl Abort, values: Option<&[PossibleValue]>) {
+    let Some([first, last]) = values else {
+        panic!(rt; "not two values");
+    };
+    same(rt, first.get_name(), "a");
+    same(rt, first.get_help(), None);
+    assert!(rt; !first.is_hide_set());
+    same(rt, last.get_name(), "b");
+    same(rt, last.get_help(), Some("B"));
+    assert!(rt; last.is_hide_set());
+}
+
+// A command under so many others, each the child of the one before.
+fn nested(alloc: Global, parents: u8) -> Result<String, AllocError> {
+    let mut text = String::new(alloc);
+    for _ in 0..parents {
+        text.push_str("{\"name\":\"a\",\"subcommands\":[")?;
+    }
+    text.push_str("{\"name\":\"a\"}")?;
+    for _ in 0..parents {
+        text.push_str("]}")?;
+    }
+    Ok(text)
+}
+
+// Why a text describes no tree; `None` where it does.
+fn error(alloc: Global, text: &str) -> Option<TreeError> {
+    let tree = read_tree(alloc, text.as_bytes());
+    let error = tree.map(drop);
+    error.err()
+}
+
+fn error_below(rt: &impl Abort, alloc: Global, parents: u8) -> Option<TreeError> {
+    let text = nested(alloc, parents).expect(rt, "no text");
+    error(alloc, text.as_str())
+}
+
+// Each parent is an object and a list, so 63 of them and a child nest 127 deep.
+#[test]
+fn reads_as_deep_as_json_nests(rt: HostRuntime) {
+    assert!(rt; error_below(&rt, rt.alloc(), 63).is_none());
+    assert!(rt; matches!(error_below(&rt, rt.alloc(), 64), Some(TreeError::NotJson)));
+}
+
+fn has_a_bad_form(rt: &impl Abort, alloc: Global, text: &str) {
+    assert!(rt;
+        matches!(error(alloc, text), Some(TreeError::BadForm)),
+        "{text}"
+    );
+}
+
+#[test]
+fn fails_on_other_forms(rt: HostRuntime) {
+    let texts = [
+        "[]",
+        "{}",
+        "{\"name\": null}",
+        "{\"name\": \"a\", \"nickname\": \"b\"}",
+        "{\"name\": \"a\", \"subcommands\": [{\"name\": \"b\", \"nickname\": \"c\"}]}",
+        "{\"name\": \"a\", \"subcommands\": {\"name\": \"b\"}}",
+        "{\"name\": \"a\", \"display_order\": 1.0}",
+        "{\"name\": \"a\", \"args\": [{\"id\": \"o\", \"short\": \"oo\"}]}",
+        "{\"name\": \"a\", \"args\": [{\"id\": \"o\", \"num_args\": [2, 1]}]}",
+        "{\"name\": \"a\", \"args\": [{\"id\": \"o\", \"num_args\": [1, 18446744073709551616]}]}",
+        "{\"name\": \"a\", \"args\": [{\"id\": \"o\", \"value_hint\": \"Nowhere\"}]}",
+        "{\"name\": \"a\", \"args\": [{\"id\": \"o\", \"possible_values\": [\"b\"]}]}",
+        "{\"name\": \"a\", \"args\": [{\"id\": \"o\", \"possible_values\": [{\"help\": \"b\"}]}]}",
+    ];
+    for text in texts {
+        has_a_bad_form(&rt, rt.alloc(), text);
+    }
+}
+
+fn shown(alloc: Global, error: &TreeError) -> Result<String, AllocError> {
+    format!(in alloc; "{error} {error:?}")
+}
+
+#[test]
+fn each_error_shows_its_text(rt: HostRuntime) {
+    let alloc = rt.alloc();
+    is(
+        &rt,
+        shown(alloc, &TreeError::NotJson),
+        "tree: not JSON NotJson",
+    );
+    is(
+        &rt,
+        shown(alloc, &TreeError::BadForm),
+        "tree: bad form BadForm",
+    );
+    is(
+        &rt,
+        shown(alloc, &TreeError::Memory),
+        "out of memory Memory",
+    );
+}

@@ -1,0 +1,117 @@
+//! Trees, as their getters answer them.
+
+use crate::checks::{is, same};
+use crate::fixtures::{APP, EXCLUDING, GLOBAL, MY_APP, NESTED, built, built_tree, tree};
+use cc_base::Error;
+use cc_command::Command;
+use cc_lists::utils::find_subcommand_with_path;
+use std::alloc::Global;
+use std::fmt::Write;
+use std::process::Abort;
+
+// The ids of the arguments, with a space after each.
+fn ids(alloc: Global, command: &Command) -> Result<String, Error> {
+    let mut ids = String::new(alloc);
+    for argument in command.get_arguments() {
+        ids.push_str(argument.get_id())?;
+        ids.push(' ')?;
+    }
+    Ok(ids)
+}
+
+#[test]
+fn building_twice_adds_help_once(rt: HostRuntime) {
+    let once = built_tree(&rt, rt.alloc(), APP);
+    is(&rt, ids(rt.alloc(), &once), "verbose out help ");
+    let twice = built(&rt, rt.alloc(), once);
+    is(&rt, ids(rt.alloc(), &twice), "verbose out help ");
+    drop(twice);
+}
+
+// The ids of the arguments of the command that a path leads to; `none` where it leads to none.
+fn ids_at(alloc: Global, command: &Command, path: &[&str]) -> Result<String, Error> {
+    match find_subcommand_with_path(command, path) {
+        Some(found) => ids(alloc, found),
+        None => Ok(String::from_str(alloc, "none")?),
+    }
+}
+
+#[test]
+fn a_global_argument_goes_to_the_children_that_were_given(rt: HostRuntime) {
+    let command = built_tree(&rt, rt.alloc(), GLOBAL);
+    is(&rt, ids_at(rt.alloc(), &command, &["run"]), "json help ");
+    is(&rt, ids_at(rt.alloc(), &command, &["help"]), "");
+    is(&rt, ids_at(rt.alloc(), &command, &["help", "run"]), "");
+    is(&rt, ids_at(rt.alloc(), &command, &["help", "help"]), "");
+    drop(command);
+}
+
+// A command that was built, and then built again under another name.
+fn renamed(rt: &impl Abort, alloc: Global, command: Command) -> Command {
+    let mut command = built(rt, alloc, command);
+    command.set_bin_name(String::from_str(alloc, "z").expect(rt, "no name"));
+    built(rt, alloc, command)
+}
+
+// The full name of the innermost command of the nested tree.
+fn full_name_of_job(command: &Command) -> Option<&str> {
+    let run = command.find_subcommand("run")?;
+    let job = run.find_subcommand("job")?;
+    job.get_bin_name()
+}
+
+#[test]
+fn a_new_bin_name_and_a_new_build_rename_the_tree(rt: HostRuntime) {
+    let command = renamed(&rt, rt.alloc(), tree(&rt, rt.alloc(), NESTED));
+    same(&rt, full_name_of_job(&command), Some("z run job"));
+    drop(command);
+}
+
+// The name of the command that a path leads to.
+fn name_at<'a>(command: &'a Command, path: &[&str]) -> Option<&'a str> {
+    Some(find_subcommand_with_path(command, path)?.get_name())
+}
+
+#[test]
+fn a_path_of_names_and_aliases_leads_to_a_command(rt: HostRuntime) {
+    let command = tree(&rt, rt.alloc(), NESTED);
+    same(&rt, name_at(&command, &["r", "job"]), Some("job"));
+    same(&rt, name_at(&command, &["job"]), None);
+    same(&rt, name_at(&command, &[]), Some("app"));
+    drop(command);
+}
+
+#[test]
+fn a_path_leads_through_unbuilt_commands(rt: HostRuntime) {
+    let command = tree(&rt, rt.alloc(), MY_APP);
+    same(&rt, name_at(&command, &["test", "config"]), Some("config"));
+    drop(command);
+}
+
+// The ids and longs of the arguments in conflict with the last one, with a space after each.
+fn conflicts_of_last(alloc: Global, command: &Command) -> Result<String, Error> {
+    let mut line = String::new(alloc);
+    let Some(last) = command.get_arguments().last() else {
+        return Ok(line);
+    };
+    for other in command.get_arg_conflicts_with(alloc, last)? {
+        write!(
+            line,
+            "{}:{} ",
+            other.get_id(),
+            other.get_long().unwrap_or("")
+        )?;
+    }
+    Ok(line)
+}
+
+#[test]
+fn a_conflict_is_the_first_argument_with_its_id(rt: HostRuntime) {
+    let command = tree(&rt, rt.alloc(), EXCLUDING);
+    is(
+        &rt,
+        conflicts_of_last(rt.alloc(), &command),
+        "yaml:yaml quiet: ",
+    );
+    drop(command);
+}
