@@ -74,23 +74,17 @@ impl Sink for Collected {
 #[cfg(test)]
 mod tests {
     use super::*;
-    use crate::checks::same;
-    use crate::error::Error;
     use crate::sink::put_all;
-
-    // A sink that was given `ab` and `c`.
-    fn given_parts(alloc: Global) -> Result<Collected, Error> {
-        let mut sink = Collected::new(alloc);
-        put_all(&mut sink, b"ab")?;
-        put_all(&mut sink, b"c")?;
-        Ok(sink)
-    }
+    use std::test::Fail;
 
     #[test]
-    fn keeps_the_bytes(rt: HostRuntime) {
-        let sink = given_parts(rt.alloc()).expect(&rt, "not written");
-        same(&rt, sink.failures(), 0);
-        same(&rt, sink.as_slice(), b"abc".as_slice());
-        same(&rt, sink.into_vec().as_slice(), b"abc".as_slice());
+    fn keeps_the_bytes(rt: HostRuntime) -> Result<(), Fail> {
+        let mut sink = Collected::new(rt.alloc());
+        put_all(&mut sink, b"ab")?;
+        put_all(&mut sink, b"c")?;
+        assert_eq!(rt; sink.failures(), 0);
+        assert_eq!(rt; sink.as_slice(), b"abc".as_slice());
+        assert_eq!(rt; sink.into_vec().as_slice(), b"abc".as_slice());
+        Ok(())
     }
 }

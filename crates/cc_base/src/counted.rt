@@ -116,10 +116,8 @@ impl<W: io::Write> Sink for Counted<W> {
 #[cfg(test)]
 mod tests {
     use super::*;
-    use crate::checks::same;
     use crate::sink::put_all;
-    use std::alloc::Global;
-    use std::process::Abort;
+    use std::test::Fail;
 
     // Takes at most `at_once` bytes a call. Once it holds `room` bytes it fails with `failure`,
     // or takes nothing where there is none.
@@ -153,70 +151,66 @@ mod tests {
         }
     }
 
-    fn writer(alloc: Global, at_once: usize, room: usize, failure: Option<ErrorKind>) -> Limited {
-        Limited {
-            held: Vec::new(alloc),
-            at_once,
-            room,
-            failure,
-        }
-    }
-
-    // A sink that was given `ab`, nothing and `c`.
-    fn given_parts(alloc: Global) -> Result<Counted<Vec<u8>>, Error> {
-        let mut sink = Counted::new(Vec::new(alloc));
+    #[test]
+    fn passes_the_bytes_on(rt: HostRuntime) -> Result<(), Fail> {
+        let mut sink = Counted::new(Vec::new(rt.alloc()));
         put_all(&mut sink, b"ab")?;
         put_all(&mut sink, b"")?;
         put_all(&mut sink, b"c")?;
         sink.flush()?;
-        Ok(sink)
+        assert_eq!(rt; sink.failures(), 0);
+        assert_eq!(rt; sink.get_ref().as_slice(), b"abc".as_slice());
+        assert_eq!(rt; sink.into_inner().as_slice(), b"abc".as_slice());
+        Ok(())
     }
 
     #[test]
-    fn passes_the_bytes_on(rt: HostRuntime) {
-        let sink = given_parts(rt.alloc()).expect(&rt, "not written");
-        same(&rt, sink.failures(), 0);
-        same(&rt, sink.get_ref().as_slice(), b"abc".as_slice());
-        same(&rt, sink.into_inner().as_slice(), b"abc".as_slice());
-    }
-
-    #[test]
-    fn puts_one_byte_a_call(rt: HostRuntime) {
-        let mut sink = Counted::new(writer(rt.alloc(), 1, 3, None));
-        assert!(rt; put_all(&mut sink, b"abc").is_ok());
-        same(&rt, sink.failures(), 0);
-        same(&rt, sink.get_ref().held.as_slice(), b"abc".as_slice());
-    }
-
-    // Whether a call failed with this kind.
-    fn failed(outcome: Result<(), Error>, wanted: ErrorKind) -> bool {
-        matches!(outcome, Err(Error::Write(kind)) if kind == wanted)
-    }
-
-    // Fails unless a put and a flush over a writer of little room fail with this kind and are counted.
-    fn counts(rt: &impl Abort, alloc: Global, room: usize, kind: ErrorKind) {
-        let mut sink = Counted::new(writer(alloc, 2, room, Some(kind)));
-        assert!(rt; failed(put_all(&mut sink, b"abc"), kind));
-        same(rt, sink.failures(), 1);
-        assert!(rt; failed(sink.flush(), kind));
-        same(rt, sink.failures(), 2);
-        same(rt, sink.get_ref().held.len(), room);
+    fn puts_one_byte_a_call(rt: HostRuntime) -> Result<(), Fail> {
+        let mut sink = Counted::new(Limited {
+            held: Vec::new(rt.alloc()),
+            at_once: 1,
+            room: 3,
+            failure: None,
+        });
+        put_all(&mut sink, b"abc")?;
+        assert_eq!(rt; sink.failures(), 0);
+        assert_eq!(rt; sink.get_ref().held.as_slice(), b"abc".as_slice());
+        Ok(())
     }
 
     #[test]
     fn counts_each_failure(rt: HostRuntime) {
-        for room in 0..3 {
-            counts(&rt, rt.alloc(), room, ErrorKind::BrokenPipe);
-            counts(&rt, rt.alloc(), room, ErrorKind::Interrupted);
+        for kind in [ErrorKind::BrokenPipe, ErrorKind::Interrupted] {
+            for room in 0..3 {
+                let mut sink = Counted::new(Limited {
+                    held: Vec::new(rt.alloc()),
+                    at_once: 2,
+                    room,
+                    failure: Some(kind),
+                });
+                let put = put_all(&mut sink, b"abc");
+                assert!(rt; matches!(put, Err(Error::Write(failed)) if failed == kind));
+                assert_eq!(rt; sink.failures(), 1);
+                let flushed = sink.flush();
+                assert!(rt; matches!(flushed, Err(Error::Write(failed)) if failed == kind));
+                assert_eq!(rt; sink.failures(), 2);
+                assert_eq!(rt; sink.get_ref().held.len(), room);
+            }
         }
     }
 
     #[test]
     fn takes_nothing(rt: HostRuntime) {
-        let mut sink = Counted::new(writer(rt.alloc(), 2, 0, None));
+        let mut sink = Counted::new(Limited {
+            held: Vec::new(rt.alloc()),
+            at_once: 2,
+            room: 0,
+            failure: None,
+        });
         assert!(rt; put_all(&mut sink, b"").is_ok());
-        same(&rt, sink.failures(), 0);
-        assert!(rt; failed(put_all(&mut sink, b"a"), ErrorKind::WriteZero));
-        same(&rt, sink.failures(), 1);
+        assert_eq!(rt; sink.failures(), 0);
+        let put = put_all(&mut sink, b"a");
+        assert!(rt; matches!(put, Err(Error::Write(ErrorKind::WriteZero))));
+        assert_eq!(rt; sink.failures(), 1);
     }
 }

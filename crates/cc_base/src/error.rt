@@ -68,47 +68,41 @@ impl<T: Drop> From<AllocFailed<T>> for Error {
 #[cfg(test)]
 mod tests {
     use super::*;
-    use crate::checks::is;
     use std::alloc::Global;
-    use std::process::Abort;
+    use std::test::Fail;
 
-    // Fails unless this is what an error prints.
-    fn prints(rt: &impl Abort, alloc: Global, error: Error, wanted: &str) {
-        is(rt, format!(in alloc; "{error}"), wanted);
+    fn printed(alloc: Global, error: Error) -> Result<String, AllocError> {
+        format!(in alloc; "{error}")
     }
 
     #[test]
-    fn an_error_without_a_text_prints(rt: HostRuntime) {
+    fn prints(rt: HostRuntime) -> Result<(), Fail> {
         let alloc = rt.alloc();
-        prints(&rt, alloc, Error::from(AllocError), "out of memory");
-        prints(
-            &rt,
+        let memory = printed(alloc, Error::from(AllocError))?;
+        assert_eq!(rt; memory.as_str(), "out of memory");
+        let write = printed(alloc, Error::Write(ErrorKind::WriteZero))?;
+        assert_eq!(rt; write.as_str(), "write failed");
+        let clash = printed(alloc, Error::LabelClash(Text::copy_of(alloc, "a__b")?))?;
+        assert_eq!(rt; clash.as_str(), "two commands share the label a__b");
+        let completion = printed(alloc, Error::NoCompletion)?;
+        assert_eq!(rt; completion.as_str(), "no completion generated");
+        let arguments = printed(alloc, Error::NoArguments)?;
+        assert_eq!(rt; arguments.as_str(), "no arguments");
+        let unknown = printed(alloc, Error::UnknownShell(Text::copy_of(alloc, "unknown")?))?;
+        assert_eq!(rt; unknown.as_str(), "unknown");
+        let invalid = printed(
             alloc,
-            Error::Write(ErrorKind::WriteZero),
-            "write failed",
-        );
-        prints(&rt, alloc, Error::NoCompletion, "no completion generated");
-        prints(&rt, alloc, Error::NoArguments, "no arguments");
+            Error::InvalidVariant(Text::copy_of(alloc, "invalid")?),
+        )?;
+        assert_eq!(rt; invalid.as_str(), "invalid");
+        Ok(())
     }
 
     #[test]
-    fn an_error_with_a_text_prints(rt: HostRuntime) {
-        let label = Text::copy_of(rt.alloc(), "a__b").expect(&rt, "no text");
-        let wanted = "two commands share the label a__b";
-        prints(&rt, rt.alloc(), Error::LabelClash(label), wanted);
-        let unknown = Text::copy_of(rt.alloc(), "unknown").expect(&rt, "no text");
-        prints(&rt, rt.alloc(), Error::UnknownShell(unknown), "unknown");
-        let invalid = Text::copy_of(rt.alloc(), "invalid").expect(&rt, "no text");
-        prints(&rt, rt.alloc(), Error::InvalidVariant(invalid), "invalid");
-    }
-
-    #[test]
-    fn shows_its_variant(rt: HostRuntime) {
+    fn shows_its_variant(rt: HostRuntime) -> Result<(), Fail> {
         let write = Error::Write(ErrorKind::BrokenPipe);
-        is(
-            &rt,
-            format!(in rt.alloc(); "{write:?}"),
-            "Write(BrokenPipe)",
-        );
+        let shown = format!(in rt.alloc(); "{write:?}")?;
+        assert_eq!(rt; shown.as_str(), "Write(BrokenPipe)");
+        Ok(())
     }
 }

@@ -52,17 +52,17 @@ impl Failures {
 #[cfg(test)]
 mod tests {
     use super::*;
-    use crate::checks::{is, same};
+    use std::test::Fail;
 
     #[test]
     fn keeps_count_and_last_kind(rt: HostRuntime) {
         let mut failures = Failures::none();
-        same(&rt, failures.count(), 0);
-        same(&rt, failures.last(), None);
+        assert_eq!(rt; failures.count(), 0);
+        assert_eq!(rt; failures.last(), None);
         failures.raise(ErrorKind::WriteZero);
         failures.raise(ErrorKind::BrokenPipe);
-        same(&rt, failures.count(), 2);
-        same(&rt, failures.last(), Some(ErrorKind::BrokenPipe));
+        assert_eq!(rt; failures.count(), 2);
+        assert_eq!(rt; failures.last(), Some(ErrorKind::BrokenPipe));
     }
 
     #[test]
@@ -72,14 +72,18 @@ mod tests {
             last: None,
         };
         failures.raise(ErrorKind::BrokenPipe);
-        same(&rt, failures.count(), u64::MAX);
+        assert_eq!(rt; failures.count(), u64::MAX);
     }
 
     #[test]
-    fn shows_its_fields(rt: HostRuntime) {
+    fn shows_its_fields(rt: HostRuntime) -> Result<(), Fail> {
         let mut failures = Failures::none();
         failures.raise(ErrorKind::WriteZero);
-        let shown = format!(in rt.alloc(); "{failures:?}");
-        is(&rt, shown, "Failures { count: 1, last: Some(WriteZero) }");
+        let shown = format!(in rt.alloc(); "{failures:?}")?;
+        assert_eq!(rt;
+            shown.as_str(),
+            "Failures { count: 1, last: Some(WriteZero) }"
+        );
+        Ok(())
     }
 }

@@ -88,57 +88,38 @@ impl Items<Text> {
 #[cfg(test)]
 mod tests {
     use super::*;
-    use crate::checks::{is, same};
-    use std::process::Abort;
+    use std::test::Fail;
 
-    fn two(alloc: Global) -> Result<Items<char>, AllocError> {
-        let mut items = Items::new(alloc);
+    #[test]
+    fn keeps_the_order(rt: HostRuntime) -> Result<(), Fail> {
+        let mut items = Items::new(rt.alloc());
         items.push('a')?;
         items.push('b')?;
-        Ok(items)
+        assert_eq!(rt; items.as_slice(), ['a', 'b'].as_slice());
+        assert_eq!(rt; items.into_vec().as_slice(), ['a', 'b'].as_slice());
+        Ok(())
     }
 
     #[test]
-    fn keeps_the_order(rt: HostRuntime) {
-        let items = two(rt.alloc()).expect(&rt, "no items");
-        same(&rt, items.as_slice(), ['a', 'b'].as_slice());
-        same(&rt, items.into_vec().as_slice(), ['a', 'b'].as_slice());
-    }
-
-    #[test]
-    fn copies(rt: HostRuntime) {
-        let copy = Items::copy_of(rt.alloc(), &['a', 'b']).expect(&rt, "no copy");
-        same(&rt, copy.as_slice(), ['a', 'b'].as_slice());
-    }
-
-    // A copy of two texts.
-    fn two_texts(alloc: Global) -> Result<Items<Text>, AllocError> {
+    fn copies(rt: HostRuntime) -> Result<(), Fail> {
+        let alloc = rt.alloc();
+        let copy = Items::copy_of(alloc, &['a', 'b'])?;
+        assert_eq!(rt; copy.as_slice(), ['a', 'b'].as_slice());
         let mut texts = Items::new(alloc);
         texts.push(Text::copy_of(alloc, "one")?)?;
         texts.push(Text::copy_of(alloc, "two")?)?;
-        Items::copy_of_texts(alloc, texts.as_slice())
-    }
-
-    fn are_two(rt: &impl Abort, texts: &[Text]) {
-        let [first, last] = texts else {
-            panic!(rt; "not two texts");
-        };
-        same(rt, first.as_str(), "one");
-        same(rt, last.as_str(), "two");
+        let copy = Items::copy_of_texts(alloc, texts.as_slice())?;
+        assert_eq!(rt; copy.as_slice().len(), 2);
+        assert_eq!(rt; copy.as_slice()[0].as_str(), "one");
+        assert_eq!(rt; copy.as_slice()[1].as_str(), "two");
+        Ok(())
     }
 
     #[test]
-    fn copies_texts(rt: HostRuntime) {
-        are_two(&rt, two_texts(rt.alloc()).expect(&rt, "no copy").as_slice());
-    }
-
-    #[test]
-    fn shows_its_field(rt: HostRuntime) {
-        let items = two(rt.alloc()).expect(&rt, "no items");
-        is(
-            &rt,
-            format!(in rt.alloc(); "{items:?}"),
-            "Items { items: ['a', 'b'] }",
-        );
+    fn shows_its_field(rt: HostRuntime) -> Result<(), Fail> {
+        let items = Items::copy_of(rt.alloc(), &['a', 'b'])?;
+        let shown = format!(in rt.alloc(); "{items:?}")?;
+        assert_eq!(rt; shown.as_str(), "Items { items: ['a', 'b'] }");
+        Ok(())
     }
 }

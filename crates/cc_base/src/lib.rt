@@ -2,8 +2,6 @@
 //! library's error, and the sink that a script or a reply is written to.
 #![tactic(auto)]
 
-#[cfg(test)]
-mod checks;
 mod collected;
 mod counted;
 mod error;

@@ -73,31 +73,25 @@ impl Text {
 #[cfg(test)]
 mod tests {
     use super::*;
-    use crate::checks::{is, same};
+    use std::test::Fail;
 
     #[test]
-    fn copies(rt: HostRuntime) {
-        let text = Text::copy_of(rt.alloc(), "naïve").expect(&rt, "no text");
-        let copy = text.try_clone(rt.alloc()).expect(&rt, "no copy");
-        same(&rt, text.as_str(), "naïve");
-        same(&rt, copy.into_string().as_str(), "naïve");
+    fn copies(rt: HostRuntime) -> Result<(), Fail> {
+        let text = Text::copy_of(rt.alloc(), "naïve")?;
+        let copy = text.try_clone(rt.alloc())?;
+        assert_eq!(rt; text.as_str(), "naïve");
+        assert_eq!(rt; copy.into_string().as_str(), "naïve");
+        let some = Text::copy_of_some(rt.alloc(), Some("naïve"))?.ok_or("no copy")?;
+        assert_eq!(rt; some.as_str(), "naïve");
+        assert!(rt; Text::copy_of_some(rt.alloc(), None)?.is_none());
+        Ok(())
     }
 
     #[test]
-    fn copies_where_there_is_one(rt: HostRuntime) {
-        let some = Text::copy_of_some(rt.alloc(), Some("naïve")).expect(&rt, "out of memory");
-        same(&rt, some.as_ref().map(Text::as_str), Some("naïve"));
-        let none = Text::copy_of_some(rt.alloc(), None);
-        assert!(rt; matches!(none, Ok(None)));
-    }
-
-    #[test]
-    fn shows_its_field(rt: HostRuntime) {
-        let text = Text::copy_of(rt.alloc(), "it's").expect(&rt, "no text");
-        is(
-            &rt,
-            format!(in rt.alloc(); "{text:?}"),
-            "Text { inner: \"it's\" }",
-        );
+    fn shows_its_field(rt: HostRuntime) -> Result<(), Fail> {
+        let text = Text::copy_of(rt.alloc(), "it's")?;
+        let shown = format!(in rt.alloc(); "{text:?}")?;
+        assert_eq!(rt; shown.as_str(), "Text { inner: \"it's\" }");
+        Ok(())
     }
 }

@@ -1,7 +1,7 @@
 //! The writers and readers of quoted words.
 
-use crate::checks::{is, is_none, same};
 use cc_base::{Collected, Error};
+use cc_checks::{is, is_none, same};
 use cc_quote::{
     ElvishEscape, PowershellEscape, elvish_escape, elvish_word, fish_double, fish_escape,
     fish_help_for_eval, fish_quote, fish_quote_for_eval, fish_word, posix_quote, posix_word,
@@ -13,9 +13,9 @@ use std::process::Abort;
 
 // Fails unless this word was read, and what follows it.
 fn reads(rt: &impl Abort, read: Result<Option<(String, &str)>, Error>, word: &str, rest: &str) {
-    let (shown, behind) = read.expect(rt, "out of memory").expect(rt, "no word");
+    let (shown, left) = read.expect(rt, "out of memory").expect(rt, "no word");
     same(rt, shown.as_str(), word);
-    same(rt, behind, rest);
+    same(rt, left, rest);
 }
 
 #[test]

@@ -1,8 +1,8 @@
 //! `Shell` by text, path and value, its methods, and scripts written to files.
 
-use crate::checks::{holds, is, same};
 use crate::fixtures::{app, clashing, nested};
 use crate::written::{script, twice};
+use cc_checks::{holds, is, same};
 use clap_complete::aot::{Bash, Elvish, Fish, InvalidShell, Nushell, PowerShell, Zsh};
 use clap_complete::command::Command;
 use clap_complete::{Error, Generator, Shell, generate_to};
@@ -170,8 +170,8 @@ fn each_table_shell_has_its_file(rt: HostRuntime) {
 fn writes_its_script(rt: &impl Abort, alloc: Global, shell: Shell) {
     let wanted = script(alloc, shell, nested(alloc)).expect(rt, "no script");
     let written = twice(alloc, &shell, nested(alloc), "app").expect(rt, "no script");
-    let behind = written.as_str().strip_prefix(wanted.as_str());
-    same(rt, behind, Some(wanted.as_str()));
+    let rest = written.as_str().strip_prefix(wanted.as_str());
+    same(rt, rest, Some(wanted.as_str()));
 }
 
 #[test]

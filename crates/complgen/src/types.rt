@@ -69,7 +69,7 @@ impl From<AllocError> for Refusal {
 #[cfg(test)]
 mod tests {
     use super::*;
-    use crate::checks::is;
+    use cc_checks::is;
 
     fn script(alloc: Global) -> Result<Plan, AllocError> {
         let shell = String::from_str(alloc, "elvish")?;

@@ -1,0 +1,39 @@
+//! What tests check of a value. To prove what one `assert_eq!` writes takes seconds, so it stands
+//! here once, and tests of other crates call it.
+#![tactic(auto)]
+
+use std::fmt::Debug;
+use std::process::Abort;
+
+/// Fails unless the two values are equal.
+pub fn same<T: PartialEq + Debug + Drop>(rt: &impl Abort, shown: T, wanted: T) {
+    assert_eq!(rt; shown, wanted);
+}
+
+/// Fails unless this text was made.
+pub fn is<E: Debug + Drop>(rt: &impl Abort, text: Result<String, E>, wanted: &str) {
+    let text = text.expect(rt, "no text");
+    assert_eq!(rt; text.as_str(), wanted);
+}
+
+/// Fails unless a text was made that holds this part.
+pub fn has<E: Debug + Drop>(rt: &impl Abort, text: Result<String, E>, part: &str) {
+    let text = text.expect(rt, "no text");
+    assert!(rt; text.as_str().contains(part), "{part:?} is not in {text}");
+}
+
+/// Fails unless a text was made that ends so.
+pub fn ends<E: Debug + Drop>(rt: &impl Abort, text: Result<String, E>, end: &str) {
+    let text = text.expect(rt, "no text");
+    assert!(rt; text.as_str().ends_with(end), "{end:?} does not end {text}");
+}
+
+/// Fails unless the call returned yes.
+pub fn holds<E: Debug + Drop>(rt: &impl Abort, answer: Result<bool, E>) {
+    assert!(rt; answer.expect(rt, "no answer"));
+}
+
+/// Fails unless the call found nothing.
+pub fn is_none<T: Drop, E: Drop>(rt: &impl Abort, found: Result<Option<T>, E>) {
+    assert!(rt; matches!(found, Ok(None)));
+}
