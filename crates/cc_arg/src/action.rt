@@ -34,22 +34,3 @@ impl ArgAction {
         matches!(self, ArgAction::Set | ArgAction::Append)
     }
 }
-
-#[cfg(test)]
-mod tests {
-    use super::*;
-    use std::test::Fail;
-
-    #[test]
-    fn shows_its_variant(rt: HostRuntime) -> Result<(), Fail> {
-        let shown = format!(in rt.alloc(); "{:?}", ArgAction::SetTrue)?;
-        assert_eq!(rt; shown.as_str(), "SetTrue");
-        Ok(())
-    }
-
-    #[test]
-    fn only_two_take_values(rt: HostRuntime) {
-        assert!(rt; ArgAction::Set.takes_values() && ArgAction::Append.takes_values());
-        assert!(rt; !ArgAction::SetTrue.takes_values() && !ArgAction::Version.takes_values());
-    }
-}

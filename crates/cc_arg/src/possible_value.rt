@@ -106,26 +106,3 @@ pub(crate) fn copy_of_given(
         None => Ok(None),
     }
 }
-
-#[cfg(test)]
-mod tests {
-    use super::*;
-    use std::test::Fail;
-
-    #[test]
-    fn holds_name_help_and_hide(rt: HostRuntime) -> Result<(), Fail> {
-        let alloc = rt.alloc();
-        let plain = PossibleValue::new(String::from_str(alloc, "auto")?);
-        assert_eq!(rt; plain.get_name(), "auto");
-        assert_eq!(rt; plain.get_help(), None);
-        assert!(rt; !plain.is_hide_set());
-        let hidden = plain
-            .help(String::from_str(alloc, "On a terminal")?)
-            .hide(true);
-        let copy = hidden.try_clone(alloc)?;
-        assert_eq!(rt; copy.get_name(), "auto");
-        assert_eq!(rt; copy.get_help(), Some("On a terminal"));
-        assert!(rt; copy.is_hide_set());
-        Ok(())
-    }
-}

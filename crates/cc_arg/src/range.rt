@@ -54,26 +54,3 @@ impl ValueRange {
         self.greatest > 0
     }
 }
-
-#[cfg(test)]
-mod tests {
-    use super::*;
-    use std::test::Fail;
-
-    #[test]
-    fn shows_its_bounds(rt: HostRuntime) -> Result<(), Fail> {
-        let range = ValueRange::new(0, 2);
-        let shown = format!(in rt.alloc(); "{range:?}")?;
-        assert_eq!(rt; shown.as_str(), "ValueRange { least: 0, greatest: 2 }");
-        Ok(())
-    }
-
-    #[test]
-    fn has_its_bounds(rt: HostRuntime) {
-        let range = ValueRange::new(0, 2);
-        assert_eq!(rt; range.min_values(), 0);
-        assert_eq!(rt; range.max_values(), 2);
-        assert!(rt; range.takes_values());
-        assert!(rt; !ValueRange::new(0, 0).takes_values());
-    }
-}

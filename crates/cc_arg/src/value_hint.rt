@@ -31,33 +31,3 @@ pub enum ValueHint {
     /// An email address.
     EmailAddress,
 }
-
-#[cfg(test)]
-mod tests {
-    use super::*;
-    use std::hash::{DefaultHasher, Hash, Hasher};
-    use std::test::Fail;
-
-    #[test]
-    fn shows_its_variant(rt: HostRuntime) -> Result<(), Fail> {
-        let shown = format!(in rt.alloc(); "{:?}", ValueHint::CommandWithArguments)?;
-        assert_eq!(rt; shown.as_str(), "CommandWithArguments");
-        Ok(())
-    }
-
-    #[test]
-    fn equal_hints_have_equal_hashes(rt: HostRuntime) {
-        assert_eq!(rt; hash_of(ValueHint::Url), hash_of(ValueHint::Url));
-    }
-
-    fn hash_of(hint: ValueHint) -> u64 {
-        let mut state = DefaultHasher::new();
-        hint.hash(&mut state);
-        state.finish()
-    }
-
-    #[test]
-    fn is_unknown_by_default(rt: HostRuntime) {
-        assert_eq!(rt; ValueHint::default(), ValueHint::Unknown);
-    }
-}

@@ -30,6 +30,7 @@ fn has_its_shorts(rt: &impl Abort, argument: Result<Arg, Error>) {
     same(rt, shorts.next(), Some('f'));
     same(rt, shorts.next(), Some('p'));
     same(rt, shorts.next(), None);
+    drop(shorts);
     assert!(rt; !argument.is_positional());
     drop(argument);
 }
@@ -39,16 +40,13 @@ fn lists_the_shorts(rt: HostRuntime) {
     has_its_shorts(&rt, with_shorts(rt.alloc()));
 }
 
-// With the long `--file`, shown as `--path` too, and hidden as `--source`.
-fn add_longs(alloc: Global, argument: Result<Arg, Error>) -> Result<Arg, Error> {
+// `file` with the long `--file`, shown as `--path` too, and hidden as `--source`.
+fn with_longs(alloc: Global) -> Result<Arg, Error> {
     let file = String::from_str(alloc, "file")?;
     let path = String::from_str(alloc, "path")?;
     let source = String::from_str(alloc, "source")?;
-    argument?.long(file).visible_alias(path)?.alias(source)
-}
-
-fn with_longs(alloc: Global) -> Result<Arg, Error> {
-    add_longs(alloc, argument(alloc, "file"))
+    let argument = argument(alloc, "file")?.long(file);
+    argument.visible_alias(path)?.alias(source)
 }
 
 fn has_its_longs(rt: &impl Abort, argument: Result<Arg, Error>) {
@@ -61,6 +59,7 @@ fn has_its_longs(rt: &impl Abort, argument: Result<Arg, Error>) {
     same(rt, longs.next(), Some("file"));
     same(rt, longs.next(), Some("path"));
     same(rt, longs.next(), None);
+    drop(longs);
     drop(argument);
 }
 
@@ -69,8 +68,13 @@ fn lists_the_longs(rt: HostRuntime) {
     has_its_longs(&rt, with_longs(rt.alloc()));
 }
 
+// The shorts and the longs together.
 fn with_names(alloc: Global) -> Result<Arg, Error> {
-    add_longs(alloc, with_shorts(alloc))
+    let file = String::from_str(alloc, "file")?;
+    let path = String::from_str(alloc, "path")?;
+    let source = String::from_str(alloc, "source")?;
+    let argument = with_shorts(alloc)?.long(file);
+    argument.visible_alias(path)?.alias(source)
 }
 
 fn has_shorts_before_longs(rt: &impl Abort, argument: Result<Arg, Error>) {
@@ -81,6 +85,7 @@ fn has_shorts_before_longs(rt: &impl Abort, argument: Result<Arg, Error>) {
     assert!(rt; matches!(names.next(), Some(ShownName::Long(name)) if name.as_str() == "file"));
     assert!(rt; matches!(names.next(), Some(ShownName::Long(name)) if name.as_str() == "path"));
     assert!(rt; names.next().is_none());
+    drop(names);
     drop(argument);
 }
 
@@ -101,7 +106,9 @@ fn with_aliases_alone(alloc: Global) -> Result<Arg, Error> {
 #[test]
 fn aliases_alone_are_not_shown(rt: HostRuntime) {
     let argument = with_aliases_alone(rt.alloc()).expect(&rt, "no argument");
-    assert!(rt; shown_names(&argument).next().is_none());
+    let mut names = shown_names(&argument);
+    assert!(rt; names.next().is_none());
+    drop(names);
     drop(argument);
 }
 
@@ -114,11 +121,12 @@ pub(crate) fn copy_of(alloc: Global, argument: Result<Arg, Error>) -> Result<Arg
 }
 
 fn color(alloc: Global) -> Result<Arg, Error> {
+    let range = ValueRange::new(0, 1);
     let id = String::from_str(alloc, "color")?;
     let help = String::from_str(alloc, "Colour")?;
     let when = String::from_str(alloc, "WHEN")?;
     let color = Arg::new(alloc, id).short('c').help(help);
-    let color = color.num_args(ValueRange::new(0, 1)).hide(true);
+    let color = color.num_args(range).hide(true);
     color.value_name(when)
 }
 
@@ -245,8 +253,9 @@ fn fills_in_the_range_of_an_action(rt: HostRuntime) {
 
 #[test]
 fn fills_in_action_and_index(rt: HostRuntime) {
+    let range = ValueRange::new(0, usize::MAX);
     let rest = argument(rt.alloc(), "rest").expect(&rt, "no argument");
-    let mut rest = rest.num_args(ValueRange::new(0, usize::MAX));
+    let mut rest = rest.num_args(range);
     fill(&mut rest);
     fill_index(&mut rest, 2);
     same(&rt, rest.get_action(), ArgAction::Append);

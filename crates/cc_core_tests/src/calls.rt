@@ -68,12 +68,14 @@ fn aliased(alloc: Global) -> Result<Command, Error> {
 }
 
 fn with_file(alloc: Global) -> Result<Command, Error> {
-    with(file(alloc), aliased(alloc))
-}
-
-fn with(arg: Result<Arg, Error>, command: Result<Command, Error>) -> Result<Command, Error> {
-    let arg = arg?;
-    command?.arg(arg)
+    let file = file(alloc)?;
+    match aliased(alloc) {
+        Ok(command) => command.arg(file),
+        Err(error) => {
+            drop(file);
+            Err(error)
+        }
+    }
 }
 
 // A command with aliases of each kind and an argument.

@@ -21,17 +21,47 @@ fn plain(alloc: Global, name: &str) -> Result<Command, Error> {
     )
 }
 
+fn with_one(command: Command, arg: Result<Arg, Error>) -> Result<Command, Error> {
+    match arg {
+        Ok(arg) => command.arg(arg),
+        Err(error) => {
+            drop(command);
+            Err(error)
+        }
+    }
+}
+
 fn with(command: Result<Command, Error>, arg: Result<Arg, Error>) -> Result<Command, Error> {
-    let arg = arg?;
-    command?.arg(arg)
+    match command {
+        Ok(command) => with_one(command, arg),
+        Err(error) => {
+            drop(arg);
+            Err(error)
+        }
+    }
+}
+
+fn holding_one(command: Command, child: Result<Command, Error>) -> Result<Command, Error> {
+    match child {
+        Ok(child) => command.subcommand(child),
+        Err(error) => {
+            drop(command);
+            Err(error)
+        }
+    }
 }
 
 fn holding(
     command: Result<Command, Error>,
     child: Result<Command, Error>,
 ) -> Result<Command, Error> {
-    let child = child?;
-    command?.subcommand(child)
+    match command {
+        Ok(command) => holding_one(command, child),
+        Err(error) => {
+            drop(child);
+            Err(error)
+        }
+    }
 }
 
 // An argument with this id and long.
@@ -185,7 +215,8 @@ fn value(alloc: Global, name: &str) -> Result<PossibleValue, Error> {
 
 /// `app` with an option `--path` whose values are what this hint says.
 pub(crate) fn hinted(alloc: Global, hint: ValueHint) -> Result<Command, Error> {
-    with(bare(alloc), Ok(long(alloc, "path")?.value_hint(hint)))
+    let path = long(alloc, "path")?.value_hint(hint);
+    with(bare(alloc), Ok(path))
 }
 
 /// `app` with an option `--dir` whose values are directories.
@@ -262,8 +293,9 @@ pub(crate) fn placed(alloc: Global) -> Result<Command, Error> {
 }
 
 fn optional(alloc: Global) -> Result<Arg, Error> {
+    let range = ValueRange::new(0, 1);
     let name = String::from_str(alloc, "N")?;
-    let n = long(alloc, "n")?.num_args(ValueRange::new(0, 1));
+    let n = long(alloc, "n")?.num_args(range);
     n.value_name(name)
 }
 
@@ -273,9 +305,10 @@ fn input(alloc: Global) -> Result<Arg, Error> {
 }
 
 fn rest(alloc: Global) -> Result<Arg, Error> {
+    let range = ValueRange::new(0, usize::MAX);
     let help = String::from_str(alloc, "a:b")?;
     let rest = Arg::new(alloc, String::from_str(alloc, "rest")?);
-    Ok(rest.num_args(ValueRange::new(0, usize::MAX)).help(help))
+    Ok(rest.num_args(range).help(help))
 }
 
 /// A command that was built.
