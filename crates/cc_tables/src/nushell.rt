@@ -14,6 +14,7 @@ ghost use Rattle.cc_tables.specs.NushellScript.{line_begin, line_text, node_line
 ghost use Rattle.cc_tables.specs.NushellScript.{nushell_script, offer_text, tail, type_text};
 
 use crate::offers::{Kind, Offer, Rows, write_flags, write_options};
+use crate::pieces::put_around;
 use cc_base::{Error, Sink, put_all};
 use cc_command::{Command, full_name};
 use cc_flat::Flat;
@@ -178,9 +179,7 @@ fn write_block<W: Sink>(key: &str, command: &Command, sink: &mut W) -> Result<()
 fn write_key<W: Sink>(key: &str, sink: &mut W) -> Result<(), Error>
     ensures { Writes W.taken W.failed result sink.old sink.new (key_text key.now) }
 {
-    put_all(sink, block_begin().as_bytes())?;
-    put_all(sink, key.as_bytes())?;
-    put_all(sink, key_end().as_bytes())
+    put_around(block_begin(), key, key_end(), sink)
 }
 
 // Writes the lines of a block.
@@ -229,9 +228,9 @@ impl Rows for Lines {
     #[tactic(auto, unfolding(crate::specs::NushellScript::offer_text, crate::specs::NushellScript::line_text, crate::specs::NushellScript::content))]
     #[inline(always)]
     fn write_row<W: Sink>(&self, offer: &Offer<'_>, sink: &mut W) -> Result<(), Error> {
-        put_all(sink, line_begin(offer.kind).as_bytes())?;
-        put_all(sink, offer.name.as_str().as_bytes())?;
-        put_all(sink, type_text(self.takes_value).as_bytes())?;
+        let name = offer.name.as_str();
+        let behind = type_text(self.takes_value);
+        put_around(line_begin(offer.kind), name, behind, sink)?;
         write_help(offer, sink)?;
         put_all(sink, "\n".as_bytes())
     }
