@@ -13,14 +13,15 @@ ghost use Rattle.cc_tables.specs.ElvishScript.{table_end, table_text, tail, text
 ghost use Rattle.cc_tables.specs.Offers.{dashes, node_offers};
 
 use crate::offers::{Kind, Offer, Rows, write_rows};
-use crate::pieces::put_around;
+use crate::pieces::{as_error, put_around, put_escaped_text, put_pieces};
 use cc_base::{Error, Sink, put_all};
 use cc_command::{Command, full_name};
 use cc_flat::Flat;
 use cc_lists::Generator;
-use cc_quote::{ElvishEscape, put_escaped};
+use cc_quote::ElvishEscape;
 use cc_visits::{Joined, TableVisits};
 use std::alloc::Global;
+use std::io::ErrorKind;
 
 // ---- the fixed texts
 
@@ -226,7 +227,7 @@ fn write_table_rows<W: Sink>(command: &Command, sink: &mut W) -> Result<(), Erro
     ensures { Writes W.taken W.failed result sink.old sink.new
         (flat_map row_text (map offer_row (node_offers command.now))) }
 {
-    write_rows(&Elvish, command, sink)
+    as_error(write_rows(&Elvish, command, sink))
 }
 
 // Writes the beginning of a table.
@@ -234,7 +235,7 @@ fn write_table_rows<W: Sink>(command: &Command, sink: &mut W) -> Result<(), Erro
 fn write_key<W: Sink>(key: &str, sink: &mut W) -> Result<(), Error>
     ensures { Writes W.taken W.failed result sink.old sink.new (key_text key.now) }
 {
-    put_around(table_begin(), key, key_end(), sink)
+    as_error(put_around(table_begin(), key, key_end(), sink))
 }
 
 impl Rows for Elvish {
@@ -244,11 +245,11 @@ impl Rows for Elvish {
 
     #[tactic(auto, unfolding(crate::specs::ElvishScript::offer_text, crate::specs::ElvishScript::row_text))]
     #[inline(always)]
-    fn write_row<W: Sink>(&self, offer: &Offer<'_>, sink: &mut W) -> Result<(), Error> {
+    fn write_row<W: Sink>(&self, offer: &Offer<'_>, sink: &mut W) -> Result<(), ErrorKind> {
         let name = offer.name.as_str();
         put_around(row_begin(offer.kind), name, text_begin(), sink)?;
-        put_escaped(&ElvishEscape, shown_text(offer), sink)?;
-        put_all(sink, row_end().as_bytes())
+        put_escaped_text(&ElvishEscape, shown_text(offer), sink)?;
+        put_pieces(sink, &[row_end().as_bytes()])
     }
 }
 

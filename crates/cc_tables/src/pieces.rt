@@ -1,23 +1,24 @@
 //! Pieces of a text, put one after another.
 
-ghost use Rattle.std.specs.Prelude.{◌++◌, flat_map};
+ghost use Rattle.std.specs.Prelude.{◌≡◌, ◌++◌, flat_map};
 ghost use Rattle.cc_base.specs.Writes.{Writes};
 ghost use Rattle.cc_tables.specs.Pieces.{as_write};
 
 use cc_base::{Error, Sink, put_all};
+use cc_quote::{Escape, put_escaped};
 use std::io::ErrorKind;
 
-/// Puts each piece in turn, as `put_all` does. It takes fewer instructions than as many calls of
-/// `put_all`: all failures meet in one place.
+/// Puts each piece in turn, as `put_all` does. The error is the kind of the put that failed, which
+/// is small: so it takes fewer instructions than as many calls of `put_all`.
 #[inline(always)]
-pub fn put_pieces<S: Sink>(sink: &mut S, pieces: &[&[u8]]) -> Result<(), Error>
-    ensures { Writes S.taken S.failed result sink.old sink.new
+pub fn put_pieces<S: Sink>(sink: &mut S, pieces: &[&[u8]]) -> Result<(), ErrorKind>
+    ensures { Writes S.taken S.failed (as_write result) sink.old sink.new
         (flat_map (λ piece. piece.now) pieces.now) }
 {
-    match put_in_turn(sink, pieces) {
-        Ok(()) => Ok(()),
-        Err(kind) => Err(Error::Write(kind)),
+    for piece in pieces {
+        put_piece(sink, piece)?;
     }
+    Ok(())
 }
 
 /// Puts a text with what stands before and behind it.
@@ -27,8 +28,8 @@ pub fn put_around<'a, S: Sink>(
     text: &'a str,
     behind: &'a str,
     sink: &mut S,
-) -> Result<(), Error>
-    ensures { Writes S.taken S.failed result sink.old sink.new
+) -> Result<(), ErrorKind>
+    ensures { Writes S.taken S.failed (as_write result) sink.old sink.new
         (before.now ++ text.now ++ behind.now) }
 {
     put_pieces(
@@ -37,16 +38,31 @@ pub fn put_around<'a, S: Sink>(
     )
 }
 
-// Puts each piece in turn. The error is the kind of the put that failed, which is small.
+/// Puts the escaped text.
 #[inline(always)]
-fn put_in_turn<S: Sink>(sink: &mut S, pieces: &[&[u8]]) -> Result<(), ErrorKind>
+pub fn put_escaped_text<E: Escape, S: Sink>(
+    escape: &E,
+    text: &str,
+    sink: &mut S,
+) -> Result<(), ErrorKind>
     ensures { Writes S.taken S.failed (as_write result) sink.old sink.new
-        (flat_map (λ piece. piece.now) pieces.now) }
+        (E.escaped escape.now text.now) }
 {
-    for piece in pieces {
-        put_piece(sink, piece)?;
+    match put_escaped(escape, text, sink) {
+        Ok(()) => Ok(()),
+        Err(Error::Write(kind)) => Err(kind),
+        Err(_) => Err(ErrorKind::Other),
     }
-    Ok(())
+}
+
+/// The result of puts with the library's error.
+pub fn as_error(put: Result<(), ErrorKind>) -> Result<(), Error>
+    ensures { result ≡ as_write put }
+{
+    match put {
+        Ok(()) => Ok(()),
+        Err(kind) => Err(Error::Write(kind)),
+    }
 }
 
 #[inline(always)]

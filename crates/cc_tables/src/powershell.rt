@@ -14,16 +14,18 @@ ghost use Rattle.cc_tables.specs.PowershellScript.{result_kind, row_begin, row_e
 ghost use Rattle.cc_tables.specs.PowershellScript.{table_begin, table_end, table_text, tail};
 ghost use Rattle.cc_tables.specs.PowershellScript.{text_begin};
 ghost use Rattle.cc_tables.specs.Offers.{dashes, node_offers, word};
+ghost use Rattle.cc_tables.specs.Pieces.{as_write};
 
 use crate::offers::{Kind, Offer, Rows, write_rows};
-use crate::pieces::{put_around, put_pieces};
+use crate::pieces::{as_error, put_around, put_escaped_text, put_pieces};
 use cc_base::{Error, Sink, put_all};
 use cc_command::{Command, full_name};
 use cc_flat::Flat;
 use cc_lists::Generator;
-use cc_quote::{PowershellEscape, put_escaped};
+use cc_quote::PowershellEscape;
 use cc_visits::{Joined, TableVisits};
 use std::alloc::Global;
+use std::io::ErrorKind;
 
 // ---- the fixed texts
 
@@ -256,7 +258,7 @@ fn write_table_rows<W: Sink>(command: &Command, sink: &mut W) -> Result<(), Erro
     ensures { Writes W.taken W.failed result sink.old sink.new
         (flat_map row_text (map offer_row (node_offers command.now))) }
 {
-    write_rows(&PowerShell, command, sink)
+    as_error(write_rows(&PowerShell, command, sink))
 }
 
 // Writes the beginning of a table.
@@ -264,7 +266,7 @@ fn write_table_rows<W: Sink>(command: &Command, sink: &mut W) -> Result<(), Erro
 fn write_key<W: Sink>(key: &str, sink: &mut W) -> Result<(), Error>
     ensures { Writes W.taken W.failed result sink.old sink.new (key_text key.now) }
 {
-    put_around(table_begin(), key, key_end(), sink)
+    as_error(put_around(table_begin(), key, key_end(), sink))
 }
 
 impl Rows for PowerShell {
@@ -274,17 +276,17 @@ impl Rows for PowerShell {
 
     #[tactic(auto, unfolding(crate::specs::PowershellScript::offer_text, crate::specs::PowershellScript::row_text, crate::specs::PowershellScript::words_text, crate::specs::PowershellScript::details_text))]
     #[inline(always)]
-    fn write_row<W: Sink>(&self, offer: &Offer<'_>, sink: &mut W) -> Result<(), Error> {
+    fn write_row<W: Sink>(&self, offer: &Offer<'_>, sink: &mut W) -> Result<(), ErrorKind> {
         write_words(offer, sink)?;
-        put_escaped(&PowershellEscape, shown_text(offer), sink)?;
+        put_escaped_text(&PowershellEscape, shown_text(offer), sink)?;
         put_pieces(sink, &[row_end().as_bytes()])
     }
 }
 
 // Writes a row up to what describes it. What is typed is written twice: lists show it too.
 #[inline(always)]
-fn write_words<W: Sink>(offer: &Offer<'_>, sink: &mut W) -> Result<(), Error>
-    ensures { Writes W.taken W.failed result sink.old sink.new
+fn write_words<W: Sink>(offer: &Offer<'_>, sink: &mut W) -> Result<(), ErrorKind>
+    ensures { Writes W.taken W.failed (as_write result) sink.old sink.new
         (row_begin ++ word offer.now ++ list_begin ++ word offer.now
         ++ (capital_space offer.now.kind offer.now.name ++ kind_begin
         ++ kind_text (result_kind offer.now.kind) ++ text_begin)) }
@@ -306,8 +308,8 @@ fn put_words<'a, W: Sink>(
     between: &'a str,
     behind: &'a str,
     sink: &mut W,
-) -> Result<(), Error>
-    ensures { Writes W.taken W.failed result sink.old sink.new
+) -> Result<(), ErrorKind>
+    ensures { Writes W.taken W.failed (as_write result) sink.old sink.new
         (before.now ++ name.now ++ between.now ++ name.now ++ behind.now) }
 {
     put_pieces(
