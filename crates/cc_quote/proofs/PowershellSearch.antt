@@ -4,7 +4,7 @@ use Rattle.std.proofs.Math.Seq.{take-suc}
 use Rattle.std.proofs.lemmas.Bool.{or_parts}
 use Rattle.std.proofs.lemmas.Bool.Decides.{nat_tests}
 use Rattle.std.proofs.lemmas.List.{append-nil, drop_all, take_all}
-use Rattle.memchr.specs.Find.{is_byte3, places_from, places, Nowhere, Passes}
+use Rattle.memchr.specs.Find.{is_byte3, places_from, places}
 use Rattle.cc_quote.specs.Bytes.{line_feed, single_quote, right_quote_first}
 use Rattle.cc_quote.specs.PowershellQuote.{begins_second, begins_right_quote, begins_quote, powershell_escaped_byte, powershell_escaped, is_escaped}
 
@@ -59,21 +59,6 @@ pub record AreLeft (text left : List ℕ) : Type 0 where
   pub ends : from + count ≡ length text
   pub kept : IsKeptTo text from
   pub left_are : left ≡ places_from may_begin text from count
-
--- there is no such byte from a place on
-kept_from : (text : List ℕ) (from count : ℕ) → from + count ≡ length text → IsKeptTo text from → Nowhere (Passes may_begin text) from (length text) → powershell_escaped text ≡ text
-kept_from text from zero ends kept nowhere =
-    let past : length text ≤ from = omega arith in
-    kept ∙ ap (λ bs. take from text ++ powershell_escaped bs) (drop_all from text past) ∙ append-nil (take from text) ∙ take_all from text past
-kept_from text from (suc count) ends kept nowhere = by (may_begin (get_or text from 0)) refl (λ k. kept_from text (from + 1) count (omega arith) k (λ at low high. nowhere at (omega arith) high))
-  where
-    by : (b : Bool) → may_begin (get_or text from 0) ≡ b → (IsKeptTo text (from + 1) → powershell_escaped text ≡ text) → powershell_escaped text ≡ text
-    by true is below = absurd (nowhere from (omega arith) (omega arith) is)
-    by false is below = below (kept_past text from (omega arith) kept (not_escaped (get_or text from 0) (drop (from + 1) text) is))
-
--- there is none in the text
-pub kept_whole : (text : List ℕ) → Nowhere (Passes may_begin text) 0 (length text) → powershell_escaped text ≡ text
-kept_whole text nowhere = kept_from text 0 (length text) (omega arith) refl nowhere
 
 -- the next place that it gives, and those after it
 pub record IsNext (text : List ℕ) (at : ℕ) (left : List ℕ) : Type 0 where

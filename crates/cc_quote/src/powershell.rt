@@ -44,7 +44,7 @@ ghost use Rattle.cc_quote.specs.QuotedWord.{
 use crate::escape::{Escape, push_escaped};
 use crate::word::bare_word;
 use cc_base::Error;
-use memchr::{memchr3, memchr3_iter};
+use memchr::memchr3_iter;
 use std::alloc::{AllocError, Global};
 
 // The bytes of U+2019.
@@ -79,20 +79,8 @@ impl Escape for PowershellEscape {
     }
 }
 
-// The place of the first byte for which something else stands. Most texts have none of the bytes
-// that are searched, which one search finds out faster than the iterator.
+// The place of the first byte for which something else stands.
 fn find_escaped(text: &[u8]) -> Option<usize>
-    ensures { MatchOption result (powershell_escaped text.now ≡ text.now)
-        (λ at. IsFirstEscaped text.now at) }
-{
-    let Some(_) = memchr3(b'\'', b'\n', RIGHT_QUOTE_FIRST, text) else {
-        return None;
-    };
-    find_in_turn(text)
-}
-
-// The same, by a look at each of these bytes.
-fn find_in_turn(text: &[u8]) -> Option<usize>
     ensures { MatchOption result (powershell_escaped text.now ≡ text.now)
         (λ at. IsFirstEscaped text.now at) }
 {
