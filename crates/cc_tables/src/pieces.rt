@@ -1,6 +1,6 @@
 //! Pieces of a text, put one after another.
 
-ghost use Rattle.std.specs.Prelude.{◌≡◌, ◌++◌, flat_map};
+ghost use Rattle.std.specs.Prelude.{◌≡◌, [], ◌++◌, flat_map, IsOk};
 ghost use Rattle.cc_base.specs.Writes.{Writes};
 ghost use Rattle.cc_tables.specs.Pieces.{as_write};
 
@@ -65,9 +65,11 @@ pub fn as_error(put: Result<(), ErrorKind>) -> Result<(), Error>
     }
 }
 
+// An empty piece is not put.
 #[inline(always)]
 fn put_piece<S: Sink>(sink: &mut S, bytes: &[u8]) -> Result<(), ErrorKind>
-    ensures { Writes S.taken S.failed (as_write result) sink.old sink.new bytes.now }
+    ensures written { Writes S.taken S.failed (as_write result) sink.old sink.new bytes.now }
+    ensures empty { bytes.now ≡ [] → (IsOk result × (sink.new ≡ sink.old)) }
 {
     if bytes.is_empty() {
         return Ok(());
