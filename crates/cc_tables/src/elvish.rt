@@ -13,13 +13,15 @@ ghost use Rattle.cc_tables.specs.ElvishScript.{table_end, table_text, tail, text
 ghost use Rattle.cc_tables.specs.Offers.{dashes, node_offers};
 
 use crate::offers::{Kind, Offer, Rows, write_rows};
+use crate::pieces::{as_error, put_around, put_escaped_text, put_pieces};
 use cc_base::{Error, Sink, put_all};
 use cc_command::{Command, full_name};
 use cc_flat::Flat;
 use cc_lists::Generator;
-use cc_quote::{ElvishEscape, put_escaped};
+use cc_quote::ElvishEscape;
 use cc_visits::{Joined, TableVisits};
 use std::alloc::Global;
+use std::io::ErrorKind;
 
 // ---- the fixed texts
 
@@ -225,7 +227,7 @@ fn write_table_rows<W: Sink>(command: &Command, sink: &mut W) -> Result<(), Erro
     ensures { Writes W.taken W.failed result sink.old sink.new
         (flat_map row_text (map offer_row (node_offers command.now))) }
 {
-    write_rows(&Elvish, command, sink)
+    as_error(write_rows(&Elvish, command, sink))
 }
 
 // Writes the beginning of a table.
@@ -233,9 +235,7 @@ fn write_table_rows<W: Sink>(command: &Command, sink: &mut W) -> Result<(), Erro
 fn write_key<W: Sink>(key: &str, sink: &mut W) -> Result<(), Error>
     ensures { Writes W.taken W.failed result sink.old sink.new (key_text key.now) }
 {
-    put_all(sink, table_begin().as_bytes())?;
-    put_all(sink, key.as_bytes())?;
-    put_all(sink, key_end().as_bytes())
+    as_error(put_around(table_begin(), key, key_end(), sink))
 }
 
 impl Rows for Elvish {
@@ -245,12 +245,11 @@ impl Rows for Elvish {
 
     #[tactic(auto, unfolding(crate::specs::ElvishScript::offer_text, crate::specs::ElvishScript::row_text))]
     #[inline(always)]
-    fn write_row<W: Sink>(&self, offer: &Offer<'_>, sink: &mut W) -> Result<(), Error> {
-        put_all(sink, row_begin(offer.kind).as_bytes())?;
-        put_all(sink, offer.name.as_str().as_bytes())?;
-        put_all(sink, text_begin().as_bytes())?;
-        put_escaped(&ElvishEscape, shown_text(offer), sink)?;
-        put_all(sink, row_end().as_bytes())
+    fn write_row<W: Sink>(&self, offer: &Offer<'_>, sink: &mut W) -> Result<(), ErrorKind> {
+        let name = offer.name.as_str();
+        put_around(row_begin(offer.kind), name, text_begin(), sink)?;
+        put_escaped_text(&ElvishEscape, shown_text(offer), sink)?;
+        put_pieces(sink, &[row_end().as_bytes()])
     }
 }
 

@@ -4,6 +4,7 @@
 mod elvish;
 mod nushell;
 mod offers;
+mod pieces;
 mod powershell;
 
 pub use crate::elvish::Elvish;

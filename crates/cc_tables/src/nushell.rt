@@ -12,16 +12,19 @@ ghost use Rattle.cc_tables.specs.NushellScript.{block_begin, block_end, block_te
 ghost use Rattle.cc_tables.specs.NushellScript.{help_begin, help_text, key_end, key_text};
 ghost use Rattle.cc_tables.specs.NushellScript.{line_begin, line_text, node_lines, node_text};
 ghost use Rattle.cc_tables.specs.NushellScript.{nushell_script, offer_text, tail, type_text};
+ghost use Rattle.cc_tables.specs.Pieces.{as_write};
 
 use crate::offers::{Kind, Offer, Rows, write_flags, write_options};
+use crate::pieces::{as_error, put_around, put_escaped_text, put_pieces};
 use cc_base::{Error, Sink, put_all};
 use cc_command::{Command, full_name};
 use cc_flat::Flat;
 use cc_lists::Generator;
-use cc_quote::{Escape, put_escaped};
+use cc_quote::Escape;
 use cc_visits::{Joined, TableVisits};
 use memchr::memchr;
 use std::alloc::Global;
+use std::io::ErrorKind;
 
 // ---- the fixed texts
 
@@ -178,9 +181,7 @@ fn write_block<W: Sink>(key: &str, command: &Command, sink: &mut W) -> Result<()
 fn write_key<W: Sink>(key: &str, sink: &mut W) -> Result<(), Error>
     ensures { Writes W.taken W.failed result sink.old sink.new (key_text key.now) }
 {
-    put_all(sink, block_begin().as_bytes())?;
-    put_all(sink, key.as_bytes())?;
-    put_all(sink, key_end().as_bytes())
+    as_error(put_around(block_begin(), key, key_end(), sink))
 }
 
 // Writes the lines of a block.
@@ -206,14 +207,14 @@ fn write_option_lines<W: Sink>(command: &Command, sink: &mut W) -> Result<(), Er
     ensures { Writes W.taken W.failed result sink.old sink.new
         (flat_map (offer_text true) (flat_map argument_offers (options command.now.node))) }
 {
-    write_options(&Lines { takes_value: true }, command, sink)
+    as_error(write_options(&Lines { takes_value: true }, command, sink))
 }
 
 fn write_flag_lines<W: Sink>(command: &Command, sink: &mut W) -> Result<(), Error>
     ensures { Writes W.taken W.failed result sink.old sink.new
         (flat_map (offer_text false) (flat_map argument_offers (flags command.now.node))) }
 {
-    write_flags(&Lines { takes_value: false }, command, sink)
+    as_error(write_flags(&Lines { takes_value: false }, command, sink))
 }
 
 // The lines of options, which take a value, or of flags.
@@ -228,24 +229,25 @@ impl Rows for Lines {
 
     #[tactic(auto, unfolding(crate::specs::NushellScript::offer_text, crate::specs::NushellScript::line_text, crate::specs::NushellScript::content))]
     #[inline(always)]
-    fn write_row<W: Sink>(&self, offer: &Offer<'_>, sink: &mut W) -> Result<(), Error> {
-        put_all(sink, line_begin(offer.kind).as_bytes())?;
-        put_all(sink, offer.name.as_str().as_bytes())?;
-        put_all(sink, type_text(self.takes_value).as_bytes())?;
+    fn write_row<W: Sink>(&self, offer: &Offer<'_>, sink: &mut W) -> Result<(), ErrorKind> {
+        let name = offer.name.as_str();
+        let behind = type_text(self.takes_value);
+        put_around(line_begin(offer.kind), name, behind, sink)?;
         write_help(offer, sink)?;
-        put_all(sink, "\n".as_bytes())
+        put_pieces(sink, &["\n".as_bytes()])
     }
 }
 
 // Writes the help where there is one.
 #[tactic(auto, unfolding(crate::specs::NushellScript::help_text))]
-fn write_help<W: Sink>(offer: &Offer<'_>, sink: &mut W) -> Result<(), Error>
-    ensures { Writes W.taken W.failed result sink.old sink.new (help_text offer.now.description) }
+fn write_help<W: Sink>(offer: &Offer<'_>, sink: &mut W) -> Result<(), ErrorKind>
+    ensures { Writes W.taken W.failed (as_write result) sink.old sink.new
+        (help_text offer.now.description) }
 {
     match &offer.description {
         Some(help) => {
-            put_all(sink, help_begin().as_bytes())?;
-            put_escaped(&OneLine, help.as_str(), sink)
+            put_pieces(sink, &[help_begin().as_bytes()])?;
+            put_escaped_text(&OneLine, help.as_str(), sink)
         }
         None => Ok(()),
     }

@@ -6,13 +6,15 @@ ghost use Rattle.cc_base.specs.Writes.{Writes};
 ghost use Rattle.cc_tables.specs.Offers.{argument_offer, argument_offers, child_offer};
 ghost use Rattle.cc_tables.specs.Offers.{child_offers, children_offers, node_offers};
 ghost use Rattle.cc_tables.specs.Offers.{short_offer};
+ghost use Rattle.cc_tables.specs.Pieces.{as_write};
 ghost use Rattle.cc_command.specs.ArgumentLists.{flags, options};
 ghost use Rattle.cc_command.specs.Names.{visible_names};
 ghost use Rattle.cc_command.specs.Tree.{forest_of};
 
 use cc_arg::{Arg, ShownName, shown_names};
-use cc_base::{Error, Sink, TextRef};
+use cc_base::{Sink, TextRef};
 use cc_command::Command;
+use std::io::ErrorKind;
 
 /// What kind of name is offered.
 #[derive(Clone, Copy)]
@@ -42,6 +44,7 @@ pub struct Offer<'a> {
 pub trait Rows {
     ghost use Rattle.std.specs.Prelude.{List, ℕ};
     ghost use Rattle.cc_base.specs.Writes.{Writes};
+    ghost use Rattle.cc_tables.specs.Pieces.{as_write};
     ghost use Rattle.cc_tables.specs.declared.offers.Offer.{Offer};
 
     // the text of the row of an offer
@@ -49,14 +52,19 @@ pub trait Rows {
 
     /// Writes the row of an offer. An impl inlines it where the offer is made: its kind is known
     /// there, and with it the fixed texts.
-    fn write_row<W: Sink>(&self, offer: &Offer<'_>, sink: &mut W) -> Result<(), Error>
-        ensures { Writes W.taken W.failed result sink.old sink.new (row_text self.now offer.now) };
+    fn write_row<W: Sink>(&self, offer: &Offer<'_>, sink: &mut W) -> Result<(), ErrorKind>
+        ensures { Writes W.taken W.failed (as_write result) sink.old sink.new
+            (row_text self.now offer.now) };
 }
 
 /// Writes the rows at a node: of its options, of its flags and of its children.
 #[tactic(auto, unfolding(crate::specs::Offers::node_offers))]
-pub fn write_rows<R: Rows, W: Sink>(rows: &R, command: &Command, sink: &mut W) -> Result<(), Error>
-    ensures { Writes W.taken W.failed result sink.old sink.new
+pub fn write_rows<R: Rows, W: Sink>(
+    rows: &R,
+    command: &Command,
+    sink: &mut W,
+) -> Result<(), ErrorKind>
+    ensures { Writes W.taken W.failed (as_write result) sink.old sink.new
         (flat_map (R.row_text rows.now) (node_offers command.now)) }
 {
     write_options(rows, command, sink)?;
@@ -69,8 +77,8 @@ pub fn write_options<R: Rows, W: Sink>(
     rows: &R,
     command: &Command,
     sink: &mut W,
-) -> Result<(), Error>
-    ensures { Writes W.taken W.failed result sink.old sink.new
+) -> Result<(), ErrorKind>
+    ensures { Writes W.taken W.failed (as_write result) sink.old sink.new
         (flat_map (R.row_text rows.now) (flat_map argument_offers (options command.now.node))) }
 {
     for option in command.get_opts() {
@@ -80,8 +88,12 @@ pub fn write_options<R: Rows, W: Sink>(
 }
 
 /// Writes the rows of the flags.
-pub fn write_flags<R: Rows, W: Sink>(rows: &R, command: &Command, sink: &mut W) -> Result<(), Error>
-    ensures { Writes W.taken W.failed result sink.old sink.new
+pub fn write_flags<R: Rows, W: Sink>(
+    rows: &R,
+    command: &Command,
+    sink: &mut W,
+) -> Result<(), ErrorKind>
+    ensures { Writes W.taken W.failed (as_write result) sink.old sink.new
         (flat_map (R.row_text rows.now) (flat_map argument_offers (flags command.now.node))) }
 {
     for flag in command.get_flags() {
@@ -91,8 +103,8 @@ pub fn write_flags<R: Rows, W: Sink>(rows: &R, command: &Command, sink: &mut W) 
 }
 
 // Writes a row for each name of an argument that is shown.
-fn write_argument<R: Rows, W: Sink>(rows: &R, argument: &Arg, sink: &mut W) -> Result<(), Error>
-    ensures { Writes W.taken W.failed result sink.old sink.new
+fn write_argument<R: Rows, W: Sink>(rows: &R, argument: &Arg, sink: &mut W) -> Result<(), ErrorKind>
+    ensures { Writes W.taken W.failed (as_write result) sink.old sink.new
         (flat_map (R.row_text rows.now) (argument_offers argument.now)) }
 {
     for name in shown_names(argument) {
@@ -106,8 +118,8 @@ fn write_name<R: Rows, W: Sink>(
     argument: &Arg,
     name: ShownName<'_>,
     sink: &mut W,
-) -> Result<(), Error>
-    ensures { Writes W.taken W.failed result sink.old sink.new
+) -> Result<(), ErrorKind>
+    ensures { Writes W.taken W.failed (as_write result) sink.old sink.new
         (R.row_text rows.now (argument_offer argument.now name.entry)) }
 {
     match name {
@@ -131,8 +143,8 @@ fn write_short<R: Rows, W: Sink>(
     argument: &Arg,
     short: char,
     sink: &mut W,
-) -> Result<(), Error>
-    ensures { Writes W.taken W.failed result sink.old sink.new
+) -> Result<(), ErrorKind>
+    ensures { Writes W.taken W.failed (as_write result) sink.old sink.new
         (R.row_text rows.now (short_offer argument.now short)) }
 {
     let mut name = [0; 4];
@@ -160,8 +172,8 @@ fn write_children<R: Rows, W: Sink>(
     rows: &R,
     children: &[Command],
     sink: &mut W,
-) -> Result<(), Error>
-    ensures { Writes W.taken W.failed result sink.old sink.new
+) -> Result<(), ErrorKind>
+    ensures { Writes W.taken W.failed (as_write result) sink.old sink.new
         (flat_map (R.row_text rows.now) (children_offers (forest_of children.now))) }
 {
     for child in children {
@@ -171,8 +183,8 @@ fn write_children<R: Rows, W: Sink>(
 }
 
 // Writes a row for each visible name of a child.
-fn write_child<R: Rows, W: Sink>(rows: &R, child: &Command, sink: &mut W) -> Result<(), Error>
-    ensures { Writes W.taken W.failed result sink.old sink.new
+fn write_child<R: Rows, W: Sink>(rows: &R, child: &Command, sink: &mut W) -> Result<(), ErrorKind>
+    ensures { Writes W.taken W.failed (as_write result) sink.old sink.new
         (flat_map (R.row_text rows.now) (child_offers child.now.node)) }
 {
     for name in child.get_name_and_visible_aliases() {
@@ -186,8 +198,8 @@ fn write_child_name<R: Rows, W: Sink>(
     child: &Command,
     name: &str,
     sink: &mut W,
-) -> Result<(), Error>
-    ensures { Writes W.taken W.failed result sink.old sink.new
+) -> Result<(), ErrorKind>
+    ensures { Writes W.taken W.failed (as_write result) sink.old sink.new
         (R.row_text rows.now (child_offer child.now.node name.now)) }
 {
     let offer = Offer {

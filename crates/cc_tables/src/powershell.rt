@@ -7,22 +7,25 @@ ghost use Rattle.std.specs.String.{string_bytes};
 ghost use Rattle.cc_base.specs.Writes.{Writes};
 ghost use Rattle.cc_flat.specs.Flat.{tree_at};
 ghost use Rattle.cc_tables.specs.PowershellScript.{capital_space, command, completions};
-ghost use Rattle.cc_tables.specs.PowershellScript.{details_text, head, head_text, key_end};
+ghost use Rattle.cc_tables.specs.PowershellScript.{head, head_text, key_end};
 ghost use Rattle.cc_tables.specs.PowershellScript.{key_text, kind_begin, kind_text, list_begin};
 ghost use Rattle.cc_tables.specs.PowershellScript.{node_text, offer_row, powershell_script};
 ghost use Rattle.cc_tables.specs.PowershellScript.{result_kind, row_begin, row_end, row_text};
 ghost use Rattle.cc_tables.specs.PowershellScript.{table_begin, table_end, table_text, tail};
 ghost use Rattle.cc_tables.specs.PowershellScript.{text_begin};
 ghost use Rattle.cc_tables.specs.Offers.{dashes, node_offers, word};
+ghost use Rattle.cc_tables.specs.Pieces.{as_write};
 
 use crate::offers::{Kind, Offer, Rows, write_rows};
+use crate::pieces::{as_error, put_around, put_escaped_text, put_pieces};
 use cc_base::{Error, Sink, put_all};
 use cc_command::{Command, full_name};
 use cc_flat::Flat;
 use cc_lists::Generator;
-use cc_quote::{PowershellEscape, put_escaped};
+use cc_quote::PowershellEscape;
 use cc_visits::{Joined, TableVisits};
 use std::alloc::Global;
+use std::io::ErrorKind;
 
 // ---- the fixed texts
 
@@ -255,7 +258,7 @@ fn write_table_rows<W: Sink>(command: &Command, sink: &mut W) -> Result<(), Erro
     ensures { Writes W.taken W.failed result sink.old sink.new
         (flat_map row_text (map offer_row (node_offers command.now))) }
 {
-    write_rows(&PowerShell, command, sink)
+    as_error(write_rows(&PowerShell, command, sink))
 }
 
 // Writes the beginning of a table.
@@ -263,9 +266,7 @@ fn write_table_rows<W: Sink>(command: &Command, sink: &mut W) -> Result<(), Erro
 fn write_key<W: Sink>(key: &str, sink: &mut W) -> Result<(), Error>
     ensures { Writes W.taken W.failed result sink.old sink.new (key_text key.now) }
 {
-    put_all(sink, table_begin().as_bytes())?;
-    put_all(sink, key.as_bytes())?;
-    put_all(sink, key_end().as_bytes())
+    as_error(put_around(table_begin(), key, key_end(), sink))
 }
 
 impl Rows for PowerShell {
@@ -273,39 +274,54 @@ impl Rows for PowerShell {
 
     ghost row_text = { λ _. offer_text };
 
-    #[tactic(auto, unfolding(crate::specs::PowershellScript::offer_text, crate::specs::PowershellScript::row_text, crate::specs::PowershellScript::words_text))]
+    #[tactic(auto, unfolding(crate::specs::PowershellScript::offer_text, crate::specs::PowershellScript::row_text, crate::specs::PowershellScript::words_text, crate::specs::PowershellScript::details_text))]
     #[inline(always)]
-    fn write_row<W: Sink>(&self, offer: &Offer<'_>, sink: &mut W) -> Result<(), Error> {
+    fn write_row<W: Sink>(&self, offer: &Offer<'_>, sink: &mut W) -> Result<(), ErrorKind> {
         write_words(offer, sink)?;
-        write_details(offer, sink)
+        put_escaped_text(&PowershellEscape, shown_text(offer), sink)?;
+        put_pieces(sink, &[row_end().as_bytes()])
     }
 }
 
-// Writes what is typed, twice: lists show it too.
+// Writes a row up to what describes it. What is typed is written twice: lists show it too.
 #[inline(always)]
-fn write_words<W: Sink>(offer: &Offer<'_>, sink: &mut W) -> Result<(), Error>
-    ensures { Writes W.taken W.failed result sink.old sink.new
-        (row_begin ++ word offer.now ++ list_begin ++ word offer.now) }
+fn write_words<W: Sink>(offer: &Offer<'_>, sink: &mut W) -> Result<(), ErrorKind>
+    ensures { Writes W.taken W.failed (as_write result) sink.old sink.new
+        (row_begin ++ word offer.now ++ list_begin ++ word offer.now
+        ++ (capital_space offer.now.kind offer.now.name ++ kind_begin
+        ++ kind_text (result_kind offer.now.kind) ++ text_begin)) }
 {
-    put_all(sink, row_begin(offer.kind).as_bytes())?;
-    put_all(sink, offer.name.as_str().as_bytes())?;
-    put_all(sink, list_begin(offer.kind).as_bytes())?;
-    put_all(sink, offer.name.as_str().as_bytes())
+    let name = offer.name.as_str();
+    put_words(
+        row_begin(offer.kind),
+        name,
+        list_begin(offer.kind),
+        details_begin(offer.kind, name),
+        sink,
+    )
 }
 
-// Writes the rest of a row: its kind and what describes it.
-#[tactic(auto, unfolding(crate::specs::PowershellScript::details_text))]
 #[inline(always)]
-fn write_details<W: Sink>(offer: &Offer<'_>, sink: &mut W) -> Result<(), Error>
-    ensures { Writes W.taken W.failed result sink.old sink.new
-        (capital_space offer.now.kind offer.now.name ++ details_text (offer_row offer.now)) }
+fn put_words<'a, W: Sink>(
+    before: &'a str,
+    name: &'a str,
+    between: &'a str,
+    behind: &'a str,
+    sink: &mut W,
+) -> Result<(), ErrorKind>
+    ensures { Writes W.taken W.failed (as_write result) sink.old sink.new
+        (before.now ++ name.now ++ between.now ++ name.now ++ behind.now) }
 {
-    put_all(
+    put_pieces(
         sink,
-        details_begin(offer.kind, offer.name.as_str()).as_bytes(),
-    )?;
-    put_escaped(&PowershellEscape, shown_text(offer), sink)?;
-    put_all(sink, row_end().as_bytes())
+        &[
+            before.as_bytes(),
+            name.as_bytes(),
+            between.as_bytes(),
+            name.as_bytes(),
+            behind.as_bytes(),
+        ],
+    )
 }
 
 // The help or the about where there is one and it is not empty.

@@ -1,0 +1,10 @@
+use Rattle.std.proofs.Common.{◌≡◌, ◌++◌, flat_map, drop}
+use Rattle.cc_tables.proofs.pieces.put_pieces.Given as goal
+
+-- what was taken and the pieces that are left make the whole; no put failed
+abbrev pub invariant-loop-piece : goal.invariant-loop-piece
+invariant-loop-piece g l = record {
+  whole : g.S.Sink.taken l.sink ++ flat_map (λ piece. piece.now) (drop l.piece-index l.pieces)
+      ≡ g.S.Sink.taken l.initial.sink ++ flat_map (λ piece. piece.now) l.pieces;
+  failures : g.S.Sink.failed l.sink ≡ g.S.Sink.failed l.initial.sink;
+}
