@@ -193,7 +193,8 @@ mod tests {
         matches!(outcome, Err(Error::Write(kind)) if kind == wanted)
     }
 
-    // Fails unless a put and a flush over a writer of little room fail with this kind and are counted.
+    // Fails unless a put and a flush over a writer of little room fail with this kind and are
+    // counted.
     fn counts(rt: &impl Abort, alloc: Global, room: usize, kind: ErrorKind) {
         let mut sink = Counted::new(writer(alloc, 2, room, Some(kind)));
         assert!(rt; failed(put_all(&mut sink, b"abc"), kind));
