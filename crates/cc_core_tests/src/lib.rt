@@ -1,5 +1,6 @@
-//! Tests of the crates below `clap_complete` that know no shell: arguments, trees, tree files, lists,
-//! visits and quoted words. They need few crates, so that the merge gate can prove them early.
+//! Tests of the crates below `clap_complete` that know no shell: arguments, trees, tree files,
+//! lists, visits and quoted words. They need few crates, so that the merge gate can prove them
+//! early.
 #![tactic(auto)]
 
 #[cfg(test)]
