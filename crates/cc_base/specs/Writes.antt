@@ -1,5 +1,6 @@
 -- What a call that writes a text does to its sink.
-use Rattle.std.specs.Prelude.{◌≡◌, ℕ, List, ◌++◌, Result, Err, OnOk, IfErr, ⊤}
+use Rattle.std.specs.Prelude.{◌≡◌, ℕ, List, ◌++◌, Result, Ok, Err, OnOk, IfErr, ⊤}
+use Rattle.std.specs.declared.io.ErrorKind.{ErrorKind}
 use Rattle.cc_base.specs.declared.error.Error.{Error}
 use Rattle.cc_base.specs.declared.error.Error.TheVariants.{Memory, Write}
 use Rattle.cc_base.specs.Sink.{Failures, raised}
@@ -19,6 +20,11 @@ abbrev pub IsMemoryOrWrite : Error → Type 0
 IsMemoryOrWrite Memory = ⊤
 IsMemoryOrWrite (Write _) = ⊤
 IsMemoryOrWrite _ = ⊥
+
+-- a result whose error is the kind of a failed put, as one whose error is `Write` of that kind
+abbrev pub as_write : Result (Unit {0}) ErrorKind → Result (Unit {0}) Error
+as_write (Ok done) = Ok done
+as_write (Err kind) = Err (Write kind)
 
 -- the text is taken where the call returns `Ok`; a failure is counted exactly where it returns
 -- `Write`; and its only other error is out of memory

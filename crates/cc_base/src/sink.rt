@@ -5,6 +5,7 @@ ghost use Rattle.cc_base.specs.Sink.{Failures, after_put};
 ghost use Rattle.cc_base.specs.Writes.{IsWrite, Writes};
 
 use crate::error::Error;
+use crate::pieces::put_piece;
 use std::io::ErrorKind;
 
 /// Something that takes bytes and counts its failures.
@@ -41,31 +42,8 @@ pub fn put_all<S: Sink>(sink: &mut S, bytes: &[u8]) -> Result<(), Error>
     ensures write_only { IfErr result IsWrite }
     ensures empty { bytes.now ≡ [] → (IsOk result × (sink.new ≡ sink.old)) }
 {
-    if bytes.is_empty() {
-        return Ok(());
-    }
-    match sink.put(bytes) {
-        Ok(count) if count == bytes.len() => Ok(()),
-        Ok(0) => Err(Error::Write(ErrorKind::WriteZero)),
-        Ok(count) => put_rest(sink, &bytes[count..]),
+    match put_piece(sink, bytes) {
+        Ok(()) => Ok(()),
         Err(kind) => Err(Error::Write(kind)),
     }
-}
-
-// What is left after a put that took a part.
-#[cold]
-#[inline(never)]
-fn put_rest<S: Sink>(sink: &mut S, bytes: &[u8]) -> Result<(), Error>
-    ensures written { Writes S.taken S.failed result sink.old sink.new bytes.now }
-    ensures write_only { IfErr result IsWrite }
-{
-    let mut rest = bytes;
-    while !rest.is_empty() {
-        match sink.put(rest) {
-            Ok(0) => return Err(Error::Write(ErrorKind::WriteZero)),
-            Ok(count) => rest = &rest[count..],
-            Err(kind) => return Err(Error::Write(kind)),
-        }
-    }
-    Ok(())
 }

@@ -2,11 +2,12 @@
 
 ghost use Rattle.std.specs.Prelude.{◌≡◌, ◌++◌, ℕ, List, IfErr, OnOk, MatchOption};
 ghost use Rattle.std.specs.String.{string_bytes};
-ghost use Rattle.cc_base.specs.Writes.{IsWrite, Writes};
+ghost use Rattle.cc_base.specs.Writes.{IsWrite, Writes, as_write};
 ghost use Rattle.cc_quote.specs.Escapes.{IsFirstEscape};
 
-use cc_base::{Error, Sink, put_all};
+use cc_base::{Error, Sink, put_piece};
 use std::alloc::AllocError;
+use std::io::ErrorKind;
 
 /// How a shell escapes a text within quotes.
 pub trait Escape {
@@ -26,13 +27,28 @@ pub fn put_escaped<E: Escape, S: Sink>(escape: &E, text: &str, sink: &mut S) -> 
         (E.escaped escape.now text.now) }
     ensures write_only { IfErr result IsWrite }
 {
+    match put_escaped_piece(escape, text, sink) {
+        Ok(()) => Ok(()),
+        Err(kind) => Err(Error::Write(kind)),
+    }
+}
+
+/// Writes the escaped text as a piece: the error is the kind of the put that failed.
+pub fn put_escaped_piece<E: Escape, S: Sink>(
+    escape: &E,
+    text: &str,
+    sink: &mut S,
+) -> Result<(), ErrorKind>
+    ensures { Writes S.taken S.failed (as_write result) sink.old sink.new
+        (E.escaped escape.now text.now) }
+{
     let mut rest = text;
     while let Some((run, replacement, next)) = escape.split(rest) {
-        put_all(sink, run.as_bytes())?;
-        put_all(sink, replacement.as_bytes())?;
+        put_piece(sink, run.as_bytes())?;
+        put_piece(sink, replacement.as_bytes())?;
         rest = next;
     }
-    put_all(sink, rest.as_bytes())
+    put_piece(sink, rest.as_bytes())
 }
 
 /// Appends the escaped text. Fails where memory runs out.

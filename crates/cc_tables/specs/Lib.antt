@@ -3,7 +3,6 @@ pub mod ElvishScript
 pub mod NushellReader
 pub mod NushellScript
 pub mod Offers
-pub mod Pieces
 pub mod PowershellReader
 pub mod PowershellScript
 pub mod TableReader

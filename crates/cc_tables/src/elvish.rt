@@ -13,12 +13,11 @@ ghost use Rattle.cc_tables.specs.ElvishScript.{table_end, table_text, tail, text
 ghost use Rattle.cc_tables.specs.Offers.{dashes, node_offers};
 
 use crate::offers::{Kind, Offer, Rows, write_rows};
-use crate::pieces::{as_error, put_around, put_escaped_text, put_pieces};
-use cc_base::{Error, Sink, put_all};
+use cc_base::{Error, Sink, as_error, put_all, put_around, put_piece};
 use cc_command::{Command, full_name};
 use cc_flat::Flat;
 use cc_lists::Generator;
-use cc_quote::ElvishEscape;
+use cc_quote::{ElvishEscape, put_escaped_piece};
 use cc_visits::{Joined, TableVisits};
 use std::alloc::Global;
 use std::io::ErrorKind;
@@ -248,8 +247,8 @@ impl Rows for Elvish {
     fn write_row<W: Sink>(&self, offer: &Offer<'_>, sink: &mut W) -> Result<(), ErrorKind> {
         let name = offer.name.as_str();
         put_around(row_begin(offer.kind), name, text_begin(), sink)?;
-        put_escaped_text(&ElvishEscape, shown_text(offer), sink)?;
-        put_pieces(sink, &[row_end().as_bytes()])
+        put_escaped_piece(&ElvishEscape, shown_text(offer), sink)?;
+        put_piece(sink, row_end().as_bytes())
     }
 }
 

@@ -4,7 +4,6 @@
 mod elvish;
 mod nushell;
 mod offers;
-mod pieces;
 mod powershell;
 
 pub use crate::elvish::Elvish;

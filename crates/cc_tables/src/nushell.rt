@@ -3,7 +3,7 @@
 ghost use Rattle.std.specs.Prelude.{◌≡◌, ◌++◌, ◌<◌, None, codes, false, flat_map, true, length};
 ghost use Rattle.std.specs.Prelude.{IfOk, IfErr, OnOk, MatchOption};
 ghost use Rattle.std.specs.String.{string_bytes};
-ghost use Rattle.cc_base.specs.Writes.{Writes};
+ghost use Rattle.cc_base.specs.Writes.{Writes, as_write};
 ghost use Rattle.cc_command.specs.ArgumentLists.{flags, options};
 ghost use Rattle.cc_flat.specs.Flat.{tree_at};
 ghost use Rattle.cc_quote.specs.QuotedWord.{line_feeds_as_spaces};
@@ -12,15 +12,13 @@ ghost use Rattle.cc_tables.specs.NushellScript.{block_begin, block_end, block_te
 ghost use Rattle.cc_tables.specs.NushellScript.{help_begin, help_text, key_end, key_text};
 ghost use Rattle.cc_tables.specs.NushellScript.{line_begin, line_text, node_lines, node_text};
 ghost use Rattle.cc_tables.specs.NushellScript.{nushell_script, offer_text, tail, type_text};
-ghost use Rattle.cc_tables.specs.Pieces.{as_write};
 
 use crate::offers::{Kind, Offer, Rows, write_flags, write_options};
-use crate::pieces::{as_error, put_around, put_escaped_text, put_pieces};
-use cc_base::{Error, Sink, put_all};
+use cc_base::{Error, Sink, as_error, put_all, put_around, put_piece};
 use cc_command::{Command, full_name};
 use cc_flat::Flat;
 use cc_lists::Generator;
-use cc_quote::Escape;
+use cc_quote::{Escape, put_escaped_piece};
 use cc_visits::{Joined, TableVisits};
 use memchr::memchr;
 use std::alloc::Global;
@@ -234,7 +232,7 @@ impl Rows for Lines {
         let behind = type_text(self.takes_value);
         put_around(line_begin(offer.kind), name, behind, sink)?;
         write_help(offer, sink)?;
-        put_pieces(sink, &["\n".as_bytes()])
+        put_piece(sink, "\n".as_bytes())
     }
 }
 
@@ -246,8 +244,8 @@ fn write_help<W: Sink>(offer: &Offer<'_>, sink: &mut W) -> Result<(), ErrorKind>
 {
     match &offer.description {
         Some(help) => {
-            put_pieces(sink, &[help_begin().as_bytes()])?;
-            put_escaped_text(&OneLine, help.as_str(), sink)
+            put_piece(sink, help_begin().as_bytes())?;
+            put_escaped_piece(&OneLine, help.as_str(), sink)
         }
         None => Ok(()),
     }

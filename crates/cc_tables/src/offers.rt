@@ -2,11 +2,10 @@
 
 ghost use Rattle.std.specs.Prelude.{◌≡◌, ◌++◌, List, ℕ, flat_map, codes};
 ghost use Rattle.std.specs.Option.{option_copied};
-ghost use Rattle.cc_base.specs.Writes.{Writes};
+ghost use Rattle.cc_base.specs.Writes.{Writes, as_write};
 ghost use Rattle.cc_tables.specs.Offers.{argument_offer, argument_offers, child_offer};
 ghost use Rattle.cc_tables.specs.Offers.{child_offers, children_offers, node_offers};
 ghost use Rattle.cc_tables.specs.Offers.{short_offer};
-ghost use Rattle.cc_tables.specs.Pieces.{as_write};
 ghost use Rattle.cc_command.specs.ArgumentLists.{flags, options};
 ghost use Rattle.cc_command.specs.Names.{visible_names};
 ghost use Rattle.cc_command.specs.Tree.{forest_of};
@@ -44,7 +43,7 @@ pub struct Offer<'a> {
 pub trait Rows {
     ghost use Rattle.std.specs.Prelude.{List, ℕ};
     ghost use Rattle.cc_base.specs.Writes.{Writes};
-    ghost use Rattle.cc_tables.specs.Pieces.{as_write};
+    ghost use Rattle.cc_base.specs.Writes.{as_write};
     ghost use Rattle.cc_tables.specs.declared.offers.Offer.{Offer};
 
     // the text of the row of an offer

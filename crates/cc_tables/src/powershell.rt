@@ -4,7 +4,7 @@ ghost use Rattle.std.specs.Prelude.{◌≡◌, ◌++◌, ◌<◌, None, codes, f
 ghost use Rattle.std.specs.Prelude.{IfErr, OnOk};
 ghost use Rattle.std.specs.Option.{option_copied};
 ghost use Rattle.std.specs.String.{string_bytes};
-ghost use Rattle.cc_base.specs.Writes.{Writes};
+ghost use Rattle.cc_base.specs.Writes.{Writes, as_write};
 ghost use Rattle.cc_flat.specs.Flat.{tree_at};
 ghost use Rattle.cc_tables.specs.PowershellScript.{capital_space, command, completions};
 ghost use Rattle.cc_tables.specs.PowershellScript.{head, head_text, key_end};
@@ -14,15 +14,13 @@ ghost use Rattle.cc_tables.specs.PowershellScript.{result_kind, row_begin, row_e
 ghost use Rattle.cc_tables.specs.PowershellScript.{table_begin, table_end, table_text, tail};
 ghost use Rattle.cc_tables.specs.PowershellScript.{text_begin};
 ghost use Rattle.cc_tables.specs.Offers.{dashes, node_offers, word};
-ghost use Rattle.cc_tables.specs.Pieces.{as_write};
 
 use crate::offers::{Kind, Offer, Rows, write_rows};
-use crate::pieces::{as_error, put_around, put_escaped_text, put_pieces};
-use cc_base::{Error, Sink, put_all};
+use cc_base::{Error, Sink, as_error, put_all, put_around, put_piece, put_pieces};
 use cc_command::{Command, full_name};
 use cc_flat::Flat;
 use cc_lists::Generator;
-use cc_quote::PowershellEscape;
+use cc_quote::{PowershellEscape, put_escaped_piece};
 use cc_visits::{Joined, TableVisits};
 use std::alloc::Global;
 use std::io::ErrorKind;
@@ -278,8 +276,8 @@ impl Rows for PowerShell {
     #[inline(always)]
     fn write_row<W: Sink>(&self, offer: &Offer<'_>, sink: &mut W) -> Result<(), ErrorKind> {
         write_words(offer, sink)?;
-        put_escaped_text(&PowershellEscape, shown_text(offer), sink)?;
-        put_pieces(sink, &[row_end().as_bytes()])
+        put_escaped_piece(&PowershellEscape, shown_text(offer), sink)?;
+        put_piece(sink, row_end().as_bytes())
     }
 }
 
@@ -306,11 +304,11 @@ fn put_words<'a, W: Sink>(
     before: &'a str,
     name: &'a str,
     between: &'a str,
-    behind: &'a str,
+    after: &'a str,
     sink: &mut W,
 ) -> Result<(), ErrorKind>
     ensures { Writes W.taken W.failed (as_write result) sink.old sink.new
-        (before.now ++ name.now ++ between.now ++ name.now ++ behind.now) }
+        (before.now ++ name.now ++ between.now ++ name.now ++ after.now) }
 {
     put_pieces(
         sink,
@@ -319,7 +317,7 @@ fn put_words<'a, W: Sink>(
             name.as_bytes(),
             between.as_bytes(),
             name.as_bytes(),
-            behind.as_bytes(),
+            after.as_bytes(),
         ],
     )
 }

@@ -1,5 +1,5 @@
 use Rattle.std.proofs.Common.{◌≡◌, ◌++◌, flat_map, drop}
-use Rattle.cc_tables.proofs.pieces.put_pieces.Given as goal
+use Rattle.cc_base.proofs.pieces.put_pieces.Given as goal
 
 -- what was taken and the pieces that are left make the whole; no put failed
 abbrev pub invariant-loop-piece : goal.invariant-loop-piece

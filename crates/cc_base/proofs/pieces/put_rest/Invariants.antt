@@ -1,5 +1,5 @@
 use Rattle.std.proofs.Common.{◌≡◌, ◌++◌, length}
-use Rattle.cc_base.proofs.sink.put_rest.Given as goal
+use Rattle.cc_base.proofs.pieces.put_rest.Given as goal
 
 -- `all`: what is taken and what is still to be put are together what was taken before and the slice.
 abbrev pub invariant-loop-rest : goal.invariant-loop-rest

@@ -1,0 +1,82 @@
+//! Pieces of a text, put one after another. The error is the kind of the put that failed, which is
+//! smaller than the library's error, so that a row of many pieces takes fewer instructions.
+
+ghost use Rattle.std.specs.Prelude.{◌≡◌, [], ◌++◌, flat_map, IsOk};
+ghost use Rattle.cc_base.specs.Writes.{Writes, as_write};
+
+use crate::error::Error;
+use crate::sink::Sink;
+use std::io::ErrorKind;
+
+/// Puts until all is taken or a put fails, as `put_all` does. An empty piece is not put.
+#[inline(always)]
+pub fn put_piece<S: Sink>(sink: &mut S, bytes: &[u8]) -> Result<(), ErrorKind>
+    ensures written { Writes S.taken S.failed (as_write result) sink.old sink.new bytes.now }
+    ensures empty { bytes.now ≡ [] → (IsOk result × (sink.new ≡ sink.old)) }
+{
+    if bytes.is_empty() {
+        return Ok(());
+    }
+    match sink.put(bytes) {
+        Ok(count) if count == bytes.len() => Ok(()),
+        Ok(0) => Err(ErrorKind::WriteZero),
+        Ok(count) => put_rest(sink, &bytes[count..]),
+        Err(kind) => Err(kind),
+    }
+}
+
+// What is left after a put that took a part.
+#[cold]
+#[inline(never)]
+fn put_rest<S: Sink>(sink: &mut S, bytes: &[u8]) -> Result<(), ErrorKind>
+    ensures { Writes S.taken S.failed (as_write result) sink.old sink.new bytes.now }
+{
+    let mut rest = bytes;
+    while !rest.is_empty() {
+        match sink.put(rest) {
+            Ok(0) => return Err(ErrorKind::WriteZero),
+            Ok(count) => rest = &rest[count..],
+            Err(kind) => return Err(kind),
+        }
+    }
+    Ok(())
+}
+
+/// Puts each piece in turn.
+#[inline(always)]
+pub fn put_pieces<S: Sink>(sink: &mut S, pieces: &[&[u8]]) -> Result<(), ErrorKind>
+    ensures { Writes S.taken S.failed (as_write result) sink.old sink.new
+        (flat_map (λ piece. piece.now) pieces.now) }
+{
+    for piece in pieces {
+        put_piece(sink, piece)?;
+    }
+    Ok(())
+}
+
+/// Puts a text between two others.
+#[inline(always)]
+pub fn put_around<'a, S: Sink>(
+    before: &'a str,
+    text: &'a str,
+    after: &'a str,
+    sink: &mut S,
+) -> Result<(), ErrorKind>
+    ensures { Writes S.taken S.failed (as_write result) sink.old sink.new
+        (before.now ++ text.now ++ after.now) }
+{
+    put_pieces(
+        sink,
+        &[before.as_bytes(), text.as_bytes(), after.as_bytes()],
+    )
+}
+
+/// The result of puts, with the library's error.
+pub fn as_error(put: Result<(), ErrorKind>) -> Result<(), Error>
+    ensures { result ≡ as_write put }
+{
+    match put {
+        Ok(()) => Ok(()),
+        Err(kind) => Err(Error::Write(kind)),
+    }
+}
