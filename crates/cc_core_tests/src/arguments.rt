@@ -103,12 +103,14 @@ fn with_aliases_alone(alloc: Global) -> Result<Arg, Error> {
     with_short_alias(alloc)?.visible_alias(path)
 }
 
+fn shows_none(argument: &Arg) -> bool {
+    shown_names(argument).next().is_none()
+}
+
 #[test]
 fn aliases_alone_are_not_shown(rt: HostRuntime) {
     let argument = with_aliases_alone(rt.alloc()).expect(&rt, "no argument");
-    let mut names = shown_names(&argument);
-    assert!(rt; names.next().is_none());
-    drop(names);
+    assert!(rt; shows_none(&argument));
     drop(argument);
 }
 

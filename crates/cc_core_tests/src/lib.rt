@@ -18,6 +18,8 @@ mod kinds;
 #[cfg(test)]
 mod lists;
 #[cfg(test)]
+mod pieces;
+#[cfg(test)]
 mod quoting;
 #[cfg(test)]
 mod tree_file;

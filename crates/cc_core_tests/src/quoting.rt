@@ -1,12 +1,12 @@
 //! The writers and readers of quoted words.
 
-use cc_base::{Collected, Error};
+use cc_base::{Collected, Error, as_error};
 use cc_checks::{is, is_none, same};
 use cc_quote::{
     ElvishEscape, PowershellEscape, elvish_escape, elvish_word, fish_double, fish_escape,
     fish_help_for_eval, fish_quote, fish_quote_for_eval, fish_word, posix_quote, posix_word,
-    powershell_escape, powershell_word, push_escaped, put_escaped, zsh_escape_help,
-    zsh_escape_value, zsh_unescape,
+    powershell_escape, powershell_word, push_escaped, put_escaped, put_escaped_piece,
+    zsh_escape_help, zsh_escape_value, zsh_unescape,
 };
 use std::alloc::{AllocError, Global};
 use std::process::Abort;
@@ -40,11 +40,12 @@ fn elvish_reads_words(rt: HostRuntime) {
     is_none(&rt, elvish_word(alloc, "'it''s"));
 }
 
-// What two escapes write to a sink.
+// What escapes write to a sink.
 fn written(alloc: Global) -> Result<String, Error> {
     let mut sink = Collected::new(alloc);
     put_escaped(&ElvishEscape, "it's\n’", &mut sink)?;
     put_escaped(&PowershellEscape, "’it's\n", &mut sink)?;
+    as_error(put_escaped_piece(&ElvishEscape, "'", &mut sink))?;
     Ok(String::from_utf8_lossy(alloc, sink.as_slice())?)
 }
 
@@ -58,7 +59,7 @@ fn appended(alloc: Global) -> Result<String, AllocError> {
 
 #[test]
 fn an_escape_is_written_and_appended(rt: HostRuntime) {
-    is(&rt, written(rt.alloc()), "it''s ’'’it''s ");
+    is(&rt, written(rt.alloc()), "it''s ’'’it''s ''");
     is(&rt, appended(rt.alloc()), "''’''–“b”’''");
 }
 
