@@ -4,7 +4,7 @@ ghost use Rattle.std.specs.Prelude.{◌≡◌, ◌++◌, ◌<◌, None, codes, f
 ghost use Rattle.std.specs.Prelude.{IfErr, OnOk};
 ghost use Rattle.std.specs.Option.{option_copied};
 ghost use Rattle.std.specs.String.{string_bytes};
-ghost use Rattle.cc_base.specs.Writes.{Writes};
+ghost use Rattle.cc_base.specs.Writes.{Writes, as_write};
 ghost use Rattle.cc_flat.specs.Flat.{tree_at};
 ghost use Rattle.cc_tables.specs.ElvishScript.{completions, elvish_script, functions, head};
 ghost use Rattle.cc_tables.specs.ElvishScript.{head_text, key_end, key_text, node_text, offer_row};
@@ -206,35 +206,36 @@ fn write_tables<W: Sink>(
         (flat_map (λ visit. node_text visit.key visit.tree) visits.entry) }
 {
     while let Some(visit) = visits.next(alloc)? {
-        write_table(visit.key.as_str(), visit.command, sink)?;
+        as_error(write_table(visit.key.as_str(), visit.command, sink))?;
     }
     Ok(())
 }
 
 // Writes the table of a node.
 #[tactic(auto, unfolding(crate::specs::ElvishScript::node_text, crate::specs::ElvishScript::table_text))]
-fn write_table<W: Sink>(key: &str, command: &Command, sink: &mut W) -> Result<(), Error>
-    ensures { Writes W.taken W.failed result sink.old sink.new (node_text key.now command.now) }
+fn write_table<W: Sink>(key: &str, command: &Command, sink: &mut W) -> Result<(), ErrorKind>
+    ensures { Writes W.taken W.failed (as_write result) sink.old sink.new
+        (node_text key.now command.now) }
 {
     write_key(key, sink)?;
     write_table_rows(command, sink)?;
-    put_all(sink, table_end().as_bytes())
+    put_piece(sink, table_end().as_bytes())
 }
 
 #[tactic(auto, using(crate::proofs::ElvishTexts::rows_of_offers))]
-fn write_table_rows<W: Sink>(command: &Command, sink: &mut W) -> Result<(), Error>
-    ensures { Writes W.taken W.failed result sink.old sink.new
+fn write_table_rows<W: Sink>(command: &Command, sink: &mut W) -> Result<(), ErrorKind>
+    ensures { Writes W.taken W.failed (as_write result) sink.old sink.new
         (flat_map row_text (map offer_row (node_offers command.now))) }
 {
-    as_error(write_rows(&Elvish, command, sink))
+    write_rows(&Elvish, command, sink)
 }
 
 // Writes the beginning of a table.
 #[tactic(auto, unfolding(crate::specs::ElvishScript::key_text))]
-fn write_key<W: Sink>(key: &str, sink: &mut W) -> Result<(), Error>
-    ensures { Writes W.taken W.failed result sink.old sink.new (key_text key.now) }
+fn write_key<W: Sink>(key: &str, sink: &mut W) -> Result<(), ErrorKind>
+    ensures { Writes W.taken W.failed (as_write result) sink.old sink.new (key_text key.now) }
 {
-    as_error(put_around(table_begin(), key, key_end(), sink))
+    put_around(table_begin(), key, key_end(), sink)
 }
 
 impl Rows for Elvish {

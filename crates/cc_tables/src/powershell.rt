@@ -236,35 +236,36 @@ fn write_tables<W: Sink>(
         (flat_map (λ visit. node_text visit.key visit.tree) visits.entry) }
 {
     while let Some(visit) = visits.next(alloc)? {
-        write_table(visit.key.as_str(), visit.command, sink)?;
+        as_error(write_table(visit.key.as_str(), visit.command, sink))?;
     }
     Ok(())
 }
 
 // Writes the table of a node.
 #[tactic(auto, unfolding(crate::specs::PowershellScript::node_text, crate::specs::PowershellScript::table_text))]
-fn write_table<W: Sink>(key: &str, command: &Command, sink: &mut W) -> Result<(), Error>
-    ensures { Writes W.taken W.failed result sink.old sink.new (node_text key.now command.now) }
+fn write_table<W: Sink>(key: &str, command: &Command, sink: &mut W) -> Result<(), ErrorKind>
+    ensures { Writes W.taken W.failed (as_write result) sink.old sink.new
+        (node_text key.now command.now) }
 {
     write_key(key, sink)?;
     write_table_rows(command, sink)?;
-    put_all(sink, table_end().as_bytes())
+    put_piece(sink, table_end().as_bytes())
 }
 
 #[tactic(auto, using(crate::proofs::PowershellTexts::rows_of_offers))]
-fn write_table_rows<W: Sink>(command: &Command, sink: &mut W) -> Result<(), Error>
-    ensures { Writes W.taken W.failed result sink.old sink.new
+fn write_table_rows<W: Sink>(command: &Command, sink: &mut W) -> Result<(), ErrorKind>
+    ensures { Writes W.taken W.failed (as_write result) sink.old sink.new
         (flat_map row_text (map offer_row (node_offers command.now))) }
 {
-    as_error(write_rows(&PowerShell, command, sink))
+    write_rows(&PowerShell, command, sink)
 }
 
 // Writes the beginning of a table.
 #[tactic(auto, unfolding(crate::specs::PowershellScript::key_text))]
-fn write_key<W: Sink>(key: &str, sink: &mut W) -> Result<(), Error>
-    ensures { Writes W.taken W.failed result sink.old sink.new (key_text key.now) }
+fn write_key<W: Sink>(key: &str, sink: &mut W) -> Result<(), ErrorKind>
+    ensures { Writes W.taken W.failed (as_write result) sink.old sink.new (key_text key.now) }
 {
-    as_error(put_around(table_begin(), key, key_end(), sink))
+    put_around(table_begin(), key, key_end(), sink)
 }
 
 impl Rows for PowerShell {
