@@ -229,8 +229,8 @@ impl Rows for Lines {
     #[inline(always)]
     fn write_row<W: Sink>(&self, offer: &Offer<'_>, sink: &mut W) -> Result<(), ErrorKind> {
         let name = offer.name.as_str();
-        let behind = type_text(self.takes_value);
-        put_around(line_begin(offer.kind), name, behind, sink)?;
+        let shown_type = type_text(self.takes_value);
+        put_around(line_begin(offer.kind), name, shown_type, sink)?;
         write_help(offer, sink)?;
         put_piece(sink, "\n".as_bytes())
     }
