@@ -1,11 +1,11 @@
 //! Arguments: what builders set, what copies keep, what building fills in, and the names shown.
 
+use crate::checks::same;
 use cc_arg::{
     Arg, ArgAction, PossibleValue, ShownName, ValueHint, ValueRange, conflicting_ids, fill,
     fill_display_order, fill_index, possible_values, shown_names,
 };
 use cc_base::Error;
-use cc_checks::same;
 use std::alloc::Global;
 use std::process::Abort;
 

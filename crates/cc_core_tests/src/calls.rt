@@ -2,10 +2,10 @@
 //! are to return. The other modules here run the rest of them.
 
 use crate::arguments::with_shorts;
+use crate::checks::{is, same};
 use crate::fixtures::{NESTED, built, tree};
 use cc_arg::{Arg, ArgAction};
 use cc_base::{Error, Text};
-use cc_checks::{is, same};
 use cc_command::Command;
 use std::alloc::Global;
 use std::process::Abort;

@@ -1,7 +1,7 @@
 //! What `Debug` shows of actions, ranges and hints.
 
+use crate::checks::is;
 use cc_arg::{ArgAction, ValueHint, ValueRange};
-use cc_checks::is;
 use std::alloc::{AllocError, Global};
 use std::fmt::Debug;
 

@@ -1,8 +1,8 @@
 //! Words that lead from a command to its children, over the numbered nodes.
 
+use crate::checks::same;
 use crate::fixtures::{MY_APP, tree};
 use cc_base::Error;
-use cc_checks::same;
 use cc_command::Command;
 use cc_flat::{Flat, Found, Index};
 use std::alloc::Global;

@@ -1,8 +1,8 @@
 //! What a command lists of its arguments and names by kind, and which commands are plain.
 
+use crate::checks::same;
 use crate::fixtures::{APP_WITH_INPUT, NESTED, QUOTED, built_tree, tree};
 use cc_arg::Arg;
-use cc_checks::same;
 use cc_command::{Command, is_plain_name};
 use std::process::Abort;
 

@@ -8,6 +8,8 @@ mod arguments;
 #[cfg(test)]
 mod calls;
 #[cfg(test)]
+mod checks;
+#[cfg(test)]
 mod debug;
 #[cfg(test)]
 mod fixtures;

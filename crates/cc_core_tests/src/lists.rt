@@ -1,8 +1,8 @@
 //! The lists that generators share.
 
+use crate::checks::is;
 use crate::fixtures::{MY_APP, NESTED, built_tree};
 use cc_base::Error;
-use cc_checks::is;
 use cc_command::Command;
 use cc_lists::utils;
 use std::alloc::Global;

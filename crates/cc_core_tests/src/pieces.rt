@@ -1,7 +1,7 @@
 //! Pieces put to a sink.
 
+use crate::checks::is;
 use cc_base::{Collected, Error, as_error, put_around, put_piece, put_pieces};
-use cc_checks::is;
 use std::alloc::Global;
 
 fn put_in_turn(alloc: Global) -> Result<String, Error> {

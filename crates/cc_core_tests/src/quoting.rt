@@ -1,7 +1,7 @@
 //! The writers and readers of quoted words.
 
+use crate::checks::{is, is_none, same};
 use cc_base::{Collected, Error, as_error};
-use cc_checks::{is, is_none, same};
 use cc_quote::{
     ElvishEscape, PowershellEscape, elvish_escape, elvish_word, fish_double, fish_escape,
     fish_help_for_eval, fish_quote, fish_quote_for_eval, fish_word, posix_quote, posix_word,

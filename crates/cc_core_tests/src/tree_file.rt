@@ -1,9 +1,9 @@
 //! Tree files: what each key sets, how deep they nest, and which are no trees.
 
+use crate::checks::{is, same};
 use crate::fixtures::{built_tree, tree};
 use cc_arg::{Arg, ArgAction, PossibleValue, ValueHint, possible_values};
 use cc_base::{Error, Text};
-use cc_checks::{is, same};
 use cc_command::Command;
 use cc_tree_file::{TreeError, read_tree};
 use std::alloc::{AllocError, Global};

@@ -1,8 +1,8 @@
 //! Trees, as their getters answer them.
 
+use crate::checks::{is, same};
 use crate::fixtures::{APP, EXCLUDING, GLOBAL, MY_APP, NESTED, built, built_tree, tree};
 use cc_base::Error;
-use cc_checks::{is, same};
 use cc_command::Command;
 use cc_lists::utils::find_subcommand_with_path;
 use std::alloc::Global;

@@ -1,9 +1,9 @@
 //! Actions, ranges, hints and possible values.
 
 use crate::arguments::copy_of;
+use crate::checks::same;
 use cc_arg::{Arg, ArgAction, PossibleValue, ValueHint, ValueRange, possible_values};
 use cc_base::Error;
-use cc_checks::same;
 use std::alloc::{AllocError, Global};
 use std::hash::{DefaultHasher, Hash, Hasher};
 use std::process::Abort;

@@ -1,7 +1,7 @@
 //! The visits of a small tree in both orders: each key with the node above and the node visited.
 
+use crate::checks::is;
 use crate::fixtures::{NESTED_AND_LIST, tree};
-use cc_checks::is;
 use cc_flat::Flat;
 use cc_visits::{Joined, PathStep, PathSteps, TableVisits, Visit};
 use std::alloc::{AllocError, Global};

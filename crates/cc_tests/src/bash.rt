@@ -1,8 +1,8 @@
 //! Bash scripts.
 
+use crate::checks::{has, is, same};
 use crate::fixtures::{chain, clashing, colored, global, helped, hinted, inherited};
 use crate::written::{script, script_for, twice};
-use cc_checks::{has, is, same};
 use clap_complete::aot::{Bash, Collected};
 use clap_complete::command::ValueHint;
 use clap_complete::{Error, Generator, generate};

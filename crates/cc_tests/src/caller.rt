@@ -1,9 +1,9 @@
 //! What the caller of `cc_caller` writes.
 
+use crate::checks::same;
 use crate::fixtures::{nested, quoted};
 use crate::written::script;
 use cc_caller::write_if_plain;
-use cc_checks::same;
 use clap_complete::Error;
 use clap_complete::aot::{Collected, Elvish};
 use clap_complete::command::Command;

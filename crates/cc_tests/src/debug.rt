@@ -1,6 +1,6 @@
 //! What `Debug` shows of generators and errors.
 
-use cc_checks::is;
+use crate::checks::is;
 use clap_complete::Error;
 use clap_complete::aot::{Bash, Elvish, Fish, Nushell, PowerShell, Zsh};
 use std::alloc::{AllocError, Global};

@@ -1,8 +1,8 @@
 //! Elvish scripts.
 
+use crate::checks::{has, same};
 use crate::fixtures::{app, bare, chain, described, global, inherited, nested};
 use crate::written::script;
-use cc_checks::{has, same};
 use clap_complete::Error;
 use clap_complete::aot::Elvish;
 use clap_complete::command::Command;

@@ -1,8 +1,8 @@
 //! The library as a program uses it. `elvish_script` and `write_scripts` stand in the README too.
 
+use crate::checks::has;
 use crate::fixtures::app;
 use crate::shell::{FILES, folder, holds_script_in, remove};
-use cc_checks::has;
 use clap_complete::aot::{Collected, Elvish};
 use clap_complete::command::{Arg, Command};
 use clap_complete::{Error, Shell, generate, generate_to};

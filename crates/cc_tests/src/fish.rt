@@ -1,10 +1,10 @@
 //! Fish scripts.
 
+use crate::checks::{ends, has, is, same};
 use crate::fixtures::{
     chain, colored, deep, described, global, hinted, inherited, listed, named, with_directory,
 };
 use crate::written::{script, script_for, twice};
-use cc_checks::{ends, has, is, same};
 use clap_complete::Generator;
 use clap_complete::aot::Fish;
 use clap_complete::command::ValueHint;

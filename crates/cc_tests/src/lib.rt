@@ -8,6 +8,8 @@ mod bash;
 #[cfg(test)]
 mod caller;
 #[cfg(test)]
+mod checks;
+#[cfg(test)]
 mod debug;
 #[cfg(test)]
 mod elvish;

@@ -1,8 +1,8 @@
 //! Nushell scripts.
 
+use crate::checks::{has, is};
 use crate::fixtures::{flag, global, long_flag, with_out_below};
 use crate::written::script;
-use cc_checks::{has, is};
 use clap_complete::aot::{Generator, Nushell};
 
 const SCRIPT: &str = "module completions {

@@ -1,8 +1,8 @@
 //! PowerShell scripts.
 
+use crate::checks::{has, same};
 use crate::fixtures::{app, flag, global, nested};
 use crate::written::script;
-use cc_checks::{has, same};
 use clap_complete::Error;
 use clap_complete::aot::PowerShell;
 use clap_complete::command::Command;

@@ -1,8 +1,8 @@
 //! `Shell` by text, path and value, its methods, and scripts written to files.
 
+use crate::checks::{holds, is, same};
 use crate::fixtures::{app, clashing, nested};
 use crate::written::{script, twice};
-use cc_checks::{holds, is, same};
 use clap_complete::aot::{Bash, Elvish, Fish, InvalidShell, Nushell, PowerShell, Zsh};
 use clap_complete::command::Command;
 use clap_complete::{Error, Generator, Shell, generate_to};

@@ -1,8 +1,8 @@
 //! Scripts written to sinks that take little, fail, take nothing, or measure what they take.
 
+use crate::checks::{holds, is};
 use crate::fixtures::{app, colored, colored_alone, helped, many, nested};
 use crate::written::{script, write_script};
-use cc_checks::{holds, is};
 use clap_complete::aot::{Counted, Sink};
 use clap_complete::command::Command;
 use clap_complete::{Error, Shell, generate};

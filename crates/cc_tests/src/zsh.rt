@@ -1,8 +1,8 @@
 //! Zsh scripts.
 
+use crate::checks::{has, is};
 use crate::fixtures::{colored, counted, global, helped, placed};
 use crate::written::{script, script_for};
-use cc_checks::{has, is};
 use clap_complete::Generator;
 use clap_complete::aot::Zsh;
 

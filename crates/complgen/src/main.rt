@@ -1,6 +1,8 @@
 //! `complgen`: completion scripts for a command that a JSON file describes.
 #![tactic(auto)]
 
+#[cfg(test)]
+mod checks;
 mod command_line;
 mod plan;
 mod run;

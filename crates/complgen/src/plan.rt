@@ -85,8 +85,8 @@ fn refusal_of(alloc: Global, error: &Error) -> Refusal
 #[cfg(test)]
 mod tests {
     use super::plan;
+    use crate::checks::same;
     use crate::types::{Plan, Refusal};
-    use cc_checks::same;
     use std::alloc::{AllocError, Global};
     use std::convert::AsStr;
     use std::process::Abort;

@@ -128,8 +128,8 @@ fn with_text(text: Result<String, AllocError>) -> Refusal
 #[cfg(test)]
 mod tests {
     use super::{run, script};
+    use crate::checks::{has, same};
     use crate::types::{Plan, Refusal};
-    use cc_checks::{has, same};
     use clap_complete::aot::Collected;
     use std::alloc::{AllocError, Global};
     use std::convert::AsStr;

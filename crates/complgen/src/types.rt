@@ -69,7 +69,7 @@ impl From<AllocError> for Refusal {
 #[cfg(test)]
 mod tests {
     use super::*;
-    use cc_checks::is;
+    use crate::checks::is;
 
     fn script(alloc: Global) -> Result<Plan, AllocError> {
         let shell = String::from_str(alloc, "elvish")?;
