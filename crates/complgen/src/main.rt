@@ -1,14 +1,8 @@
 //! `complgen`: completion scripts for a command that a JSON file describes.
 #![tactic(auto)]
 
-#[cfg(test)]
-mod checks;
-mod command_line;
-mod plan;
-mod run;
-mod types;
-
-use crate::types::{Refusal, WRITE_FAILED};
+use cc_command_line::{Refusal, WRITE_FAILED, plan};
+use cc_run::run;
 use clap_complete::aot::Counted;
 use std::alloc::AllocError;
 use std::convert::AsStr;
@@ -30,12 +24,12 @@ fn main(rt: HostRuntime) -> ExitCode {
 // Does what the command line asks for.
 fn carry_out<R: Env + Files + Print + AllocGlobal>(rt: &R) -> Result<(), Refusal> {
     let words = words(rt)?;
-    let plan = plan::plan(rt.alloc(), words.as_slice())?;
+    let plan = plan(rt.alloc(), words.as_slice())?;
     let file = contents(rt, plan.tree())?;
     let out = BufWriter::new(rt.alloc(), io::writer(rt)).map_err(|_| AllocError)?;
     let mut out = Counted::new(out);
     let file = file.as_ref().map(Vec::as_slice);
-    run::run(rt.alloc(), &plan, file, &mut out)?;
+    run(rt.alloc(), &plan, file, &mut out)?;
     out.flush().map_err(|_| Refusal::fixed(1, WRITE_FAILED))
 }
 

@@ -1,0 +1,10 @@
+//! The command line of the program: the words that it takes, what they ask for, and what is
+//! printed in place of a script.
+#![tactic(auto)]
+
+mod command_line;
+mod types;
+mod words;
+
+pub use crate::types::{Plan, Refusal, WRITE_FAILED};
+pub use crate::words::plan;

@@ -1,0 +1,157 @@
+//! What carrying out a plan writes, and how it fails.
+
+use crate::checks::{has, same};
+use cc_command_line::{Plan, Refusal};
+use cc_run::run;
+use clap_complete::aot::Collected;
+use std::alloc::{AllocError, Global};
+use std::convert::AsStr;
+use std::process::Abort;
+
+fn plan(alloc: Global, shell: &str) -> Result<Plan, AllocError> {
+    let bin = String::from_str(alloc, "app")?;
+    let tree = String::from_str(alloc, "tree.json")?;
+    Ok(Plan::Script(String::from_str(alloc, shell)?, bin, tree))
+}
+
+// Fails unless a script for this shell, over this file, ends with this text at status 1, and
+// nothing is written.
+fn fails(rt: &impl Abort, alloc: Global, shell: &str, file: Option<&[u8]>, wanted: &str) {
+    let plan = plan(alloc, shell).expect(rt, "no plan");
+    let mut out = Collected::new(alloc);
+    match run(alloc, &plan, file, &mut out) {
+        Ok(()) => panic!(rt; "a script"),
+        Err(refusal) => same(rt, (refusal.status, refusal.text.as_str()), (1, wanted)),
+    }
+    assert!(rt; out.as_slice().is_empty());
+}
+
+#[test]
+fn reports_a_shell_before_the_tree(rt: HostRuntime) {
+    fails(&rt, rt.alloc(), "tcsh", None, "invalid variant: tcsh\n");
+}
+
+// A tree with a child.
+const PARENT: &str = "{\"name\": \"app\", \"disable_help_flag\": true, \"subcommands\": [
+    {\"name\": \"run\", \"visible_aliases\": [\"r\"], \"aliases\": [\"go\"]}]}";
+
+// The script for this shell of the tree in a file.
+fn script_of(alloc: Global, shell: &str, file: &[u8]) -> Result<String, Refusal> {
+    let plan = plan(alloc, shell)?;
+    let mut out = Collected::new(alloc);
+    run(alloc, &plan, Some(file), &mut out)?;
+    Ok(String::from_utf8_lossy(alloc, out.as_slice())?)
+}
+
+// In the gate there is memory enough. With `rt try --test --fail-alloc 1` the first allocation
+// fails, before anything is written.
+#[test]
+fn writes_nothing_without_memory(rt: HostRuntime) {
+    let plan = plan(rt.alloc(), "elvish").expect(&rt, "no plan");
+    let mut out = Collected::new(rt.alloc());
+    match run(rt.alloc(), &plan, Some(PARENT.as_bytes()), &mut out) {
+        Ok(()) => assert!(rt; !out.as_slice().is_empty()),
+        Err(refusal) => {
+            same(&rt, refusal.text.as_str(), "out of memory\n");
+            assert!(rt; out.as_slice().is_empty());
+        }
+    }
+}
+
+#[test]
+fn writes_the_keys_of_a_child(rt: HostRuntime) {
+    let script = script_of(rt.alloc(), "elvish", PARENT.as_bytes()).expect(&rt, "no script");
+    assert!(rt; script.as_str().contains("&'app'= {"));
+    assert!(rt; script.as_str().contains("&'app;run'= {"));
+    assert!(rt; script.as_str().contains("&'app;r'= {"));
+    assert!(rt; !script.as_str().contains("app;go"));
+}
+
+#[test]
+fn writes_for_powershell(rt: HostRuntime) {
+    let head = "Register-ArgumentCompleter -Native -CommandName 'app'";
+    has(
+        &rt,
+        script_of(rt.alloc(), "powershell", PARENT.as_bytes()),
+        head,
+    );
+    has(
+        &rt,
+        script_of(rt.alloc(), "powershell", PARENT.as_bytes()),
+        "'app;r' {",
+    );
+}
+
+#[test]
+fn reports_a_file_that_is_not_there(rt: HostRuntime) {
+    fails(&rt, rt.alloc(), "elvish", None, "tree: unreadable\n");
+}
+
+// A brace left open, an empty file, bytes that are not UTF-8, and a number too large for a
+// float.
+const NOT_JSON: [&[u8]; 4] = [b"{", b"", b"{\"name\":\"\xff\"}", b"{\"name\":1e999}"];
+
+#[test]
+fn reports_a_file_that_is_not_json(rt: HostRuntime) {
+    for bytes in NOT_JSON {
+        fails(&rt, rt.alloc(), "elvish", Some(bytes), "tree: not JSON\n");
+    }
+}
+
+// Adds a text so many times.
+fn push_times(text: &mut String, part: &str, times: usize) -> Result<(), AllocError> {
+    for _ in 0..times {
+        text.push_str(part)?;
+    }
+    Ok(())
+}
+
+#[test]
+fn reports_a_million_open_brackets(rt: HostRuntime) {
+    let mut text = String::new(rt.alloc());
+    push_times(&mut text, "[", 1_000_000).expect(&rt, "no text");
+    fails(
+        &rt,
+        rt.alloc(),
+        "elvish",
+        Some(text.as_bytes()),
+        "tree: not JSON\n",
+    );
+}
+
+// Each parent is an object and a list, so 63 of them and a child nest as deep as JSON may.
+fn deepest(alloc: Global) -> Result<String, AllocError> {
+    let mut text = String::new(alloc);
+    push_times(&mut text, "{\"name\":\"a\",\"subcommands\":[", 63)?;
+    text.push_str("{\"name\":\"a\"}")?;
+    push_times(&mut text, "]}", 63)?;
+    Ok(text)
+}
+
+#[test]
+fn writes_the_script_of_the_deepest_tree(rt: HostRuntime) {
+    let text = deepest(rt.alloc()).expect(&rt, "no text");
+    let script = script_of(rt.alloc(), "elvish", text.as_bytes());
+    has(&rt, script, "&'app;a;a;a'= {");
+}
+
+// In bash `a-b` has the label of `b` below `a`.
+const CLASH: &str = "{\"name\": \"app\", \"subcommands\": [
+    {\"name\": \"a-b\"}, {\"name\": \"a\", \"subcommands\": [{\"name\": \"b\"}]}]}";
+
+#[test]
+fn reports_two_commands_with_one_label(rt: HostRuntime) {
+    let wanted = "two commands share the label app__subcmd__a__subcmd__b\n";
+    fails(&rt, rt.alloc(), "bash", Some(CLASH.as_bytes()), wanted);
+}
+
+#[test]
+fn reports_a_file_of_another_form(rt: HostRuntime) {
+    fails(
+        &rt,
+        rt.alloc(),
+        "elvish",
+        Some(b"{\"name\":1.5}"),
+        "tree: bad form\n",
+    );
+}

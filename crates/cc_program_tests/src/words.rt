@@ -1,0 +1,87 @@
+//! What the words of the command line ask for.
+
+use crate::checks::{is, same};
+use cc_command_line::{Plan, Refusal, plan};
+use std::alloc::{AllocError, Global};
+use std::convert::AsStr;
+use std::process::Abort;
+
+fn texts(alloc: Global, words: &[&str]) -> Result<Vec<String>, AllocError> {
+    let mut all = Vec::new(alloc);
+    for word in words {
+        all.push(String::from_str(alloc, word)?)?;
+    }
+    Ok(all)
+}
+
+fn planned(rt: &impl Abort, alloc: Global, words: &[&str]) -> Result<Plan, Refusal> {
+    let words = texts(alloc, words).expect(rt, "no words");
+    plan(alloc, words.as_slice())
+}
+
+fn failed(rt: &impl Abort, alloc: Global, words: &[&str]) -> Refusal {
+    match planned(rt, alloc, words) {
+        Ok(_) => panic!(rt; "a plan"),
+        Err(refusal) => refusal,
+    }
+}
+
+// Fails unless the plan is a script with these values.
+fn is_script(rt: &impl Abort, plan: Plan, wanted: (&str, &str, &str)) {
+    let Plan::Script(shell, bin, tree) = plan;
+    same(rt, (shell.as_str(), bin.as_str(), tree.as_str()), wanted);
+}
+
+#[test]
+fn asks_for_a_script(rt: HostRuntime) {
+    let words = [
+        "complgen",
+        "script",
+        "--shell",
+        "elvish",
+        "--bin=app",
+        "tree.json",
+    ];
+    let plan = planned(&rt, rt.alloc(), words.as_slice()).expect(&rt, "no plan");
+    is_script(&rt, plan, ("elvish", "app", "tree.json"));
+}
+
+#[test]
+fn fails_on_missing_words(rt: HostRuntime) {
+    let refusal = failed(&rt, rt.alloc(), &["complgen", "script"]);
+    let text = "error: the following required arguments were not provided:\n  \
+        --shell <SHELL>\n  --bin <NAME>\n  <TREE>\n\n\
+        Usage: complgen script --shell <SHELL> --bin <NAME> <TREE>\n\n\
+        For more information, try '--help'.\n";
+    same(&rt, (refusal.status, refusal.text.as_str()), (2, text));
+}
+
+#[test]
+fn fails_on_unknown_words(rt: HostRuntime) {
+    let words = ["complgen", "register", "--bin", "app", "tree.json"];
+    let refusal = failed(&rt, rt.alloc(), words.as_slice());
+    same(&rt, refusal.status, 2);
+}
+
+#[test]
+fn shows_help(rt: HostRuntime) {
+    let refusal = failed(&rt, rt.alloc(), &["complgen", "--help"]);
+    same(&rt, refusal.status, 0);
+    assert!(rt; refusal.text.as_str().contains("Usage: complgen <COMMAND>"));
+}
+
+fn script_for_elvish(alloc: Global) -> Result<Plan, AllocError> {
+    let shell = String::from_str(alloc, "elvish")?;
+    let bin = String::from_str(alloc, "app")?;
+    Ok(Plan::Script(shell, bin, String::from_str(alloc, "tree.json")?))
+}
+
+#[test]
+fn debug_shows_each_field(rt: HostRuntime) {
+    let plan = script_for_elvish(rt.alloc()).expect(&rt, "no plan");
+    let wanted = "Script(\"elvish\", \"app\", \"tree.json\")";
+    is(&rt, format!(in rt.alloc(); "{plan:?}"), wanted);
+    let refusal = Refusal::from(AllocError);
+    let wanted = "Refusal { status: 1, text: \"out of memory\\n\" }";
+    is(&rt, format!(in rt.alloc(); "{refusal:?}"), wanted);
+}

@@ -1,3 +1,0 @@
-pub mod CommandLineLemmas
-pub mod EndsLemmas
-pub mod GivenValues

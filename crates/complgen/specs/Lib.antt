@@ -1,4 +1,0 @@
-pub mod CommandLine
-pub mod Ends
-pub mod Plans
-pub mod Refusals
