@@ -1,6 +1,7 @@
 //! The visits of a tree in table order.
 
-ghost use Rattle.std.specs.Prelude.{◌≡◌, ◌++◌, ◌<◌, length, IfOk, OnOk};
+ghost use Rattle.std.specs.Prelude.{◌≡◌, ◌++◌, ◌<◌, length, reverse, IfOk, OnOk};
+ghost use Rattle.std.specs.Prelude.{is_ok, if◌then◌else◌};
 ghost use Rattle.cc_flat.specs.Flat.{HasItsChildren, children_at};
 ghost use Rattle.cc_visits.specs.TableStack.{items_at, table_items};
 
@@ -82,8 +83,8 @@ impl<'f, 'a, K: Keys> TableVisits<'f, 'a, K> {
     {
         let mut own = Vec::new(alloc);
         own.push(Text::copy_of(alloc, key)?)?;
-        let mut stack = items_below(alloc, flat, 0, &own)?;
-        stack.reverse();
+        let mut stack = Vec::new(alloc);
+        push_below(&mut stack, alloc, flat, 0, &own)?;
         Ok(TableVisits {
             flat,
             keys,
@@ -111,8 +112,7 @@ impl<'f, 'a, K: Keys> TableVisits<'f, 'a, K> {
         };
         let command = flat.command(number);
         push_keys_below(&mut self.ready, alloc, self.keys, key.as_str(), command)?;
-        let below = items_below(alloc, flat, number, &self.ready)?;
-        push_reversed(&mut self.stack, below)?;
+        push_below(&mut self.stack, alloc, flat, number, &self.ready)?;
         self.number = number;
         self.above = above;
         self.ready.reverse();
@@ -123,8 +123,30 @@ impl<'f, 'a, K: Keys> TableVisits<'f, 'a, K> {
     }
 }
 
-// The children of a node, each under each of the node's keys.
+// Puts the children of a node on the stack, each under each of the node's keys, the first one last.
 #[tactic(auto, using(crate::proofs::TableStack::no_items))]
+fn push_below(
+    stack: &mut Vec<TableItem>,
+    alloc: Global,
+    flat: &Flat<'_>,
+    number: usize,
+    keys: &[Text],
+) -> Result<(), AllocError>
+    requires { number < length flat.now }
+    ensures items { stack.new.items ≡ (if is_ok result then stack.old.items
+        ++ reverse (table_items number keys.now (children_at flat.now number))
+        else stack.old.items) }
+    ensures children { OnOk result (HasItsChildren flat.now number) }
+{
+    let children = flat.children(number);
+    if children.start == children.end {
+        return Ok(());
+    }
+    let below = items_below(alloc, flat, number, keys)?;
+    push_reversed(stack, below)
+}
+
+// The children of a node, each under each of the node's keys.
 fn items_below(
     alloc: Global,
     flat: &Flat<'_>,
@@ -138,9 +160,6 @@ fn items_below(
 {
     let mut items = Vec::new(alloc);
     let children = flat.children(number);
-    if children.start == children.end {
-        return Ok(items);
-    }
     let shared = shared_keys(alloc, keys)?;
     for child in children.start..children.end {
         push_shared(&mut items, number, child, &shared)?;

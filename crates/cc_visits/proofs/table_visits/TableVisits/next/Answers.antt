@@ -1,4 +1,4 @@
-use Rattle.std.proofs.Common.{ℕ, List, ◌∷◌, ◌++◌, ap, reverse, sym, ◌∙◌, rules}
+use Rattle.std.proofs.Common.{ℕ, List, ◌∷◌, ◌++◌, ap, refl, reverse, sym, ◌∙◌, rules}
 use Rattle.cc_flat.specs.Flat.{Entry, tree_at}
 use Rattle.cc_visits.specs.Stack.{from_stack}
 use Rattle.cc_visits.specs.TableStack.{tables_of}
@@ -13,10 +13,10 @@ returns-in-Some-pop-2-clause-first g c =
     let number : ℕ = c.in-Some-pop.field-0.number in
     let above : ℕ = c.in-Some-pop.field-0.above in
     let later : List (Keyed (List ℕ)) =
-    under_each (reverse c.pop-3.new.self.items) (tree_at flat above).node (tree_at flat number) ++ from_stack (tables_of flat longer) c.push_reversed.new.stack.items in
+    under_each (reverse c.pop-3.new.self.items) (tree_at flat above).node (tree_at flat number) ++ from_stack (tables_of flat longer) c.push_below.new.stack.items in
     let first_of : Keyed (List ℕ) → List (Keyed (List ℕ)) = λ visit. visit ∷ later in
     sym c.self.view_is ∙
     table_next flat longer c.self.inside.number c.self.inside.above number above c.in-Some-pop.field-0.key c.in-Some-pop-2.key c.self.inside.ready.items c.pop.new.self.items
-    c.push_keys_below.new.made.items c.pop-3.new.self.items c.self.inside.stack.items c.pop-2.new.self.items c.in_ok-below.below.items c.push_reversed.new.stack.items
-    (search rules) (search rules) (search rules) (search rules) (search rules) (search rules) (search rules) (search rules) ∙
+    c.push_keys_below.new.made.items c.pop-3.new.self.items c.self.inside.stack.items c.pop-2.new.self.items _ c.push_below.new.stack.items
+    (search rules) (search rules) (search rules) (search rules) (search rules) refl (search rules) (search rules) ∙
     ap first_of (sym c.visit_at-in-Some-pop-2.ensures)
