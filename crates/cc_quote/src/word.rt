@@ -14,7 +14,8 @@ pub(crate) fn bare_word(alloc: Global, text: &str) -> Result<Option<(String, &st
     if word.is_empty() {
         return Ok(None);
     }
-    Ok(Some((String::from_str(alloc, word)?, rest)))
+    let word = String::from_str(alloc, word)?;
+    Ok(Some((word, rest)))
 }
 
 // The text up to its first space, tab or line feed, and the text from there on.
