@@ -21,12 +21,6 @@ pub(crate) fn has<E: Debug + Drop>(rt: &impl Abort, text: Result<String, E>, par
     assert!(rt; text.as_str().contains(part), "{part:?} is not in {text}");
 }
 
-/// Fails unless a text was made that ends so.
-pub(crate) fn ends<E: Debug + Drop>(rt: &impl Abort, text: Result<String, E>, end: &str) {
-    let text = text.expect(rt, "no text");
-    assert!(rt; text.as_str().ends_with(end), "{end:?} does not end {text}");
-}
-
 /// Fails unless the call ended and its answer is yes.
 pub(crate) fn holds<E: Debug + Drop>(rt: &impl Abort, answer: Result<bool, E>) {
     assert!(rt; answer.expect(rt, "no answer"));

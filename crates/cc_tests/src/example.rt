@@ -1,7 +1,7 @@
 //! The library as a program uses it. `elvish_script` and `write_scripts` stand in the README too.
 
 use crate::checks::has;
-use crate::fixtures::app;
+use crate::fixtures::{APP, tree};
 use crate::shell::{FILES, folder, holds_script_in, remove};
 use clap_complete::aot::{Collected, Elvish};
 use clap_complete::command::{Arg, Command};
@@ -48,7 +48,7 @@ fn write_scripts(rt: &HostRuntime, command: &mut Command, out_dir: &str) -> Resu
 #[test]
 fn a_program_writes_the_scripts_of_all_shells(rt: HostRuntime) {
     let folder = folder(&rt, "lagvtsune_example");
-    let mut command = app(rt.alloc()).expect(&rt, "no command");
+    let mut command = tree(&rt, APP);
     write_scripts(&rt, &mut command, folder.as_str()).expect(&rt, "not written");
     drop(command);
     for (shell, name) in Shell::value_variants().iter().zip(FILES) {

@@ -1,7 +1,7 @@
 //! `Shell` by text, path and value, its methods, and scripts written to files.
 
-use crate::checks::{holds, is, same};
-use crate::fixtures::{app, clashing, nested};
+use crate::checks::{is, same};
+use crate::fixtures::{APP, CLASHING, NESTED, tree};
 use crate::written::{script, twice};
 use clap_complete::aot::{Bash, Elvish, Fish, InvalidShell, Nushell, PowerShell, Zsh};
 use clap_complete::command::Command;
@@ -121,43 +121,22 @@ fn a_shell_is_a_possible_value(rt: HostRuntime) {
     same(&rt, name, Some("elvish"));
 }
 
-fn has_the_script_of<G: Generator + Drop>(
-    alloc: Global,
-    shell: Shell,
-    generator: G,
-) -> Result<bool, Error> {
-    let by_shell = script(alloc, shell, nested(alloc))?;
-    let by_generator = script(alloc, generator, nested(alloc))?;
-    Ok(by_shell.as_str() == by_generator.as_str())
-}
-
-fn has_the_name_of<G: Generator>(
-    alloc: Global,
-    shell: Shell,
-    generator: &G,
-) -> Result<bool, Error> {
-    let name = shell.file_name(alloc, "app")?;
-    let its_name = generator.file_name(alloc, "app")?;
-    Ok(name.as_str() == its_name.as_str())
-}
-
-// Whether a shell writes the script of its generator, and names the same file.
-fn is_of<G: Generator + Drop + Copy>(
-    alloc: Global,
-    shell: Shell,
-    generator: G,
-) -> Result<bool, Error> {
-    Ok(has_the_name_of(alloc, shell, &generator)? && has_the_script_of(alloc, shell, generator)?)
+// Fails unless a shell writes the script of its generator, and names the same file.
+fn is_of<R: Abort + AllocGlobal, G: Generator + Drop>(rt: &R, shell: Shell, generator: G) {
+    let its_name = generator.file_name(rt.alloc(), "app").expect(rt, "no name");
+    is(rt, shell.file_name(rt.alloc(), "app"), its_name.as_str());
+    let its_script = script(rt, generator, NESTED).expect(rt, "no script");
+    is(rt, script(rt, shell, NESTED), its_script.as_str());
 }
 
 #[test]
 fn a_shell_writes_the_script_of_its_generator(rt: HostRuntime) {
-    holds(&rt, is_of(rt.alloc(), Shell::Bash, Bash));
-    holds(&rt, is_of(rt.alloc(), Shell::Elvish, Elvish));
-    holds(&rt, is_of(rt.alloc(), Shell::Fish, Fish));
-    holds(&rt, is_of(rt.alloc(), Shell::PowerShell, PowerShell));
-    holds(&rt, is_of(rt.alloc(), Shell::Zsh, Zsh));
-    holds(&rt, is_of(rt.alloc(), Shell::Nushell, Nushell));
+    is_of(&rt, Shell::Bash, Bash);
+    is_of(&rt, Shell::Elvish, Elvish);
+    is_of(&rt, Shell::Fish, Fish);
+    is_of(&rt, Shell::PowerShell, PowerShell);
+    is_of(&rt, Shell::Zsh, Zsh);
+    is_of(&rt, Shell::Nushell, Nushell);
 }
 
 #[test]
@@ -167,9 +146,9 @@ fn each_table_shell_has_its_file(rt: HostRuntime) {
 }
 
 // Fails unless the methods of a shell write the script of `nested`, each once.
-fn writes_its_script(rt: &impl Abort, alloc: Global, shell: Shell) {
-    let wanted = script(alloc, shell, nested(alloc)).expect(rt, "no script");
-    let written = twice(alloc, &shell, nested(alloc), "app").expect(rt, "no script");
+fn writes_its_script<R: Abort + AllocGlobal>(rt: &R, shell: Shell) {
+    let wanted = script(rt, shell, NESTED).expect(rt, "no script");
+    let written = twice(rt, &shell, NESTED).expect(rt, "no script");
     let rest = written.as_str().strip_prefix(wanted.as_str());
     same(rt, rest, Some(wanted.as_str()));
 }
@@ -177,7 +156,7 @@ fn writes_its_script(rt: &impl Abort, alloc: Global, shell: Shell) {
 #[test]
 fn the_methods_of_a_shell_write_its_script(rt: HostRuntime) {
     for shell in Shell::value_variants() {
-        writes_its_script(&rt, rt.alloc(), *shell);
+        writes_its_script(&rt, *shell);
     }
 }
 
@@ -209,14 +188,15 @@ fn write_to<R: Abort + AllocGlobal + Files>(
     generate_to(rt, rt.alloc(), shell, command, bin_name, folder)
 }
 
-// How writing the script of a command to a folder ends, which leaves the command built.
+// How writing the script of the command of a tree file to a folder ends, which leaves the command
+// built.
 fn outcome<R: Abort + AllocGlobal + Files>(
     rt: &R,
     shell: Shell,
-    command: Result<Command, Error>,
+    text: &str,
     folder: &str,
 ) -> Result<String, Error> {
-    let mut command = command.expect(rt, "no command");
+    let mut command = tree(rt, text);
     let written = write_to(rt, shell, &mut command, folder);
     assert!(rt; command.is_built());
     drop(command);
@@ -226,11 +206,7 @@ fn outcome<R: Abort + AllocGlobal + Files>(
 /// Fails unless a file holds the script of `app`.
 pub(crate) fn holds_script<R: Abort + AllocGlobal + Files>(rt: &R, path: &str, shell: Shell) {
     let held = fs::read_to_string(rt, path).expect(rt, "no file");
-    is(
-        rt,
-        script(rt.alloc(), shell, app(rt.alloc())),
-        held.as_str(),
-    );
+    is(rt, script(rt, shell, APP), held.as_str());
 }
 
 // The path of a file in a folder.
@@ -257,7 +233,7 @@ fn is_written<R: Abort + AllocGlobal + Files>(rt: &R, shell: Shell, folder: &str
 
 // The same for the path of the file.
 fn is_written_at<R: Abort + AllocGlobal + Files>(rt: &R, shell: Shell, folder: &str, wanted: &str) {
-    is(rt, outcome(rt, shell, app(rt.alloc()), folder), wanted);
+    is(rt, outcome(rt, shell, APP, folder), wanted);
     holds_script(rt, wanted, shell);
 }
 
@@ -315,7 +291,7 @@ fn is_emptied<R: Abort + AllocGlobal + Files>(rt: &R, command: &mut Command, fol
 #[test]
 fn a_file_that_is_there_is_emptied_first(rt: HostRuntime) {
     let folder = folder(&rt, "lagvtsune_emptied");
-    let mut command = app(rt.alloc()).expect(&rt, "no command");
+    let mut command = tree(&rt, APP);
     is_emptied(&rt, &mut command, folder.as_str());
     drop(command);
     remove(&rt, folder.as_str());
@@ -323,7 +299,7 @@ fn a_file_that_is_there_is_emptied_first(rt: HostRuntime) {
 
 // Fails unless writing the script of `app` to a folder fails with this kind.
 fn fails<R: Abort + AllocGlobal + Files>(rt: &R, shell: Shell, folder: &str, wanted: ErrorKind) {
-    let written = outcome(rt, shell, app(rt.alloc()), folder);
+    let written = outcome(rt, shell, APP, folder);
     assert!(rt; matches!(written, Err(Error::Write(kind)) if kind == wanted));
 }
 
@@ -357,7 +333,7 @@ fn a_folder_in_the_place_of_the_file_is_a_failed_write(rt: HostRuntime) {
 #[test]
 fn no_file_is_made_where_a_label_is_shared(rt: HostRuntime) {
     let folder = folder(&rt, "lagvtsune_clash");
-    let written = outcome(&rt, Shell::Bash, clashing(rt.alloc()), folder.as_str());
+    let written = outcome(&rt, Shell::Bash, CLASHING, folder.as_str());
     assert!(rt; matches!(written, Err(Error::LabelClash(_))));
     // A folder with nothing in it is the only kind that can be removed so.
     fs::remove_dir(&rt, folder.as_str()).expect(&rt, "not removed");

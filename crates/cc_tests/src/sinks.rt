@@ -1,12 +1,12 @@
 //! Scripts written to sinks that take little, fail, take nothing, or measure what they take.
 
 use crate::checks::{holds, is};
-use crate::fixtures::{app, colored, colored_alone, helped, many, nested};
+use crate::fixtures::{APP, COLORED, COLORED_ALONE, HELPED, NESTED, many, tree};
 use crate::written::{script, write_script};
 use clap_complete::aot::{Counted, Sink};
 use clap_complete::command::Command;
 use clap_complete::{Error, Shell, generate};
-use std::alloc::Global;
+use std::alloc::{AllocError, Global};
 use std::io::{self, ErrorKind, Write};
 use std::process::Abort;
 
@@ -66,58 +66,68 @@ fn narrow_sink(alloc: Global, room: usize, kind: Option<ErrorKind>) -> Counted<N
 }
 
 // The script as a writer takes it that takes one byte a call.
-fn by_bytes(alloc: Global, shell: Shell, command: Result<Command, Error>) -> Result<String, Error> {
-    let mut sink = narrow_sink(alloc, usize::MAX, None);
-    let written = write_script(alloc, shell, command, &mut sink);
-    let text = String::from_utf8_lossy(alloc, sink.get_ref().held.as_slice());
+fn by_bytes<R: Abort + AllocGlobal>(
+    rt: &R,
+    shell: Shell,
+    text: &str,
+) -> Result<String, AllocError> {
+    let mut sink = narrow_sink(rt.alloc(), usize::MAX, None);
+    write_script(rt, shell, text, &mut sink).expect(rt, "no script");
+    let taken = String::from_utf8_lossy(rt.alloc(), sink.get_ref().held.as_slice());
     drop(sink);
-    written?;
-    Ok(text?)
+    taken
 }
 
-// Fails unless two scripts are the same.
-fn are_same(rt: &impl Abort, taken: Result<String, Error>, whole: Result<String, Error>) {
-    let whole = whole.expect(rt, "no script");
-    is(rt, taken, whole.as_str());
+// Fails unless a writer that takes one byte a call gets the whole script of the command of a tree
+// file.
+fn is_same_by_bytes<R: Abort + AllocGlobal>(rt: &R, shell: Shell, text: &str) {
+    let whole = script(rt, shell, text).expect(rt, "no script");
+    is(rt, by_bytes(rt, shell, text), whole.as_str());
 }
 
-// Fails unless a writer that takes one byte a call gets the whole scripts of trees with children,
-// with copies below `help` and with possible values.
-fn is_same_by_bytes(rt: &impl Abort, alloc: Global, shell: Shell) {
-    let taken = by_bytes(alloc, shell, nested(alloc));
-    are_same(rt, taken, script(alloc, shell, nested(alloc)));
-    let taken = by_bytes(alloc, shell, helped(alloc));
-    are_same(rt, taken, script(alloc, shell, helped(alloc)));
-    let taken = by_bytes(alloc, shell, colored(alloc));
-    are_same(rt, taken, script(alloc, shell, colored(alloc)));
-}
-
+// The trees have children, copies below `help`, and possible values.
 #[test]
 fn one_byte_a_call_is_the_same_script(rt: HostRuntime) {
     for shell in Shell::value_variants() {
-        is_same_by_bytes(&rt, rt.alloc(), *shell);
+        is_same_by_bytes(&rt, *shell, NESTED);
+        is_same_by_bytes(&rt, *shell, HELPED);
+        is_same_by_bytes(&rt, *shell, COLORED);
     }
 }
 
+// The kind of the write that failed, if one did.
+fn kind_of(written: Result<(), Error>) -> Option<ErrorKind> {
+    match written {
+        Err(Error::Write(kind)) => Some(kind),
+        _ => None,
+    }
+}
+
+// How many writes to a narrow writer failed, how much it took, and whether `whole` begins with it.
+fn state_of(sink: &Counted<Narrow>, whole: &str) -> (u64, usize, bool) {
+    let held = sink.get_ref().held.as_slice();
+    (
+        sink.failures(),
+        held.len(),
+        whole.as_bytes().starts_with(held),
+    )
+}
+
 // How the script of a command ends over a writer that takes `room` bytes: the kind of the write
-// that failed, how many failed, how much was taken, and whether `whole` begins with it.
+// that failed, and the state of the writer.
 fn end_of(
     alloc: Global,
     shell: Shell,
     command: &mut Command,
     narrow: (usize, Option<ErrorKind>),
     whole: &str,
-) -> Result<(Option<ErrorKind>, u64, usize, bool), Error> {
-    let mut sink = narrow_sink(alloc, narrow.0, narrow.1);
+) -> Result<(Option<ErrorKind>, (u64, usize, bool)), Error> {
     let bin_name = String::from_str(alloc, "app")?;
-    let kind = match generate(alloc, shell, command, bin_name, &mut sink) {
-        Err(Error::Write(kind)) => Some(kind),
-        _ => None,
-    };
-    let failures = sink.failures();
-    let held = sink.into_inner().held;
-    let begins = whole.as_bytes().starts_with(held.as_slice());
-    Ok((kind, failures, held.len(), begins))
+    let mut sink = narrow_sink(alloc, narrow.0, narrow.1);
+    let kind = kind_of(generate(alloc, shell, command, bin_name, &mut sink));
+    let state = state_of(&sink, whole);
+    drop(sink);
+    Ok((kind, state))
 }
 
 const BROKEN: Option<ErrorKind> = Some(ErrorKind::BrokenPipe);
@@ -137,77 +147,56 @@ fn reports_each(
 ) -> Result<bool, Error> {
     let (kind, reported) = kinds;
     for room in 0..whole.len() {
-        if end_of(alloc, shell, command, (room, kind), whole)? != (reported, 1, room, true) {
+        if end_of(alloc, shell, command, (room, kind), whole)? != (reported, (1, room, true)) {
             return Ok(false);
         }
     }
     let again = end_of(alloc, shell, command, ROOMY, whole)?;
-    Ok(again == (None, 0, whole.len(), true))
+    Ok(again == (None, (0, whole.len(), true)))
 }
 
-// The same over the fixture `app`.
-fn reports(
-    alloc: Global,
-    shell: Shell,
+// Fails unless that is so of each shell over the command of a tree file.
+fn reports<R: Abort + AllocGlobal>(
+    rt: &R,
     kinds: (Option<ErrorKind>, Option<ErrorKind>),
-) -> Result<bool, Error> {
-    let whole = script(alloc, shell, app(alloc))?;
-    let mut command = app(alloc)?;
-    let reports = reports_each(alloc, shell, &mut command, kinds, whole.as_str());
-    drop(command);
-    reports
-}
-
-// The same over a fixture with children and possible values.
-fn reports_values(
-    alloc: Global,
-    shell: Shell,
-    kinds: (Option<ErrorKind>, Option<ErrorKind>),
-) -> Result<bool, Error> {
-    let whole = script(alloc, shell, colored_alone(alloc))?;
-    let mut command = colored_alone(alloc)?;
-    let reports = reports_each(alloc, shell, &mut command, kinds, whole.as_str());
-    drop(command);
-    reports
+    text: &str,
+) {
+    for shell in Shell::value_variants() {
+        let whole = script(rt, *shell, text).expect(rt, "no script");
+        let mut command = tree(rt, text);
+        let reports = reports_each(rt.alloc(), *shell, &mut command, kinds, whole.as_str());
+        drop(command);
+        holds(rt, reports);
+    }
 }
 
 #[test]
 fn a_writer_that_fails_is_reported(rt: HostRuntime) {
-    for shell in Shell::value_variants() {
-        holds(&rt, reports(rt.alloc(), *shell, (BROKEN, BROKEN)));
-    }
+    reports(&rt, (BROKEN, BROKEN), APP);
 }
 
 #[test]
 fn a_writer_that_fails_on_a_tree_with_values_is_reported(rt: HostRuntime) {
-    for shell in Shell::value_variants() {
-        holds(&rt, reports_values(rt.alloc(), *shell, (BROKEN, BROKEN)));
-    }
+    reports(&rt, (BROKEN, BROKEN), COLORED_ALONE);
 }
 
 #[test]
 fn a_writer_that_takes_nothing_more_is_reported(rt: HostRuntime) {
-    for shell in Shell::value_variants() {
-        holds(&rt, reports(rt.alloc(), *shell, (None, ZERO)));
-    }
+    reports(&rt, (None, ZERO), APP);
 }
 
-// What a measuring writer counts of the script of many options.
-fn handed_on(alloc: Global, shell: Shell) -> Result<Measured, Error> {
+// Fails unless a measuring writer takes the script of many options in short slices.
+fn is_in_short_slices<R: Abort + AllocGlobal>(rt: &R, shell: Shell, text: &str) {
     let mut sink = Counted::new(Measured { most: 0, all: 0 });
-    write_script(alloc, shell, many(alloc), &mut sink)?;
-    Ok(sink.into_inner())
-}
-
-fn is_in_short_slices(rt: &impl Abort, alloc: Global, shell: Shell) {
-    let measured = handed_on(alloc, shell).expect(rt, "no script");
-    assert!(rt; measured.all > 5_000);
-    assert!(rt; measured.most <= 1_024);
+    write_script(rt, shell, text, &mut sink).expect(rt, "no script");
+    assert!(rt; sink.get_ref().all > 5_000);
+    assert!(rt; sink.get_ref().most <= 1_024);
 }
 
 #[test]
 fn no_slice_of_a_long_script_is_long(rt: HostRuntime) {
+    let text = many(rt.alloc()).expect(&rt, "no tree");
     for shell in Shell::value_variants() {
-        is_in_short_slices(&rt, rt.alloc(), *shell);
+        is_in_short_slices(&rt, *shell, text.as_str());
     }
 }

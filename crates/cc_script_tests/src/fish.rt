@@ -1,14 +1,10 @@
 //! Fish scripts.
 
-use crate::checks::{ends, has, is, same};
-use crate::fixtures::{
-    chain, colored, deep, described, global, hinted, inherited, listed, named, with_directory,
-};
-use crate::written::{script, script_for, twice};
-use clap_complete::Generator;
-use clap_complete::aot::Fish;
-use clap_complete::command::ValueHint;
-use std::alloc::Global;
+use crate::checks::{ends, has, is, is_twice, same};
+use crate::fixtures::{self, chain, hinted};
+use crate::written::{script, script_for, script_of, twice};
+use cc_fish::Fish;
+use cc_lists::Generator;
 use std::process::Abort;
 
 const COLORED: &str =
@@ -51,7 +47,7 @@ complete -c my-app -n \"__fish_my_app_using_subcommand help; and not __fish_seen
 fn the_whole_script(rt: HostRuntime) {
     is(
         &rt,
-        script_for(rt.alloc(), Fish, colored(rt.alloc()), "my-app"),
+        script_for(&rt, Fish, fixtures::COLORED, "my-app"),
         COLORED,
     );
 }
@@ -62,24 +58,20 @@ complete -c app -n \"__fish_app_needs_command\" -s c -l color -d 'Colour' -r -f 
 
 #[test]
 fn values_that_are_shown_are_offered(rt: HostRuntime) {
-    has(&rt, script(rt.alloc(), Fish, colored(rt.alloc())), OPTION);
+    has(&rt, script(&rt, Fish, fixtures::COLORED), OPTION);
     let specs = "\n    string join \\n c/color= h/help\n";
-    has(&rt, script(rt.alloc(), Fish, colored(rt.alloc())), specs);
+    has(&rt, script(&rt, Fish, fixtures::COLORED), specs);
 }
 
 #[test]
 fn a_command_without_children_has_no_head(rt: HostRuntime) {
     let wanted = "complete -c app -s h -l help -d 'Print help'\n";
-    is(
-        &rt,
-        script(rt.alloc(), Fish, named(rt.alloc(), "app")),
-        wanted,
-    );
+    is(&rt, script(&rt, Fish, r#"{"name": "app"}"#), wanted);
 }
 
 #[test]
 fn a_hint_calls_a_function_of_fish(rt: HostRuntime) {
-    let script = script(rt.alloc(), Fish, with_directory(rt.alloc())).expect(&rt, "no script");
+    let script = script(&rt, Fish, fixtures::WITH_DIRECTORY).expect(&rt, "no script");
     let wanted = "complete -c app -l dir -r -f -a \"(__fish_complete_directories)\"";
     same(&rt, script.as_str().lines().next(), Some(wanted));
 }
@@ -88,16 +80,20 @@ fn a_hint_calls_a_function_of_fish(rt: HostRuntime) {
 fn an_about_is_escaped(rt: HostRuntime) {
     ends(
         &rt,
-        script(rt.alloc(), Fish, described(rt.alloc(), "it's\n[x]:\\")),
+        script(&rt, Fish, fixtures::DESCRIBED),
         " -f -a \"c\" -d 'it\\'s [x]:\\\\'\n",
     );
 }
+
+// `app` with an option `--one` that may be `v`, which has a help with a `$` and quotes.
+const LISTED: &str = r#"{"name": "app", "disable_help_flag": true, "args": [
+    {"id": "one", "long": "one", "possible_values": [{"name": "v", "help": "$HOME \"x\""}]}]}"#;
 
 #[test]
 fn a_value_is_escaped_for_two_readings(rt: HostRuntime) {
     has(
         &rt,
-        script(rt.alloc(), Fish, listed(rt.alloc(), "v", "$HOME \"x\"")),
+        script(&rt, Fish, LISTED),
         " -a \"v\\t'\\$HOME \\\"x\\\"'\"\n",
     );
 }
@@ -118,11 +114,7 @@ complete -c p -n \"__fish_p_using_subcommand help; and __fish_seen_subcommand_fr
 #[test]
 fn every_visible_path_has_its_records(rt: HostRuntime) {
     for records in [SECOND, THIRD, HELP] {
-        has(
-            &rt,
-            script_for(rt.alloc(), Fish, deep(rt.alloc()), "p"),
-            records,
-        );
+        has(&rt, script_for(&rt, Fish, fixtures::DEEP, "p"), records);
     }
 }
 
@@ -133,7 +125,7 @@ complete -c app -n \"__fish_app_using_subcommand run\" -s h -l help -d 'Print he
 
 #[test]
 fn a_child_has_the_global_flag_of_its_parent(rt: HostRuntime) {
-    has(&rt, script(rt.alloc(), Fish, global(rt.alloc())), GLOBAL);
+    has(&rt, script(&rt, Fish, fixtures::GLOBAL), GLOBAL);
 }
 
 // The last line of the head, and all records.
@@ -159,11 +151,7 @@ complete -c app -n \"__fish_app_using_subcommand help; and __fish_seen_subcomman
 
 #[test]
 fn a_global_flag_goes_to_all_below_but_the_generated_help(rt: HostRuntime) {
-    ends(
-        &rt,
-        script(rt.alloc(), Fish, inherited(rt.alloc())),
-        INHERITED,
-    );
+    ends(&rt, script(&rt, Fish, fixtures::INHERITED), INHERITED);
 }
 
 const LAST: &str =
@@ -171,7 +159,7 @@ const LAST: &str =
 
 #[test]
 fn the_last_of_two_hundred_commands_has_its_record(rt: HostRuntime) {
-    let script = script(rt.alloc(), Fish, chain(rt.alloc())).expect(&rt, "no script");
+    let script = script_of(&rt, Fish, chain(&rt), "app").expect(&rt, "no script");
     same(
         &rt,
         script.as_str().split("\ncomplete -c app ").count(),
@@ -181,8 +169,9 @@ fn the_last_of_two_hundred_commands_has_its_record(rt: HostRuntime) {
 }
 
 // Fails unless the script of an option with this hint is this line.
-fn offers(rt: &impl Abort, alloc: Global, hint: ValueHint, line: &str) {
-    is(rt, script(alloc, Fish, hinted(alloc, hint)), line);
+fn offers<R: Abort + AllocGlobal>(rt: &R, hint: &str, line: &str) {
+    let text = hinted(rt, hint).expect(rt, "no tree");
+    is(rt, script(rt, Fish, text.as_str()), line);
 }
 
 #[test]
@@ -191,17 +180,16 @@ fn each_hint_has_its_marks(rt: HostRuntime) {
     let file = "complete -c app -l path -r -F\n";
     let other = "complete -c app -l path -r -f\n";
     let user = "complete -c app -l path -r -f -a \"(__fish_complete_users)\"\n";
-    offers(&rt, rt.alloc(), ValueHint::Unknown, unknown);
-    offers(&rt, rt.alloc(), ValueHint::FilePath, file);
-    offers(&rt, rt.alloc(), ValueHint::Url, other);
-    offers(&rt, rt.alloc(), ValueHint::Username, user);
+    offers(&rt, "Unknown", unknown);
+    offers(&rt, "FilePath", file);
+    offers(&rt, "Url", other);
+    offers(&rt, "Username", user);
 }
 
 #[test]
 fn the_methods_write_the_script(rt: HostRuntime) {
-    let written = twice(rt.alloc(), &Fish, colored(rt.alloc()), "my-app");
-    let written = written.expect(&rt, "no script");
-    same(&rt, written.as_str().strip_prefix(COLORED), Some(COLORED));
+    let written = twice(&rt, &Fish, fixtures::COLORED, "my-app");
+    is_twice(&rt, written, COLORED);
 }
 
 #[test]

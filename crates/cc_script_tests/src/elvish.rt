@@ -1,12 +1,10 @@
 //! Elvish scripts.
 
 use crate::checks::{has, same};
-use crate::fixtures::{app, bare, chain, described, global, inherited, nested};
-use crate::written::script;
-use clap_complete::Error;
-use clap_complete::aot::Elvish;
-use clap_complete::command::Command;
-use std::alloc::Global;
+use crate::fixtures::{self, chain};
+use crate::written::{script, script_of};
+use cc_tables::Elvish;
+use std::alloc::{AllocError, Global};
 use std::fmt::Write;
 use std::process::Abort;
 
@@ -129,57 +127,52 @@ fn tables(script: &str) -> &str {
     rest.strip_suffix(TAIL).unwrap_or(script)
 }
 
-// Fails unless this stands in the frame of the script of a command.
-fn has_tables(rt: &impl Abort, alloc: Global, command: Result<Command, Error>, wanted: &str) {
-    let script = script(alloc, Elvish, command).expect(rt, "no script");
+// Fails unless this stands in the frame of the script of the command of a tree file.
+fn has_tables<R: Abort + AllocGlobal>(rt: &R, text: &str, wanted: &str) {
+    let script = script(rt, Elvish, text).expect(rt, "no script");
     same(rt, tables(script.as_str()), wanted);
 }
 
 #[test]
 fn a_command_without_arguments_has_an_empty_table(rt: HostRuntime) {
-    has_tables(&rt, rt.alloc(), bare(rt.alloc()), BARE);
+    has_tables(&rt, fixtures::BARE, BARE);
 }
 
 #[test]
 fn options_stand_before_flags(rt: HostRuntime) {
-    has_tables(&rt, rt.alloc(), app(rt.alloc()), APP);
+    has_tables(&rt, fixtures::APP, APP);
 }
 
 #[test]
 fn every_visible_path_has_a_key(rt: HostRuntime) {
-    has_tables(&rt, rt.alloc(), nested(rt.alloc()), NESTED);
+    has_tables(&rt, fixtures::NESTED, NESTED);
 }
 
 #[test]
 fn an_about_is_escaped(rt: HostRuntime) {
-    has_tables(
-        &rt,
-        rt.alloc(),
-        described(rt.alloc(), "it's\n[x]:\\"),
-        DESCRIBED,
-    );
+    has_tables(&rt, fixtures::DESCRIBED, DESCRIBED);
 }
 
 #[test]
 fn a_child_has_the_global_flag_of_its_parent(rt: HostRuntime) {
-    has(&rt, script(rt.alloc(), Elvish, global(rt.alloc())), GLOBAL);
+    has(&rt, script(&rt, Elvish, fixtures::GLOBAL), GLOBAL);
 }
 
 #[test]
 fn a_global_flag_goes_to_all_below_but_the_generated_help(rt: HostRuntime) {
-    has_tables(&rt, rt.alloc(), inherited(rt.alloc()), INHERITED);
+    has_tables(&rt, fixtures::INHERITED, INHERITED);
 }
 
 #[test]
 fn a_chain_of_two_hundred_commands_has_two_hundred_keys(rt: HostRuntime) {
-    let script = script(rt.alloc(), Elvish, chain(rt.alloc())).expect(&rt, "no script");
+    let script = script_of(&rt, Elvish, chain(&rt), "app").expect(&rt, "no script");
     same(&rt, script.split("\n        &'").count(), 201);
     let wanted = last_table(rt.alloc()).expect(&rt, "no table");
     assert!(rt; tables(script.as_str()).ends_with(wanted.as_str()));
 }
 
 // The table of the last command of the chain.
-fn last_table(alloc: Global) -> Result<String, Error> {
+fn last_table(alloc: Global) -> Result<String, AllocError> {
     let mut text = String::from_str(alloc, "\n        &'app")?;
     for number in 1..200 {
         write!(text, ";n{number}")?;

@@ -1,12 +1,9 @@
 //! PowerShell scripts.
 
 use crate::checks::{has, same};
-use crate::fixtures::{app, flag, global, nested};
+use crate::fixtures;
 use crate::written::script;
-use clap_complete::Error;
-use clap_complete::aot::PowerShell;
-use clap_complete::command::Command;
-use std::alloc::Global;
+use cc_tables::PowerShell;
 use std::process::Abort;
 
 const HEAD: &str = "
@@ -80,8 +77,16 @@ const GLOBAL: &str = "
         }
 ";
 
+// `app` with a flag `-S` of an empty help.
+const CAPITAL_FLAG: &str = r#"{"name": "app", "disable_help_flag": true, "args": [
+    {"id": "flag", "short": "S", "help": "", "action": "SetTrue"}]}"#;
+
 const CAPITAL: &str =
     "[CompletionResult]::new('-S', '-S ', [CompletionResultType]::ParameterName, 'S')";
+
+// `app` with a flag `-s` whose help holds a curly quote.
+const CURLY_FLAG: &str = r#"{"name": "app", "disable_help_flag": true, "args": [
+    {"id": "flag", "short": "s", "help": "it’s", "action": "SetTrue"}]}"#;
 
 const CURLY: &str = "ParameterName, 'it'’s')";
 
@@ -93,45 +98,33 @@ fn tables(script: &str) -> &str {
     rest.strip_suffix(TAIL).unwrap_or(script)
 }
 
-// Fails unless this stands in the frame of the script of a command.
-fn has_tables(rt: &impl Abort, alloc: Global, command: Result<Command, Error>, wanted: &str) {
-    let script = script(alloc, PowerShell, command).expect(rt, "no script");
+// Fails unless this stands in the frame of the script of the command of a tree file.
+fn has_tables<R: Abort + AllocGlobal>(rt: &R, text: &str, wanted: &str) {
+    let script = script(rt, PowerShell, text).expect(rt, "no script");
     same(rt, tables(script.as_str()), wanted);
 }
 
 #[test]
 fn options_stand_before_flags(rt: HostRuntime) {
-    has_tables(&rt, rt.alloc(), app(rt.alloc()), APP);
+    has_tables(&rt, fixtures::APP, APP);
 }
 
 #[test]
 fn every_visible_path_has_a_key(rt: HostRuntime) {
-    has_tables(&rt, rt.alloc(), nested(rt.alloc()), NESTED);
+    has_tables(&rt, fixtures::NESTED, NESTED);
 }
 
 #[test]
 fn a_child_has_the_global_flag_of_its_parent(rt: HostRuntime) {
-    has(
-        &rt,
-        script(rt.alloc(), PowerShell, global(rt.alloc())),
-        GLOBAL,
-    );
+    has(&rt, script(&rt, PowerShell, fixtures::GLOBAL), GLOBAL);
 }
 
 #[test]
 fn a_capital_short_has_a_space_and_an_empty_help_counts_as_none(rt: HostRuntime) {
-    has(
-        &rt,
-        script(rt.alloc(), PowerShell, flag(rt.alloc(), 'S', "")),
-        CAPITAL,
-    );
+    has(&rt, script(&rt, PowerShell, CAPITAL_FLAG), CAPITAL);
 }
 
 #[test]
 fn a_curly_quote_is_doubled_by_a_straight_one(rt: HostRuntime) {
-    has(
-        &rt,
-        script(rt.alloc(), PowerShell, flag(rt.alloc(), 's', "it’s")),
-        CURLY,
-    );
+    has(&rt, script(&rt, PowerShell, CURLY_FLAG), CURLY);
 }

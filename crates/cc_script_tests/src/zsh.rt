@@ -1,10 +1,10 @@
 //! Zsh scripts.
 
 use crate::checks::{has, is};
-use crate::fixtures::{colored, counted, global, helped, placed};
+use crate::fixtures;
 use crate::written::{script, script_for};
-use clap_complete::Generator;
-use clap_complete::aot::Zsh;
+use cc_lists::Generator;
+use cc_zsh::Zsh;
 
 const HELPED: &str = "#compdef my-app
 
@@ -112,7 +112,7 @@ fi
 fn the_whole_script(rt: HostRuntime) {
     is(
         &rt,
-        script_for(rt.alloc(), Zsh, helped(rt.alloc()), "my-app"),
+        script_for(&rt, Zsh, fixtures::HELPED, "my-app"),
         HELPED,
     );
 }
@@ -124,7 +124,7 @@ const COLORED: &str = "
 
 #[test]
 fn values_that_are_shown_are_offered(rt: HostRuntime) {
-    has(&rt, script(rt.alloc(), Zsh, colored(rt.alloc())), COLORED);
+    has(&rt, script(&rt, Zsh, fixtures::COLORED), COLORED);
 }
 
 const COUNTED: &str = "
@@ -135,7 +135,7 @@ const COUNTED: &str = "
 
 #[test]
 fn conflicts_and_repeated_flags_are_told(rt: HostRuntime) {
-    has(&rt, script(rt.alloc(), Zsh, counted(rt.alloc())), COUNTED);
+    has(&rt, script(&rt, Zsh, fixtures::COUNTED), COUNTED);
 }
 
 const GLOBAL: &str = "(run)
@@ -149,7 +149,7 @@ _arguments \"${_arguments_options[@]}\" : \\
 
 #[test]
 fn a_global_flag_is_in_conflict_with_what_its_parent_has(rt: HostRuntime) {
-    has(&rt, script(rt.alloc(), Zsh, global(rt.alloc())), GLOBAL);
+    has(&rt, script(&rt, Zsh, fixtures::GLOBAL), GLOBAL);
 }
 
 const PLACED: &str = "
@@ -161,7 +161,7 @@ const PLACED: &str = "
 
 #[test]
 fn positionals_say_how_many_words_they_take(rt: HostRuntime) {
-    has(&rt, script(rt.alloc(), Zsh, placed(rt.alloc())), PLACED);
+    has(&rt, script(&rt, Zsh, fixtures::PLACED), PLACED);
 }
 
 #[test]

@@ -1,12 +1,12 @@
 //! Bash scripts.
 
-use crate::checks::{has, is, same};
-use crate::fixtures::{chain, clashing, colored, global, helped, hinted, inherited};
-use crate::written::{script, script_for, twice};
-use clap_complete::aot::{Bash, Collected};
-use clap_complete::command::ValueHint;
-use clap_complete::{Error, Generator, generate};
-use std::alloc::Global;
+use crate::checks::{has, is, is_twice, same};
+use crate::fixtures::{self, chain, hinted, tree};
+use crate::written::{script, script_for, script_of, twice};
+use cc_base::{Collected, Error};
+use cc_bash::Bash;
+use cc_lists::{Generator, generate};
+use std::alloc::{AllocError, Global};
 use std::fmt::Write;
 use std::process::Abort;
 
@@ -130,7 +130,7 @@ fi
 fn the_whole_script(rt: HostRuntime) {
     is(
         &rt,
-        script_for(rt.alloc(), Bash, helped(rt.alloc()), "my-app"),
+        script_for(&rt, Bash, fixtures::HELPED, "my-app"),
         HELPED,
     );
 }
@@ -149,7 +149,7 @@ fn label_after<'a>(
     table: &'a str,
     label: &'a str,
     word: &str,
-) -> Result<&'a str, Error> {
+) -> Result<&'a str, AllocError> {
     let case = format!(in alloc; "\n            {label},{word})\n                cmd=\"")?;
     let Some((_, set)) = table.split_once(case.as_str()) else {
         return Ok(label);
@@ -161,19 +161,19 @@ fn label_after<'a>(
 }
 
 // The root's label, then the label after each of the words `--flag`, `test` and `--`.
-fn labels(alloc: Global, table: &str) -> Result<String, Error> {
+fn labels(alloc: Global, table: &str) -> Result<String, AllocError> {
     let root = "my__app";
     let first = label_after(alloc, table, root, "--flag")?;
     let second = label_after(alloc, table, first, "test")?;
     let third = label_after(alloc, table, second, "--")?;
-    Ok(format!(in alloc; "{root} {first} {second} {third}")?)
+    format!(in alloc; "{root} {first} {second} {third}")
 }
 
 const LABELS: &str = "my__app my__app my__app__subcmd__test my__app__subcmd__test";
 
 #[test]
 fn words_lead_through_the_table(rt: HostRuntime) {
-    let script = script_for(rt.alloc(), Bash, helped(rt.alloc()), "my-app");
+    let script = script_for(&rt, Bash, fixtures::HELPED, "my-app");
     let script = script.expect(&rt, "no script");
     is(&rt, labels(rt.alloc(), table(script.as_str())), LABELS);
 }
@@ -187,19 +187,19 @@ fn is_clash(outcome: &Result<(), Error>, label: &str) -> bool {
 }
 
 // Whether the call for two commands with one label reports it, and how much is written.
-fn clash(alloc: Global) -> Result<(bool, usize), Error> {
-    let bin_name = String::from_str(alloc, "p")?;
-    let mut sink = Collected::new(alloc);
-    let mut command = clashing(alloc)?;
-    let result = generate(alloc, Bash, &mut command, bin_name, &mut sink);
+fn clash<R: Abort + AllocGlobal>(rt: &R) -> (bool, usize) {
+    let bin_name = String::from_str(rt.alloc(), "p").expect(rt, "no name");
+    let mut sink = Collected::new(rt.alloc());
+    let mut command = tree(rt, fixtures::CLASHING);
+    let result = generate(rt.alloc(), Bash, &mut command, bin_name, &mut sink);
     drop(command);
     let reported = is_clash(&result, "p__subcmd__a__subcmd__b");
-    Ok((reported, sink.as_slice().len()))
+    (reported, sink.as_slice().len())
 }
 
 #[test]
 fn a_label_of_two_commands_is_reported_and_nothing_is_written(rt: HostRuntime) {
-    same(&rt, clash(rt.alloc()).expect(&rt, "not called"), (true, 0));
+    same(&rt, clash(&rt), (true, 0));
 }
 
 const COLORED: &str = "
@@ -217,8 +217,8 @@ const COLORED: &str = "
 #[test]
 fn values_that_are_shown_are_offered(rt: HostRuntime) {
     let opts = "opts=\"-c -h --color --help run help\"";
-    has(&rt, script(rt.alloc(), Bash, colored(rt.alloc())), opts);
-    has(&rt, script(rt.alloc(), Bash, colored(rt.alloc())), COLORED);
+    has(&rt, script(&rt, Bash, fixtures::COLORED), opts);
+    has(&rt, script(&rt, Bash, fixtures::COLORED), COLORED);
 }
 
 const GLOBAL: &str = "
@@ -229,7 +229,7 @@ const GLOBAL: &str = "
 
 #[test]
 fn a_child_has_the_global_flag_of_its_parent(rt: HostRuntime) {
-    has(&rt, script(rt.alloc(), Bash, global(rt.alloc())), GLOBAL);
+    has(&rt, script(&rt, Bash, fixtures::GLOBAL), GLOBAL);
 }
 
 const CASES: &str = "
@@ -286,7 +286,7 @@ const ARMS: &str = "        app)
 ";
 
 // The label of each arm, with the lines of what it offers and of its level.
-fn arms(alloc: Global, script: &str) -> Result<String, Error> {
+fn arms(alloc: Global, script: &str) -> Result<String, AllocError> {
     let mut arms = String::new(alloc);
     for line in script.lines() {
         if line.starts_with("        app")
@@ -301,7 +301,7 @@ fn arms(alloc: Global, script: &str) -> Result<String, Error> {
 
 #[test]
 fn a_global_flag_goes_to_all_below_but_the_generated_help(rt: HostRuntime) {
-    let script = script(rt.alloc(), Bash, inherited(rt.alloc())).expect(&rt, "no script");
+    let script = script(&rt, Bash, fixtures::INHERITED).expect(&rt, "no script");
     assert!(rt; table(script.as_str()).ends_with(CASES));
     is(&rt, arms(rt.alloc(), script.as_str()), ARMS);
 }
@@ -348,30 +348,30 @@ const UNKNOWN: &str = "
                     ;;";
 
 // Fails unless the script of an option with this hint has these lines.
-fn offers(rt: &impl Abort, alloc: Global, hint: ValueHint, lines: &str) {
-    has(rt, script(alloc, Bash, hinted(alloc, hint)), lines);
+fn offers<R: Abort + AllocGlobal>(rt: &R, hint: &str, lines: &str) {
+    let text = hinted(rt, hint).expect(rt, "no tree");
+    has(rt, script(rt, Bash, text.as_str()), lines);
 }
 
 #[test]
 fn each_hint_has_its_lines(rt: HostRuntime) {
-    offers(&rt, rt.alloc(), ValueHint::FilePath, FILE);
-    offers(&rt, rt.alloc(), ValueHint::DirPath, DIRECTORY);
-    offers(&rt, rt.alloc(), ValueHint::Other, OTHER);
-    offers(&rt, rt.alloc(), ValueHint::Unknown, UNKNOWN);
+    offers(&rt, "FilePath", FILE);
+    offers(&rt, "DirPath", DIRECTORY);
+    offers(&rt, "Other", OTHER);
+    offers(&rt, "Unknown", UNKNOWN);
 }
 
 #[test]
 fn the_last_of_two_hundred_commands_has_the_level_two_hundred(rt: HostRuntime) {
-    let script = script(rt.alloc(), Bash, chain(rt.alloc())).expect(&rt, "no script");
+    let script = script_of(&rt, Bash, chain(&rt), "app").expect(&rt, "no script");
     assert!(rt; script.as_str().contains("${COMP_CWORD} -eq 200 ]] ; then"));
     assert!(rt; !script.as_str().contains("${COMP_CWORD} -eq 201 ]] ; then"));
 }
 
 #[test]
 fn the_methods_write_the_script(rt: HostRuntime) {
-    let written = twice(rt.alloc(), &Bash, helped(rt.alloc()), "my-app");
-    let written = written.expect(&rt, "no script");
-    same(&rt, written.as_str().strip_prefix(HELPED), Some(HELPED));
+    let written = twice(&rt, &Bash, fixtures::HELPED, "my-app");
+    is_twice(&rt, written, HELPED);
 }
 
 #[test]

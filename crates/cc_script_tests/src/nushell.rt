@@ -1,9 +1,10 @@
 //! Nushell scripts.
 
 use crate::checks::{has, is};
-use crate::fixtures::{flag, global, long_flag, with_out_below};
+use crate::fixtures;
 use crate::written::script;
-use clap_complete::aot::{Generator, Nushell};
+use cc_lists::Generator;
+use cc_tables::Nushell;
 
 const SCRIPT: &str = "module completions {
 
@@ -25,7 +26,15 @@ const SCRIPT: &str = "module completions {
 export use completions *
 ";
 
+// `app` with a flag `-x` whose help has two lines.
+const FLAG: &str = r#"{"name": "app", "disable_help_flag": true, "args": [
+    {"id": "flag", "short": "x", "help": "a # b\n  ]", "action": "SetTrue"}]}"#;
+
 const LINE: &str = "\n    -x # a # b   ]\n  ]\n";
+
+// `app` with a flag `--x` whose help has two lines.
+const LONG_FLAG: &str = r#"{"name": "app", "disable_help_flag": true, "args": [
+    {"id": "x", "long": "x", "help": "a # b\n  ]", "action": "SetTrue"}]}"#;
 
 const LONG_LINE: &str = "\n    --x # a # b   ]\n  ]\n";
 
@@ -39,31 +48,22 @@ const GLOBAL: &str = "
 
 #[test]
 fn every_visible_path_has_a_block(rt: HostRuntime) {
-    is(
-        &rt,
-        script(rt.alloc(), Nushell, with_out_below(rt.alloc())),
-        SCRIPT,
-    );
+    is(&rt, script(&rt, Nushell, fixtures::WITH_OUT_BELOW), SCRIPT);
 }
 
 #[test]
 fn a_line_feed_in_a_help_is_a_space(rt: HostRuntime) {
-    has(
-        &rt,
-        script(rt.alloc(), Nushell, flag(rt.alloc(), 'x', "a # b\n  ]")),
-        LINE,
-    );
+    has(&rt, script(&rt, Nushell, FLAG), LINE);
 }
 
 #[test]
 fn a_line_feed_in_the_help_of_a_long_is_a_space(rt: HostRuntime) {
-    let command = long_flag(rt.alloc(), "x", "a # b\n  ]");
-    has(&rt, script(rt.alloc(), Nushell, command), LONG_LINE);
+    has(&rt, script(&rt, Nushell, LONG_FLAG), LONG_LINE);
 }
 
 #[test]
 fn a_child_has_the_global_flag_of_its_parent(rt: HostRuntime) {
-    has(&rt, script(rt.alloc(), Nushell, global(rt.alloc())), GLOBAL);
+    has(&rt, script(&rt, Nushell, fixtures::GLOBAL), GLOBAL);
 }
 
 #[test]

@@ -1,0 +1,22 @@
+//! Tests of what the script of each shell holds. They need no crate above the shells, so that the
+//! merge gate can prove them early.
+#![tactic(auto)]
+
+#[cfg(test)]
+mod bash;
+#[cfg(test)]
+mod checks;
+#[cfg(test)]
+mod elvish;
+#[cfg(test)]
+mod fish;
+#[cfg(test)]
+mod fixtures;
+#[cfg(test)]
+mod nushell;
+#[cfg(test)]
+mod powershell;
+#[cfg(test)]
+mod written;
+#[cfg(test)]
+mod zsh;
