@@ -51,8 +51,8 @@ fn a_program_writes_the_scripts_of_all_shells(rt: HostRuntime) {
     let mut command = tree(&rt, APP);
     write_scripts(&rt, &mut command, folder.as_str()).expect(&rt, "not written");
     drop(command);
-    for (shell, name) in Shell::value_variants().iter().zip(FILES) {
-        holds_script_in(&rt, folder.as_str(), name, *shell);
+    for (shell, name) in Shell::value_variants().iter().zip(FILES.as_slice()) {
+        holds_script_in(&rt, folder.as_str(), *name, *shell);
     }
     remove(&rt, folder.as_str());
 }

@@ -2,9 +2,8 @@
 //! no call is takes seconds in each function.
 
 use cc_tree_file::read_tree;
-use clap_complete::Error;
 use clap_complete::command::Command;
-use std::alloc::Global;
+use std::alloc::{AllocError, Global};
 use std::fmt::Write;
 use std::process::Abort;
 
@@ -52,7 +51,7 @@ pub(crate) const COLORED_ALONE: &str = r#"{"name": "app", "disable_help_flag": t
         {"name": "run", "disable_help_flag": true, "disable_help_subcommand": true}]}"#;
 
 /// The tree file of `app` with the options `--o1` to `--o500`, and nothing else.
-pub(crate) fn many(alloc: Global) -> Result<String, Error> {
+pub(crate) fn many(alloc: Global) -> Result<String, AllocError> {
     let mut text = String::from_str(alloc, MANY_BEFORE)?;
     for number in 1..500 {
         write!(

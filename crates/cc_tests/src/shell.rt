@@ -25,8 +25,8 @@ fn prints(rt: &impl Abort, alloc: Global, shell: Shell, text: &str) {
 fn each_shell_prints_its_text_and_is_read_from_it(rt: HostRuntime) {
     let texts = ["bash", "elvish", "fish", "powershell", "zsh", "nushell"];
     same(&rt, Shell::value_variants().len(), texts.len());
-    for (shell, text) in Shell::value_variants().iter().zip(texts) {
-        prints(&rt, rt.alloc(), *shell, text);
+    for (shell, text) in Shell::value_variants().iter().zip(texts.as_slice()) {
+        prints(&rt, rt.alloc(), *shell, *text);
     }
 }
 
@@ -245,8 +245,8 @@ pub(crate) const FILES: [&str; 6] = [
 #[test]
 fn each_script_is_written_to_its_file(rt: HostRuntime) {
     let folder = folder(&rt, "lagvtsune_written");
-    for (shell, name) in Shell::value_variants().iter().zip(FILES) {
-        is_written(&rt, *shell, folder.as_str(), name);
+    for (shell, name) in Shell::value_variants().iter().zip(FILES.as_slice()) {
+        is_written(&rt, *shell, folder.as_str(), *name);
     }
     remove(&rt, folder.as_str());
 }
