@@ -1,5 +1,6 @@
 pub mod Booleans
 pub mod Differing
+pub mod JoinedTexts
 pub mod Lines
 pub mod Lists
 pub mod Members

@@ -1,17 +1,18 @@
 //! The options and names that are offered at a command.
 
-ghost use Rattle.std.specs.Prelude.{◌≡◌, ◌++◌, ◌||◌, List, filter, map, flat_map, true, OnOk};
+ghost use Rattle.std.specs.Prelude.{◌≡◌, ◌++◌, ◌||◌, codes, filter, flat_map, true, OnOk};
 ghost use Rattle.cc_arg.specs.Arguments.{is_positional};
+ghost use Rattle.cc_base.specs.Joined.{has_texts, separator};
 ghost use Rattle.cc_base.specs.Writes.{Writes};
 ghost use Rattle.cc_command.specs.Names.{visible_names};
 ghost use Rattle.cc_command.specs.Tree.{forest_of};
 ghost use Rattle.cc_bash.specs.Arms.{long_word, long_words, names_of_shown, names_of_values};
 ghost use Rattle.cc_bash.specs.Arms.{short_word, short_words, sibling_names, value_names, words_at};
 ghost use Rattle.cc_bash.specs.Script.{words_text};
-ghost use Rattle.cc_bash.specs.Words.{has_words, separator, words_after};
+ghost use Rattle.cc_bash.specs.Words.{words_after};
 
 use cc_arg::{Arg, PossibleValue, possible_values};
-use cc_base::{Error, Sink, put_all};
+use cc_base::{Error, Sink, put_all, put_separator};
 use cc_command::Command;
 
 /// Writes the words at a command.
@@ -31,7 +32,7 @@ fn write_shorts<W: Sink>(arguments: &[Arg], begun: &mut bool, sink: &mut W) -> R
     ensures written { Writes W.taken W.failed result sink.old sink.new
         (words_after begun.old (flat_map short_words arguments.now)) }
     ensures begun { OnOk result
-        (begun.new ≡ (begun.old || has_words (flat_map short_words arguments.now))) }
+        (begun.new ≡ (begun.old || has_texts (flat_map short_words arguments.now))) }
 {
     for argument in arguments {
         write_short_words(argument, begun, sink)?;
@@ -42,7 +43,7 @@ fn write_shorts<W: Sink>(arguments: &[Arg], begun: &mut bool, sink: &mut W) -> R
 fn write_short_words<W: Sink>(argument: &Arg, begun: &mut bool, sink: &mut W) -> Result<(), Error>
     ensures written { Writes W.taken W.failed result sink.old sink.new
         (words_after begun.old (short_words argument.now)) }
-    ensures begun { OnOk result (begun.new ≡ (begun.old || has_words (short_words argument.now))) }
+    ensures begun { OnOk result (begun.new ≡ (begun.old || has_texts (short_words argument.now))) }
 {
     let Some(short) = argument.get_short() else {
         return Ok(());
@@ -55,11 +56,11 @@ fn write_short_words<W: Sink>(argument: &Arg, begun: &mut bool, sink: &mut W) ->
 
 fn write_short_word<W: Sink>(short: char, begun: &mut bool, sink: &mut W) -> Result<(), Error>
     ensures written { Writes W.taken W.failed result sink.old sink.new
-        (separator begun.old ++ short_word short) }
+        (separator (codes " ") begun.old ++ short_word short) }
     ensures begun { OnOk result (begun.new ≡ true) }
 {
     let mut buffer = [0; 4];
-    write_separator(begun, sink)?;
+    put_separator(" ", begun, sink)?;
     write_dashed("-", short.encode_utf8(&mut buffer), sink)
 }
 
@@ -67,7 +68,7 @@ fn write_longs<W: Sink>(arguments: &[Arg], begun: &mut bool, sink: &mut W) -> Re
     ensures written { Writes W.taken W.failed result sink.old sink.new
         (words_after begun.old (flat_map long_words arguments.now)) }
     ensures begun { OnOk result
-        (begun.new ≡ (begun.old || has_words (flat_map long_words arguments.now))) }
+        (begun.new ≡ (begun.old || has_texts (flat_map long_words arguments.now))) }
 {
     for argument in arguments {
         write_long_words(argument, begun, sink)?;
@@ -78,7 +79,7 @@ fn write_longs<W: Sink>(arguments: &[Arg], begun: &mut bool, sink: &mut W) -> Re
 fn write_long_words<W: Sink>(argument: &Arg, begun: &mut bool, sink: &mut W) -> Result<(), Error>
     ensures written { Writes W.taken W.failed result sink.old sink.new
         (words_after begun.old (long_words argument.now)) }
-    ensures begun { OnOk result (begun.new ≡ (begun.old || has_words (long_words argument.now))) }
+    ensures begun { OnOk result (begun.new ≡ (begun.old || has_texts (long_words argument.now))) }
 {
     let Some(long) = argument.get_long() else {
         return Ok(());
@@ -91,10 +92,10 @@ fn write_long_words<W: Sink>(argument: &Arg, begun: &mut bool, sink: &mut W) -> 
 
 fn write_long_word<W: Sink>(long: &str, begun: &mut bool, sink: &mut W) -> Result<(), Error>
     ensures written { Writes W.taken W.failed result sink.old sink.new
-        (separator begun.old ++ long_word long.now) }
+        (separator (codes " ") begun.old ++ long_word long.now) }
     ensures begun { OnOk result (begun.new ≡ true) }
 {
-    write_separator(begun, sink)?;
+    put_separator(" ", begun, sink)?;
     write_dashed("--", long, sink)
 }
 
@@ -114,7 +115,7 @@ fn write_positional_values<W: Sink>(
     ensures written { Writes W.taken W.failed result sink.old sink.new
         (words_after begun.old (flat_map value_names (filter is_positional arguments.now))) }
     ensures begun { OnOk result (begun.new
-        ≡ (begun.old || has_words (flat_map value_names (filter is_positional arguments.now)))) }
+        ≡ (begun.old || has_texts (flat_map value_names (filter is_positional arguments.now)))) }
 {
     for argument in arguments {
         if !argument.is_positional() {
@@ -132,7 +133,7 @@ fn write_argument_values<W: Sink>(
 ) -> Result<(), Error>
     ensures written { Writes W.taken W.failed result sink.old sink.new
         (words_after begun.old (value_names argument.now)) }
-    ensures begun { OnOk result (begun.new ≡ (begun.old || has_words (value_names argument.now))) }
+    ensures begun { OnOk result (begun.new ≡ (begun.old || has_texts (value_names argument.now))) }
 {
     match possible_values(argument) {
         Some(possible) => write_values(possible, begun, sink),
@@ -148,7 +149,7 @@ fn write_values<W: Sink>(
     ensures written { Writes W.taken W.failed result sink.old sink.new
         (words_after begun.old (names_of_values possible.now)) }
     ensures begun { OnOk result
-        (begun.new ≡ (begun.old || has_words (names_of_values possible.now))) }
+        (begun.new ≡ (begun.old || has_texts (names_of_values possible.now))) }
 {
     for value in possible {
         write_word(value.get_name(), begun, sink)?;
@@ -203,21 +204,9 @@ fn write_names<W: Sink>(command: &Command, begun: &mut bool, sink: &mut W) -> Re
 
 fn write_word<W: Sink>(word: &str, begun: &mut bool, sink: &mut W) -> Result<(), Error>
     ensures written { Writes W.taken W.failed result sink.old sink.new
-        (separator begun.old ++ word.now) }
+        (separator (codes " ") begun.old ++ word.now) }
     ensures begun { OnOk result (begun.new ≡ true) }
 {
-    write_separator(begun, sink)?;
+    put_separator(" ", begun, sink)?;
     put_all(sink, word.as_bytes())
-}
-
-// A space, where a word was written before.
-fn write_separator<W: Sink>(begun: &mut bool, sink: &mut W) -> Result<(), Error>
-    ensures written { Writes W.taken W.failed result sink.old sink.new (separator begun.old) }
-    ensures begun { OnOk result (begun.new ≡ true) }
-{
-    if *begun {
-        return put_all(sink, " ".as_bytes());
-    }
-    *begun = true;
-    Ok(())
 }

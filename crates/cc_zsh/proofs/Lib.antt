@@ -1,8 +1,8 @@
 pub mod ArmSteps
 pub mod Examples
 pub mod FunctionOrder
-pub mod JoinedTexts
 pub mod PositionalBytes
+pub mod ShownValues
 pub mod Stack
 pub mod Unspaced
 pub mod ZshArms

@@ -7,6 +7,7 @@ use Rattle.std.specs.Str.{bytes_eq}
 use Rattle.std.proofs.lemmas.Str.{encode_ascii}
 use Rattle.std.proofs.lemmas.Bool.Decides.{nat_tests}
 use Rattle.cc_base.proofs.Members.{AllByRecursion-weaker, AllByRecursion-append, AllByRecursion-map}
+use Rattle.cc_base.specs.Joined.{joined, joined_after, separator}
 use Rattle.cc_arg.specs.declared.arg.Arg.{Arg}
 use Rattle.cc_arg.specs.declared.names.ShownName.{ShownName}
 use Rattle.cc_arg.specs.declared.names.ShownName.TheVariants.{Short, Long}
@@ -21,7 +22,6 @@ use Rattle.cc_quote.specs.PosixTokens.Sign.{other}
 use Rattle.cc_quote.proofs.PosixCutting.{IsOther}
 use Rattle.cc_command.specs.ArgumentLists.{first_with}
 use Rattle.cc_zsh.specs.Conflicts.{looked_up, excluded, short_word, long_word, short_words, long_words, own_words, conflict_words, conflicts_text}
-use Rattle.cc_zsh.specs.Joined.{joined, joined_after, separator}
 use Rattle.cc_zsh.specs.Options.{name_word}
 use Rattle.cc_zsh.specs.ZshReader.{is_name_byte}
 use Rattle.cc_zsh.proofs.ZshCutting.{NoQuote}

@@ -3,6 +3,7 @@ use Rattle.std.proofs.Common.{◌≡◌, ◌==◌, ℕ, zero, suc, Bool, true, f
 use Rattle.std.specs.List.{AllByRecursion, list_any}
 use Rattle.cc_base.proofs.Booleans.{each_passes}
 use Rattle.cc_base.proofs.Members.{AllByRecursion-weaker}
+use Rattle.cc_base.specs.Joined.{joined, joined_after, separator}
 use Rattle.cc_arg.specs.declared.arg.Arg.{Arg}
 use Rattle.cc_arg.specs.declared.possible_value.PossibleValue.{PossibleValue}
 use Rattle.cc_arg.specs.declared.value_hint.ValueHint.{ValueHint}
@@ -11,7 +12,6 @@ use Rattle.cc_arg.specs.Arguments.{possible_values}
 use Rattle.cc_command.proofs.PlainParts.{HasNoQuote}
 use Rattle.cc_quote.specs.QuotedWord.{line_feeds_as_spaces}
 use Rattle.cc_quote.specs.ZshQuote.{is_help_marked, is_value_marked, marked, zsh_escaped_help, zsh_escaped_value}
-use Rattle.cc_zsh.specs.Joined.{joined, joined_after, separator}
 use Rattle.cc_zsh.specs.Values.{shown_values, is_described, described_text, named_text, described_list, named_list, list_text, hint_text, listed_or_hint, value_text, first_name, one_value, times, least_values, range, values_text}
 use Rattle.cc_zsh.proofs.ZshCutting.{NoQuote, IsEscaped, escaped_append, escaped_same, escaped_of}
 

@@ -1,6 +1,5 @@
 pub mod Conflicts
 pub mod Functions
-pub mod Joined
 pub mod Named
 pub mod Nested
 pub mod Options

@@ -1,6 +1,7 @@
 -- What an argument's values may be.
 use Rattle.std.specs.Prelude.{ℕ, zero, suc, Bool, List, [], ◌∷◌, ◌++◌, if◌then◌else◌, not, ◌&&◌, Option, Some, None, is_some, unwrap_or, codes, filter, map}
 use Rattle.std.specs.List.{list_any}
+use Rattle.cc_base.specs.Joined.{joined}
 use Rattle.cc_arg.specs.declared.arg.Arg.{Arg}
 use Rattle.cc_arg.specs.declared.possible_value.PossibleValue.{PossibleValue}
 use Rattle.cc_arg.specs.declared.range.ValueRange.{ValueRange}
@@ -8,7 +9,6 @@ use Rattle.cc_arg.specs.declared.value_hint.ValueHint.{ValueHint}
 use Rattle.cc_arg.specs.declared.value_hint.ValueHint.TheVariants.{Unknown, Other, AnyPath, FilePath, DirPath, ExecutablePath, CommandName, CommandString, CommandWithArguments, Username, Hostname, Url, EmailAddress}
 use Rattle.cc_arg.specs.Arguments.{exactly, possible_values}
 use Rattle.cc_quote.specs.ZshQuote.{zsh_escaped_help, zsh_escaped_value}
-use Rattle.cc_zsh.specs.Joined.{joined}
 
 -- the values of a list that are shown
 abbrev pub shown_values : List PossibleValue → List PossibleValue

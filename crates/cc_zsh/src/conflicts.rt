@@ -3,15 +3,14 @@
 ghost use Rattle.std.specs.Prelude.{◌≡◌, ◌||◌, codes, OnOk};
 ghost use Rattle.std.specs.Option.{option_to_list};
 ghost use Rattle.std.specs.List.{flat_map};
+ghost use Rattle.cc_base.specs.Joined.{has_texts, joined, joined_after};
 ghost use Rattle.cc_base.specs.Writes.{Writes};
 ghost use Rattle.cc_command.specs.ArgumentLists.{first_with};
 ghost use Rattle.cc_zsh.specs.Conflicts.{conflict_words, conflicts_text, excluded, has_arguments, long_words, looked_up, own_words, short_words, with_ids};
-ghost use Rattle.cc_zsh.specs.Joined.{has_texts, joined, joined_after};
 
-use crate::joined::write_separator;
 use crate::names::{write_long, write_short};
 use cc_arg::{Arg, conflicting_ids};
-use cc_base::{Error, Sink, Text, put_all};
+use cc_base::{Error, Sink, Text, put_all, put_separator};
 use cc_command::{Command, first_with};
 
 /// Writes the names of the arguments that are in conflict with an argument of a command that has
@@ -120,7 +119,7 @@ fn write_own_short<W: Sink>(argument: &Arg, begun: &mut bool, sink: &mut W) -> R
     let Some(short) = argument.get_short() else {
         return Ok(());
     };
-    write_separator(" ", begun, sink)?;
+    put_separator(" ", begun, sink)?;
     write_short(short, sink)
 }
 
@@ -133,6 +132,6 @@ fn write_own_long<W: Sink>(argument: &Arg, begun: &mut bool, sink: &mut W) -> Re
     let Some(long) = argument.get_long() else {
         return Ok(());
     };
-    write_separator(" ", begun, sink)?;
+    put_separator(" ", begun, sink)?;
     write_long(long, sink)
 }

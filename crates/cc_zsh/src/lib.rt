@@ -4,7 +4,6 @@
 
 mod conflicts;
 mod functions;
-mod joined;
 mod keys;
 mod names;
 mod nested;

@@ -2,13 +2,12 @@
 
 ghost use Rattle.std.specs.Prelude.{◌≡◌, ◌++◌, codes, map, unwrap_or};
 ghost use Rattle.std.specs.List.{list_any};
+ghost use Rattle.cc_base.specs.Joined.{joined};
 ghost use Rattle.cc_base.specs.Writes.{Writes};
-ghost use Rattle.cc_zsh.specs.Joined.{joined, separator};
 ghost use Rattle.cc_zsh.specs.Values.{described_list, described_text, first_name, hint_text, is_described, list_text, named_list, named_text, one_value, range, shown_values, times, value_text, values_text};
 
-use crate::joined::write_separator;
 use cc_arg::{Arg, PossibleValue, ValueHint, ValueRange, possible_values};
-use cc_base::{Error, Sink, Text, put_all};
+use cc_base::{Error, Sink, Text, put_all, put_separator};
 use cc_quote::{ZshHelpEscape, ZshValueEscape, put_escaped};
 
 /// How many values an argument takes.
@@ -118,7 +117,7 @@ fn write_described<W: Sink>(values: &[PossibleValue], sink: &mut W) -> Result<()
         if value.is_hide_set() {
             continue;
         }
-        write_separator("\n", &mut begun, sink)?;
+        put_separator("\n", &mut begun, sink)?;
         write_described_value(value, sink)?;
     }
     Ok(())
@@ -154,7 +153,7 @@ fn write_named<W: Sink>(values: &[PossibleValue], sink: &mut W) -> Result<(), Er
         if value.is_hide_set() {
             continue;
         }
-        write_separator(" ", &mut begun, sink)?;
+        put_separator(" ", &mut begun, sink)?;
         write_name(value, sink)?;
     }
     Ok(())

@@ -6,6 +6,7 @@ pub use Rattle.cc_base.specs.Collected
 pub use Rattle.cc_base.specs.Counted
 pub use Rattle.cc_base.specs.Differ
 pub use Rattle.cc_base.specs.ErrorText
+pub use Rattle.cc_base.specs.Joined
 pub use Rattle.cc_base.specs.Sink
 pub use Rattle.cc_base.specs.Sorting
 pub use Rattle.cc_base.specs.Writes
@@ -94,7 +95,6 @@ pub use Rattle.cc_shell.specs.declared.shell.Shell
 -- zsh
 pub use Rattle.cc_zsh.specs.Conflicts as ZshConflicts
 pub use Rattle.cc_zsh.specs.Functions as ZshFunctions
-pub use Rattle.cc_zsh.specs.Joined as ZshJoined
 pub use Rattle.cc_zsh.specs.Nested as ZshNested
 pub use Rattle.cc_zsh.specs.Options as ZshOptions
 pub use Rattle.cc_zsh.specs.Positionals as ZshPositionals

@@ -1,7 +1,8 @@
 use Rattle.std.proofs.Common.{◌≡◌, ◌++◌, ◌||◌, drop}
+use Rattle.cc_base.specs.Joined.{has_texts}
 use Rattle.cc_command.specs.Tree.{forest_of}
 use Rattle.cc_bash.specs.Arms.{sibling_names}
-use Rattle.cc_bash.specs.Words.{has_words, words_after}
+use Rattle.cc_bash.specs.Words.{words_after}
 use Rattle.cc_bash.proofs.words.write_children.Given as goal
 
 -- what was taken and the names that are left make the whole; no put failed
@@ -11,7 +12,7 @@ invariant-loop-child g l = record {
       (sibling_names (forest_of (drop l.child-index l.children)))
       ≡ g.W.Sink.taken l.initial.sink ++ words_after l.initial.begun
       (sibling_names (forest_of l.children));
-  begun : (l.begun || has_words (sibling_names (forest_of (drop l.child-index l.children))))
-      ≡ (l.initial.begun || has_words (sibling_names (forest_of l.children)));
+  begun : (l.begun || has_texts (sibling_names (forest_of (drop l.child-index l.children))))
+      ≡ (l.initial.begun || has_texts (sibling_names (forest_of l.children)));
   failures : g.W.Sink.failed l.sink ≡ g.W.Sink.failed l.initial.sink;
 }

@@ -1,6 +1,7 @@
 use Rattle.std.proofs.Common.{◌≡◌, ◌++◌, ◌||◌, [], ◌∷◌, drop, map}
+use Rattle.cc_base.specs.Joined.{has_texts}
 use Rattle.cc_bash.specs.Arms.{long_word}
-use Rattle.cc_bash.specs.Words.{has_words, words_after}
+use Rattle.cc_bash.specs.Words.{words_after}
 use Rattle.cc_bash.proofs.words.write_long_words.Given as goal
 
 -- what was taken, the aliases that are left and the long make the whole; no put failed
@@ -10,7 +11,7 @@ invariant-loop-alias g l = record {
       (map long_word (drop l.alias-index l.alias-items ++ l.long ∷ []))
       ≡ g.W.Sink.taken l.initial.sink ++ words_after l.initial.begun
       (map long_word (l.alias-items ++ l.long ∷ []));
-  begun : (l.begun || has_words (map long_word (drop l.alias-index l.alias-items ++ l.long ∷ [])))
-      ≡ (l.initial.begun || has_words (map long_word (l.alias-items ++ l.long ∷ [])));
+  begun : (l.begun || has_texts (map long_word (drop l.alias-index l.alias-items ++ l.long ∷ [])))
+      ≡ (l.initial.begun || has_texts (map long_word (l.alias-items ++ l.long ∷ [])));
   failures : g.W.Sink.failed l.sink ≡ g.W.Sink.failed l.initial.sink;
 }

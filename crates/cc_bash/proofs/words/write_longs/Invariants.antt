@@ -1,6 +1,7 @@
 use Rattle.std.proofs.Common.{◌≡◌, ◌++◌, ◌||◌, drop, flat_map}
+use Rattle.cc_base.specs.Joined.{has_texts}
 use Rattle.cc_bash.specs.Arms.{long_words}
-use Rattle.cc_bash.specs.Words.{has_words, words_after}
+use Rattle.cc_bash.specs.Words.{words_after}
 use Rattle.cc_bash.proofs.words.write_longs.Given as goal
 
 -- what was taken and the longs that are left make the whole; no put failed
@@ -10,7 +11,7 @@ invariant-loop-argument g l = record {
       (flat_map long_words (drop l.argument-index l.arguments))
       ≡ g.W.Sink.taken l.initial.sink ++ words_after l.initial.begun
       (flat_map long_words l.arguments);
-  begun : (l.begun || has_words (flat_map long_words (drop l.argument-index l.arguments)))
-      ≡ (l.initial.begun || has_words (flat_map long_words l.arguments));
+  begun : (l.begun || has_texts (flat_map long_words (drop l.argument-index l.arguments)))
+      ≡ (l.initial.begun || has_texts (flat_map long_words l.arguments));
   failures : g.W.Sink.failed l.sink ≡ g.W.Sink.failed l.initial.sink;
 }

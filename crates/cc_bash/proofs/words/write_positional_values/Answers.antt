@@ -1,9 +1,11 @@
-use Rattle.std.proofs.Common.{◌≡◌, ◌++◌, ◌||◌, ◌+◌, true, drop, ap, sym, ◌∙◌, rules, flat_map, filter}
+use Rattle.std.proofs.Common.{codes, ◌≡◌, ◌++◌, ◌||◌, ◌+◌, true, drop, ap, sym, ◌∙◌, rules, flat_map, filter}
 use Rattle.cc_base.proofs.Lists.{one_more}
+use Rattle.cc_base.specs.Joined.{has_texts}
+use Rattle.cc_base.proofs.JoinedTexts.{begun_step, joined_step}
 use Rattle.cc_arg.specs.Arguments.{is_positional}
 use Rattle.cc_bash.specs.Arms.{value_names}
-use Rattle.cc_bash.specs.Words.{has_words, words_after}
-use Rattle.cc_bash.proofs.WordTexts.{begun_step, kept_first, words_step}
+use Rattle.cc_bash.specs.Words.{words_after}
+use Rattle.cc_bash.proofs.WordTexts.{kept_first}
 use Rattle.cc_bash.proofs.words.write_positional_values.Goals as goal
 
 pub loop-argument-preserved : goal.loop-argument-preserved
@@ -18,14 +20,14 @@ loop-argument-preserved g c =
     ∙ kept_first is_positional value_names item left is in
     let rest = flat_map value_names (filter is_positional left) in
     record {
-      written = words_step c.loop-argument.begun c.write_argument_values.new.begun
+      written = joined_step (codes " ") c.loop-argument.begun c.write_argument_values.new.begun
           (value_names item) rest (g.W.Sink.taken c.loop-argument.sink) _ _
           c.in_ok-write_argument_values.ensures.written.ok c.in_ok-write_argument_values.ensures.begun
           (ap (λ ws. g.W.Sink.taken c.loop-argument.sink ++ words_after c.loop-argument.begun ws)
           (sym opened) ∙ c.loop-argument.invariant.written);
       begun = begun_step c.loop-argument.begun c.write_argument_values.new.begun _
           (value_names item) rest c.in_ok-write_argument_values.ensures.begun
-          (ap (λ ws. c.loop-argument.begun || has_words ws) (sym opened)
+          (ap (λ ws. c.loop-argument.begun || has_texts ws) (sym opened)
           ∙ c.loop-argument.invariant.begun);
       failures = search rules;
     }

@@ -1,7 +1,8 @@
 use Rattle.std.proofs.Common.{◌≡◌, ◌++◌, ◌||◌, drop, flat_map, filter}
+use Rattle.cc_base.specs.Joined.{has_texts}
 use Rattle.cc_arg.specs.Arguments.{is_positional}
 use Rattle.cc_bash.specs.Arms.{value_names}
-use Rattle.cc_bash.specs.Words.{has_words, words_after}
+use Rattle.cc_bash.specs.Words.{words_after}
 use Rattle.cc_bash.proofs.words.write_positional_values.Given as goal
 
 -- what was taken and the values that are left make the whole; no put failed
@@ -11,8 +12,8 @@ invariant-loop-argument g l = record {
       (flat_map value_names (filter is_positional (drop l.argument-index l.arguments)))
       ≡ g.W.Sink.taken l.initial.sink ++ words_after l.initial.begun
       (flat_map value_names (filter is_positional l.arguments));
-  begun : (l.begun || has_words (flat_map value_names
+  begun : (l.begun || has_texts (flat_map value_names
       (filter is_positional (drop l.argument-index l.arguments))))
-      ≡ (l.initial.begun || has_words (flat_map value_names (filter is_positional l.arguments)));
+      ≡ (l.initial.begun || has_texts (flat_map value_names (filter is_positional l.arguments)));
   failures : g.W.Sink.failed l.sink ≡ g.W.Sink.failed l.initial.sink;
 }

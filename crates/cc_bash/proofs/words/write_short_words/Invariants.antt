@@ -1,6 +1,7 @@
 use Rattle.std.proofs.Common.{◌≡◌, ◌++◌, ◌||◌, [], ◌∷◌, drop, map}
+use Rattle.cc_base.specs.Joined.{has_texts}
 use Rattle.cc_bash.specs.Arms.{short_word}
-use Rattle.cc_bash.specs.Words.{has_words, words_after}
+use Rattle.cc_bash.specs.Words.{words_after}
 use Rattle.cc_bash.proofs.words.write_short_words.Given as goal
 
 -- what was taken, the aliases that are left and the short make the whole; no put failed
@@ -10,7 +11,7 @@ invariant-loop-alias g l = record {
       (map short_word (drop l.alias-index l.alias-items ++ l.short ∷ []))
       ≡ g.W.Sink.taken l.initial.sink ++ words_after l.initial.begun
       (map short_word (l.alias-items ++ l.short ∷ []));
-  begun : (l.begun || has_words (map short_word (drop l.alias-index l.alias-items ++ l.short ∷ [])))
-      ≡ (l.initial.begun || has_words (map short_word (l.alias-items ++ l.short ∷ [])));
+  begun : (l.begun || has_texts (map short_word (drop l.alias-index l.alias-items ++ l.short ∷ [])))
+      ≡ (l.initial.begun || has_texts (map short_word (l.alias-items ++ l.short ∷ [])));
   failures : g.W.Sink.failed l.sink ≡ g.W.Sink.failed l.initial.sink;
 }

@@ -1,6 +1,7 @@
 use Rattle.std.proofs.Common.{◌≡◌, ◌++◌, ◌||◌, drop}
+use Rattle.cc_base.specs.Joined.{has_texts}
 use Rattle.cc_bash.specs.Arms.{names_of_values}
-use Rattle.cc_bash.specs.Words.{has_words, words_after}
+use Rattle.cc_bash.specs.Words.{words_after}
 use Rattle.cc_bash.proofs.words.write_values.Given as goal
 
 -- what was taken and the values that are left make the whole; no put failed
@@ -9,7 +10,7 @@ invariant-loop-value g l = record {
   written : g.W.Sink.taken l.sink ++ words_after l.begun
       (names_of_values (drop l.value-index l.possible))
       ≡ g.W.Sink.taken l.initial.sink ++ words_after l.initial.begun (names_of_values l.possible);
-  begun : (l.begun || has_words (names_of_values (drop l.value-index l.possible)))
-      ≡ (l.initial.begun || has_words (names_of_values l.possible));
+  begun : (l.begun || has_texts (names_of_values (drop l.value-index l.possible)))
+      ≡ (l.initial.begun || has_texts (names_of_values l.possible));
   failures : g.W.Sink.failed l.sink ≡ g.W.Sink.failed l.initial.sink;
 }

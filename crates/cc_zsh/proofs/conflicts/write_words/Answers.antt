@@ -1,11 +1,11 @@
 use Rattle.std.proofs.Common.{◌++◌, ◌+◌, codes, drop, ap, sym, ◌∙◌, rules}
 use Rattle.std.specs.Option.{option_to_list}
 use Rattle.std.proofs.lemmas.List.Concat.{flat_map-append}
+use Rattle.cc_base.proofs.JoinedTexts.{joined_step}
 use Rattle.cc_base.proofs.Lists.{one_more}
+use Rattle.cc_base.specs.Joined.{joined_after}
 use Rattle.cc_command.specs.ArgumentLists.{first_with}
 use Rattle.cc_zsh.specs.Conflicts.{conflict_words, own_words, with_ids}
-use Rattle.cc_zsh.specs.Joined.{joined_after}
-use Rattle.cc_zsh.proofs.JoinedTexts.{joined_step}
 use Rattle.cc_zsh.proofs.conflicts.write_words.Goals as goal
 
 pub loop-id-preserved : goal.loop-id-preserved

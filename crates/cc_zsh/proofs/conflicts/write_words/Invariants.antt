@@ -1,6 +1,6 @@
 use Rattle.std.proofs.Common.{◌≡◌, ◌++◌, codes, drop}
+use Rattle.cc_base.specs.Joined.{joined, joined_after}
 use Rattle.cc_zsh.specs.Conflicts.{conflict_words, with_ids}
-use Rattle.cc_zsh.specs.Joined.{joined, joined_after}
 use Rattle.cc_zsh.proofs.conflicts.write_words.Given as goal
 
 -- what was taken and what is left make the whole; no put failed

@@ -1,5 +1,5 @@
 use Rattle.std.proofs.Common.{◌≡◌, ◌++◌, codes, drop, map}
-use Rattle.cc_zsh.specs.Joined.{joined, joined_after}
+use Rattle.cc_base.specs.Joined.{joined, joined_after}
 use Rattle.cc_zsh.specs.Values.{described_text, shown_values}
 use Rattle.cc_zsh.proofs.values.write_described.Given as goal
 

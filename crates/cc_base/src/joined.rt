@@ -1,0 +1,43 @@
+//! Separators between texts that are put one after another.
+
+ghost use Rattle.std.specs.Prelude.{◌≡◌, true, OnOk};
+ghost use Rattle.cc_base.specs.Joined.{separator};
+ghost use Rattle.cc_base.specs.Writes.{Writes};
+
+use crate::error::Error;
+use crate::sink::{Sink, put_all};
+
+/// Puts the separator where a text was put before, as `begun` says. A text is put next, so `begun`
+/// is true afterwards.
+///
+/// Fails with `Write` and the kind of the put that failed.
+pub fn put_separator<S: Sink>(between: &str, begun: &mut bool, sink: &mut S) -> Result<(), Error>
+    ensures written { Writes S.taken S.failed result sink.old sink.new
+        (separator between.now begun.old) }
+    ensures begun { OnOk result (begun.new ≡ true) }
+{
+    if *begun {
+        return put_all(sink, between.as_bytes());
+    }
+    *begun = true;
+    Ok(())
+}
+
+#[cfg(test)]
+mod tests {
+    use super::*;
+    use crate::collected::Collected;
+    use std::test::Fail;
+
+    #[test]
+    fn puts_no_separator_first(rt: HostRuntime) -> Result<(), Fail> {
+        let mut sink = Collected::new(rt.alloc());
+        let mut begun = false;
+        for name in ["ls", "rm"] {
+            put_separator(", ", &mut begun, &mut sink)?;
+            put_all(&mut sink, name.as_bytes())?;
+        }
+        assert_eq!(rt; sink.as_slice(), b"ls, rm".as_slice());
+        Ok(())
+    }
+}
