@@ -124,7 +124,9 @@ impl<'f, 'a, K: Keys> TableVisits<'f, 'a, K> {
 }
 
 // Puts the children of a node on the stack, each under each of the node's keys, the first one last.
+// Most nodes have none, and cost no call.
 #[tactic(auto, using(crate::proofs::TableStack::no_items))]
+#[inline(always)]
 fn push_below(
     stack: &mut Vec<TableItem>,
     alloc: Global,
@@ -147,6 +149,7 @@ fn push_below(
 }
 
 // The children of a node, each under each of the node's keys.
+#[inline(never)]
 fn items_below(
     alloc: Global,
     flat: &Flat<'_>,
