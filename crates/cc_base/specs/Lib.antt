@@ -1,3 +1,4 @@
+pub mod Bytes
 pub mod Collected
 pub mod Counted
 pub mod Differ

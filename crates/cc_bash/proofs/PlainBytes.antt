@@ -4,6 +4,7 @@ use Rattle.std.specs.Char.{is_ascii_alphanumeric}
 use Rattle.std.specs.Fmt.{digits, digits_onto, digit_glyph}
 use Rattle.std.specs.List.{AllByRecursion}
 use Rattle.std.proofs.lemmas.Bool.Decides.{nat_tests}
+use Rattle.cc_base.specs.Bytes.{dash, comma, close_parenthesis}
 use Rattle.cc_base.proofs.Booleans.{each_passes}
 use Rattle.cc_base.proofs.Members.{AllByRecursion-weaker, AllByRecursion-append}
 use Rattle.cc_command.specs.PlainName.{letter, joiner, foreign, name_byte, is_joined, is_plain_name}
@@ -15,15 +16,14 @@ use Rattle.cc_command.proofs.PlainParts.{IsPlainName, plain_full_name}
 use Rattle.cc_quote.specs.PosixTokens.{sign}
 use Rattle.cc_quote.specs.PosixTokens.Sign.{other}
 use Rattle.cc_quote.proofs.PosixCutting.{IsOther, IsWord}
-use Rattle.cc_bash.specs.Labels.{replaced, dash_byte, root_label, child_label}
+use Rattle.cc_bash.specs.Labels.{replaced, root_label, child_label}
 use Rattle.cc_bash.specs.Quiet.{is_quiet_byte, is_quiet_value}
-use Rattle.cc_bash.specs.Reader.{comma_byte, parenthesis_byte}
 use Rattle.cc_bash.proofs.WordsRead.{Lacks}
 
 -- what the reader asks of a byte
 abbrev IsPlainByte : ℕ → Type 0
 IsPlainByte byte = (sign byte ≡ other byte)
-    × (((byte == parenthesis_byte) ≡ false) × ((byte == comma_byte) ≡ false))
+    × (((byte == close_parenthesis) ≡ false) × ((byte == comma) ≡ false))
 
 pub alphanumeric_byte : (byte : ℕ) → IsTrue (is_ascii_alphanumeric byte) → IsPlainByte byte
 unfolding sign
@@ -83,12 +83,12 @@ word_of (byte ∷ text) h = AllByRecursion-weaker IsPlainByte (λ b. sign b ≡ 
 pub other_of : (text : List ℕ) → ArePlainBytes text → IsOther text
 other_of text h = AllByRecursion-weaker IsPlainByte (λ b. sign b ≡ other b) (λ b k. k.0) text h
 
-pub no_paren_of : (text : List ℕ) → ArePlainBytes text → Lacks parenthesis_byte text
-no_paren_of text h = AllByRecursion-weaker IsPlainByte (λ b. (b == parenthesis_byte) ≡ false)
+pub no_paren_of : (text : List ℕ) → ArePlainBytes text → Lacks close_parenthesis text
+no_paren_of text h = AllByRecursion-weaker IsPlainByte (λ b. (b == close_parenthesis) ≡ false)
     (λ b k. k.1.0) text h
 
-pub no_comma_of : (text : List ℕ) → ArePlainBytes text → Lacks comma_byte text
-no_comma_of text h = AllByRecursion-weaker IsPlainByte (λ b. (b == comma_byte) ≡ false)
+pub no_comma_of : (text : List ℕ) → ArePlainBytes text → Lacks comma text
+no_comma_of text h = AllByRecursion-weaker IsPlainByte (λ b. (b == comma) ≡ false)
     (λ b k. k.1.1) text h
 
 -- ---- labels
@@ -145,15 +145,15 @@ subcmd_plain = (
 )
 
 pub root_plain : (tree : Tree) → IsTrue (is_plain_tree tree) → IsPlainText (root_label tree)
-root_plain tree h = replaced_text dash_byte (codes "__") (full_name tree.node) underscores_plain
+root_plain tree h = replaced_text dash (codes "__") (full_name tree.node) underscores_plain
     (plain_text (full_name tree.node) (plain_full_name tree h))
 
 pub child_plain : (parent name : List ℕ) → IsPlainText parent → IsPlainText name →
     IsPlainText (child_label parent name)
 child_plain parent name h k =
-    text_append (parent ++ codes "__subcmd__") (replaced dash_byte (codes "__subcmd__") name)
+    text_append (parent ++ codes "__subcmd__") (replaced dash (codes "__subcmd__") name)
     (text_append parent (codes "__subcmd__") h (bytes_of (codes "__subcmd__") subcmd_plain))
-    (replaced_plain dash_byte (codes "__subcmd__") name (bytes_of (codes "__subcmd__") subcmd_plain)
+    (replaced_plain dash (codes "__subcmd__") name (bytes_of (codes "__subcmd__") subcmd_plain)
     (bytes_of name k))
 
 -- ---- numbers

@@ -1,6 +1,7 @@
 -- The arms of a bash script are read back.
 use Rattle.std.proofs.Common.{◌≡◌, ℕ, Bool, List, [], ◌∷◌, ◌++◌, flat_map, fold, Some, codes, refl, sym, ap, ◌∙◌, append_assoc, append-nil}
 use Rattle.std.specs.List.{AllByRecursion}
+use Rattle.cc_base.specs.Bytes.{close_parenthesis}
 use Rattle.cc_base.proofs.Lines.{IsLine}
 use Rattle.cc_base.proofs.Lines.IsLine.{line}
 use Rattle.cc_base.proofs.ReadInTurn.{in_turn}
@@ -10,7 +11,7 @@ use Rattle.cc_quote.specs.Tokens.Piece.{bare}
 use Rattle.cc_quote.specs.PosixTokens.Place.{between, in_double}
 use Rattle.cc_quote.proofs.PosixCutting.{IsWord, tokens_from, bare_word, double_run}
 use Rattle.cc_bash.specs.Arms.{Detail, Arm}
-use Rattle.cc_bash.specs.Reader.{Table, parenthesis_byte, pattern_of, assigned, bare_text, with_arm, new_arm, next, read}
+use Rattle.cc_bash.specs.Reader.{Table, pattern_of, assigned, bare_text, with_arm, new_arm, next, read}
 use Rattle.cc_bash.specs.Reader.State.{between_arms, at_words, after_words, at_level, between_details}
 use Rattle.cc_bash.specs.Script.{words_text, detail_text, arm_words_text, arm_level_text, arm_text}
 use Rattle.cc_bash.specs.Texts.{arm_begins, arm_words, arm_level, arm_details, arm_ends}
@@ -21,7 +22,7 @@ use Rattle.cc_bash.proofs.WordsRead.{Lacks, words_read, IsKept-words}
 -- the arm can be read
 pub record IsReadableArm (arm : Arm) : Type 0 where
   pub label : IsWord arm.label
-  pub no_paren : Lacks parenthesis_byte arm.label
+  pub no_paren : Lacks close_parenthesis arm.label
   pub level : IsWord arm.level
   pub words : AllByRecursion IsWord arm.words
   pub details : AllByRecursion IsReadableDetail arm.details
@@ -118,7 +119,7 @@ module _ (whole : Bool) where
       arm_level arm.level arm_details (flat_map detail_text arm.details) arm_ends rest)
       ∙ ap (read whole (between_arms table)) (bare_word arm.label (arm_words ++ words) h.label)
       ∙ ap (λ s. read whole s (tokens_from (in_double (bare (codes "opts=") ∷ []) []) words))
-      (arm_opens table (bare (arm.label ++ parenthesis_byte ∷ []) ∷ []) arm.label
+      (arm_opens table (bare (arm.label ++ close_parenthesis ∷ []) ∷ []) arm.label
       (pattern_found arm.label h.no_paren))
       ∙ ap (read whole (at_words table (new_arm arm.label)))
       (double_run (words_text arm.words) (arm_level ++ level) (bare (codes "opts=") ∷ []) []

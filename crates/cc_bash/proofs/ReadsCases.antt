@@ -1,6 +1,7 @@
 -- The case table of a bash script is read back.
 use Rattle.std.proofs.Common.{◌≡◌, ℕ, Bool, List, [], ◌∷◌, ◌++◌, flat_map, fold, Option, Some, codes, refl, sym, ap, ◌∙◌, append_assoc, append-nil}
 use Rattle.std.specs.List.{AllByRecursion}
+use Rattle.cc_base.specs.Bytes.{comma, close_parenthesis}
 use Rattle.cc_base.proofs.Lines.{IsLine}
 use Rattle.cc_base.proofs.Lines.IsLine.{line}
 use Rattle.cc_base.proofs.ReadInTurn.{in_turn}
@@ -10,7 +11,7 @@ use Rattle.cc_quote.specs.Tokens.Piece.{bare}
 use Rattle.cc_quote.specs.PosixTokens.Place.{between, in_bare, in_double}
 use Rattle.cc_quote.proofs.PosixCutting.{IsOther, IsWord, IsKept, tokens_from, bare_run, bare_word, double_run}
 use Rattle.cc_bash.specs.CaseTable.{Case}
-use Rattle.cc_bash.specs.Reader.{Table, State, comma_byte, parenthesis_byte, pattern_of, assigned, case_by, with_case, next, read}
+use Rattle.cc_bash.specs.Reader.{Table, State, pattern_of, assigned, case_by, with_case, next, read}
 use Rattle.cc_bash.specs.Reader.State.{between_cases, at_label, after_label}
 use Rattle.cc_bash.specs.Script.{case_text}
 use Rattle.cc_bash.specs.Texts.{case_begins, case_comma, case_sets, case_ends}
@@ -23,24 +24,24 @@ reading whole state place script = read whole state (tokens_from place script)
 -- the case can be read
 pub record IsReadableCase (c : Case) : Type 0 where
   pub from : IsWord c.from
-  pub from_no_paren : Lacks parenthesis_byte c.from
-  pub from_no_comma : Lacks comma_byte c.from
+  pub from_no_paren : Lacks close_parenthesis c.from
+  pub from_no_comma : Lacks comma c.from
   pub word : IsOther c.word
-  pub word_no_paren : Lacks parenthesis_byte c.word
+  pub word_no_paren : Lacks close_parenthesis c.word
   pub to : IsKept c.to
 
 -- a text before a `)` is a pattern
-pub pattern_found : (pattern : List ℕ) → Lacks parenthesis_byte pattern →
-    pattern_of (bare (pattern ++ parenthesis_byte ∷ []) ∷ []) ≡ Some pattern
+pub pattern_found : (pattern : List ℕ) → Lacks close_parenthesis pattern →
+    pattern_of (bare (pattern ++ close_parenthesis ∷ []) ∷ []) ≡ Some pattern
 unfolding pattern_of
-pattern_found pattern h = let e = parted_at parenthesis_byte pattern [] h in rw (e, pattern_of)
+pattern_found pattern h = let e = parted_at close_parenthesis pattern [] h in rw (e, pattern_of)
 
-case_found : (c : Case) → Lacks comma_byte c.from →
-    case_by ((c.from ++ comma_byte ∷ []) ++ c.word) c.to ≡ Some c
+case_found : (c : Case) → Lacks comma c.from →
+    case_by ((c.from ++ comma ∷ []) ++ c.word) c.to ≡ Some c
 unfolding case_by
 case_found c h =
-    ap (λ p. case_by p c.to) (append_assoc c.from (comma_byte ∷ []) c.word)
-    ∙ (let e = parted_at comma_byte c.from c.word h in rw e)
+    ap (λ p. case_by p c.to) (append_assoc c.from (comma ∷ []) c.word)
+    ∙ (let e = parted_at comma c.from c.word h in rw e)
 
 regroup_case : (a b c d e f g rest : List ℕ) →
     ((((((a ++ b) ++ c) ++ d) ++ e) ++ f) ++ g) ++ rest
@@ -85,10 +86,10 @@ module _ (whole : Bool) where
       ≡ reading whole (between_cases (with_case table c)) between rest
   unfolding case_text case_begins case_comma case_sets case_ends sign byte_of cut read
   case_reads table c rest h l =
-      let pattern : List ℕ = (c.from ++ comma_byte ∷ []) ++ c.word in
-      let lacks : Lacks parenthesis_byte pattern =
-      Lacks-append parenthesis_byte (c.from ++ comma_byte ∷ []) c.word
-      (Lacks-append parenthesis_byte c.from (comma_byte ∷ []) h.from_no_paren (refl, tt))
+      let pattern : List ℕ = (c.from ++ comma ∷ []) ++ c.word in
+      let lacks : Lacks close_parenthesis pattern =
+      Lacks-append close_parenthesis (c.from ++ comma ∷ []) c.word
+      (Lacks-append close_parenthesis c.from (comma ∷ []) h.from_no_paren (refl, tt))
       h.word_no_paren in
       let set : List ℕ = case_sets ++ (c.to ++ (case_ends ++ rest)) in
       ap (reading whole (between_cases table) between)
@@ -96,10 +97,10 @@ module _ (whole : Bool) where
       ∙ ap (read whole (between_cases table))
       (bare_word c.from (case_comma ++ (c.word ++ set)) h.from)
       ∙ ap (read whole (between_cases table))
-      (bare_run c.word set [] (c.from ++ comma_byte ∷ []) h.word)
+      (bare_run c.word set [] (c.from ++ comma ∷ []) h.word)
       ∙ ap (λ s. read whole s (tokens_from (in_double (bare (codes "cmd=") ∷ []) [])
       (c.to ++ (case_ends ++ rest)))) (at_pattern table
-      (bare (pattern ++ parenthesis_byte ∷ []) ∷ []) pattern (pattern_found pattern lacks))
+      (bare (pattern ++ close_parenthesis ∷ []) ∷ []) pattern (pattern_found pattern lacks))
       ∙ ap (read whole (at_label table pattern))
       (double_run c.to (case_ends ++ rest) (bare (codes "cmd=") ∷ []) [] h.to)
       ∙ ap (λ s. read whole s (tokens_from (in_bare [] (codes ";;")) rest))

@@ -2,6 +2,7 @@
 use Rattle.std.proofs.Common.{◌≡◌, ℕ, Bool, false, List, [], ◌∷◌, ◌++◌, flat_map, fold, Option, Some, None, codes, refl, sym, ap, ◌∙◌, append_assoc, append-nil}
 use Rattle.std.specs.Prelude.{bytes_eq}
 use Rattle.std.specs.List.{AllByRecursion}
+use Rattle.cc_base.specs.Bytes.{close_parenthesis}
 use Rattle.cc_base.proofs.Lines.{IsLine}
 use Rattle.cc_base.proofs.Lines.IsLine.{line}
 use Rattle.cc_base.proofs.ReadInTurn.{in_turn}
@@ -11,7 +12,7 @@ use Rattle.cc_quote.specs.Tokens.Piece.{bare}
 use Rattle.cc_quote.specs.PosixTokens.Place.{between, in_bare}
 use Rattle.cc_quote.proofs.PosixCutting.{IsWord, tokens_from, bare_word, double_run}
 use Rattle.cc_bash.specs.Arms.{Offered, values, files, typed, nothing, Mode, filenames, plusdirs, nospace, Detail, Arm}
-use Rattle.cc_bash.specs.Reader.{Table, parenthesis_byte, pattern_of, bare_text, double_text, is_empty_reply, is_typed_reply, is_compgen_reply, mode_named, with_detail, new_detail, next, read}
+use Rattle.cc_bash.specs.Reader.{Table, pattern_of, bare_text, double_text, is_empty_reply, is_typed_reply, is_compgen_reply, mode_named, with_detail, new_detail, next, read}
 use Rattle.cc_bash.specs.Reader.State.{between_details, at_reply, at_values, after_reply}
 use Rattle.cc_bash.specs.Script.{words_text, offered_text, reply_text, mode_word, mode_text, moded_text, pattern_text, detail_text}
 use Rattle.cc_bash.specs.Texts.{detail_begins, detail_word_ends, separator_kept, separator_back, reply_begins, reply_ends, values_begin, values_end, files_offered, word_offered, mode_begins, mode_ends, filenames_word, plusdirs_word, nospace_word, detail_ends}
@@ -26,7 +27,7 @@ IsReadableOffer _ = Unit {0}
 -- the detail can be read
 pub record IsReadableDetail (detail : Detail) : Type 0 where
   pub word : IsWord detail.word
-  pub no_paren : Lacks parenthesis_byte detail.word
+  pub no_paren : Lacks close_parenthesis detail.word
   pub no_star : bytes_eq detail.word (codes "*") ≡ false
   pub offered : IsReadableOffer detail.offered
 
@@ -179,14 +180,14 @@ module _ (whole : Bool) where
   detail_opens table arm token word e f = rw (e, next, f)
 
   -- a line feed ends the pattern of a detail
-  pattern_reads : (table : Table) (arm : Arm) (word rest : List ℕ) → Lacks parenthesis_byte word →
+  pattern_reads : (table : Table) (arm : Arm) (word rest : List ℕ) → Lacks close_parenthesis word →
       bytes_eq word (codes "*") ≡ false → IsLine rest →
       reading whole (between_details table arm) (in_bare [] word) (detail_word_ends ++ rest)
       ≡ reading whole (at_reply table arm (new_detail word)) between rest
   unfolding detail_word_ends sign byte_of cut read
   pattern_reads table arm word rest lacks star (line tail) =
       ap (λ s. read whole s (tokens_from between tail))
-      (detail_opens table arm (bare (word ++ parenthesis_byte ∷ []) ∷ []) word
+      (detail_opens table arm (bare (word ++ close_parenthesis ∷ []) ∷ []) word
       (pattern_found word lacks) star)
 
   -- a detail is read

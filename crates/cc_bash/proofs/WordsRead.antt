@@ -3,10 +3,11 @@ use Rattle.std.proofs.Common.{◌≡◌, ℕ, true, false, ◌==◌, List, [], �
 use Rattle.std.specs.List.{AllByRecursion}
 use Rattle.std.proofs.lemmas.Bool.{cases_Bool}
 use Rattle.std.proofs.lemmas.Bool.Decides.{nat_tests}
+use Rattle.cc_base.specs.Bytes.{space}
 use Rattle.cc_quote.specs.PosixTokens.{sign}
 use Rattle.cc_quote.specs.PosixTokens.Sign.{blank, other}
 use Rattle.cc_quote.proofs.PosixCutting.{IsOther, IsWord, IsKept, IsKept-append, IsKept-IsWord}
-use Rattle.cc_bash.specs.Reader.{space_byte, parted, words_from}
+use Rattle.cc_bash.specs.Reader.{parted, words_from}
 use Rattle.cc_bash.specs.Script.{spaced_word, words_text}
 
 -- the byte does not stand in the text
@@ -27,9 +28,9 @@ parted_at byte (b ∷ before) after h = let e =
 
 -- ---- words between spaces
 
-no_space : (byte : ℕ) → sign byte ≡ other byte → (byte == space_byte) ≡ false
+no_space : (byte : ℕ) → sign byte ≡ other byte → (byte == space) ≡ false
 unfolding sign
-no_space byte h = elim (cases_Bool (byte == space_byte)) [
+no_space byte h = elim (cases_Bool (byte == space)) [
   | inr f ↦ f
   | inl t ↦ let e : blank byte ≡ other byte = rw t at h in cc
 ]
@@ -53,7 +54,7 @@ word_ends [] h = absurd h
 word_ends (b ∷ word) h = refl
 
 space_ends : (word rest : List ℕ) → IsWord word →
-    words_from word (space_byte ∷ rest) ≡ word ∷ words_from [] rest
+    words_from word (space ∷ rest) ≡ word ∷ words_from [] rest
 space_ends [] rest h = absurd h
 space_ends (b ∷ word) rest h = refl
 

@@ -1,15 +1,9 @@
 -- The labels by which a bash script tells the commands of a tree apart.
 use Rattle.std.specs.Prelude.{ℕ, suc, List, [], ◌∷◌, ◌++◌, ◌==◌, if◌then◌else◌, map, flat_map, codes, Option, Some, None}
+use Rattle.cc_base.specs.Bytes.{space, dash}
 use Rattle.cc_command.specs.declared.node.Node.{Node}
 use Rattle.cc_command.specs.Tree.{Forest, none, more, Tree}
 use Rattle.cc_command.specs.Names.{contains_name, full_name}
-
--- the bytes that labels take the place of
-abbrev pub space_byte : ℕ
-space_byte = 32
-
-abbrev pub dash_byte : ℕ
-dash_byte = 45
 
 -- a text with another in place of each such byte
 abbrev pub replaced : ℕ → List ℕ → List ℕ → List ℕ
@@ -17,16 +11,16 @@ replaced byte by text = flat_map (λ b. if b == byte then by else b ∷ []) text
 
 -- the label of the root: its bin name, with `__` for each `-`
 abbrev pub root_label : Tree → List ℕ
-root_label tree = replaced dash_byte (codes "__") (full_name tree.node)
+root_label tree = replaced dash (codes "__") (full_name tree.node)
 
 -- the label of a child: its parent's, `__subcmd__`, and its name with `__subcmd__` for each `-`
 abbrev pub child_label : List ℕ → List ℕ → List ℕ
 child_label parent name =
-    parent ++ codes "__subcmd__" ++ replaced dash_byte (codes "__subcmd__") name
+    parent ++ codes "__subcmd__" ++ replaced dash (codes "__subcmd__") name
 
 -- the text by which a node's arm is sorted: the full name, with `__subcmd__` for each space
 abbrev pub sort_text : Node → List ℕ
-sort_text node = replaced space_byte (codes "__subcmd__") (full_name node)
+sort_text node = replaced space (codes "__subcmd__") (full_name node)
 
 -- a node below the root, with its parent's label, its own, the text by which it is sorted, and its
 -- level: how many names its path has, the root's included

@@ -1,20 +1,11 @@
 -- The case table and the arms that a bash script spells.
 use Rattle.std.specs.Prelude.{ℕ, Bool, true, false, List, [], ◌∷◌, ◌++◌, ◌==◌, ◌&&◌, if◌then◌else◌, Option, Some, None, bytes_eq, codes, option_map}
+use Rattle.cc_base.specs.Bytes.{space, close_parenthesis, comma}
 use Rattle.cc_quote.specs.PosixTokens.{posix_tokens, is_double_quote}
 use Rattle.cc_quote.specs.Tokens.{Token, is_word}
 use Rattle.cc_quote.specs.Tokens.Piece.{bare, quoted}
 use Rattle.cc_bash.specs.CaseTable.{Case}
 use Rattle.cc_bash.specs.Arms.{values, files, typed, nothing, Mode, filenames, plusdirs, nospace, Detail, Arm}
-
--- the bytes at which texts are cut
-abbrev pub space_byte : ℕ
-space_byte = 32
-
-abbrev pub parenthesis_byte : ℕ
-parenthesis_byte = 41
-
-abbrev pub comma_byte : ℕ
-comma_byte = 44
 
 -- the text before the first such byte, and what stands after it
 abbrev pub parted : ℕ → List ℕ → Option (List ℕ × List ℕ)
@@ -28,8 +19,8 @@ abbrev pub words_from : List ℕ → List ℕ → List (List ℕ)
 words_from [] [] = []
 words_from (r ∷ run) [] = (r ∷ run) ∷ []
 words_from [] (b ∷ text) =
-    elim (b == space_byte) [ true ↦ words_from [] text | false ↦ words_from (b ∷ []) text ]
-words_from (r ∷ run) (b ∷ text) = elim (b == space_byte) [
+    elim (b == space) [ true ↦ words_from [] text | false ↦ words_from (b ∷ []) text ]
+words_from (r ∷ run) (b ∷ text) = elim (b == space) [
   | true ↦ (r ∷ run) ∷ words_from [] text
   | false ↦ words_from ((r ∷ run) ++ b ∷ []) text
 ]
@@ -72,7 +63,7 @@ pub data State : Type 0 where
 
 -- what stands before the `)` that ends a pattern
 unfoldable pub pattern_of : Token → Option (List ℕ)
-pattern_of (bare run ∷ []) = elim (parted parenthesis_byte run) [
+pattern_of (bare run ∷ []) = elim (parted close_parenthesis run) [
   | Some parts ↦ (elim parts.1 as (λ rest. Option (List ℕ)) [ [] ↦ Some parts.0 | _ ∷ _ ↦ None ])
   | None ↦ None
 ]
@@ -126,7 +117,7 @@ mode_named word =
 unfoldable pub case_by : List ℕ → List ℕ → Option Case
 case_by pattern label =
     option_map (λ parts. let c : Case = record { from = parts.0; word = parts.1; to = label } in c)
-    (parted comma_byte pattern)
+    (parted comma pattern)
 
 -- one more case, arm or detail
 abbrev pub with_case : Table → Case → Table

@@ -2,7 +2,8 @@
 use Rattle.std.proofs.Common.{◌≡◌, ℕ, ◌+◌, ◌<◌, ◌≤◌, List, [], ◌∷◌, length, drop, get_or, Bool, true, false, ◌&&◌, ◌||◌, cond, ◌==◌, map, refl, ap, sym, ◌∙◌}
 use Rattle.std.proofs.lemmas.List.{at_drop_more, at_drop_all}
 use Rattle.std.specs.Char.{is_ascii_alphanumeric}
-use Rattle.cc_command.specs.PlainName.{NameByte, dash, underscore, letter, joiner, foreign, name_byte, is_joined, is_plain_name}
+use Rattle.cc_base.specs.Bytes.{dash, underscore}
+use Rattle.cc_command.specs.PlainName.{NameByte, letter, joiner, foreign, name_byte, is_joined, is_plain_name}
 
 -- what is left of a name is joined, after a letter or after none
 unfoldable pub joined_after : Bool → List NameByte → Bool

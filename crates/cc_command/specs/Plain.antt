@@ -2,6 +2,7 @@
 use Rattle.std.specs.Prelude.{ℕ, List, [], ◌∷◌, ◌++◌, Bool, true, not, ◌&&◌, ◌==◌, Option, Some, None}
 use Rattle.std.specs.List.{list_all}
 use Rattle.std.specs.Char.{is_ascii_alphanumeric}
+use Rattle.cc_base.specs.Bytes.{single_quote}
 use Rattle.cc_arg.specs.declared.arg.Arg.{Arg}
 use Rattle.cc_command.specs.declared.node.Node.{Node}
 use Rattle.cc_command.specs.Tree.{Forest, none, more, Tree}
@@ -12,10 +13,6 @@ use Rattle.cc_command.specs.Names.{contains_name}
 abbrev pub passes_if_some : {A : Type 0} → (A → Bool) → Option A → Bool
 passes_if_some passes None = true
 passes_if_some passes (Some value) = passes value
-
--- the byte of `'`
-abbrev pub single_quote : ℕ
-single_quote = 39
 
 -- no byte is a single quote
 abbrev pub has_no_quote : List ℕ → Bool

@@ -1,19 +1,13 @@
 -- Plain names: of ASCII letters and digits, with single `-` or `_` between them.
 use Rattle.std.specs.Prelude.{ℕ, Bool, true, false, ◌||◌, List, [], ◌∷◌, ◌==◌, if◌then◌else◌, map}
 use Rattle.std.specs.Char.{is_ascii_alphanumeric}
+use Rattle.cc_base.specs.Bytes.{dash, underscore}
 
 -- the kinds of bytes in a name: a letter or a digit, a `-` or a `_`, or neither
 pub data NameByte : Type 0 where
   letter : NameByte
   joiner : NameByte
   foreign : NameByte
-
--- the bytes of `-` and `_`
-abbrev pub dash : ℕ
-dash = 45
-
-abbrev pub underscore : ℕ
-underscore = 95
 
 -- the kind of a byte
 unfoldable pub name_byte : ℕ → NameByte

@@ -4,14 +4,14 @@ use Rattle.std.proofs.lemmas.Bool.Decides.{eqb_tells}
 use Rattle.std.proofs.lemmas.List.{reverse-append, reverse-reverse}
 use Rattle.std.proofs.lemmas.List.Folds.{list_all-append}
 use Rattle.std.specs.List.{list_all, AllByRecursion}
-use Rattle.cc_command.specs.PlainName.{dash}
+use Rattle.cc_base.specs.Bytes.{dash, semicolon}
 use Rattle.cc_command.specs.Tree.{Forest, none, more}
-use Rattle.cc_quote.specs.Bytes as ascii
+use Rattle.cc_base.specs.Bytes as ascii
 use Rattle.cc_quote.specs.FishQuote.{is_fish_safe}
 use Rattle.cc_quote.proofs.FishWords.{IsSafe, safe_is_not, safe_bytes}
 use Rattle.cc_fish.specs.FishScript.{seen_text, spaced_name, not_seen, excluded_text}
 use Rattle.cc_fish.specs.FishTable.{child_names, function_name, function_begin, condition_at}
-use Rattle.cc_fish.specs.RecordReader.{semicolon, pieces_from, without_semicolon, after_beginning, seen_function, a_name, nothing, asked, condition_from, condition_of_pieces, condition_of}
+use Rattle.cc_fish.specs.RecordReader.{pieces_from, without_semicolon, after_beginning, seen_function, a_name, nothing, asked, condition_from, condition_of_pieces, condition_of}
 use Rattle.cc_fish.specs.Records.{Condition}
 use Rattle.cc_fish.proofs.RecordWords.{is_kept, IsKept}
 

@@ -4,12 +4,13 @@ use Rattle.std.specs.Char.{is_ascii_alphanumeric}
 use Rattle.std.specs.List.{AllByRecursion}
 use Rattle.std.proofs.lemmas.Bool.Decides.{nat_tests}
 use Rattle.std.proofs.lemmas.Str.{encode_ascii}
+use Rattle.cc_base.specs.Bytes.{dash, underscore}
 use Rattle.cc_base.proofs.Members.{AllByRecursion-weaker}
 use Rattle.cc_arg.specs.declared.arg.Arg.{Arg}
 use Rattle.cc_arg.specs.ShownNames.{with_aliases, shown_shorts, shown_longs}
 use Rattle.cc_command.specs.Names.{visible_names}
 use Rattle.cc_command.specs.Plain.{passes_if_some, is_plain_forest}
-use Rattle.cc_command.specs.PlainName.{dash, underscore, letter, joiner, foreign, name_byte, is_joined, is_plain_name}
+use Rattle.cc_command.specs.PlainName.{letter, joiner, foreign, name_byte, is_joined, is_plain_name}
 use Rattle.cc_command.specs.Tree.{Forest, none, more}
 use Rattle.cc_command.proofs.NameBytes.{plain_bytes}
 use Rattle.cc_command.proofs.PlainParts.{IsPlainName, IsPlainShort, IsPlainArgument, plain_node, plain_more}

@@ -6,7 +6,7 @@ use Rattle.cc_arg.specs.Arguments.{is_positional, takes_values}
 use Rattle.cc_arg.specs.ShownNames.{with_aliases, shown_shorts, shown_longs}
 use Rattle.cc_command.specs.Tree.{Forest, none, more, Tree, has_nodes}
 use Rattle.cc_command.proofs.PlainParts.{IsPlainArgument, IsPlainNode}
-use Rattle.cc_quote.specs.Bytes as ascii
+use Rattle.cc_base.specs.Bytes as ascii
 use Rattle.cc_quote.specs.FishQuote.{fish_sign, is_fish_safe}
 use Rattle.cc_quote.specs.FishQuote.FishPlace.{bare}
 use Rattle.cc_quote.specs.FishTokens.{in_word, commands_from, fish_commands}

@@ -12,7 +12,7 @@ use Rattle.cc_command.specs.Names.{visible_names}
 use Rattle.cc_command.specs.Plain.{is_plain_forest}
 use Rattle.cc_command.specs.Tree.{Forest, none, more, Tree}
 use Rattle.cc_command.proofs.PlainParts.{IsPlainName, IsPlainArgument, IsPlainBelow, plain_node, plain_more}
-use Rattle.cc_quote.specs.Bytes.{line_feed}
+use Rattle.cc_base.specs.Bytes.{line_feed}
 use Rattle.cc_quote.specs.QuotedWord.{line_feeds_as_spaces}
 use Rattle.cc_quote.specs.FishQuote.{fish_sign}
 use Rattle.cc_quote.specs.FishTokens.{between, commands_from, fish_commands}

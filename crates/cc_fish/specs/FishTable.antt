@@ -10,9 +10,8 @@ use Rattle.cc_arg.specs.ShownNames.{shown_shorts, shown_longs}
 use Rattle.cc_command.specs.declared.node.Node.{Node}
 use Rattle.cc_command.specs.ArgumentLists.{options, flags}
 use Rattle.cc_command.specs.Names.{full_name, visible_names}
-use Rattle.cc_command.specs.PlainName.{dash, underscore}
 use Rattle.cc_command.specs.Tree.{Forest, none, more, Tree}
-use Rattle.cc_quote.specs.Bytes.{tab}
+use Rattle.cc_base.specs.Bytes.{tab, dash, underscore}
 use Rattle.cc_quote.specs.QuotedWord.{line_feeds_as_spaces}
 use Rattle.cc_visits.specs.Visits.{Keyed, path_visits, longer_path}
 use Rattle.cc_fish.specs.Records.{Condition, Marks, Record}

@@ -1,14 +1,10 @@
 -- How a fish script is read: each command whose first word is `complete` is a record.
 use Rattle.std.specs.Prelude.{ℕ, List, [], ◌∷◌, ◌++◌, ◌==◌, true, false, Option, Some, None, if◌then◌else◌, codes, bytes_eq, map, reverse, option_map}
-use Rattle.cc_quote.specs.Bytes.{space}
+use Rattle.cc_base.specs.Bytes.{space, semicolon}
 use Rattle.cc_quote.specs.FishTokens.{fish_commands}
 use Rattle.cc_fish.specs.Records.{Condition, Record}
 
 -- ---- the text of a condition
-
--- `;`
-abbrev pub semicolon : ℕ
-semicolon = 59
 
 -- the pieces of a text that is cut at spaces, after the piece that is open
 abbrev pub pieces_from : List ℕ → List ℕ → List (List ℕ)

@@ -2,7 +2,7 @@
 use Rattle.std.proofs.Common.{◌≡◌, ℕ, Bool, true, false, not, ◌||◌, cond, List, [], ◌∷◌, ◌++◌, map, ◌==◌, IsTrue, refl, sym, ap, ◌∙◌, append_assoc, append-nil, arith}
 use Rattle.std.proofs.lemmas.Bool.Decides.{Decides-eqb}
 use Rattle.std.proofs.lemmas.List.{map-append}
-use Rattle.cc_quote.specs.Bytes.{line_feed, space, single_quote}
+use Rattle.cc_base.specs.Bytes.{line_feed, space, single_quote}
 use Rattle.cc_quote.specs.ElvishQuote.{elvish_escaped_byte, elvish_escaped}
 use Rattle.cc_quote.specs.ElvishTokens.{is_bare, IsBare, IsBareWord}
 use Rattle.cc_quote.specs.QuotedWord.{space_for_line_feed, line_feeds_as_spaces}

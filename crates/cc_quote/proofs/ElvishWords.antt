@@ -2,7 +2,7 @@
 use Rattle.std.proofs.Common.{◌≡◌, ◌≢◌, ◌==◌, ℕ, suc, ◌<◌, Bool, true, false, cond, List, [], ◌∷◌, ◌++◌, map, flat_map, length, length-append, get_or, codes, Some, refl, ◌∙◌, ap, arith}
 use Rattle.std.proofs.lemmas.Bool.Decides.{Decides-eqb, nat_tests}
 use Rattle.std.proofs.lemmas.List.{map-append}
-use Rattle.cc_quote.specs.Bytes.{single_quote}
+use Rattle.cc_base.specs.Bytes.{single_quote}
 use Rattle.cc_quote.specs.ElvishQuote.{elvish_escaped, elvish_word_of}
 use Rattle.cc_quote.specs.QuotedWord.{bare, quoted, word_from, line_feeds_as_spaces, IsWithoutQuotes, IsCutAtQuote, BeginsWithQuote, BeginsWithNoQuote}
 use Rattle.cc_quote.specs.Signs.{Sign, blank, quote, other, bytes, is_blank, sign, HasNoQuote}

@@ -1,6 +1,6 @@
 -- Worked rows of the definitions.
 use Rattle.std.proofs.Common.{◌≡◌, ◌++◌, ◌∷◌, [], refl, Some, None, codes}
-use Rattle.cc_quote.specs.Bytes.{right_quote}
+use Rattle.cc_base.specs.Bytes.{right_quote}
 use Rattle.cc_quote.specs.ElvishQuote.{elvish_escaped, elvish_word_of}
 use Rattle.cc_quote.specs.ElvishTokens.{elvish_tokens}
 use Rattle.cc_quote.specs.PowershellQuote.{powershell_escaped, powershell_word_of, powershell_signs, sign_before}

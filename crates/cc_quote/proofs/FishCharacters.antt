@@ -2,7 +2,7 @@
 use Rattle.std.proofs.Common.{◌≡◌, ◌≢◌, ◌==◌, ℕ, ◌≤◌, Bool, true, false, cond, List, [], ◌∷◌, ◌++◌, Option, Some, None, codes, encode_utf8, refl, sym, ◌∙◌, ap, arith, append_assoc, append-nil}
 use Rattle.std.specs.Prelude.{⊤}
 use Rattle.std.proofs.lemmas.Bool.Decides.{Decides-eqb, nat_tests}
-use Rattle.cc_quote.specs.Bytes as ascii
+use Rattle.cc_base.specs.Bytes as ascii
 use Rattle.cc_quote.specs.FishPlaces.{place_at, ends_word, character_place, character_word, is_bare}
 use Rattle.cc_quote.specs.FishQuote.{FishSign, FishPlace, fish_sign, place_after, advance, spelled, fish_word_from, fish_double_from, fish_double_of}
 use Rattle.cc_quote.specs.FishQuote.FishSign.{blank, line_feed, single, double, backslash, dollar, hash, other}

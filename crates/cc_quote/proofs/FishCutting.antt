@@ -1,7 +1,7 @@
 -- How a fish script is cut into the words of its commands, whatever follows the part that each lemma speaks of.
 use Rattle.std.proofs.Common.{◌≡◌, ℕ, List, [], ◌∷◌, ◌++◌, refl, ap, ◌∙◌, sym, append_assoc, append-nil, inl, inr, ◌⊎◌, Some, None, IsTrue, flat_map}
 use Rattle.std.specs.List.{AllByRecursion}
-use Rattle.cc_quote.specs.Bytes as ascii
+use Rattle.cc_base.specs.Bytes as ascii
 use Rattle.cc_quote.specs.FishQuote.{FishSign, FishPlace, fish_sign, next_place, advance, begins_word, begins_with_word}
 use Rattle.cc_quote.specs.FishQuote.FishSign.{blank, line_feed, single, double, backslash, dollar, hash, other}
 use Rattle.cc_quote.specs.FishQuote.FishPlace.{bare}

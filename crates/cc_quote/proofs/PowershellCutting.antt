@@ -4,7 +4,7 @@ use Rattle.std.specs.Char.{is_ascii}
 use Rattle.std.specs.List.{list_all}
 use Rattle.std.proofs.lemmas.Bool.{and_parts}
 use Rattle.std.proofs.lemmas.Bool.Decides.{Decides-eqb, nat_tests}
-use Rattle.cc_quote.specs.Bytes.{line_feed, space, single_quote, right_quote_second, right_quote_third, right_quote}
+use Rattle.cc_base.specs.Bytes.{line_feed, space, single_quote, right_quote_second, right_quote_third, right_quote}
 use Rattle.cc_quote.specs.PowershellQuote.{begins_third, begins_second, begins_right_quote, powershell_escaped_byte, powershell_escaped, sign_before, powershell_signs}
 use Rattle.cc_quote.specs.PowershellTokens.{is_quote_first, IsUnquoted}
 use Rattle.cc_quote.specs.QuotedWord.{space_for_line_feed, line_feeds_as_spaces}

@@ -5,7 +5,7 @@ use Rattle.std.proofs.lemmas.Bool.{or_parts}
 use Rattle.std.proofs.lemmas.Bool.Decides.{nat_tests}
 use Rattle.std.proofs.lemmas.List.{append-nil, drop_all, take_all}
 use Rattle.memchr.specs.Find.{is_byte3, places_from, places}
-use Rattle.cc_quote.specs.Bytes.{line_feed, single_quote, right_quote_first}
+use Rattle.cc_base.specs.Bytes.{line_feed, single_quote, right_quote_first}
 use Rattle.cc_quote.specs.PowershellQuote.{begins_second, begins_right_quote, begins_quote, powershell_escaped_byte, powershell_escaped, is_escaped}
 
 -- the bytes that are searched

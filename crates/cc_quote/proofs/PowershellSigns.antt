@@ -2,7 +2,7 @@
 use Rattle.std.proofs.Common.{◌≡◌, ◌≢◌, ◌==◌, ◌&&◌, ℕ, Bool, true, false, List, [], ◌∷◌, ◌++◌, map, flat_map, refl, sym, ap, ap₂, subst, ◌∙◌, append_assoc, arith}
 use Rattle.std.proofs.lemmas.Bool.{and_parts}
 use Rattle.std.proofs.lemmas.Bool.Decides.{Decides-eqb, nat_tests}
-use Rattle.cc_quote.specs.Bytes.{right_quote}
+use Rattle.cc_base.specs.Bytes.{right_quote}
 use Rattle.cc_quote.specs.PowershellQuote.{begins_second, begins_right_quote, sign_before, powershell_signs}
 use Rattle.cc_quote.specs.PowershellTokens.{is_quote_first, IsUnquoted}
 use Rattle.cc_quote.specs.QuotedWord.{bare, word_from, BeginsWithQuote, BeginsWithNoQuote}

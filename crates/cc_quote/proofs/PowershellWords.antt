@@ -7,7 +7,7 @@ use Rattle.std.proofs.lemmas.Bool.{or_parts}
 use Rattle.std.proofs.lemmas.Bool.Decides.{Decides-eqb}
 use Rattle.std.proofs.lemmas.List.{append-nil, drop_all, get_or-drop, length-drop, map-append, take_all}
 use Rattle.std.proofs.lemmas.Str.{IsUtf8-drop, IsCharBoundary-past_char, drop_past_char}
-use Rattle.cc_quote.specs.Bytes.{line_feed, single_quote, right_quote}
+use Rattle.cc_base.specs.Bytes.{line_feed, single_quote, right_quote}
 use Rattle.cc_quote.specs.PowershellQuote.{begins_right_quote, begins_quote, powershell_escaped, powershell_word_of, sign_before, powershell_signs, is_escaped, IsFirstEscaped, HasNoQuoteBefore, IsFirstQuote}
 use Rattle.cc_quote.specs.QuotedWord.{quoted, word_from, line_feeds_as_spaces, IsWithoutQuotes, IsCutAtQuote}
 use Rattle.cc_quote.specs.Signs.{sign, HasNoQuote}

@@ -4,7 +4,7 @@ use Rattle.std.proofs.lemmas.Bool.Decides.{Decides-eqb, nat_tests}
 use Rattle.std.proofs.lemmas.List.Concat.{flat_map-append}
 use Rattle.std.specs.Char.{encode_utf8}
 use Rattle.std.specs.List.{AllByRecursion}
-use Rattle.cc_quote.specs.Bytes.{backslash}
+use Rattle.cc_base.specs.Bytes.{backslash}
 use Rattle.cc_quote.specs.PosixQuote.{posix_escaped_byte}
 use Rattle.cc_quote.specs.QuotedWord.{space_for_line_feed, line_feeds_as_spaces}
 use Rattle.cc_quote.specs.ZshQuote.{Mark, marks_from, marks, unmarked, zsh_unescaped, is_help_marked, is_value_marked, marked_byte, marked, zsh_escaped_help, zsh_escaped_value, ReadsUnescaped, zsh_help_byte, zsh_value_byte, is_help_escaped, is_value_escaped}

@@ -1,7 +1,7 @@
 -- Words as Elvish quotes them.
 use Rattle.std.specs.Prelude.{ℕ, List, [], ◌∷◌, Option, map, ◌==◌, if◌then◌else◌}
 use Rattle.std.specs.List.{flat_map}
-use Rattle.cc_quote.specs.Bytes.{line_feed, space, single_quote}
+use Rattle.cc_base.specs.Bytes.{line_feed, space, single_quote}
 use Rattle.cc_quote.specs.QuotedWord.{before, word_from}
 use Rattle.cc_quote.specs.Signs.{sign}
 

@@ -1,6 +1,6 @@
 -- What stands for each byte of a text that fish's escapes write byte by byte.
 use Rattle.std.specs.Prelude.{ℕ, Bool, List, ◌==◌, ◌||◌}
-use Rattle.cc_quote.specs.Bytes.{backslash, single_quote, double_quote, dollar, line_feed}
+use Rattle.cc_base.specs.Bytes.{backslash, single_quote, double_quote, dollar, line_feed}
 use Rattle.cc_quote.specs.QuotedWord.{space_for_line_feed}
 use Rattle.cc_quote.specs.FishQuote.{single_byte, double_escaped}
 

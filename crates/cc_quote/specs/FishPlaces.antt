@@ -1,7 +1,7 @@
 -- How a reader of fish's words goes on by one character, of which it sees the sign, the number and
 -- the bytes.
 use Rattle.std.specs.Prelude.{ℕ, Bool, true, false, List, [], ◌∷◌, ◌++◌, codes, ◌==◌, if◌then◌else◌}
-use Rattle.cc_quote.specs.Bytes as ascii
+use Rattle.cc_base.specs.Bytes as ascii
 use Rattle.cc_quote.specs.FishQuote.{FishSign, FishPlace}
 use Rattle.cc_quote.specs.FishQuote.FishSign.{blank, line_feed, single, double, backslash, dollar}
 use Rattle.cc_quote.specs.FishQuote.FishPlace.{

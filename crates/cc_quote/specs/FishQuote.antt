@@ -2,7 +2,7 @@
 use Rattle.std.specs.Prelude.{◌≡◌, ℕ, Bool, true, false, List, [], ◌∷◌, ◌++◌, Option, Some, None, codes, ◌==◌, ◌||◌, if◌then◌else◌}
 use Rattle.std.specs.Char.{is_ascii_alphanumeric}
 use Rattle.std.specs.List.{flat_map, list_all, list_any}
-use Rattle.cc_quote.specs.Bytes as ascii
+use Rattle.cc_base.specs.Bytes as ascii
 use Rattle.cc_quote.specs.QuotedWord.{line_feeds_as_spaces}
 
 -- ---- how a word is read

@@ -1,4 +1,3 @@
-pub mod Bytes
 pub mod ElvishQuote
 pub mod ElvishTokens
 pub mod Escapes

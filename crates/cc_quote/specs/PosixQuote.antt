@@ -18,7 +18,7 @@ use Rattle.std.specs.Prelude.{
 }
 use Rattle.std.specs.Char.{is_ascii_alphanumeric}
 use Rattle.std.specs.List.{flat_map, list_all, list_any}
-use Rattle.cc_quote.specs.Bytes.{single_quote as single_quote_byte}
+use Rattle.cc_base.specs.Bytes.{single_quote as single_quote_byte}
 use Rattle.cc_quote.specs.PosixTokens.{Sign, sign, byte_of}
 use Rattle.cc_quote.specs.PosixTokens.Sign.{
   blank,

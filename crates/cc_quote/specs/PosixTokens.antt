@@ -13,7 +13,7 @@ use Rattle.std.specs.Prelude.{
   Bool,
   bytes_eq,
 }
-use Rattle.cc_quote.specs.Bytes.{
+use Rattle.cc_base.specs.Bytes.{
   tab as tab_byte,
   line_feed as line_feed_byte,
   space as space_byte,

@@ -23,7 +23,7 @@ use Rattle.std.specs.Prelude.{
   map,
   Option,
 }
-use Rattle.cc_quote.specs.Bytes.{
+use Rattle.cc_base.specs.Bytes.{
   line_feed,
   space,
   single_quote,

@@ -1,7 +1,7 @@
 -- The tokens of a PowerShell script.
 use Rattle.std.specs.Prelude.{ℕ, Bool, not, ◌||◌, ◌==◌, List, IsTrue}
 use Rattle.std.specs.List.{AllByRecursion}
-use Rattle.cc_quote.specs.Bytes.{single_quote, right_quote_first}
+use Rattle.cc_base.specs.Bytes.{single_quote, right_quote_first}
 use Rattle.cc_quote.specs.PowershellQuote.{powershell_signs}
 use Rattle.cc_quote.specs.Tokens.{Token, cut}
 use Rattle.cc_quote.specs.Tokens.Place.{between}

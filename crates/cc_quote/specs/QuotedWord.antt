@@ -24,7 +24,7 @@ use Rattle.std.specs.Borrow.{Bor}
 use Rattle.std.specs.Str.{NoCharPasses}
 use Rattle.std.specs.String.{string_bytes}
 use Rattle.std.specs.declared.string.String.{String}
-use Rattle.cc_quote.specs.Bytes.{line_feed, space}
+use Rattle.cc_base.specs.Bytes.{line_feed, space}
 use Rattle.cc_quote.specs.Signs.{Sign, blank, quote, other, bytes, is_blank, sign, HasNoQuote}
 
 -- where a reader is, with the word so far: before the word, in a bare one, in a quoted one, or

@@ -1,7 +1,7 @@
 -- What the bytes of a text are to the readers of words and of tokens.
 use Rattle.std.specs.Prelude.{ℕ, Bool, not, ◌||◌, ◌==◌, if◌then◌else◌, List, [], ◌∷◌, IsTrue}
 use Rattle.std.specs.List.{AllByRecursion}
-use Rattle.cc_quote.specs.Bytes.{tab, line_feed, space, single_quote}
+use Rattle.cc_base.specs.Bytes.{tab, line_feed, space, single_quote}
 
 -- a space, a tab or a line feed; a quote; anything else; each with its bytes
 pub data Sign : Type 0 where

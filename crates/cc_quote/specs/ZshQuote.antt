@@ -2,7 +2,7 @@
 -- off again.
 use Rattle.std.specs.Prelude.{◌≡◌, ℕ, Bool, true, false, List, [], ◌∷◌, ◌++◌, Option, Some, None, option_map, codes, ◌==◌, ◌||◌, if◌then◌else◌}
 use Rattle.std.specs.List.{flat_map}
-use Rattle.cc_quote.specs.Bytes.{backslash, backtick, dollar, line_feed, single_quote, space}
+use Rattle.cc_base.specs.Bytes.{backslash, backtick, dollar, line_feed, single_quote, space}
 use Rattle.cc_quote.specs.PosixQuote.{posix_escaped, posix_word_of}
 use Rattle.cc_quote.specs.QuotedWord.{space_for_line_feed, line_feeds_as_spaces}
 

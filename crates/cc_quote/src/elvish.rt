@@ -2,7 +2,7 @@
 
 ghost use Rattle.std.specs.Prelude.{◌≡◌, [], ◌++◌, map, codes, true, IfOk, IfErr, Some};
 ghost use Rattle.std.specs.String.{string_bytes};
-ghost use Rattle.cc_quote.specs.Bytes.{line_feed, single_quote};
+ghost use Rattle.cc_base.specs.Bytes.{line_feed, single_quote};
 ghost use Rattle.cc_quote.specs.ElvishQuote.{elvish_escaped, elvish_escaped_byte, elvish_word_of};
 ghost use Rattle.cc_quote.specs.QuotedWord.{contents, line_feeds_as_spaces, quoted, word_from};
 ghost use Rattle.cc_quote.specs.Signs.{sign};

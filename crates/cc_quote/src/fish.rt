@@ -4,7 +4,7 @@ ghost use Rattle.std.specs.Prelude.{◌≡◌, [], ◌++◌, true, codes, IfOk, 
 ghost use Rattle.std.specs.List.{list_all};
 ghost use Rattle.std.specs.String.{string_bytes};
 ghost use Rattle.cc_base.specs.Writes.{Writes};
-ghost use Rattle.cc_quote.specs.Bytes.{backslash, line_feed, single_quote};
+ghost use Rattle.cc_base.specs.Bytes.{backslash, line_feed, single_quote};
 ghost use Rattle.memchr.specs.Find.{IsFirstByte, is_byte2, is_byte3};
 ghost use Rattle.cc_quote.specs.FishEscapes.{
   description_byte,

@@ -9,7 +9,7 @@ use Rattle.cc_command.specs.Plain.{is_plain_tree}
 use Rattle.cc_command.specs.PlainName.{name_byte, foreign, joiner, letter}
 use Rattle.cc_command.specs.Tree.{Tree}
 use Rattle.cc_command.proofs.PlainParts.{plain_full_name}
-use Rattle.cc_quote.specs.Bytes.{single_quote}
+use Rattle.cc_base.specs.Bytes.{single_quote}
 use Rattle.cc_quote.specs.ElvishTokens.{is_bare, IsBareWord}
 use Rattle.cc_tables.specs.ElvishReader.{elvish_tables, ElvishReads}
 use Rattle.cc_tables.specs.ElvishScript.{offer_row, script_text}

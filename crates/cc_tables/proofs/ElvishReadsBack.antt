@@ -7,7 +7,7 @@ use Rattle.cc_base.proofs.Lines.IsLine.{line}
 use Rattle.cc_quote.specs.Tokens.{Place, cut, is_word, strip_words, after_words}
 use Rattle.cc_quote.specs.Tokens.Piece.{bare}
 use Rattle.cc_quote.specs.Tokens.Place.{between, in_bare}
-use Rattle.cc_quote.specs.Bytes.{single_quote}
+use Rattle.cc_base.specs.Bytes.{single_quote}
 use Rattle.cc_quote.specs.Signs.{sign, HasNoQuote}
 use Rattle.cc_quote.specs.ElvishQuote.{elvish_escaped}
 use Rattle.cc_quote.specs.ElvishTokens.{elvish_tokens, IsBare, IsBareWord}

@@ -10,7 +10,7 @@ use Rattle.cc_command.specs.Plain.{is_plain_tree}
 use Rattle.cc_command.specs.PlainName.{name_byte, foreign}
 use Rattle.cc_command.specs.Tree.{Tree}
 use Rattle.cc_command.proofs.PlainParts.{IsPlainArgument, IsPlainBelow, plain_node}
-use Rattle.cc_quote.specs.Bytes.{line_feed, space}
+use Rattle.cc_base.specs.Bytes.{line_feed, space}
 use Rattle.cc_tables.specs.NushellReader.{NushellReads, ends_name, line_read, nushell_blocks}
 use Rattle.cc_tables.specs.NushellScript.{argument_lines, node_lines, offer_line, script_text}
 use Rattle.cc_tables.specs.NushellScript.{tree_blocks}

@@ -6,7 +6,7 @@ use Rattle.std.proofs.lemmas.Bool.Decides.{nat_tests}
 use Rattle.std.specs.List.{AllByRecursion}
 use Rattle.std.proofs.lemmas.List.{reverse-append, reverse-reverse}
 use Rattle.cc_base.proofs.Members.{AllByRecursion-append}
-use Rattle.cc_quote.specs.Bytes.{line_feed, space}
+use Rattle.cc_base.specs.Bytes.{line_feed, space}
 use Rattle.cc_quote.specs.QuotedWord.{line_feeds_as_spaces, space_for_line_feed}
 use Rattle.cc_tables.specs.NushellReader.{State, Sign, after, after_first, after_name, before}
 use Rattle.cc_tables.specs.NushellReader.{between, closed, ends_name, holds, in_block}

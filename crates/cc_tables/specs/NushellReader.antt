@@ -5,7 +5,7 @@ use Rattle.std.specs.Prelude.{ℕ, List, [], ◌∷◌, ◌++◌, ◌==◌, ◌|
 use Rattle.std.specs.Prelude.{None, if◌then◌else◌, bytes_eq, codes, is_some, map, option_map}
 use Rattle.std.specs.Prelude.{reverse}
 use Rattle.cc_command.specs.Tree.{Tree}
-use Rattle.cc_quote.specs.Bytes.{line_feed, space}
+use Rattle.cc_base.specs.Bytes.{line_feed, space, colon}
 use Rattle.cc_quote.specs.QuotedWord.{line_feeds_as_spaces}
 use Rattle.cc_tables.specs.NushellScript.{Line, node_lines, nushell_script}
 use Rattle.cc_tables.specs.TableReader.{ReadsTables}
@@ -38,10 +38,6 @@ after_first found (byte ∷ bytes) = elim (after found (byte ∷ bytes)) [
 ]
 
 -- ---- a line
-
--- `:`
-abbrev pub colon : ℕ
-colon = 58
 
 -- a colon or a space ends a name
 abbrev pub ends_name : ℕ → Bool

@@ -2,7 +2,7 @@
 use Rattle.std.proofs.Common.{◌≡◌, ℕ, ◌<◌, ◌==◌, true, false, List, [], ◌∷◌, flat_map, refl, if◌then◌else◌, arith}
 use Rattle.std.proofs.lemmas.Bool.Decides.{nat_tests}
 use Rattle.memchr.specs.Find.{is_byte}
-use Rattle.cc_quote.specs.Bytes.{space}
+use Rattle.cc_base.specs.Bytes.{space}
 use Rattle.cc_zsh.specs.Nested.{unspaced}
 
 -- what stands for a byte

@@ -6,7 +6,7 @@ use Rattle.cc_command.specs.declared.node.Node.{Node}
 use Rattle.cc_command.specs.ArgumentLists.{positionals}
 use Rattle.cc_command.specs.Names.{full_name, visible_names}
 use Rattle.cc_command.specs.Tree.{Forest, none, more, Tree, has_nodes}
-use Rattle.cc_quote.specs.Bytes.{line_feed, space}
+use Rattle.cc_base.specs.Bytes.{line_feed, space}
 use Rattle.cc_zsh.specs.Options.{flags_text, options_text}
 use Rattle.cc_zsh.specs.Positionals.{positionals_text}
 

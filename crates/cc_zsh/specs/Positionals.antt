@@ -4,7 +4,7 @@ use Rattle.std.specs.List.{flat_map}
 use Rattle.cc_arg.specs.declared.arg.Arg.{Arg}
 use Rattle.cc_command.specs.ArgumentLists.{positionals}
 use Rattle.cc_command.specs.Tree.{Tree, has_nodes}
-use Rattle.cc_quote.specs.Bytes.{backslash, single_quote}
+use Rattle.cc_base.specs.Bytes.{backslash, single_quote}
 use Rattle.cc_quote.specs.ZshQuote.{zsh_escaped_value}
 use Rattle.cc_zsh.specs.Options.{line_end}
 use Rattle.cc_zsh.specs.Values.{range, value_text}

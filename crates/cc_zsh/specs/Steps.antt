@@ -1,7 +1,7 @@
 -- What is written where a node is entered and where it is left.
 use Rattle.std.specs.Prelude.{ℕ, List, [], ◌∷◌, ◌++◌, if◌then◌else◌, codes}
 use Rattle.cc_command.specs.Tree.{Tree, has_nodes}
-use Rattle.cc_quote.specs.Bytes.{line_feed}
+use Rattle.cc_base.specs.Bytes.{line_feed}
 use Rattle.cc_visits.specs.Visits.{Keyed, Step, enter, leave}
 use Rattle.cc_zsh.specs.Nested.{arm_ends, block_text, nested_7, nested_begins}
 

@@ -4,49 +4,13 @@ use Rattle.std.specs.Prelude.{ℕ, Bool, true, false, List, [], ◌∷◌, ◌++
 use Rattle.std.specs.Char.{is_ascii_alphanumeric}
 use Rattle.std.specs.List.{flat_map}
 use Rattle.std.specs.Option.{option_to_list}
+use Rattle.cc_base.specs.Bytes.{space, open_parenthesis, close_parenthesis, star, plus, dash, colon, equals, open_bracket, backslash, close_bracket, underscore}
 use Rattle.cc_quote.specs.PosixTokens.{is_double_quote, posix_tokens}
 use Rattle.cc_quote.specs.Tokens.{Piece, Token, is_word}
 use Rattle.cc_quote.specs.Tokens.Piece.{bare, quoted, unclosed}
 use Rattle.cc_quote.specs.ZshQuote.{Mark, marks, unmarked}
 use Rattle.cc_quote.specs.ZshQuote.Mark.{kept, escaped, unended}
 use Rattle.cc_zsh.specs.Functions.{Entry}
-
--- the bytes at which texts are cut
-abbrev pub space_byte : ℕ
-space_byte = 32
-
-abbrev pub open_parenthesis : ℕ
-open_parenthesis = 40
-
-abbrev pub close_parenthesis : ℕ
-close_parenthesis = 41
-
-abbrev pub star_byte : ℕ
-star_byte = 42
-
-abbrev pub plus_byte : ℕ
-plus_byte = 43
-
-abbrev pub dash_byte : ℕ
-dash_byte = 45
-
-abbrev pub colon_byte : ℕ
-colon_byte = 58
-
-abbrev pub equals_byte : ℕ
-equals_byte = 61
-
-abbrev pub open_bracket : ℕ
-open_bracket = 91
-
-abbrev pub backslash_byte : ℕ
-backslash_byte = 92
-
-abbrev pub close_bracket : ℕ
-close_bracket = 93
-
-abbrev pub underscore_byte : ℕ
-underscore_byte = 95
 
 -- ---- the words of tokens
 
@@ -125,31 +89,31 @@ with_name names (byte ∷ name) = names ++ (byte ∷ name) ∷ []
 -- the bytes of a name: letters, digits, `-` and `_`
 unfoldable pub is_name_byte : ℕ → Bool
 is_name_byte byte =
-    is_ascii_alphanumeric byte || byte == dash_byte || byte == underscore_byte
+    is_ascii_alphanumeric byte || byte == dash || byte == underscore
 
 -- the place after a byte that does not belong to the name
 unfoldable pub after_name : List (List ℕ) → Bool → List ℕ → ℕ → OptionPlace
 after_name conflicts repeated name byte =
     if byte == open_bracket then in_help (new_option conflicts repeated name alone)
-    else (if byte == plus_byte then at_bracket conflicts repeated name after_plus
-    else (if byte == equals_byte then at_bracket conflicts repeated name after_equals
+    else (if byte == plus then at_bracket conflicts repeated name after_plus
+    else (if byte == equals then at_bracket conflicts repeated name after_equals
     else no_option))
 
 -- the place after one more byte
 unfoldable pub next_place : OptionPlace → ℕ → OptionPlace
 next_place before_option byte =
     if byte == open_parenthesis then in_conflicts [] []
-    else (if byte == star_byte then after_star []
-    else (if byte == dash_byte then in_name [] false (byte ∷ []) else no_option))
+    else (if byte == star then after_star []
+    else (if byte == dash then in_name [] false (byte ∷ []) else no_option))
 next_place (in_conflicts names name) byte =
     if byte == close_parenthesis then after_conflicts (with_name names name)
-    else (if byte == space_byte then in_conflicts (with_name names name) []
+    else (if byte == space then in_conflicts (with_name names name) []
     else in_conflicts names (name ++ byte ∷ []))
 next_place (after_conflicts names) byte =
-    if byte == star_byte then after_star names
-    else (if byte == dash_byte then in_name names false (byte ∷ []) else no_option)
+    if byte == star then after_star names
+    else (if byte == dash then in_name names false (byte ∷ []) else no_option)
 next_place (after_star names) byte =
-    if byte == dash_byte then in_name names true (byte ∷ []) else no_option
+    if byte == dash then in_name names true (byte ∷ []) else no_option
 next_place (in_name names repeated name) byte =
     if is_name_byte byte then in_name names repeated (name ++ byte ∷ [])
     else after_name names repeated name byte
@@ -157,7 +121,7 @@ next_place (at_bracket names repeated name bracket) byte =
     if byte == open_bracket then in_help (new_option names repeated name bracket) else no_option
 next_place (in_help option) byte =
     if byte == close_bracket then after_help option
-    else (if byte == backslash_byte then in_help_escaped option
+    else (if byte == backslash then in_help_escaped option
     else in_help (with_help option byte))
 next_place (in_help_escaped option) byte = in_help (with_help option byte)
 next_place (after_help option) byte = after_help option
@@ -189,7 +153,7 @@ unfoldable pub entry_from : List ℕ → List Mark → Option Entry
 entry_from word [] = None
 entry_from word (unended ∷ rest) = None
 entry_from word (escaped byte ∷ rest) = entry_from (word ++ byte ∷ []) rest
-entry_from word (kept byte ∷ rest) = elim (byte == colon_byte) [
+entry_from word (kept byte ∷ rest) = elim (byte == colon) [
   | true ↦ option_map (entry_with word) (unmarked rest)
   | false ↦ entry_from (word ++ byte ∷ []) rest
 ]

@@ -2,6 +2,7 @@
 -- proof about these calls names this crate alone.
 
 -- sinks and errors
+pub use Rattle.cc_base.specs.Bytes
 pub use Rattle.cc_base.specs.Collected
 pub use Rattle.cc_base.specs.Counted
 pub use Rattle.cc_base.specs.Differ
@@ -13,7 +14,6 @@ pub use Rattle.cc_base.specs.Writes
 pub use Rattle.cc_base.specs.declared.error.Error
 pub use Rattle.cc_base.specs.declared.failures.Failures
 -- quoted words
-pub use Rattle.cc_quote.specs.Bytes
 pub use Rattle.cc_quote.specs.ElvishQuote
 pub use Rattle.cc_quote.specs.ElvishTokens
 pub use Rattle.cc_quote.specs.FishEscapes

@@ -4,9 +4,10 @@ ghost use Rattle.std.specs.Prelude.{◌≡◌, ◌&&◌, ◌||◌, ◌==◌, ◌
 ghost use Rattle.std.specs.List.{list_all};
 ghost use Rattle.std.specs.Option.{option_copied};
 ghost use Rattle.std.specs.Char.{is_ascii_alphanumeric};
+ghost use Rattle.cc_base.specs.Bytes.{dash, underscore};
 ghost use Rattle.cc_command.specs.Tree.{forest_of};
 ghost use Rattle.cc_command.specs.Names.{contains_name, has_child};
-ghost use Rattle.cc_command.specs.PlainName.{dash, is_plain_name, underscore};
+ghost use Rattle.cc_command.specs.PlainName.{is_plain_name};
 ghost use Rattle.cc_command.specs.Plain.{all_differ, has_no_quote, is_plain_argument};
 ghost use Rattle.cc_command.specs.Plain.{is_plain_forest, is_plain_node, is_plain_tree};
 ghost use Rattle.cc_command.specs.Plain.{names_of, passes_if_some, siblings_differ};

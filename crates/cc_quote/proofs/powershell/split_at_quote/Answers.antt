@@ -1,7 +1,7 @@
 use Rattle.std.proofs.Common.{◌≡◌, ◌≢◌, ◌∙◌, ◌∷◌, [], ◌+◌, get_or, take, drop, arith}
 use Rattle.std.proofs.lemmas.Slice.{between_from_start}
 use Rattle.std.proofs.lemmas.Str.{IsCharBoundary-after_ascii}
-use Rattle.cc_quote.specs.Bytes.{right_quote}
+use Rattle.cc_base.specs.Bytes.{right_quote}
 use Rattle.cc_quote.specs.PowershellQuote.{IsFirstQuote}
 use Rattle.cc_quote.proofs.PowershellWords.{begins_right, cut_after, cut_at_single, cut_at_right}
 use Rattle.cc_quote.proofs.powershell.split_at_quote.Goals as goal

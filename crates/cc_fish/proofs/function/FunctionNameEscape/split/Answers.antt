@@ -2,7 +2,7 @@ use Rattle.std.proofs.Common.{◌≡◌, ◌∙◌, ℕ, ◌<◌, ◌==◌, if�
 use Rattle.std.proofs.lemmas.Bool.Decides.{nat_tests}
 use Rattle.std.proofs.lemmas.Slice.{between_from_start}
 use Rattle.memchr.specs.Find.{is_byte}
-use Rattle.cc_command.specs.PlainName.{dash, underscore}
+use Rattle.cc_base.specs.Bytes.{dash, underscore}
 use Rattle.cc_quote.proofs.ByteEscapes.{kept_whole, cut_after, cut_at_first}
 use Rattle.cc_fish.specs.FishTable.{function_name}
 use Rattle.cc_fish.proofs.function.FunctionNameEscape.split.Goals as goal

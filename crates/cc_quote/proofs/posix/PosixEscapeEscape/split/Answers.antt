@@ -2,7 +2,7 @@ use Rattle.std.proofs.Common.{◌≡◌, ◌∙◌, ◌∷◌, [], ℕ, ◌<◌,
 use Rattle.std.proofs.lemmas.Bool.Decides.{nat_tests}
 use Rattle.std.proofs.lemmas.Slice.{between_from_start}
 use Rattle.memchr.specs.Find.{is_byte}
-use Rattle.cc_quote.specs.Bytes.{single_quote}
+use Rattle.cc_base.specs.Bytes.{single_quote}
 use Rattle.cc_quote.specs.PosixQuote.{posix_escaped, posix_escaped_byte}
 use Rattle.cc_quote.proofs.ByteEscapes.{kept_whole, cut_after, cut_at_first}
 use Rattle.cc_quote.proofs.posix.PosixEscapeEscape.split.Goals as goal

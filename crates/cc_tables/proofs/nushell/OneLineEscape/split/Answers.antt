@@ -3,7 +3,7 @@ use Rattle.std.proofs.Common.{arith, codes, slice_index}
 use Rattle.std.proofs.lemmas.Bool.Decides.{nat_tests}
 use Rattle.std.proofs.lemmas.Slice.{between_from_start}
 use Rattle.memchr.specs.Find.{is_byte}
-use Rattle.cc_quote.specs.Bytes.{line_feed}
+use Rattle.cc_base.specs.Bytes.{line_feed}
 use Rattle.cc_quote.specs.QuotedWord.{line_feeds_as_spaces, space_for_line_feed}
 use Rattle.cc_quote.proofs.ByteEscapes.{kept_whole, cut_after, cut_at_first}
 use Rattle.cc_tables.proofs.nushell.OneLineEscape.split.Goals as goal

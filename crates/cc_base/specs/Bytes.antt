@@ -26,9 +26,57 @@ dollar = 36
 abbrev pub single_quote : ℕ
 single_quote = 39
 
+-- `(`
+abbrev pub open_parenthesis : ℕ
+open_parenthesis = 40
+
+-- `)`
+abbrev pub close_parenthesis : ℕ
+close_parenthesis = 41
+
+-- `*`
+abbrev pub star : ℕ
+star = 42
+
+-- `+`
+abbrev pub plus : ℕ
+plus = 43
+
+-- `,`
+abbrev pub comma : ℕ
+comma = 44
+
+-- `-`
+abbrev pub dash : ℕ
+dash = 45
+
+-- `:`
+abbrev pub colon : ℕ
+colon = 58
+
+-- `;`
+abbrev pub semicolon : ℕ
+semicolon = 59
+
+-- `=`
+abbrev pub equals : ℕ
+equals = 61
+
+-- `[`
+abbrev pub open_bracket : ℕ
+open_bracket = 91
+
 -- `\`
 abbrev pub backslash : ℕ
 backslash = 92
+
+-- `]`
+abbrev pub close_bracket : ℕ
+close_bracket = 93
+
+-- `_`
+abbrev pub underscore : ℕ
+underscore = 95
 
 -- ``` ` ```
 abbrev pub backtick : ℕ
