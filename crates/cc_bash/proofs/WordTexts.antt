@@ -1,5 +1,5 @@
 -- Words that are written one after another.
-use Rattle.std.proofs.Common.{codes, ◌≡◌, ℕ, Bool, true, false, ◌||◌, List, [], ◌∷◌, ◌++◌, flat_map, filter, refl, sym, ap, ◌∙◌, append_assoc}
+use Rattle.std.proofs.Common.{codes, ◌≡◌, ℕ, Bool, true, false, ◌||◌, List, [], ◌∷◌, ◌++◌, flat_map, filter, refl, sym, ap, ◌∙◌}
 use Rattle.cc_base.specs.Joined.{has_texts}
 use Rattle.cc_base.proofs.JoinedTexts.{has_texts_append, joined_append}
 use Rattle.cc_arg.specs.declared.arg.Arg.{Arg}
