@@ -1,5 +1,6 @@
 pub mod Booleans
 pub mod Differing
+pub mod FailureExamples
 pub mod JoinedTexts
 pub mod Lines
 pub mod Lists

@@ -70,21 +70,3 @@ impl Sink for Collected {
         self.failures.count()
     }
 }
-
-#[cfg(test)]
-mod tests {
-    use super::*;
-    use crate::sink::put_all;
-    use std::test::Fail;
-
-    #[test]
-    fn keeps_the_bytes(rt: HostRuntime) -> Result<(), Fail> {
-        let mut sink = Collected::new(rt.alloc());
-        put_all(&mut sink, b"ab")?;
-        put_all(&mut sink, b"c")?;
-        assert_eq!(rt; sink.failures(), 0);
-        assert_eq!(rt; sink.as_slice(), b"abc".as_slice());
-        assert_eq!(rt; sink.into_vec().as_slice(), b"abc".as_slice());
-        Ok(())
-    }
-}

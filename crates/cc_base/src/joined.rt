@@ -22,22 +22,3 @@ pub fn put_separator<S: Sink>(between: &str, begun: &mut bool, sink: &mut S) -> 
     *begun = true;
     Ok(())
 }
-
-#[cfg(test)]
-mod tests {
-    use super::*;
-    use crate::collected::Collected;
-    use std::test::Fail;
-
-    #[test]
-    fn puts_no_separator_first(rt: HostRuntime) -> Result<(), Fail> {
-        let mut sink = Collected::new(rt.alloc());
-        let mut begun = false;
-        for name in ["ls", "rm"] {
-            put_separator(", ", &mut begun, &mut sink)?;
-            put_all(&mut sink, name.as_bytes())?;
-        }
-        assert_eq!(rt; sink.as_slice(), b"ls, rm".as_slice());
-        Ok(())
-    }
-}

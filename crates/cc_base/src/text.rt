@@ -69,29 +69,3 @@ impl Text {
         Text::copy_of(alloc, self.as_str())
     }
 }
-
-#[cfg(test)]
-mod tests {
-    use super::*;
-    use std::test::Fail;
-
-    #[test]
-    fn copies(rt: HostRuntime) -> Result<(), Fail> {
-        let text = Text::copy_of(rt.alloc(), "naïve")?;
-        let copy = text.try_clone(rt.alloc())?;
-        assert_eq!(rt; text.as_str(), "naïve");
-        assert_eq!(rt; copy.into_string().as_str(), "naïve");
-        let some = Text::copy_of_some(rt.alloc(), Some("naïve"))?.ok_or("no copy")?;
-        assert_eq!(rt; some.as_str(), "naïve");
-        assert!(rt; Text::copy_of_some(rt.alloc(), None)?.is_none());
-        Ok(())
-    }
-
-    #[test]
-    fn shows_its_field(rt: HostRuntime) -> Result<(), Fail> {
-        let text = Text::copy_of(rt.alloc(), "it's")?;
-        let shown = format!(in rt.alloc(); "{text:?}")?;
-        assert_eq!(rt; shown.as_str(), "Text { inner: \"it's\" }");
-        Ok(())
-    }
-}

@@ -1,9 +1,11 @@
-//! What `Debug` shows of actions, ranges and hints.
+//! What `Debug` shows of a type's values.
 
 use crate::checks::is;
 use cc_arg::{ArgAction, ValueHint, ValueRange};
+use cc_base::{Error, Failures, Items, Text};
 use std::alloc::{AllocError, Global};
 use std::fmt::Debug;
+use std::io::ErrorKind;
 
 fn shown<T: Debug + Drop>(alloc: Global, value: T) -> Result<String, AllocError> {
     format!(in alloc; "{value:?}")
@@ -28,4 +30,34 @@ fn a_range_shows_its_bounds(rt: HostRuntime) {
 fn a_hint_shows_its_variant(rt: HostRuntime) {
     let hint = ValueHint::CommandWithArguments;
     is(&rt, shown(rt.alloc(), hint), "CommandWithArguments");
+}
+
+#[test]
+fn an_error_shows_its_variant(rt: HostRuntime) {
+    let write = Error::Write(ErrorKind::BrokenPipe);
+    is(&rt, shown(rt.alloc(), write), "Write(BrokenPipe)");
+}
+
+#[test]
+fn failures_show_their_fields(rt: HostRuntime) {
+    let mut failures = Failures::none();
+    failures.raise(ErrorKind::WriteZero);
+    is(
+        &rt,
+        shown(rt.alloc(), failures),
+        "Failures { count: 1, last: Some(WriteZero) }",
+    );
+}
+
+#[test]
+fn items_show_their_field(rt: HostRuntime) {
+    let items = Items::copy_of(rt.alloc(), &['a', 'b']);
+    let items = items.expect(&rt, "no items");
+    is(&rt, shown(rt.alloc(), items), "Items { items: ['a', 'b'] }");
+}
+
+#[test]
+fn a_text_shows_its_field(rt: HostRuntime) {
+    let text = Text::copy_of(rt.alloc(), "it's").expect(&rt, "no text");
+    is(&rt, shown(rt.alloc(), text), "Text { inner: \"it's\" }");
 }

@@ -1,6 +1,6 @@
-//! Tests of the crates below `clap_complete` that know no shell: arguments, trees, tree files,
-//! lists, visits and quoted words. They need few crates, so that the merge gate can prove them
-//! early.
+//! Tests of the crates below `clap_complete` that know no shell: sinks, texts, arguments, trees,
+//! tree files, lists, visits and quoted words. They need few crates, so that the merge gate can
+//! prove them early.
 #![tactic(auto)]
 
 #[cfg(test)]
@@ -23,6 +23,10 @@ mod lists;
 mod pieces;
 #[cfg(test)]
 mod quoting;
+#[cfg(test)]
+mod sinks;
+#[cfg(test)]
+mod texts;
 #[cfg(test)]
 mod tree_file;
 #[cfg(test)]

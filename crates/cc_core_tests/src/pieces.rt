@@ -1,7 +1,9 @@
-//! Pieces put to a sink.
+//! Pieces and separators put to a sink.
 
 use crate::checks::is;
-use cc_base::{Collected, Error, as_error, put_around, put_piece, put_pieces};
+use cc_base::{
+    Collected, Error, as_error, put_all, put_around, put_piece, put_pieces, put_separator,
+};
 use std::alloc::Global;
 
 fn put_in_turn(alloc: Global) -> Result<String, Error> {
@@ -15,4 +17,19 @@ fn put_in_turn(alloc: Global) -> Result<String, Error> {
 #[test]
 fn pieces_are_put_in_turn(rt: HostRuntime) {
     is(&rt, put_in_turn(rt.alloc()), "abc(d)e");
+}
+
+fn separated(alloc: Global) -> Result<String, Error> {
+    let mut sink = Collected::new(alloc);
+    let mut begun = false;
+    for name in ["ls", "rm"] {
+        put_separator(", ", &mut begun, &mut sink)?;
+        put_all(&mut sink, name.as_bytes())?;
+    }
+    Ok(String::from_utf8_lossy(alloc, sink.as_slice())?)
+}
+
+#[test]
+fn no_separator_comes_first(rt: HostRuntime) {
+    is(&rt, separated(rt.alloc()), "ls, rm");
 }

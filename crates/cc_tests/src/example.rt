@@ -9,10 +9,11 @@ use clap_complete::{Error, Shell, generate, generate_to};
 use std::alloc::Global;
 
 fn elvish_script(alloc: Global) -> Result<Vec<u8>, Error> {
-    let out = Arg::new(alloc, String::from_str(alloc, "out")?).short('o');
-    let mut command = Command::new(alloc, String::from_str(alloc, "app")?).arg(out)?;
-    let mut sink = Collected::new(alloc);
+    let name = String::from_str(alloc, "app")?;
     let bin_name = String::from_str(alloc, "app")?;
+    let out = Arg::new(alloc, String::from_str(alloc, "out")?).short('o');
+    let mut command = Command::new(alloc, name).arg(out)?;
+    let mut sink = Collected::new(alloc);
     generate(alloc, Elvish, &mut command, bin_name, &mut sink)?;
     Ok(sink.into_vec())
 }

@@ -1,0 +1,131 @@
+//! Sinks: what they keep or pass on, and the failures that they count.
+
+use crate::checks::same;
+use cc_base::{Collected, Counted, Error, Failures, Sink, put_all};
+use std::alloc::Global;
+use std::io::{self, ErrorKind};
+use std::process::Abort;
+
+// Takes at most `at_once` bytes a call. Once it holds `room` bytes it fails with `failure`,
+// or takes nothing where there is none.
+#[derive(Drop)]
+struct Limited {
+    held: Vec<u8>,
+    at_once: usize,
+    room: usize,
+    failure: Option<ErrorKind>,
+}
+
+impl io::Write for Limited {
+    fn write(&mut self, buf: &[u8]) -> io::Result<usize> {
+        let left = self.room.saturating_sub(self.held.len());
+        if left == 0 && !buf.is_empty() {
+            return match self.failure {
+                Some(kind) => Err(io::Error::from(kind)),
+                None => Ok(0),
+            };
+        }
+        let count = buf.len().min(left).min(self.at_once);
+        self.held.extend_from_slice(&buf[..count])?;
+        Ok(count)
+    }
+
+    fn flush(&mut self) -> io::Result<()> {
+        match self.failure {
+            Some(kind) => Err(io::Error::from(kind)),
+            None => Ok(()),
+        }
+    }
+}
+
+// A sink over a writer that takes at most `at_once` bytes a call, and `room` bytes in all.
+fn over(
+    alloc: Global,
+    at_once: usize,
+    room: usize,
+    failure: Option<ErrorKind>,
+) -> Counted<Limited> {
+    Counted::new(Limited {
+        held: Vec::new(alloc),
+        at_once,
+        room,
+        failure,
+    })
+}
+
+fn put_each<S: Sink>(sink: &mut S, texts: &[&str]) -> Result<(), Error> {
+    for text in texts {
+        put_all(sink, text.as_bytes())?;
+    }
+    Ok(())
+}
+
+#[test]
+fn a_collected_sink_keeps_the_bytes(rt: HostRuntime) {
+    let mut sink = Collected::new(rt.alloc());
+    assert!(rt; put_each(&mut sink, &["ab", "c"]).is_ok());
+    same(&rt, sink.failures(), 0);
+    same(&rt, sink.as_slice(), b"abc".as_slice());
+    same(&rt, sink.into_vec().as_slice(), b"abc".as_slice());
+}
+
+#[test]
+fn a_counted_sink_passes_the_bytes_on(rt: HostRuntime) {
+    let mut sink = Counted::new(Vec::new(rt.alloc()));
+    assert!(rt; put_each(&mut sink, &["ab", "", "c"]).is_ok());
+    assert!(rt; sink.flush().is_ok());
+    same(&rt, sink.failures(), 0);
+    same(&rt, sink.get_ref().as_slice(), b"abc".as_slice());
+    same(&rt, sink.into_inner().as_slice(), b"abc".as_slice());
+}
+
+#[test]
+fn one_byte_a_call_is_put_in_turn(rt: HostRuntime) {
+    let mut sink = over(rt.alloc(), 1, 3, None);
+    assert!(rt; put_each(&mut sink, &["abc"]).is_ok());
+    same(&rt, sink.failures(), 0);
+    same(&rt, sink.get_ref().held.as_slice(), b"abc".as_slice());
+}
+
+fn failed_with(put: Result<(), Error>, kind: ErrorKind) -> bool {
+    matches!(put, Err(Error::Write(failed)) if failed == kind)
+}
+
+fn counts_its_failures(rt: &impl Abort, alloc: Global, kind: ErrorKind, room: usize) {
+    let mut sink = over(alloc, 2, room, Some(kind));
+    assert!(rt; failed_with(put_each(&mut sink, &["abc"]), kind));
+    same(rt, sink.failures(), 1);
+    assert!(rt; failed_with(sink.flush(), kind));
+    same(rt, sink.failures(), 2);
+    same(rt, sink.get_ref().held.len(), room);
+}
+
+#[test]
+fn each_failure_is_counted(rt: HostRuntime) {
+    for kind in [ErrorKind::BrokenPipe, ErrorKind::Interrupted] {
+        for room in 0..3 {
+            counts_its_failures(&rt, rt.alloc(), kind, room);
+        }
+    }
+}
+
+#[test]
+fn a_writer_that_takes_nothing_fails(rt: HostRuntime) {
+    let mut sink = over(rt.alloc(), 2, 0, None);
+    assert!(rt; put_each(&mut sink, &[""]).is_ok());
+    same(&rt, sink.failures(), 0);
+    let put = put_each(&mut sink, &["a"]);
+    assert!(rt; failed_with(put, ErrorKind::WriteZero));
+    same(&rt, sink.failures(), 1);
+}
+
+#[test]
+fn failures_have_a_count_and_the_last_kind(rt: HostRuntime) {
+    let mut failures = Failures::none();
+    same(&rt, failures.count(), 0);
+    same(&rt, failures.last(), None);
+    failures.raise(ErrorKind::WriteZero);
+    failures.raise(ErrorKind::BrokenPipe);
+    same(&rt, failures.count(), 2);
+    same(&rt, failures.last(), Some(ErrorKind::BrokenPipe));
+}
