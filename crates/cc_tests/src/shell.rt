@@ -258,9 +258,9 @@ fn remove_file<R: Abort + AllocGlobal + Files>(rt: &R, path: &str) {
 // The files and the folder stand where the test runs.
 #[test]
 fn a_folder_that_ends_in_a_slash_or_is_empty_adds_no_slash(rt: HostRuntime) {
-    fs::create_dir(&rt, "out").expect(&rt, "no folder");
-    is_written_at(&rt, Shell::PowerShell, "out/", "out/_app.ps1");
-    remove(&rt, "out");
+    fs::create_dir(&rt, "written").expect(&rt, "no folder");
+    is_written_at(&rt, Shell::PowerShell, "written/", "written/_app.ps1");
+    remove(&rt, "written");
     is_written_at(&rt, Shell::Zsh, "", "_app");
     remove_file(&rt, "_app");
     is_written_at(&rt, Shell::Nushell, "", "app.nu");
