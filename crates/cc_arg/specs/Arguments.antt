@@ -25,6 +25,10 @@ new_arg id = record {
   possible_values = None;
   value_hint = Unknown;
   value_terminator = None;
+  help_heading = None;
+  value_delimiter = None;
+  completer = None;
+  candidates = None;
   index = None;
   display_order = None;
   conflicts = [];
@@ -32,6 +36,7 @@ new_arg id = record {
   last = false;
   global = false;
   hide = false;
+  allow_hyphen_values = false;
 }
 
 -- a positional has neither a short nor a long

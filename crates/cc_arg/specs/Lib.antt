@@ -2,4 +2,5 @@ pub mod Action
 pub mod Aliases
 pub mod Arguments
 pub mod PossibleValues
+pub mod Printed
 pub mod ShownNames

@@ -14,6 +14,7 @@ use crate::possible_value::{PossibleValue, copy_of_given};
 use crate::range::ValueRange;
 use crate::value_hint::ValueHint;
 use cc_base::{Error, Items, Text};
+use cc_candidates::{ArgValueCandidates, ArgValueCompleter};
 use std::alloc::{AllocError, Global};
 
 /// An argument of a command. It is a positional where it has neither a short nor a long, and else
@@ -38,6 +39,10 @@ pub struct Arg {
     possible_values: Option<Items<PossibleValue>>,
     value_hint: ValueHint,
     value_terminator: Option<Text>,
+    help_heading: Option<Text>,
+    value_delimiter: Option<char>,
+    completer: Option<ArgValueCompleter>,
+    candidates: Option<ArgValueCandidates>,
     index: Option<usize>,
     display_order: Option<usize>,
     conflicts: Items<Text>,
@@ -45,6 +50,7 @@ pub struct Arg {
     last: bool,
     global: bool,
     hide: bool,
+    allow_hyphen_values: bool,
 }
 
 impl Arg {
@@ -67,6 +73,10 @@ impl Arg {
             possible_values: None,
             value_hint: ValueHint::Unknown,
             value_terminator: None,
+            help_heading: None,
+            value_delimiter: None,
+            completer: None,
+            candidates: None,
             index: None,
             display_order: None,
             conflicts: Items::new(alloc),
@@ -74,6 +84,7 @@ impl Arg {
             last: false,
             global: false,
             hide: false,
+            allow_hyphen_values: false,
         }
     }
 
@@ -234,6 +245,54 @@ impl Arg {
         self
     }
 
+    /// Sets the heading under which help texts list the argument.
+    pub fn help_heading(mut self, heading: String) -> Arg
+        ensures { result ≡ record self { help_heading = Some (string_bytes heading) } }
+    {
+        self.help_heading = Some(Text::from(heading));
+        self
+    }
+
+    /// Sets the character between several values in one word.
+    pub fn value_delimiter(mut self, delimiter: char) -> Arg
+        ensures { result ≡ record self { value_delimiter = Some delimiter } }
+    {
+        self.value_delimiter = Some(delimiter);
+        self
+    }
+
+    /// Sets the display order.
+    pub fn display_order(mut self, order: usize) -> Arg
+        ensures { result ≡ record self { display_order = Some order } }
+    {
+        self.display_order = Some(order);
+        self
+    }
+
+    /// Says whether words that begin with `-` are taken as values.
+    pub fn allow_hyphen_values(mut self, allow: bool) -> Arg
+        ensures { result ≡ record self { allow_hyphen_values = allow } }
+    {
+        self.allow_hyphen_values = allow;
+        self
+    }
+
+    /// Sets the completer that is asked for values, by its number.
+    pub fn add(mut self, completer: ArgValueCompleter) -> Arg
+        ensures { result ≡ record self { completer = Some completer } }
+    {
+        self.completer = Some(completer);
+        self
+    }
+
+    /// Sets the number of the list that values are taken from.
+    pub fn add_candidates(mut self, candidates: ArgValueCandidates) -> Arg
+        ensures { result ≡ record self { candidates = Some candidates } }
+    {
+        self.candidates = Some(candidates);
+        self
+    }
+
     /// Says whether the argument is left out of help texts.
     pub fn hide(mut self, hide: bool) -> Arg
         ensures { result ≡ record self { hide = hide } }
@@ -362,6 +421,44 @@ impl Arg {
         }
     }
 
+    /// The heading under which help texts list the argument.
+    pub fn get_help_heading(&self) -> Option<&str>
+        ensures { option_copied result ≡ self.now.help_heading }
+    {
+        match &self.help_heading {
+            Some(heading) => Some(heading.as_str()),
+            None => None,
+        }
+    }
+
+    /// The character between several values in one word.
+    pub fn get_value_delimiter(&self) -> Option<char>
+        ensures { result ≡ self.now.value_delimiter }
+    {
+        self.value_delimiter
+    }
+
+    /// Whether words that begin with `-` are taken as values.
+    pub fn is_allow_hyphen_values_set(&self) -> bool
+        ensures { result ≡ self.now.allow_hyphen_values }
+    {
+        self.allow_hyphen_values
+    }
+
+    /// The number of the completer that is asked for values.
+    pub fn get_completer(&self) -> Option<ArgValueCompleter>
+        ensures { result ≡ self.now.completer }
+    {
+        self.completer
+    }
+
+    /// The number of the list that values are taken from.
+    pub fn get_candidates(&self) -> Option<ArgValueCandidates>
+        ensures { result ≡ self.now.candidates }
+    {
+        self.candidates
+    }
+
     /// The index of a positional, counted from 1, where it was set or the command is built.
     pub fn get_index(&self) -> Option<usize>
         ensures { result ≡ self.now.index }
@@ -442,6 +539,7 @@ impl Arg {
           value_names = [];
           possible_values = None;
           value_terminator = None;
+          help_heading = None;
           conflicts = [];
         } }
     {
@@ -460,6 +558,10 @@ impl Arg {
             possible_values: None,
             value_hint: self.value_hint,
             value_terminator: None,
+            help_heading: None,
+            value_delimiter: self.value_delimiter,
+            completer: self.completer,
+            candidates: self.candidates,
             index: self.index,
             display_order: self.display_order,
             conflicts: Items::new(alloc),
@@ -467,6 +569,7 @@ impl Arg {
             last: self.last,
             global: self.global,
             hide: self.hide,
+            allow_hyphen_values: self.allow_hyphen_values,
         }
     }
 
@@ -482,6 +585,7 @@ impl Arg {
           value_names = self.now.value_names;
           possible_values = self.now.possible_values;
           value_terminator = self.now.value_terminator;
+          help_heading = self.now.help_heading;
           conflicts = self.now.conflicts;
         }) }
     {
@@ -494,12 +598,13 @@ impl Arg {
         copy.value_names = Items::copy_of_texts(alloc, self.value_names.as_slice())?;
         copy.possible_values = copy_of_given(alloc, &self.possible_values)?;
         copy.value_terminator = Text::copy_of_some(alloc, self.get_value_terminator())?;
+        copy.help_heading = Text::copy_of_some(alloc, self.get_help_heading())?;
         copy.conflicts = Items::copy_of_texts(alloc, self.conflicts.as_slice())?;
         Ok(())
     }
 
     // The range that counts: the given one, or the one that the action and the value names imply.
-    fn counted_range(&self) -> ValueRange
+    pub(crate) fn counted_range(&self) -> ValueRange
         ensures { result ≡ range_of self.now }
     {
         if let Some(range) = self.num_args {
@@ -514,7 +619,7 @@ impl Arg {
     }
 
     // The action that counts: the given one, or the one that the range and the kind imply.
-    fn counted_action(&self) -> ArgAction
+    pub(crate) fn counted_action(&self) -> ArgAction
         ensures { result ≡ action_of self.now }
     {
         if let Some(action) = self.action {

@@ -7,6 +7,7 @@ mod aliases;
 mod arg;
 mod names;
 mod possible_value;
+mod printed;
 mod range;
 mod value_hint;
 

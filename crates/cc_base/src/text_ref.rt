@@ -1,11 +1,15 @@
 //! A borrowed text as the type of a field.
 
-ghost use Rattle.std.specs.Prelude.{◌≡◌, ℕ, List};
+ghost use Rattle.std.specs.Prelude.{◌≡◌, ℕ, List, Some, bytes_eq, refl};
+ghost use Rattle.std.specs.Cmp.{partial_equiv_from_equiv};
+ghost use Rattle.std.specs.Cmp.Lexicographic.{slice_cmp, nat_list_cmp_total, nat_list_eq_equiv, texts_po, texts_ties};
+ghost use Rattle.std.specs.Ordering.{nat_cmp};
 
+use std::cmp::Ordering;
 use std::marker::Model;
 
-/// A borrowed text. A clause sees its bytes alone, so that a struct or an enum that holds it is the
-/// same type in code and in definitions.
+/// A borrowed text, ordered by its bytes. A clause sees its bytes alone, so that a struct or an enum
+/// that holds it is the same type in code and in definitions.
 #[derive(Drop)]
 pub struct TextRef<'a> {
     text: &'a str,
@@ -30,5 +34,43 @@ impl<'a> TextRef<'a> {
         ensures { result.now ≡ self.now }
     {
         self.text
+    }
+}
+
+impl<'a> PartialEq for TextRef<'a> {
+    ghost eq = { bytes_eq };
+
+    ghost laws = { partial_equiv_from_equiv nat_list_eq_equiv };
+
+    fn eq(&self, other: &TextRef<'a>) -> bool {
+        self.text == other.text
+    }
+}
+
+impl<'a> Eq for TextRef<'a> {
+    ghost laws = { nat_list_eq_equiv };
+}
+
+impl<'a> PartialOrd for TextRef<'a> {
+    ghost partial_cmp = { λ a b. Some (slice_cmp nat_cmp a b) };
+
+    ghost laws = { texts_po };
+
+    fn partial_cmp(&self, other: &TextRef<'a>) -> Option<Ordering> {
+        Some(self.cmp(other))
+    }
+}
+
+impl<'a> Ord for TextRef<'a> {
+    ghost cmp = { slice_cmp nat_cmp };
+
+    ghost total = { nat_list_cmp_total };
+
+    ghost matches_partial_cmp = { λ a b. refl };
+
+    ghost matches_eq = { texts_ties };
+
+    fn cmp(&self, other: &TextRef<'a>) -> Ordering {
+        self.text.cmp(other.text)
     }
 }

@@ -23,6 +23,8 @@ new_node name = record {
   disable_version_flag = false;
   disable_help_subcommand = false;
   allow_external_subcommands = false;
+  no_binary_name = false;
+  candidates = None;
   generated = false;
   built = false;
 }

@@ -4,6 +4,7 @@ ghost use Rattle.std.specs.Prelude.{◌≡◌};
 
 use cc_arg::Arg;
 use cc_base::{Items, Text};
+use cc_candidates::SubcommandCandidates;
 use std::alloc::Global;
 
 /// What one command of a tree holds besides its children.
@@ -39,6 +40,10 @@ pub struct Node {
     pub disable_help_subcommand: bool,
     /// Whether words that name no child are taken as the names of other programs.
     pub allow_external_subcommands: bool,
+    /// Whether the words of a call do not begin with the program's name.
+    pub no_binary_name: bool,
+    /// The number of the list that names of other programs are taken from.
+    pub candidates: Option<SubcommandCandidates>,
     /// Whether building made this node.
     pub generated: bool,
     /// Whether this node and all below it are built.
@@ -68,6 +73,8 @@ impl Node {
             disable_version_flag: false,
             disable_help_subcommand: false,
             allow_external_subcommands: false,
+            no_binary_name: false,
+            candidates: None,
             generated: false,
             built: false,
         }

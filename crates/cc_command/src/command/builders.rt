@@ -7,6 +7,7 @@ ghost use Rattle.cc_command.specs.Made.{ordered_node, with_argument, with_child,
 use crate::command::Command;
 use cc_arg::{Arg, fill_display_order};
 use cc_base::{Error, Text};
+use cc_candidates::SubcommandCandidates;
 use std::alloc::AllocError;
 
 impl Command {
@@ -164,6 +165,24 @@ impl Command {
     {
         self.node.built = false;
         self.node.allow_external_subcommands = allow;
+        self
+    }
+
+    /// Says whether the words of a call do not begin with the program's name.
+    pub fn no_binary_name(mut self, none: bool) -> Command
+        ensures { result ≡ with_root (λ node. record node { no_binary_name = none }) self }
+    {
+        self.node.built = false;
+        self.node.no_binary_name = none;
+        self
+    }
+
+    /// Sets the number of the list that names of other programs are taken from.
+    pub fn add(mut self, candidates: SubcommandCandidates) -> Command
+        ensures { result ≡ with_root (λ node. record node { candidates = Some candidates }) self }
+    {
+        self.node.built = false;
+        self.node.candidates = Some(candidates);
         self
     }
 

@@ -11,6 +11,7 @@ ghost use Rattle.cc_command.specs.Iterators.{positionals_left};
 use crate::command::{Command, Flags, NameAndVisibleAliases, Options, Positionals};
 use cc_arg::Arg;
 use cc_base::Text;
+use cc_candidates::SubcommandCandidates;
 
 impl Command {
     /// The name.
@@ -91,6 +92,20 @@ impl Command {
         ensures { result ≡ self.now.node.allow_external_subcommands }
     {
         self.node.allow_external_subcommands
+    }
+
+    /// Whether the words of a call do not begin with the program's name.
+    pub fn is_no_binary_name_set(&self) -> bool
+        ensures { result ≡ self.now.node.no_binary_name }
+    {
+        self.node.no_binary_name
+    }
+
+    /// The number of the list that names of other programs are taken from.
+    pub fn get_candidates(&self) -> Option<SubcommandCandidates>
+        ensures { result ≡ self.now.node.candidates }
+    {
+        self.node.candidates
     }
 
     /// The arguments in the order in which they were added.

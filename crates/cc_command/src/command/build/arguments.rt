@@ -46,6 +46,8 @@ pub(super) fn built_node(
         disable_version_flag: node.disable_version_flag,
         disable_help_subcommand: node.disable_help_subcommand,
         allow_external_subcommands: node.allow_external_subcommands,
+        no_binary_name: node.no_binary_name,
+        candidates: node.candidates,
         generated: node.generated,
         built: true,
     };

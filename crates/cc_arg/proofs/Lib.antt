@@ -1,0 +1,2 @@
+pub mod PrintedRows
+pub mod PrintedNames

@@ -1,0 +1,2 @@
+mod ByValue
+pub mod Results

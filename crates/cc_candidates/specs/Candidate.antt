@@ -1,0 +1,44 @@
+-- What a candidate is as it is made, and the order of candidates.
+use Rattle.std.specs.Prelude.{ℕ, List, false, Option, None}
+use Rattle.std.specs.declared.cmp.Ordering.{Ordering}
+use Rattle.std.specs.Cmp.{IsTotalOrder, on_total, then_total, nat_cmp_total, bool_cmp_total}
+use Rattle.std.specs.Cmp.Lexicographic.{slice_cmp, nat_list_cmp_total, options_total}
+use Rattle.std.specs.Option.{option_cmp}
+use Rattle.std.specs.Ordering.{nat_cmp, bool_cmp, ordering_then}
+use Rattle.cc_candidates.specs.declared.candidate.CompletionCandidate.{CompletionCandidate}
+
+-- a candidate of which only the value was given
+abbrev pub new_candidate : List ℕ → CompletionCandidate
+new_candidate value = record {
+  value = value;
+  help = None;
+  id = None;
+  tag = None;
+  display_order = None;
+  hidden = false;
+}
+
+-- texts by their bytes; none stands before some
+abbrev pub texts_cmp : Option (List ℕ) → Option (List ℕ) → Ordering
+texts_cmp = option_cmp (slice_cmp nat_cmp)
+
+-- candidates by their value, then by help, id, tag, display order and hidden mark
+abbrev pub candidate_cmp : CompletionCandidate → CompletionCandidate → Ordering
+candidate_cmp one other =
+    ordering_then (ordering_then (ordering_then (ordering_then (ordering_then
+    (slice_cmp nat_cmp one.value other.value)
+    (texts_cmp one.help other.help))
+    (texts_cmp one.id other.id))
+    (texts_cmp one.tag other.tag))
+    (option_cmp nat_cmp one.display_order other.display_order))
+    (bool_cmp one.hidden other.hidden)
+
+pub candidate_cmp_total : IsTotalOrder candidate_cmp
+candidate_cmp_total =
+    then_total (then_total (then_total (then_total (then_total
+    (on_total (λ c. c.value) nat_list_cmp_total)
+    (on_total (λ c. c.help) (options_total nat_list_cmp_total)))
+    (on_total (λ c. c.id) (options_total nat_list_cmp_total)))
+    (on_total (λ c. c.tag) (options_total nat_list_cmp_total)))
+    (on_total (λ c. c.display_order) (options_total nat_cmp_total)))
+    (on_total (λ c. c.hidden) bool_cmp_total)

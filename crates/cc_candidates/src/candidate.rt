@@ -1,0 +1,240 @@
+//! A candidate for a word.
+
+ghost use Rattle.std.specs.Prelude.{◌≡◌, ◌++◌, Decides, None, Some, false, IfOk, IfErr, refl};
+ghost use Rattle.std.specs.Cmp.{partial_order_from_total, partial_equiv_from_equiv, eq_by_cmp_equiv};
+ghost use Rattle.std.specs.Option.{option_copied, option_map};
+ghost use Rattle.std.specs.Ordering.{as_partial_cmp, eq_by_cmp};
+ghost use Rattle.std.specs.String.{string_bytes};
+ghost use Rattle.cc_candidates.specs.Candidate.{candidate_cmp, candidate_cmp_total, new_candidate, texts_cmp};
+
+use cc_base::{Error, Text};
+use std::alloc::{AllocError, Global};
+use std::cmp::Ordering;
+
+/// A candidate for a word.
+#[derive(Drop, Debug)]
+pub struct CompletionCandidate {
+    value: Text,
+    help: Option<Text>,
+    id: Option<Text>,
+    tag: Option<Text>,
+    display_order: Option<usize>,
+    hidden: bool,
+}
+
+impl From<String> for CompletionCandidate {
+    ghost from_gives = { λ value candidate. candidate ≡ new_candidate (string_bytes value) };
+
+    fn from(value: String) -> CompletionCandidate {
+        CompletionCandidate::new(value)
+    }
+}
+
+impl CompletionCandidate {
+    /// A candidate with this value and nothing else.
+    pub fn new(value: String) -> CompletionCandidate
+        ensures { result ≡ new_candidate (string_bytes value) }
+    {
+        CompletionCandidate {
+            value: Text::from(value),
+            help: None,
+            id: None,
+            tag: None,
+            display_order: None,
+            hidden: false,
+        }
+    }
+
+    /// Sets the help.
+    pub fn help(mut self, help: Option<String>) -> CompletionCandidate
+        ensures { result ≡ record self { help = option_map string_bytes help } }
+    {
+        self.help = text_of(help);
+        self
+    }
+
+    /// Sets the id.
+    pub fn id(mut self, id: Option<String>) -> CompletionCandidate
+        ensures { result ≡ record self { id = option_map string_bytes id } }
+    {
+        self.id = text_of(id);
+        self
+    }
+
+    /// Sets the tag.
+    pub fn tag(mut self, tag: Option<String>) -> CompletionCandidate
+        ensures { result ≡ record self { tag = option_map string_bytes tag } }
+    {
+        self.tag = text_of(tag);
+        self
+    }
+
+    /// Sets the display order.
+    pub fn display_order(mut self, order: Option<usize>) -> CompletionCandidate
+        ensures { result ≡ record self { display_order = order } }
+    {
+        self.display_order = order;
+        self
+    }
+
+    /// Says whether the candidate is hidden.
+    pub fn hide(mut self, hidden: bool) -> CompletionCandidate
+        ensures { result ≡ record self { hidden = hidden } }
+    {
+        self.hidden = hidden;
+        self
+    }
+
+    /// Puts a text before the value. Fails with `Memory` alone, and then drops the candidate.
+    pub fn add_prefix(self, alloc: Global, prefix: &str) -> Result<CompletionCandidate, Error>
+        ensures ok { IfOk result (λ candidate.
+            candidate ≡ record self { value = prefix.now ++ self.value }) }
+        ensures memory { IfErr result (λ error. error ≡ Error.Memory) }
+    {
+        Ok(self.prefixed(alloc, prefix)?)
+    }
+
+    // The same, where nothing but memory can fail.
+    pub(crate) fn prefixed(
+        mut self,
+        alloc: Global,
+        prefix: &str,
+    ) -> Result<CompletionCandidate, AllocError>
+        ensures { IfOk result (λ candidate.
+            candidate ≡ record self { value = prefix.now ++ self.value }) }
+    {
+        self.value = joined(alloc, prefix, self.value.as_str())?;
+        Ok(self)
+    }
+
+    /// The value.
+    pub fn get_value(&self) -> &str
+        ensures { result.now ≡ self.now.value }
+    {
+        self.value.as_str()
+    }
+
+    /// The help.
+    pub fn get_help(&self) -> Option<&str>
+        ensures { option_copied result ≡ self.now.help }
+    {
+        match &self.help {
+            Some(help) => Some(help.as_str()),
+            None => None,
+        }
+    }
+
+    /// The id.
+    pub fn get_id(&self) -> Option<&str>
+        ensures { option_copied result ≡ self.now.id }
+    {
+        match &self.id {
+            Some(id) => Some(id.as_str()),
+            None => None,
+        }
+    }
+
+    /// The tag.
+    pub fn get_tag(&self) -> Option<&str>
+        ensures { option_copied result ≡ self.now.tag }
+    {
+        match &self.tag {
+            Some(tag) => Some(tag.as_str()),
+            None => None,
+        }
+    }
+
+    /// The display order.
+    pub fn get_display_order(&self) -> Option<usize>
+        ensures { result ≡ self.now.display_order }
+    {
+        self.display_order
+    }
+
+    /// Whether the candidate is hidden.
+    pub fn is_hide_set(&self) -> bool
+        ensures { result ≡ self.now.hidden }
+    {
+        self.hidden
+    }
+}
+
+// Compares by bytes; `None` comes first.
+fn cmp_texts(one: Option<&str>, other: Option<&str>) -> Ordering
+    ensures { result ≡ texts_cmp (option_copied one.entry) (option_copied other.entry) }
+{
+    match (one, other) {
+        (None, None) => Ordering::Equal,
+        (None, Some(_)) => Ordering::Less,
+        (Some(_), None) => Ordering::Greater,
+        (Some(one), Some(other)) => one.cmp(other),
+    }
+}
+
+fn joined(alloc: Global, one: &str, other: &str) -> Result<Text, AllocError>
+    ensures { IfOk result (λ text. text ≡ one.now ++ other.now) }
+{
+    let mut text = String::from_str(alloc, one)?;
+    text.push_str(other)?;
+    Ok(Text::from(text))
+}
+
+fn text_of(text: Option<String>) -> Option<Text>
+    ensures { result ≡ option_map string_bytes text }
+{
+    match text {
+        Some(text) => Some(Text::from(text)),
+        None => None,
+    }
+}
+
+impl PartialEq for CompletionCandidate {
+    ghost eq = { eq_by_cmp candidate_cmp };
+
+    ghost laws = { partial_equiv_from_equiv (eq_by_cmp_equiv candidate_cmp_total) };
+
+    fn eq(&self, other: &CompletionCandidate) -> bool {
+        self.cmp(other).is_eq()
+    }
+}
+
+impl Eq for CompletionCandidate {
+    ghost laws = { eq_by_cmp_equiv candidate_cmp_total };
+}
+
+impl PartialOrd for CompletionCandidate {
+    ghost partial_cmp = { as_partial_cmp candidate_cmp };
+
+    ghost laws = { partial_order_from_total candidate_cmp_total };
+
+    fn partial_cmp(&self, other: &CompletionCandidate) -> Option<Ordering> {
+        Some(self.cmp(other))
+    }
+}
+
+impl Ord for CompletionCandidate {
+    ghost cmp = { candidate_cmp };
+
+    ghost total = { candidate_cmp_total };
+
+    ghost matches_partial_cmp = { λ a b. refl };
+
+    ghost matches_eq = { λ a b. refl };
+
+    fn cmp(&self, other: &CompletionCandidate) -> Ordering {
+        self.get_value()
+            .cmp(other.get_value())
+            .then(cmp_texts(self.get_help(), other.get_help()))
+            .then(cmp_texts(self.get_id(), other.get_id()))
+            .then(cmp_texts(self.get_tag(), other.get_tag()))
+            .then(self.display_order.cmp(&other.display_order))
+            .then(self.hidden.cmp(&other.hidden))
+    }
+}
+
+/// Whether two candidates are the same in every field.
+pub fn is_same(one: &CompletionCandidate, other: &CompletionCandidate) -> bool
+    ensures { Decides result (one.now ≡ other.now) }
+{
+    one == other
+}

@@ -1,0 +1,14 @@
+//! Candidates for a word, and the completers and lists of candidates that a caller lends by number.
+#![tactic(auto)]
+
+mod candidate;
+mod closures;
+mod completers;
+mod numbers;
+mod traits;
+
+pub use crate::candidate::{CompletionCandidate, is_same};
+pub use crate::closures::{FnCandidates, FnCompleter};
+pub use crate::completers::Completers;
+pub use crate::numbers::{ArgValueCandidates, ArgValueCompleter, SubcommandCandidates};
+pub use crate::traits::{ValueCandidates, ValueCompleter};
