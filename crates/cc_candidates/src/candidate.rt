@@ -94,8 +94,8 @@ impl CompletionCandidate {
         Ok(self.prefixed(alloc, prefix)?)
     }
 
-    // The same, where nothing but memory can fail.
-    pub(crate) fn prefixed(
+    /// The same, for callers whose own error is that of the allocation.
+    pub fn prefixed(
         mut self,
         alloc: Global,
         prefix: &str,

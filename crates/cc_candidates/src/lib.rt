@@ -1,14 +1,18 @@
 //! Candidates for a word, and the completers and lists of candidates that a caller lends by number.
 #![tactic(auto)]
 
+mod beginnings;
 mod candidate;
 mod closures;
 mod completers;
+mod copies;
 mod numbers;
 mod traits;
 
+pub use crate::beginnings::{beginning, begins_with};
 pub use crate::candidate::{CompletionCandidate, is_same};
 pub use crate::closures::{FnCandidates, FnCompleter};
 pub use crate::completers::Completers;
+pub use crate::copies::copied;
 pub use crate::numbers::{ArgValueCandidates, ArgValueCompleter, SubcommandCandidates};
 pub use crate::traits::{ValueCandidates, ValueCompleter};
