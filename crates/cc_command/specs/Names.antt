@@ -24,6 +24,13 @@ find_child none word = None
 find_child (more node below rest) word =
     if has_name node word then Some (record { node = node; children = below }) else find_child rest word
 
+-- the first of the siblings that shows the word as a name, with what is below it
+abbrev pub visible_child : Forest → List ℕ → Option Tree
+visible_child none word = None
+visible_child (more node below rest) word =
+    if contains_name (visible_names node) word then Some (record { node = node; children = below })
+    else visible_child rest word
+
 -- one of the siblings has the name or alias
 abbrev pub has_child : Forest → List ℕ → Bool
 has_child none word = false
