@@ -1,0 +1,41 @@
+-- A cluster of shorts, character by character.
+use Rattle.std.proofs.Common.{◌≡◌, ◌++◌, ◌==◌, ℕ, List, [], ◌∷◌, length, true, false, Some, None, refl, ap, ◌∙◌, sym, eqb-true, arith, append_assoc}
+use Rattle.std.specs.Prelude.{chars, IsUtf8, encode_utf8}
+use Rattle.std.proofs.lemmas.Str.{chars_past_char, encodes-chars, chars-nil}
+use Rattle.cc_arg.specs.declared.arg.Arg.{Arg}
+use Rattle.cc_walk.specs.Words.{EndsWith}
+use Rattle.cc_walk.specs.Signs.{character_value, cluster_sign, last_sign, value_argument, value_character}
+use Rattle.cc_walk.specs.declared.sign.ValueCharacter.{ValueCharacter}
+use Rattle.cc_walk.specs.declared.sign.Sign.TheVariants.{Closed, Opens}
+
+past : (arguments : List Arg) (bs rest : List ℕ) (c : ℕ) → IsUtf8 bs → bs ≡ encode_utf8 c ++ rest → value_character arguments (chars bs) ≡ character_value (value_argument arguments c) (chars rest) (value_character arguments (chars rest))
+past arguments bs rest c u e = ap (value_character arguments) (chars_past_char bs rest c u e)
+
+pub past_none : (arguments : List Arg) (bs rest : List ℕ) (c : ℕ) → IsUtf8 bs → bs ≡ encode_utf8 c ++ rest → value_argument arguments c ≡ None → value_character arguments (chars bs) ≡ value_character arguments (chars rest)
+past_none arguments bs rest c u e none = past arguments bs rest c u e ∙ ap (λ o. character_value o (chars rest) (value_character arguments (chars rest))) none
+
+pub past_found : (arguments : List Arg) (bs rest : List ℕ) (c : ℕ) (a : Arg) → IsUtf8 bs → IsUtf8 rest → bs ≡ encode_utf8 c ++ rest → Some a ≡ value_argument arguments c → value_character arguments (chars bs) ≡ Some (record { argument = a; after = rest })
+past_found arguments bs rest c a u v e some =
+    past arguments bs rest c u e
+    ∙ ap (λ o. character_value o (chars rest) (value_character arguments (chars rest))) (sym some)
+    ∙ ap (λ (s : List ℕ). let found : ValueCharacter = record { argument = a; after = s } in Some found) (encodes-chars rest v)
+
+empty : (rest : List ℕ) → length rest ≡ 0 → rest ≡ []
+empty [] e = refl
+empty (x ∷ xs) e = absurd (omega (arith, e))
+
+pub past_end : (arguments : List Arg) (rest : List ℕ) → length rest ≡ 0 → value_character arguments (chars rest) ≡ None
+past_end arguments rest e = ap (λ s. value_character arguments (chars s)) (empty rest e) ∙ ap (value_character arguments) chars-nil
+
+pub ends_more : (text bs rest : List ℕ) (c : ℕ) → EndsWith text bs → bs ≡ encode_utf8 c ++ rest → EndsWith text rest
+ends_more text bs rest c (leading, is) e = (leading ++ encode_utf8 c, is ∙ ap (λ s. leading ++ s) e ∙ sym (append_assoc leading (encode_utf8 c) rest))
+
+pub opens_last : (found : ValueCharacter) → (length found.after == 0) ≡ true → cluster_sign (Some found) ≡ Opens found.argument
+opens_last found e = ap (last_sign found.argument) (empty found.after (eqb-true (length found.after) 0 e))
+
+pub closed_before : (found : ValueCharacter) → (length found.after == 0) ≡ false → cluster_sign (Some found) ≡ Closed
+closed_before found e = by_text found.argument found.after e
+  where
+    by_text : (a : Arg) (s : List ℕ) → (length s == 0) ≡ false → last_sign a s ≡ Closed
+    by_text a [] e = cc
+    by_text a (b ∷ bs) e = refl

@@ -1,0 +1,100 @@
+-- The way down and the machine agree.
+use Rattle.std.proofs.Common.{◌≡◌, ℕ, suc, List, [], ◌∷◌, ◌++◌, Bool, true, false, ltb, ◌||◌, Some, None, refl, inl, inr, ap, ◌∙◌, sym}
+use Rattle.std.specs.List.{All}
+use Rattle.std.proofs.lemmas.Bool.{cases_Bool}
+use Rattle.std.proofs.Math.Bool.{or-false, or_assoc}
+use Rattle.std.proofs.lemmas.List.{append-nil}
+use Rattle.std.proofs.lemmas.List.Elements.{All-head, All-tail}
+use Rattle.cc_arg.specs.declared.arg.Arg.{Arg}
+use Rattle.cc_command.specs.Names.{find_child}
+use Rattle.cc_command.specs.Tree.{Tree}
+use Rattle.cc_walk.specs.Blocks.{follows, AreBlocks, Block, state_after, join, start}
+use Rattle.cc_walk.specs.Lookup.{allows_hyphens_at, limit}
+use Rattle.cc_walk.specs.Machine.{closed_step, entered, open_step, run, run_length, stand_step, step, value_state, walk}
+use Rattle.cc_walk.specs.Reach.{Descend, NamesNoChild, Reach, Stay}
+use Rattle.cc_walk.proofs.Dashes.{is_escape_sign, sign_escapes}
+use Rattle.cc_command.specs.Names.{contains_name}
+use Rattle.std.specs.Prelude.{bytes_eq, codes}
+use Rattle.cc_walk.specs.Signs.{sign_of}
+use Rattle.cc_walk.specs.declared.sign.Sign.{Sign}
+use Rattle.cc_walk.specs.declared.sign.Sign.TheVariants.{Closed, Escape, Opens, Plain, Unknown}
+use Rattle.cc_walk.specs.declared.state.Pending.{Pending}
+use Rattle.cc_walk.specs.declared.state.Pending.TheVariants.{OptionOpen, PlaceMoved, Nothing, PositionalRun}
+use Rattle.cc_walk.specs.declared.state.State.{State}
+use Rattle.cc_walk.proofs.Cut.{run_blocks, fresh_nothing}
+
+value_escaped : (arguments : List Arg) (place : ℕ) (escaped : Bool) (k : ℕ) → (value_state arguments place escaped k).escaped ≡ escaped
+value_escaped arguments place escaped k = elim (cases_Bool (ltb (suc k) (limit arguments place))) [ inl t ↦ rw t refl | inr f ↦ rw f refl ]
+
+closed_escaped : (arguments : List Arg) (place values : ℕ) (sign : Sign) → (closed_step arguments place values sign).escaped ≡ is_escape_sign sign
+closed_escaped arguments place values Escape = refl
+closed_escaped arguments place values (Opens a) = refl
+closed_escaped arguments place values Closed = refl
+closed_escaped arguments place values Plain = value_escaped arguments place false values
+closed_escaped arguments place values Unknown = elim (cases_Bool (allows_hyphens_at arguments place)) [ inl t ↦ rw t (value_escaped arguments place false values) | inr f ↦ rw f refl ]
+
+follows_escaped : (a : Arg) (sign : Sign) → follows a sign ≡ true → false ≡ is_escape_sign sign
+follows_escaped a Escape e = cc
+follows_escaped a Plain e = refl
+follows_escaped a (Opens b) e = refl
+follows_escaped a Closed e = refl
+follows_escaped a Unknown e = refl
+
+open_escaped : (arguments : List Arg) (place : ℕ) (a : Arg) (value : ℕ) (sign : Sign) → (open_step arguments place a value sign).escaped ≡ is_escape_sign sign
+open_escaped arguments place a value sign = elim (cases_Bool (follows a sign)) [ inl t ↦ rw t (follows_escaped a sign t) | inr f ↦ rw f (closed_escaped arguments place 0 sign) ]
+
+step_escaped : (arguments : List Arg) (place : ℕ) (escaped : Bool) (pending : Pending) (sign : Sign) → (step arguments place escaped pending sign).escaped ≡ (escaped || is_escape_sign sign)
+step_escaped arguments place true pending sign = value_escaped arguments place true (run_length pending)
+step_escaped arguments place false (OptionOpen a value) sign = open_escaped arguments place a value sign
+step_escaped arguments place false Nothing sign = closed_escaped arguments place 0 sign
+step_escaped arguments place false (PositionalRun values) sign = closed_escaped arguments place values sign
+step_escaped arguments place false PlaceMoved sign = closed_escaped arguments place 0 sign
+
+escaped_more : (arguments : List Arg) (state : State) (word : List ℕ) → (step arguments state.place state.escaped state.pending (sign_of arguments word)).escaped ≡ (state.escaped || bytes_eq word (codes "--"))
+escaped_more arguments state word =
+    step_escaped arguments state.place state.escaped state.pending (sign_of arguments word)
+    ∙ ap (λ b. state.escaped || b) (sign_escapes arguments word)
+
+run_escaped : (arguments : List Arg) (words : List (List ℕ)) (state : State) → (run arguments state words).escaped ≡ (state.escaped || contains_name words (codes "--"))
+run_escaped arguments [] state = sym (or-false state.escaped)
+run_escaped arguments (word ∷ words) state =
+    run_escaped arguments words (step arguments state.place state.escaped state.pending (sign_of arguments word))
+    ∙ ap (λ b. b || contains_name words (codes "--")) (escaped_more arguments state word)
+    ∙ or_assoc state.escaped (bytes_eq word (codes "--")) (contains_name words (codes "--"))
+
+stands : (tree : Tree) (state : State) (word : List ℕ) → find_child tree.children word ≡ None → stand_step (record { tree = tree; state = state }) word ≡ record { tree = tree; state = step tree.node.arguments state.place state.escaped state.pending (sign_of tree.node.arguments word) }
+stands tree state word e = ap (entered (record { tree = tree; state = state }) word) e
+
+descends : (tree child : Tree) (state : State) (word : List ℕ) → find_child tree.children word ≡ Some child → stand_step (record { tree = tree; state = state }) word ≡ record { tree = child; state = start state.escaped }
+descends tree child state word e = ap (entered (record { tree = tree; state = state }) word) e
+
+walk_skipped : (tree : Tree) (words rest : List (List ℕ)) (state : State) → All (NamesNoChild tree) words → walk (record { tree = tree; state = state }) (words ++ rest) ≡ walk (record { tree = tree; state = run tree.node.arguments state words }) rest
+walk_skipped tree [] rest state all = refl
+walk_skipped tree (word ∷ words) rest state all =
+    ap (λ s. walk s (words ++ rest)) (stands tree state word (All-head (NamesNoChild tree) word words all))
+    ∙ walk_skipped tree words rest (step tree.node.arguments state.place state.escaped state.pending (sign_of tree.node.arguments word)) (All-tail (NamesNoChild tree) word words all)
+
+-- THE WALK STANDS AT THE LAST NODE, AND RAN OVER THE TAIL
+pub walk_reach : {tree last : Tree} {words tail : List (List ℕ)} {before : Bool} → Reach tree words last tail before → (escaped : Bool) → walk (record { tree = tree; state = start escaped }) words ≡ record { tree = last; state = run last.node.arguments (start (escaped || before)) tail }
+walk_reach {tree} {last} {words} (Stay all) escaped =
+    ap (λ s. walk (record { tree = tree; state = start escaped }) s) (sym (append-nil words))
+    ∙ walk_skipped tree words [] (start escaped) all
+    ∙ rw or-false refl
+walk_reach {tree} {last} {words} {tail} (Descend {child = child} {before = before} skipped name after spell all leads way) escaped =
+    ap (λ s. walk (record { tree = tree; state = start escaped }) s) spell
+    ∙ walk_skipped tree skipped (name ∷ after) (start escaped) all
+    ∙ ap (λ s. walk s after) (descends tree child (run tree.node.arguments (start escaped) skipped) name leads)
+    ∙ ap (λ e. walk (record { tree = child; state = start e }) after) (run_escaped tree.node.arguments skipped (start escaped))
+    ∙ walk_reach way (escaped || contains_name skipped (codes "--"))
+    ∙ ap (λ e. record { tree = last; state = run last.node.arguments (start e) tail }) (or_assoc escaped (contains_name skipped (codes "--")) before)
+
+-- THE THEOREM: the cut of the whole list tells the walk's state
+pub walk_is : (root tree : Tree) (words tail : List (List ℕ)) (before : Bool) (bs : List Block)
+    → Reach root words tree tail before
+    → AreBlocks tree.node.arguments 1 before bs
+    → join bs ≡ tail
+    → walk (record { tree = root; state = start false }) words ≡ record { tree = tree; state = state_after tree.node.arguments (start before) bs }
+walk_is root tree words tail before bs way are spell =
+    walk_reach way false
+    ∙ ap (λ s. record { tree = tree; state = run tree.node.arguments (start before) s }) (sym spell)
+    ∙ ap (λ s. record { tree = tree; state = s }) (run_blocks tree.node.arguments bs 1 before Nothing are (fresh_nothing tree.node.arguments 1 before (join bs)))

@@ -1,0 +1,13 @@
+use Rattle.std.proofs.Common.{map, string_bytes, ◌≡◌, ◌<◌, ◌≤◌, ◌+◌, length, drop}
+use Rattle.cc_flat.specs.Flat.{tree_at}
+use Rattle.cc_walk.specs.Machine.{walk}
+use Rattle.cc_walk.specs.Stands.{stand_of}
+use Rattle.cc_walk.proofs.Whole.{walked}
+use Rattle.cc_walk.proofs.line.line_of.Given as goal
+
+abbrev pub invariant-loop-word : goal.invariant-loop-word
+invariant-loop-word l = record {
+  within : l.line.node < length l.index;
+  place : l.line.state.place ≤ l.word-index + 1;
+  rest : walk (stand_of l.index l.line) (map string_bytes (drop l.word-index l.words)) ≡ walked (tree_at l.index 0) (map string_bytes l.words);
+}

@@ -1,0 +1,71 @@
+-- The same walk, word by word.
+use Rattle.std.specs.Prelude.{ℕ, suc, List, [], ◌∷◌, ◌+◌, Bool, true, false, nat_lt, Option, Some, None, if◌then◌else◌}
+use Rattle.cc_arg.specs.declared.arg.Arg.{Arg}
+use Rattle.cc_command.specs.Tree.{Tree}
+use Rattle.cc_command.specs.Names.{find_child}
+use Rattle.cc_walk.specs.declared.sign.Sign.{Sign}
+use Rattle.cc_walk.specs.declared.sign.Sign.TheVariants.{Escape, Opens, Unknown, Closed, Plain}
+use Rattle.cc_walk.specs.declared.state.Pending.{Pending}
+use Rattle.cc_walk.specs.declared.state.Pending.TheVariants.{Nothing, OptionOpen, PositionalRun, PlaceMoved}
+use Rattle.cc_walk.specs.declared.state.State.{State}
+use Rattle.cc_walk.specs.Lookup.{greatest, limit, allows_hyphens_at}
+use Rattle.cc_walk.specs.Signs.{sign_of}
+use Rattle.cc_walk.specs.Blocks.{follows, start}
+
+-- how many values the run has
+abbrev pub run_length : Pending → ℕ
+run_length Nothing = 0
+run_length (OptionOpen option values) = 0
+run_length (PositionalRun values) = values
+run_length PlaceMoved = 0
+
+-- one more value at the place, after a run of so many
+abbrev pub value_state : List Arg → ℕ → Bool → ℕ → State
+value_state arguments place escaped values = if nat_lt (suc values) (limit arguments place)
+    then record { place = place; escaped = escaped; pending = PositionalRun (suc values) }
+    else record { place = place + 1; escaped = escaped; pending = if escaped then PlaceMoved else Nothing }
+
+-- after so many values of an open option
+abbrev pub option_state : ℕ → Arg → ℕ → State
+option_state place option values = record { place = place; escaped = false; pending = if nat_lt values (greatest option) then OptionOpen option values else Nothing }
+
+-- an unescaped word that no option takes
+abbrev pub closed_step : List Arg → ℕ → ℕ → Sign → State
+closed_step arguments place values Escape = record { place = place; escaped = true; pending = Nothing }
+closed_step arguments place values (Opens option) = record { place = place; escaped = false; pending = OptionOpen option 0 }
+closed_step arguments place values Closed = record { place = place; escaped = false; pending = Nothing }
+closed_step arguments place values Unknown = if allows_hyphens_at arguments place then value_state arguments place false values else record { place = place; escaped = false; pending = Nothing }
+closed_step arguments place values Plain = value_state arguments place false values
+
+-- an unescaped word while an option is open
+abbrev pub open_step : List Arg → ℕ → Arg → ℕ → Sign → State
+open_step arguments place option values sign = if follows option sign then option_state place option (suc values) else closed_step arguments place 0 sign
+
+-- one word further at a node
+abbrev pub step : List Arg → ℕ → Bool → Pending → Sign → State
+step arguments place true pending sign = value_state arguments place true (run_length pending)
+step arguments place false (OptionOpen option values) sign = open_step arguments place option values sign
+step arguments place false Nothing sign = closed_step arguments place 0 sign
+step arguments place false (PositionalRun values) sign = closed_step arguments place values sign
+step arguments place false PlaceMoved sign = closed_step arguments place 0 sign
+
+abbrev pub run : List Arg → State → List (List ℕ) → State
+run arguments state [] = state
+run arguments state (word ∷ words) = run arguments (step arguments state.place state.escaped state.pending (sign_of arguments word)) words
+
+-- a node and the state there
+pub record Stand : Type 0 where
+  pub tree : Tree
+  pub state : State
+
+abbrev pub entered : Stand → List ℕ → Option Tree → Stand
+entered stand word (Some child) = record { tree = child; state = start stand.state.escaped }
+entered stand word None = record { tree = stand.tree; state = step stand.tree.node.arguments stand.state.place stand.state.escaped stand.state.pending (sign_of stand.tree.node.arguments word) }
+
+-- a word that names a child leads down, whatever is pending
+abbrev pub stand_step : Stand → List ℕ → Stand
+stand_step stand word = entered stand word (find_child stand.tree.children word)
+
+abbrev pub walk : Stand → List (List ℕ) → Stand
+walk stand [] = stand
+walk stand (word ∷ words) = walk (stand_step stand word) words

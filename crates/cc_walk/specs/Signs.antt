@@ -1,0 +1,49 @@
+-- What a word is to a node with these arguments, whatever stands before it.
+use Rattle.std.specs.Prelude.{ℕ, List, [], ◌∷◌, ◌&&◌, Bool, not, Option, Some, None, find, encode_utf8_all, if◌then◌else◌}
+use Rattle.cc_arg.specs.declared.arg.Arg.{Arg}
+use Rattle.cc_arg.specs.Arguments.{takes_values}
+use Rattle.cc_walk.specs.declared.sign.Sign.{Sign}
+use Rattle.cc_walk.specs.declared.sign.Sign.TheVariants.{Escape, Opens, Unknown, Closed, Plain}
+use Rattle.cc_walk.specs.declared.sign.ValueCharacter.{ValueCharacter}
+use Rattle.cc_walk.specs.Lookup.{has_long, has_short}
+use Rattle.cc_walk.specs.Words.{Form, TwoHyphens, Long, Short, Other, form_of}
+
+abbrev pub if_taking : Option Arg → Option Arg
+if_taking None = None
+if_taking (Some argument) = if takes_values argument then Some argument else None
+
+-- the first argument with this short, where it takes values
+abbrev pub value_argument : List Arg → ℕ → Option Arg
+value_argument arguments character = if_taking (find (has_short character) arguments)
+
+-- a character whose argument takes values ends the search; the others go on
+abbrev pub character_value : Option Arg → List ℕ → Option ValueCharacter → Option ValueCharacter
+character_value None after others = others
+character_value (Some argument) after others = Some (record { argument = argument; after = encode_utf8_all after })
+
+-- the first character of a cluster whose argument takes values
+abbrev pub value_character : List Arg → List ℕ → Option ValueCharacter
+value_character arguments [] = None
+value_character arguments (c ∷ cs) = character_value (value_argument arguments c) cs (value_character arguments cs)
+
+-- an option is opened where its character stands last
+abbrev pub last_sign : Arg → List ℕ → Sign
+last_sign argument [] = Opens argument
+last_sign argument (b ∷ bs) = Closed
+
+abbrev pub cluster_sign : Option ValueCharacter → Sign
+cluster_sign None = Unknown
+cluster_sign (Some found) = last_sign found.argument found.after
+
+abbrev pub flag_sign : Option Arg → Bool → Sign
+flag_sign None with_equals = Unknown
+flag_sign (Some argument) with_equals = if takes_values argument && not with_equals then Opens argument else Closed
+
+abbrev pub sign_of_form : List Arg → Form → Sign
+sign_of_form arguments TwoHyphens = Escape
+sign_of_form arguments (Long flag with_equals) = flag_sign (find (has_long flag) arguments) with_equals
+sign_of_form arguments (Short characters) = cluster_sign (value_character arguments characters)
+sign_of_form arguments Other = Plain
+
+unfoldable pub sign_of : List Arg → List ℕ → Sign
+sign_of arguments word = sign_of_form arguments (form_of word)

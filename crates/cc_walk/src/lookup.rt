@@ -1,0 +1,130 @@
+//! Arguments of a node, found by a long, a short or a place.
+
+ghost use Rattle.std.specs.Prelude.{◌≡◌, ◌<◌, find, ◌==◌};
+ghost use Rattle.std.specs.Option.{option_copied};
+ghost use Rattle.std.specs.List.{list_any};
+ghost use Rattle.cc_arg.specs.Arguments.{range_of};
+ghost use Rattle.cc_command.specs.Names.{contains_name};
+ghost use Rattle.cc_walk.specs.Lookup.{has_long, has_short, is_at, positional_at, limit};
+ghost use Rattle.cc_walk.specs.Lookup.{allows_hyphens_at, greatest};
+ghost use Rattle.cc_walk.specs.Signs.{value_argument};
+
+use cc_arg::Arg;
+use cc_base::Text;
+
+fn contains_text(texts: &[Text], text: &str) -> bool
+    ensures { result ≡ contains_name texts.now text.now }
+{
+    texts.iter().any(|t| t.as_str() == text)
+}
+
+fn contains_char(characters: &[char], character: char) -> bool
+    ensures { result ≡ list_any (λ c. c == character) characters.now }
+{
+    characters.iter().any(|c| *c == character)
+}
+
+/// Whether the flag is the argument's long or a visible alias of it. An argument without a long has
+/// none of these.
+pub fn has_long(argument: &Arg, flag: &str) -> bool
+    ensures { result ≡ has_long flag.now argument.now }
+{
+    match argument.get_long() {
+        None => false,
+        Some(long) => long == flag || contains_text(argument.get_visible_aliases(), flag),
+    }
+}
+
+/// Whether the character is the argument's short or a visible alias of it. An argument without a
+/// short has none of these.
+pub fn has_short(argument: &Arg, character: char) -> bool
+    ensures { result ≡ has_short character argument.now }
+{
+    match argument.get_short() {
+        None => false,
+        Some(short) => {
+            short == character || contains_char(argument.get_visible_short_aliases(), character)
+        }
+    }
+}
+
+fn is_at(argument: &Arg, place: usize) -> bool
+    ensures { result ≡ is_at place argument.now }
+{
+    argument.is_positional() && argument.get_index() == Some(place)
+}
+
+/// The first argument with this long or with a visible alias of its long.
+pub fn with_long<'a>(arguments: &'a [Arg], flag: &str) -> Option<&'a Arg>
+    ensures { option_copied result ≡ find (has_long flag.now) arguments.now }
+{
+    arguments.iter().find(|argument| has_long(argument, flag))
+}
+
+fn with_short(arguments: &[Arg], character: char) -> Option<&Arg>
+    ensures { option_copied result ≡ find (has_short character) arguments.now }
+{
+    arguments
+        .iter()
+        .find(|argument| has_short(argument, character))
+}
+
+/// The first argument with this short or with a visible alias of its short, where it takes values.
+pub(crate) fn value_argument(arguments: &[Arg], character: char) -> Option<&Arg>
+    ensures { option_copied result ≡ value_argument arguments.now character }
+{
+    match with_short(arguments, character) {
+        Some(argument) => {
+            if argument.takes_values() {
+                Some(argument)
+            } else {
+                None
+            }
+        }
+        None => None,
+    }
+}
+
+/// The most values that one use of the argument takes.
+pub(crate) fn greatest(argument: &Arg) -> usize
+    ensures { result ≡ greatest argument.now }
+{
+    if let Some(range) = argument.get_num_args() {
+        return range.max_values();
+    }
+    if !argument.get_action().takes_values() {
+        return 0;
+    }
+    argument.get_value_names().len().max(1)
+}
+
+/// The first positional with this index.
+#[tactic(auto, unfolding(crate::specs::Lookup::positional_at))]
+pub(crate) fn positional_at(arguments: &[Arg], place: usize) -> Option<&Arg>
+    ensures { option_copied result ≡ positional_at arguments.now place }
+{
+    arguments.iter().find(|argument| is_at(argument, place))
+}
+
+/// How many values the place holds.
+#[tactic(auto, unfolding(crate::specs::Lookup::limit))]
+pub(crate) fn limit(arguments: &[Arg], place: usize) -> usize
+    ensures value { result ≡ limit arguments.now place }
+    ensures some { 0 < result }
+{
+    match positional_at(arguments, place) {
+        None => 1,
+        Some(argument) => greatest(argument).max(1),
+    }
+}
+
+/// Whether the positional at the place takes words that begin with a hyphen.
+#[tactic(auto, unfolding(crate::specs::Lookup::allows_hyphens_at))]
+pub(crate) fn allows_hyphens_at(arguments: &[Arg], place: usize) -> bool
+    ensures { result ≡ allows_hyphens_at arguments.now place }
+{
+    match positional_at(arguments, place) {
+        None => false,
+        Some(argument) => argument.is_allow_hyphen_values_set(),
+    }
+}

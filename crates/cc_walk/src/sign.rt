@@ -1,0 +1,154 @@
+//! The sign of a word: what it is to a node's arguments, whatever stands before it.
+
+ghost use Rattle.std.specs.Prelude.{◌≡◌, chars, IfSome};
+ghost use Rattle.cc_walk.specs.Blocks.{follows};
+ghost use Rattle.cc_walk.specs.Signs.{cluster_sign, sign_of, sign_of_form, value_character};
+ghost use Rattle.cc_walk.specs.Words.{EndsWith, Long};
+
+use crate::lookup::{value_argument, with_long};
+use cc_arg::Arg;
+use cc_base::TextRef;
+use std::marker::Model;
+
+/// A borrowed argument as the type of a field. A clause sees the argument alone, so that an enum
+/// that holds it is the same type in code and in definitions.
+#[derive(Drop)]
+pub struct ArgRef<'a> {
+    argument: &'a Arg,
+}
+
+impl<'a> Model for ArgRef<'a> {
+    ghost use Rattle.cc_arg.specs.declared.arg.Arg.{Arg};
+
+    ghost Value = { Arg };
+
+    ghost view = { λ borrowed. borrowed.argument.now };
+}
+
+impl<'a> ArgRef<'a> {
+    pub(crate) fn new(argument: &'a Arg) -> ArgRef<'a>
+        ensures { result ≡ argument.now }
+    {
+        ArgRef { argument }
+    }
+
+    /// The argument that is borrowed.
+    pub fn get(&self) -> &'a Arg
+        ensures { result.now ≡ self.now }
+    {
+        self.argument
+    }
+}
+
+/// The sign of a word: what it is to a node's arguments, whatever stands before it.
+#[derive(Drop)]
+pub enum Sign<'a> {
+    /// `--`.
+    Escape,
+    /// A long word without `=`, or a short word that ends in the short of this option.
+    Opens(ArgRef<'a>),
+    /// A long word of an unknown flag, or a short word without an option.
+    Unknown,
+    /// Any other long or short word: an option with a value of its own, or a flag.
+    Closed,
+    /// Any other word.
+    Plain,
+}
+
+impl<'a> Sign<'a> {
+    /// Whether an open option takes the word.
+    pub(crate) fn follows(&self, option: &Arg) -> bool
+        ensures { result ≡ follows option.now self.now }
+    {
+        match self {
+            Sign::Escape => false,
+            Sign::Plain => true,
+            Sign::Opens(_) | Sign::Unknown | Sign::Closed => option.is_allow_hyphen_values_set(),
+        }
+    }
+}
+
+/// A character of a short word whose argument takes values.
+#[derive(Drop)]
+pub struct ValueCharacter<'a, 'w> {
+    /// The argument that has the character as a short.
+    pub argument: ArgRef<'a>,
+    /// What follows the character in the word, maybe with a `=` at its head.
+    pub after: TextRef<'w>,
+}
+
+/// The first character of a short word, given without its hyphen, whose argument takes values.
+///
+/// The first argument that has the character as a short decides: where it takes no values, the search
+/// goes on with the next character.
+pub fn value_character<'a, 'w>(
+    arguments: &'a [Arg],
+    characters: &'w str,
+) -> Option<ValueCharacter<'a, 'w>>
+    ensures value { result ≡ value_character arguments.now (chars characters.now) }
+    ensures after { IfSome result (λ found. EndsWith characters.now found.after) }
+{
+    let mut rest = characters.chars();
+    while let Some(character) = rest.next() {
+        if let Some(argument) = value_argument(arguments, character) {
+            return Some(ValueCharacter {
+                argument: ArgRef::new(argument),
+                after: TextRef::new(rest.as_str()),
+            });
+        }
+    }
+    None
+}
+
+#[tactic(auto, using(crate::proofs::Cluster::opens_last, crate::proofs::Cluster::closed_before))]
+fn cluster_sign<'a>(arguments: &'a [Arg], characters: &str) -> Sign<'a>
+    ensures { result ≡ cluster_sign (value_character arguments.now (chars characters.now)) }
+{
+    match value_character(arguments, characters) {
+        None => Sign::Unknown,
+        Some(found) => {
+            if found.after.as_str().is_empty() {
+                Sign::Opens(found.argument)
+            } else {
+                Sign::Closed
+            }
+        }
+    }
+}
+
+fn flag_sign<'a>(arguments: &'a [Arg], flag: &str, with_equals: bool) -> Sign<'a>
+    ensures { result ≡ sign_of_form arguments.now (Long flag.now with_equals) }
+{
+    match with_long(arguments, flag) {
+        None => Sign::Unknown,
+        Some(argument) => {
+            if argument.takes_values() && !with_equals {
+                Sign::Opens(ArgRef::new(argument))
+            } else {
+                Sign::Closed
+            }
+        }
+    }
+}
+
+/// What the word is to a node with these arguments.
+pub(crate) fn sign_of<'a>(arguments: &'a [Arg], word: &str) -> Sign<'a>
+    ensures { result ≡ sign_of arguments.now word.now }
+{
+    let Some(after) = word.strip_prefix('-') else {
+        return Sign::Plain;
+    };
+    if after.is_empty() {
+        return Sign::Plain;
+    }
+    let Some(long) = after.strip_prefix('-') else {
+        return cluster_sign(arguments, after);
+    };
+    if long.is_empty() {
+        return Sign::Escape;
+    }
+    match long.split_once('=') {
+        None => flag_sign(arguments, long, false),
+        Some((flag, _)) => flag_sign(arguments, flag, true),
+    }
+}

@@ -1,0 +1,152 @@
+//! The state of the walk at one node.
+
+ghost use Rattle.std.specs.Prelude.{◌≡◌, ◌<◌, suc};
+ghost use Rattle.cc_walk.specs.Blocks.{start};
+ghost use Rattle.cc_walk.specs.Signs.{sign_of};
+ghost use Rattle.cc_walk.specs.Machine.{value_state, option_state, closed_step, step, run_length};
+
+use crate::lookup::{allows_hyphens_at, greatest, limit};
+use crate::sign::{ArgRef, Sign, sign_of};
+use cc_arg::Arg;
+
+/// What may take more values after the words read so far.
+#[derive(Drop)]
+pub enum Pending<'a> {
+    /// No option takes more values, and no run of values has begun.
+    Nothing,
+    /// The option has got so many values, and takes more.
+    OptionOpen(ArgRef<'a>, usize),
+    /// The positional at the place has got so many values in a row, and takes more.
+    PositionalRun(usize),
+    /// After `--`, the positional before the place has just got its last value.
+    PlaceMoved,
+}
+
+/// What the words at a node, which follow the last descent, lead to.
+#[derive(Drop)]
+pub struct State<'a> {
+    /// The index, from 1 on, of the positional that the next positional value belongs to.
+    pub place: usize,
+    /// Whether `--` has been read, at this node or one above it.
+    pub escaped: bool,
+    /// What may take more values.
+    pub pending: Pending<'a>,
+}
+
+impl<'a> Pending<'a> {
+    fn run_length(&self) -> usize
+        ensures { result ≡ run_length self.now }
+    {
+        match self {
+            Pending::PositionalRun(values) => *values,
+            Pending::Nothing | Pending::OptionOpen(_, _) | Pending::PlaceMoved => 0,
+        }
+    }
+}
+
+impl<'a> State<'a> {
+    /// Where a node's words begin.
+    pub(crate) fn start(escaped: bool) -> State<'a>
+        ensures { result ≡ start escaped }
+    {
+        State {
+            place: 1,
+            escaped,
+            pending: Pending::Nothing,
+        }
+    }
+
+    // One more value at the place, after a run of so many.
+    fn after_value(arguments: &[Arg], place: usize, escaped: bool, values: usize) -> State<'a>
+        requires { place < usize.MAX }
+        ensures { result ≡ value_state arguments.now place escaped values }
+    {
+        let limit = limit(arguments, place);
+        if values < limit - 1 {
+            return State {
+                place,
+                escaped,
+                pending: Pending::PositionalRun(values + 1),
+            };
+        }
+        let pending = if escaped {
+            Pending::PlaceMoved
+        } else {
+            Pending::Nothing
+        };
+        State {
+            place: place + 1,
+            escaped,
+            pending,
+        }
+    }
+
+    // One more value of an open option, after so many.
+    fn after_option(place: usize, option: ArgRef<'a>, values: usize) -> State<'a>
+        ensures { result ≡ option_state place option.entry (suc values) }
+    {
+        let greatest = greatest(option.get());
+        let pending = if values < greatest && values + 1 < greatest {
+            Pending::OptionOpen(option, values + 1)
+        } else {
+            Pending::Nothing
+        };
+        State {
+            place,
+            escaped: false,
+            pending,
+        }
+    }
+
+    // After an unescaped word that no option takes, where a run of so many values stands before.
+    fn after_other(arguments: &[Arg], place: usize, values: usize, sign: Sign<'a>) -> State<'a>
+        requires { place < usize.MAX }
+        ensures { result ≡ closed_step arguments.now place values sign.entry }
+    {
+        let (escaped, pending) = match sign {
+            Sign::Plain => return State::after_value(arguments, place, false, values),
+            Sign::Unknown => {
+                if allows_hyphens_at(arguments, place) {
+                    return State::after_value(arguments, place, false, values);
+                }
+                (false, Pending::Nothing)
+            }
+            Sign::Escape => (true, Pending::Nothing),
+            Sign::Opens(option) => (false, Pending::OptionOpen(option, 0)),
+            Sign::Closed => (false, Pending::Nothing),
+        };
+        State {
+            place,
+            escaped,
+            pending,
+        }
+    }
+
+    /// One word further at a node with these arguments, none of whose children the word names.
+    pub(crate) fn step(self, arguments: &'a [Arg], word: &str) -> State<'a>
+        requires { self.place < usize.MAX }
+        ensures { result ≡ step arguments.now self.entry.place self.entry.escaped
+            self.entry.pending (sign_of arguments.now word.now) }
+    {
+        let State {
+            place,
+            escaped,
+            pending,
+        } = self;
+        if escaped {
+            return State::after_value(arguments, place, true, pending.run_length());
+        }
+        let sign = sign_of(arguments, word);
+        match pending {
+            Pending::Nothing | Pending::PlaceMoved => State::after_other(arguments, place, 0, sign),
+            Pending::PositionalRun(values) => State::after_other(arguments, place, values, sign),
+            Pending::OptionOpen(option, values) => {
+                if sign.follows(option.get()) {
+                    State::after_option(place, option, values)
+                } else {
+                    State::after_other(arguments, place, 0, sign)
+                }
+            }
+        }
+    }
+}
