@@ -8,6 +8,6 @@ mod sign;
 mod state;
 
 pub use crate::line::{Line, line_of};
-pub use crate::lookup::{has_long, has_short, with_long};
+pub use crate::lookup::{has_long, has_short, positional_at, with_long};
 pub use crate::sign::{ArgRef, ValueCharacter, value_character};
 pub use crate::state::{Pending, State};

@@ -100,7 +100,7 @@ pub(crate) fn greatest(argument: &Arg) -> usize
 
 /// The first positional with this index.
 #[tactic(auto, unfolding(crate::specs::Lookup::positional_at))]
-pub(crate) fn positional_at(arguments: &[Arg], place: usize) -> Option<&Arg>
+pub fn positional_at(arguments: &[Arg], place: usize) -> Option<&Arg>
     ensures { option_copied result ≡ positional_at arguments.now place }
 {
     arguments.iter().find(|argument| is_at(argument, place))
