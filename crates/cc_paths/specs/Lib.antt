@@ -1,0 +1,2 @@
+pub mod PathCandidates
+pub mod PathTexts

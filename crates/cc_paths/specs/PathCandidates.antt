@@ -1,0 +1,105 @@
+-- The candidates that lead to the names in a folder.
+use Rattle.std.specs.Prelude.{◌≡◌, ℕ, List, [], ◌∷◌, ◌++◌, map, filter, length, slice_index, Bool, not, ◌&&◌, ◌==◌, if◌then◌else◌, Option, Some, unwrap_or, MatchOption, codes, nat_eq}
+use Rattle.std.specs.List.{AllByRecursion, starts_with}
+use Rattle.std.specs.Ordering.{is_lt}
+use Rattle.std.specs.Path.{cur_dir, dot, path_join, slash}
+use Rattle.cc_base.specs.Sorting.{in_order}
+use Rattle.cc_candidates.specs.Candidate.{candidate_cmp, new_candidate}
+use Rattle.cc_candidates.specs.declared.candidate.CompletionCandidate.{CompletionCandidate}
+use Rattle.cc_paths.specs.PathTexts.{search_root, word_name, word_prefix}
+use Rattle.cc_paths.specs.declared.entry.Entry.{Entry}
+
+-- the slash that ends the path of a folder
+abbrev pub folder_mark : Bool → List ℕ
+folder_mark is_folder = if is_folder then slash ∷ [] else []
+
+-- the candidate for a listed name: the prefix as it was written, the name, and a slash for a folder;
+-- hidden where the name begins with a dot
+abbrev pub path_candidate : List ℕ → Entry → CompletionCandidate
+path_candidate prefix entry = record (new_candidate (path_join prefix entry.name ++ folder_mark entry.is_folder)) {
+  hidden = slice_index entry.name 0 == dot;
+}
+
+-- the candidate `.` for an empty word, where the folder itself passes the test
+abbrev pub dot_candidate : List ℕ → Bool → List CompletionCandidate
+dot_candidate word root_passes =
+    if (length word == 0) && root_passes then new_candidate cur_dir ∷ [] else []
+
+-- it passes the test
+abbrev pub is_wanted : Entry → Bool
+is_wanted entry = entry.passes
+
+-- a folder that doesn't pass the test
+abbrev pub is_unwanted_folder : Entry → Bool
+is_unwanted_folder entry = not entry.passes && entry.is_folder
+
+-- one candidate belongs before another
+abbrev pub stands_before : CompletionCandidate → CompletionCandidate → Bool
+stands_before one other = is_lt (candidate_cmp one other)
+
+-- the wanted candidates in order, then the unwanted folders in order
+unfoldable pub grouped_candidates : List ℕ → Bool → List Entry → List CompletionCandidate
+grouped_candidates word root_passes entries =
+    in_order stands_before (dot_candidate word root_passes
+    ++ map (path_candidate (word_prefix word)) (filter is_wanted entries))
+    ++ in_order stands_before (map (path_candidate (word_prefix word)) (filter is_unwanted_folder entries))
+
+-- the name begins with this text
+abbrev pub begins : List ℕ → List ℕ → Bool
+begins start name = starts_with nat_eq name start
+
+-- the name of an entry
+abbrev pub entry_name : Entry → List ℕ
+entry_name entry = entry.name
+
+-- the entry holds what the folder and the test may say of the path of its name
+pub record IsTold (tells_dir passes : List ℕ → Bool → Type 0) (root : List ℕ) (entry : Entry) : Type 0 where
+  pub folder : tells_dir (path_join root entry.name) entry.is_folder
+  pub test : passes (path_join root entry.name) entry.passes
+
+-- these names may be listed; a folder that can't be read has none
+abbrev pub MayList : (Option (List (List ℕ)) → Type 0) → List (List ℕ) → Type 0
+MayList lists names = (listing : Option (List (List ℕ))) × lists listing × (names ≡ unwrap_or listing [])
+
+-- the candidates for a word from the names that may be listed at the root, of which those that begin
+-- as the word does are looked at
+pub record AreCandidatesAt (lists : List ℕ → Option (List (List ℕ)) → Type 0)
+    (tells_dir passes : List ℕ → Bool → Type 0) (word root : List ℕ)
+    (candidates : List CompletionCandidate) : Type 0 where
+  pub names : List (List ℕ)
+  pub listed : MayList (lists root) names
+  pub entries : List Entry
+  pub named : map entry_name entries ≡ filter (begins (word_name word)) names
+  pub told : AllByRecursion (IsTold tells_dir passes root) entries
+  pub root_passes : Bool
+  pub root_told : word ≡ [] → passes root root_passes
+  pub is : candidates ≡ grouped_candidates word root_passes entries
+
+-- the candidates for a word: none where it needs a home folder or a current folder that is missing
+abbrev pub ArePathCandidates : (List ℕ → Option (List (List ℕ)) → Type 0)
+    → (List ℕ → Bool → Type 0) → (List ℕ → Bool → Type 0) → Option (List ℕ) → Option (List ℕ)
+    → List ℕ → List CompletionCandidate → Type 0
+ArePathCandidates lists tells_dir passes home current word candidates =
+    MatchOption (search_root home current (word_prefix word)) (candidates ≡ [])
+    (λ root. AreCandidatesAt lists tells_dir passes word root candidates)
+
+-- the same candidates, in order as one list
+abbrev pub ArePathCandidatesInOrder : (List ℕ → Option (List (List ℕ)) → Type 0)
+    → (List ℕ → Bool → Type 0) → (List ℕ → Bool → Type 0) → Option (List ℕ) → Option (List ℕ)
+    → List ℕ → List CompletionCandidate → Type 0
+ArePathCandidatesInOrder lists tells_dir passes home current word candidates =
+    (grouped : List CompletionCandidate)
+    × ArePathCandidates lists tells_dir passes home current word grouped
+    × (candidates ≡ in_order stands_before grouped)
+
+-- the candidate `-`, standard input or output, for an empty word
+abbrev pub stdio_candidate : List ℕ → Bool → List CompletionCandidate
+stdio_candidate word stdio =
+    if stdio && (length word == 0)
+    then record (new_candidate (codes "-")) { help = Some (codes "stdio") } ∷ [] else []
+
+-- candidates for paths, then the candidate `-` where it is offered
+abbrev pub WithStdio : (List CompletionCandidate → Type 0) → Bool → List ℕ
+    → List CompletionCandidate → Type 0
+WithStdio ArePaths stdio word candidates = (paths : List CompletionCandidate)
+    × ArePaths paths × (candidates ≡ paths ++ stdio_candidate word stdio)

@@ -1,0 +1,17 @@
+//! Paths as candidates: texts of paths, folders, tests of paths, and completers of paths.
+#![tactic(auto)]
+
+mod completer;
+mod entry;
+mod folder;
+mod listing;
+mod path_test;
+mod path_texts;
+mod real_folder;
+
+pub use crate::completer::PathCompleter;
+pub use crate::folder::{Folder, FolderError};
+pub use crate::listing::{path_candidates, path_candidates_in_order};
+pub use crate::path_test::{EveryPath, FnTest, IsDir, IsExecutable, IsFile, PathTest, TextTest};
+pub use crate::path_texts::{join, trimmed};
+pub use crate::real_folder::RealFolder;

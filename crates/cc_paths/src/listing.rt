@@ -1,0 +1,263 @@
+//! The candidates that lead to the names in a folder.
+
+ghost use Rattle.std.specs.Prelude.{◌≡◌, ◌==◌, ◌++◌, map, filter, slice_index, nat_eq, string_bytes, IfOk, OnOk};
+ghost use Rattle.std.specs.List.{AllByRecursion, starts_with};
+ghost use Rattle.std.specs.Option.{option_copied};
+ghost use Rattle.std.specs.Path.{dot};
+ghost use Rattle.cc_base.specs.Sorting.{in_order};
+ghost use Rattle.cc_paths.specs.PathCandidates.{ArePathCandidates, ArePathCandidatesInOrder, AreCandidatesAt, IsTold, MayList, begins};
+ghost use Rattle.cc_paths.specs.PathCandidates.{dot_candidate, entry_name, folder_mark, grouped_candidates, is_unwanted_folder, is_wanted};
+ghost use Rattle.cc_paths.specs.PathCandidates.{path_candidate, stands_before};
+
+use crate::entry::Entry;
+use crate::folder::{Folder, FolderError};
+use crate::path_test::PathTest;
+use crate::path_texts::{join, search_root, word_name, word_prefix};
+use cc_base::Text;
+use cc_candidates::CompletionCandidate;
+use std::alloc::{AllocError, Global};
+
+/// The candidates for a word that lead to paths which pass the test, sorted, then those for the
+/// other folders, sorted.
+///
+/// The word is a folder, as it was written, and the start of a name in it. A word that begins with
+/// `~/` leads into the home folder, any other relative word into the current folder; without the one
+/// that it needs there are no candidates. The value of a folder ends in a slash; a name that begins
+/// with a dot is hidden. For an empty word `.` is a candidate where the current folder passes. A
+/// folder that can't be read has no names.
+///
+/// Fails when memory runs out.
+pub fn path_candidates<D: Folder, T: PathTest<D>>(
+    alloc: Global,
+    folder: &D,
+    test: &T,
+    current_dir: Option<&str>,
+    word: &str,
+) -> Result<Vec<CompletionCandidate>, AllocError>
+    ensures { IfOk result (λ candidates. ArePathCandidates (D.lists folder.now)
+        (D.tells_dir folder.now) (T.tells test.now folder.now) (D.home_path folder.now)
+        (option_copied current_dir.entry) word.now candidates.items) }
+{
+    match search_root(alloc, folder.home(), current_dir, word_prefix(word))? {
+        Some(root) => candidates_at(alloc, folder, test, root.as_str(), word),
+        None => Ok(Vec::new(alloc)),
+    }
+}
+
+/// The same candidates, sorted as one list. Fails when memory runs out.
+pub fn path_candidates_in_order<D: Folder, T: PathTest<D>>(
+    alloc: Global,
+    folder: &D,
+    test: &T,
+    current_dir: Option<&str>,
+    word: &str,
+) -> Result<Vec<CompletionCandidate>, AllocError>
+    ensures { IfOk result (λ candidates. ArePathCandidatesInOrder (D.lists folder.now)
+        (D.tells_dir folder.now) (T.tells test.now folder.now) (D.home_path folder.now)
+        (option_copied current_dir.entry) word.now candidates.items) }
+{
+    let mut candidates = path_candidates(alloc, folder, test, current_dir, word)?;
+    sort(&mut candidates)?;
+    Ok(candidates)
+}
+
+// The candidates for a word from the names at the root.
+fn candidates_at<D: Folder, T: PathTest<D>>(
+    alloc: Global,
+    folder: &D,
+    test: &T,
+    root: &str,
+    word: &str,
+) -> Result<Vec<CompletionCandidate>, AllocError>
+    ensures { IfOk result (λ candidates. AreCandidatesAt (D.lists folder.now)
+        (D.tells_dir folder.now) (T.tells test.now folder.now) word.now root.now
+        candidates.items) }
+{
+    let root_passes = word.is_empty() && test.passes(folder, root);
+    let names = names_at(alloc, folder, root)?;
+    let entries = ask_all(alloc, folder, test, root, word_name(word), names)?;
+    let candidates = in_groups(alloc, word, root_passes, entries.as_slice())?;
+    Ok(candidates)
+}
+
+// The names at the root; none where it can't be read.
+fn names_at<D: Folder>(alloc: Global, folder: &D, root: &str) -> Result<Vec<String>, AllocError>
+    ensures { IfOk result (λ names. MayList (D.lists folder.now root.now)
+        (map string_bytes names.items)) }
+{
+    match folder.names(alloc, root) {
+        Ok(names) => Ok(names),
+        Err(FolderError::Unreadable) => Ok(Vec::new(alloc)),
+        Err(FolderError::Memory) => Err(AllocError),
+    }
+}
+
+// What the folder and the test say of the names that begin with the start. The folder is asked about
+// each of these once, and about no others.
+fn ask_all<D: Folder, T: PathTest<D>>(
+    alloc: Global,
+    folder: &D,
+    test: &T,
+    root: &str,
+    start: &str,
+    names: Vec<String>,
+) -> Result<Vec<Entry>, AllocError>
+    ensures named { IfOk result (λ entries.
+        map entry_name entries.items ≡ filter (begins start.now) (map string_bytes names.items)) }
+    ensures told { IfOk result (λ entries. AllByRecursion
+        (IsTold (D.tells_dir folder.now) (T.tells test.now folder.now) root.now) entries.items) }
+{
+    let mut entries = Vec::new(alloc);
+    for name in names {
+        if !begins_with(name.as_str(), start) {
+            continue;
+        }
+        entries.push(ask(alloc, folder, test, root, name)?)?;
+    }
+    Ok(entries)
+}
+
+// What the folder and the test say of a name.
+fn ask<D: Folder, T: PathTest<D>>(
+    alloc: Global,
+    folder: &D,
+    test: &T,
+    root: &str,
+    name: String,
+) -> Result<Entry, AllocError>
+    ensures name { IfOk result (λ entry. entry.name ≡ string_bytes name) }
+    ensures told { IfOk result
+        (IsTold (D.tells_dir folder.now) (T.tells test.now folder.now) root.now) }
+{
+    let path = join(alloc, root, name.as_str())?;
+    let is_folder = folder.is_dir(path.as_str());
+    let passes = test.passes_known(folder, path.as_str(), is_folder);
+    Ok(Entry {
+        name: Text::from(name),
+        is_folder,
+        passes,
+    })
+}
+
+// Whether the text begins with the start.
+fn begins_with(text: &str, start: &str) -> bool
+    ensures { result ≡ starts_with nat_eq text.now start.now }
+{
+    text.as_bytes().starts_with(start.as_bytes())
+}
+
+// The candidates of the entries: those that pass, sorted, then the other folders, sorted.
+#[tactic(auto, unfolding(crate::specs::PathCandidates::grouped_candidates))]
+fn in_groups(
+    alloc: Global,
+    word: &str,
+    root_passes: bool,
+    entries: &[Entry],
+) -> Result<Vec<CompletionCandidate>, AllocError>
+    ensures { IfOk result (λ candidates. candidates.items
+        ≡ grouped_candidates word.now root_passes entries.now) }
+{
+    let prefix = word_prefix(word);
+    let mut wanted = dot_candidate(alloc, word, root_passes)?;
+    push_wanted(alloc, &mut wanted, prefix, entries)?;
+    sort(&mut wanted)?;
+    let mut unwanted = unwanted_folders(alloc, prefix, entries)?;
+    sort(&mut unwanted)?;
+    wanted.append(&mut unwanted)?;
+    Ok(wanted)
+}
+
+// The candidate `.`, where the word is empty and the root passes.
+fn dot_candidate(
+    alloc: Global,
+    word: &str,
+    root_passes: bool,
+) -> Result<Vec<CompletionCandidate>, AllocError>
+    ensures { IfOk result (λ found. found.items ≡ dot_candidate word.now root_passes) }
+{
+    let mut found = Vec::new(alloc);
+    if word.is_empty() && root_passes {
+        found.push(CompletionCandidate::new(String::from_str(alloc, ".")?))?;
+        return Ok(found);
+    }
+    Ok(found)
+}
+
+// Adds the candidates of the entries that pass.
+fn push_wanted(
+    alloc: Global,
+    found: &mut Vec<CompletionCandidate>,
+    prefix: &str,
+    entries: &[Entry],
+) -> Result<(), AllocError>
+    ensures { OnOk result (found.new.items ≡ found.old.items
+        ++ map (path_candidate prefix.now) (filter is_wanted entries.now)) }
+{
+    for entry in entries {
+        if !entry.passes {
+            continue;
+        }
+        found.push(path_candidate(alloc, prefix, entry)?)?;
+    }
+    Ok(())
+}
+
+// The candidates of the folders that don't pass.
+fn unwanted_folders(
+    alloc: Global,
+    prefix: &str,
+    entries: &[Entry],
+) -> Result<Vec<CompletionCandidate>, AllocError>
+    ensures { IfOk result (λ found. found.items
+        ≡ map (path_candidate prefix.now) (filter is_unwanted_folder entries.now)) }
+{
+    let mut found = Vec::new(alloc);
+    for entry in entries {
+        if entry.passes || !entry.is_folder {
+            continue;
+        }
+        found.push(path_candidate(alloc, prefix, entry)?)?;
+    }
+    Ok(found)
+}
+
+// The candidate of an entry, with the prefix that was written.
+fn path_candidate(
+    alloc: Global,
+    prefix: &str,
+    entry: &Entry,
+) -> Result<CompletionCandidate, AllocError>
+    ensures { IfOk result (λ candidate. candidate ≡ path_candidate prefix.now entry.now) }
+{
+    let name = entry.name.as_str();
+    let hidden = begins_with_dot(name);
+    let value = marked(join(alloc, prefix, name)?, entry.is_folder)?;
+    Ok(CompletionCandidate::new(value).hide(hidden))
+}
+
+// Whether the name begins with a dot.
+fn begins_with_dot(name: &str) -> bool
+    ensures { result ≡ (slice_index name.now 0 == dot) }
+{
+    name.as_bytes().first() == Some(&b'.')
+}
+
+// The path, with a slash at its end where it is a folder's.
+fn marked(mut path: String, is_folder: bool) -> Result<String, AllocError>
+    ensures { IfOk result (λ marked. string_bytes marked
+        ≡ string_bytes path ++ folder_mark is_folder) }
+{
+    if is_folder {
+        path.push('/')?;
+        return Ok(path);
+    }
+    Ok(path)
+}
+
+// Sorts the candidates.
+fn sort(candidates: &mut Vec<CompletionCandidate>) -> Result<(), AllocError>
+    ensures { OnOk result (candidates.new.items ≡ in_order stands_before candidates.old.items) }
+{
+    candidates.sort()?;
+    Ok(())
+}

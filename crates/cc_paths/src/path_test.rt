@@ -1,0 +1,105 @@
+//! Tests that paths pass or fail.
+
+ghost use Rattle.std.specs.Prelude.{◌≡◌, ℕ, Bool, List, true};
+ghost use Rattle.std.specs.Fn.{FnReturnsAt};
+
+use crate::folder::Folder;
+
+/// A test of the paths in a folder.
+pub trait PathTest<D: Folder> {
+    // what may be said of a path in the folder
+    ghost tells: { Self → D → List ℕ → Bool → Type 0 };
+
+    /// Whether a path passes.
+    fn passes(&self, folder: &D, path: &str) -> bool
+        ensures { tells self.now folder.now path.now result };
+
+    /// Whether a path passes, where the folder was already asked whether the path is a folder's.
+    /// A test that needs nothing else returns `is_dir`, so that the folder isn't asked twice.
+    fn passes_known(&self, folder: &D, path: &str, is_dir: bool) -> bool
+        requires { D.tells_dir folder.now path.now is_dir }
+        ensures { tells self.now folder.now path.now result }
+    {
+        self.passes(folder, path)
+    }
+}
+
+/// Every path passes.
+#[derive(Drop)]
+pub struct EveryPath;
+
+impl<D: Folder> PathTest<D> for EveryPath {
+    ghost tells = { λ _ _ _ told. told ≡ true };
+
+    fn passes(&self, _folder: &D, _path: &str) -> bool {
+        true
+    }
+}
+
+/// The paths of files pass.
+#[derive(Drop)]
+pub struct IsFile;
+
+impl<D: Folder> PathTest<D> for IsFile {
+    ghost tells = { λ _ folder. D.tells_file folder };
+
+    fn passes(&self, folder: &D, path: &str) -> bool {
+        folder.is_file(path)
+    }
+}
+
+/// The paths of folders pass.
+#[derive(Drop)]
+pub struct IsDir;
+
+impl<D: Folder> PathTest<D> for IsDir {
+    ghost tells = { λ _ folder. D.tells_dir folder };
+
+    fn passes(&self, folder: &D, path: &str) -> bool {
+        folder.is_dir(path)
+    }
+
+    fn passes_known(&self, _folder: &D, _path: &str, is_dir: bool) -> bool {
+        is_dir
+    }
+}
+
+/// The paths of files that can be run pass.
+#[derive(Drop)]
+pub struct IsExecutable;
+
+impl<D: Folder> PathTest<D> for IsExecutable {
+    ghost tells = { λ _ folder. D.tells_executable folder };
+
+    fn passes(&self, folder: &D, path: &str) -> bool {
+        folder.is_executable(path)
+    }
+}
+
+/// A boxed closure that tells whether a path passes.
+pub type TextTest = Box<dyn Fn(&str) -> bool>;
+
+/// The paths for which a closure returns `true` pass.
+#[derive(Drop)]
+pub struct FnTest {
+    test: TextTest,
+    ghost callable: { TextTest.IsAlwaysCallable test },
+}
+
+impl FnTest {
+    /// The test by a closure that may be called with any text.
+    pub fn new(test: TextTest) -> FnTest
+        requires { TextTest.IsAlwaysCallable test }
+        ensures { result.test ≡ test }
+    {
+        FnTest { test }
+    }
+}
+
+impl<D: Folder> PathTest<D> for FnTest {
+    ghost tells = { λ asked _ path told. FnReturnsAt TextTest.Fn asked.test path told };
+
+    fn passes(&self, _folder: &D, path: &str) -> bool {
+        (self.test)(path)
+    }
+}

@@ -1,0 +1,144 @@
+//! The parts of a path's text.
+
+ghost use Rattle.std.specs.Prelude.{◌≡◌, ◌==◌, ◌<◌, length, IfOk, string_bytes};
+ghost use Rattle.std.specs.Option.{option_copied, option_map};
+ghost use Rattle.std.specs.Path.{is_leading, is_trailing, path_join, trim_trailing};
+ghost use Rattle.cc_paths.specs.PathTexts.{below_home, join_some, ends_in_slash, is_folder_word, past_leading};
+ghost use Rattle.cc_paths.specs.PathTexts.{search_root, word_name, word_prefix};
+
+use std::alloc::{AllocError, Global};
+use std::path::Path;
+
+/// The path without the slashes and the `.` pieces at its end. The first slash of an absolute path
+/// stays, and so does a `.` that is the whole path.
+pub fn trimmed(path: &str) -> &str
+    ensures { result.now ≡ trim_trailing path.now }
+{
+    let bytes = path.as_bytes();
+    let mut end = bytes.len();
+    while end > 0 && is_trailing(bytes, end - 1) {
+        end -= 1;
+    }
+    &path[..end]
+}
+
+// Whether the byte at `i` is a slash, or a `.` after one, and isn't the first byte.
+fn is_trailing(path: &[u8], i: usize) -> bool
+    requires { i < length path.now }
+    ensures { result ≡ is_trailing path.now i }
+{
+    0 < i && (path[i] == b'/' || (path[i] == b'.' && path[i - 1] == b'/'))
+}
+
+/// A path from a base: the base, a slash unless the base is empty or ends in one, and the path. An
+/// absolute path is returned as it is. Fails when memory runs out.
+pub fn join(alloc: Global, base: &str, path: &str) -> Result<String, AllocError>
+    ensures { IfOk result (λ joined. string_bytes joined ≡ path_join base.now path.now) }
+{
+    Ok(Path::new(base).join(alloc, path)?.into_string())
+}
+
+// Whether the text ends in a slash.
+fn ends_in_slash(path: &str) -> bool
+    ensures { result ≡ ends_in_slash path.now }
+{
+    path.as_bytes().last() == Some(&b'/')
+}
+
+// Whether the whole word names a folder.
+fn is_folder_word(word: &str) -> bool
+    ensures { result ≡ is_folder_word word.now }
+{
+    ends_in_slash(word) || Path::new(word).file_name().is_none()
+}
+
+// The folder that a word names, as it was written.
+#[tactic(auto, unfolding(crate::specs::PathTexts::word_prefix))]
+pub(crate) fn word_prefix(word: &str) -> &str
+    ensures { result.now ≡ word_prefix word.now }
+{
+    if is_folder_word(word) {
+        return word;
+    }
+    match Path::new(word).parent() {
+        Some(parent) => parent.as_str(),
+        None => "",
+    }
+}
+
+// The start of a name in that folder.
+#[tactic(auto, unfolding(crate::specs::PathTexts::word_name))]
+pub(crate) fn word_name(word: &str) -> &str
+    ensures { result.now ≡ word_name word.now }
+{
+    if is_folder_word(word) {
+        return "";
+    }
+    match Path::new(word).file_name() {
+        Some(name) => name,
+        None => "",
+    }
+}
+
+// The path after its leading slashes and `.` pieces.
+fn past_leading(path: &str) -> &str
+    ensures { result.now ≡ past_leading path.now }
+{
+    let bytes = path.as_bytes();
+    let mut start = 0;
+    while start < bytes.len() && is_leading(bytes, start) {
+        start += 1;
+    }
+    &path[start..]
+}
+
+// Whether the byte at `i` is a slash, or a `.` before a slash or the end.
+fn is_leading(path: &[u8], i: usize) -> bool
+    requires { i < length path.now }
+    ensures { result ≡ is_leading path.now i }
+{
+    path[i] == b'/' || (path[i] == b'.' && (i + 1 == path.len() || path[i + 1] == b'/'))
+}
+
+// What follows `~` as the first piece.
+fn below_home(path: &str) -> Option<&str>
+    ensures { option_copied result ≡ below_home path.now }
+{
+    match path.split_once('/') {
+        Some(("~", rest)) => Some(past_leading(rest)),
+        None if path == "~" => Some(""),
+        _ => None,
+    }
+}
+
+// The folder whose names are listed for a prefix; `None` where it needs a home folder or a current
+// folder and there is none.
+#[tactic(auto, unfolding(crate::specs::PathTexts::search_root))]
+pub(crate) fn search_root(
+    alloc: Global,
+    home: Option<&str>,
+    current: Option<&str>,
+    prefix: &str,
+) -> Result<Option<String>, AllocError>
+    ensures { IfOk result (λ root. option_map string_bytes root
+        ≡ search_root (option_copied home.entry) (option_copied current.entry) prefix.now) }
+{
+    if prefix.starts_with('/') {
+        return Ok(Some(String::from_str(alloc, prefix)?));
+    }
+    match below_home(prefix) {
+        Some(rest) => join_some(alloc, home, rest),
+        None => join_some(alloc, current, prefix),
+    }
+}
+
+// The path from a base, where there is one.
+fn join_some(alloc: Global, base: Option<&str>, path: &str) -> Result<Option<String>, AllocError>
+    ensures { IfOk result (λ joined. option_map string_bytes joined
+        ≡ join_some (option_copied base.entry) path.now) }
+{
+    match base {
+        Some(base) => Ok(Some(join(alloc, base, path)?)),
+        None => Ok(None),
+    }
+}

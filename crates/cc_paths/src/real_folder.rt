@@ -1,0 +1,91 @@
+//! The folders of the operating system.
+
+ghost use Rattle.std.specs.Prelude.{◌≡◌, ⊤};
+ghost use Rattle.std.specs.Option.{option_map};
+ghost use Rattle.std.specs.String.{string_bytes};
+
+use crate::folder::{Folder, FolderError};
+use cc_base::Text;
+use std::alloc::Global;
+use std::path::Path;
+use std::rt::Files;
+use std::{fs, io};
+
+/// The files and folders of the operating system. Every file counts as executable. An entry that
+/// can't be read is left out of the names; a path that can't be asked about is neither a folder nor a
+/// file. What the system says is not known beforehand, so the contracts of `Folder` say nothing here.
+#[derive(Drop)]
+pub struct RealFolder<R> {
+    files: R,
+    home: Option<Text>,
+}
+
+impl<R: Files + Drop> RealFolder<R> {
+    /// The files and folders of the system, with this home folder of the user.
+    pub fn new(files: R, home: Option<String>) -> RealFolder<R>
+        ensures files { result.files ≡ files }
+        ensures home { result.home ≡ option_map string_bytes home }
+    {
+        RealFolder {
+            files,
+            home: home.map(|home| Text::from(home)),
+        }
+    }
+}
+
+impl<R: Files + Drop> Folder for RealFolder<R> {
+    ghost lists = { λ _ _ _. ⊤ };
+
+    ghost tells_dir = { λ _ _ _. ⊤ };
+
+    ghost tells_file = { λ _ _ _. ⊤ };
+
+    ghost tells_executable = { λ _ _ _. ⊤ };
+
+    ghost home_path = { λ folder. folder.home };
+
+    fn names(&self, alloc: Global, path: &str) -> Result<Vec<String>, FolderError> {
+        let entries = fs::read_dir(&(&self.files, alloc), path).map_err(|error| read_error(
+            &error,
+        ))?;
+        let mut names = Vec::new(alloc);
+        for entry in entries {
+            match entry {
+                Ok(entry) => names.push(String::from_str(alloc, entry.file_name())?)?,
+                Err(error) if error.kind() == io::ErrorKind::OutOfMemory => {
+                    return Err(FolderError::Memory);
+                }
+                Err(_) => {}
+            }
+        }
+        Ok(names)
+    }
+
+    fn is_dir(&self, path: &str) -> bool {
+        Path::new(path).is_dir(&self.files)
+    }
+
+    fn is_file(&self, path: &str) -> bool {
+        Path::new(path).is_file(&self.files)
+    }
+
+    fn is_executable(&self, path: &str) -> bool {
+        Path::new(path).is_file(&self.files)
+    }
+
+    fn home(&self) -> Option<&str> {
+        match &self.home {
+            Some(home) => Some(home.as_str()),
+            None => None,
+        }
+    }
+}
+
+// Why the names can't be listed.
+fn read_error(error: &io::Error) -> FolderError {
+    if error.kind() == io::ErrorKind::OutOfMemory {
+        FolderError::Memory
+    } else {
+        FolderError::Unreadable
+    }
+}
