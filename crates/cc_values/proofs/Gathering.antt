@@ -1,0 +1,61 @@
+-- What is made of an answer, by what the argument has.
+use Rattle.std.proofs.Common.{◌≡◌, ◌∙◌, ap, sym, refl, subst, ℕ, List, [], map, Bool, true, false, Option, Some, None}
+use Rattle.std.specs.Prelude.{filter}
+use Rattle.cc_base.specs.Sorting.{in_order}
+use Rattle.cc_arg.specs.declared.arg.Arg.{Arg}
+use Rattle.cc_arg.specs.declared.possible_value.PossibleValue.{PossibleValue}
+use Rattle.cc_arg.specs.declared.value_hint.ValueHint.{ValueHint}
+use Rattle.cc_arg.specs.Arguments.{possible_values}
+use Rattle.cc_arg.specs.Printed.{printed}
+use Rattle.cc_candidates.specs.Beginning.{begins}
+use Rattle.cc_candidates.specs.declared.candidate.CompletionCandidate.{CompletionCandidate}
+use Rattle.cc_candidates.specs.declared.numbers.ArgValueCandidates.{ArgValueCandidates}
+use Rattle.cc_candidates.specs.declared.numbers.ArgValueCompleter.{ArgValueCompleter}
+use Rattle.cc_values.specs.Parts.{front, part}
+use Rattle.cc_values.specs.Values.{Allows, Gathers, Lent, ArgumentValues, as_value, gathered, gathered_by, is_path, question, question_by, question_of_hint, sorted, value_candidate, values}
+
+sorted_none : sorted [] ≡ []
+unfolding sorted in_order
+sorted_none = refl
+
+module _ (lent : Lent) (arg : Arg) (number : ℕ) (text : List ℕ) where
+  by_parts : (completer : Option ArgValueCompleter) (list : Option ArgValueCandidates) (values : Option (List PossibleValue)) → arg.completer ≡ completer → arg.candidates ≡ list → possible_values arg ≡ values
+      → (answer : List CompletionCandidate) → Allows lent (question_by completer list values arg.value_hint number text) answer → Gathers lent arg number text (gathered_by completer list values text answer)
+  unfolding question gathered
+  by_parts completer list values is_completer is_list is_values answer allowed = (
+    answer,
+    subst (λ (x : Option ArgValueCompleter × Option ArgValueCandidates × Option (List PossibleValue)). Allows lent (question_by x.0 x.1 x.2 arg.value_hint number text) answer) (λ k. (sym is_completer k, sym is_list k, sym is_values k)) allowed,
+    λ k. gathered_by (sym is_completer k) (sym is_list k) (sym is_values k) text answer,
+  )
+
+  pub of_completer : (which : ArgValueCompleter) (answer : List CompletionCandidate) → arg.completer ≡ Some which → lent.completes which.number number text answer → Gathers lent arg number text answer
+  of_completer which answer is allowed = by_parts (Some which) arg.candidates (possible_values arg) is refl refl answer allowed
+
+  pub of_list : (which : ArgValueCandidates) (answer kept : List CompletionCandidate) → arg.completer ≡ None → arg.candidates ≡ Some which → lent.lists which.number answer → kept ≡ filter (begins text) answer → Gathers lent arg number text kept
+  of_list which answer kept none is allowed keeps = subst (Gathers lent arg number text) (sym keeps) (by_parts None (Some which) (possible_values arg) none is refl answer allowed)
+
+  pub of_values : (values : List PossibleValue) (kept : List CompletionCandidate) → arg.completer ≡ None → arg.candidates ≡ None → possible_values arg ≡ Some values → kept ≡ filter (begins text) (map value_candidate values) → Gathers lent arg number text kept
+  of_values values kept none none_too is keeps = subst (Gathers lent arg number text) (sym keeps) (by_parts None None (Some values) none none_too is [] refl)
+
+  pub of_paths : (answer found : List CompletionCandidate) (hint : ValueHint) (path : Bool) → arg.completer ≡ None → arg.candidates ≡ None → possible_values arg ≡ None → hint ≡ arg.value_hint → path ≡ is_path hint → path ≡ true → lent.finds hint text answer → found ≡ sorted answer → Gathers lent arg number text found
+  of_paths answer found hint path none none_too no_values own is so allowed sorts =
+      subst (Gathers lent arg number text) (sym sorts)
+      (by_parts None None None none none_too no_values answer
+      (subst (λ h. Allows lent (question_of_hint (is_path h) h text) answer) own
+      (subst (λ b. Allows lent (question_of_hint b hint text) answer) (sym so ∙ is) allowed)))
+
+  pub of_nothing : (found : List CompletionCandidate) (hint : ValueHint) (path : Bool) → arg.completer ≡ None → arg.candidates ≡ None → possible_values arg ≡ None → hint ≡ arg.value_hint → path ≡ is_path hint → path ≡ false → found ≡ [] → Gathers lent arg number text found
+  of_nothing found hint path none none_too no_values own is not_so empty =
+      subst (Gathers lent arg number text) (sorted_none ∙ sym empty)
+      (by_parts None None None none none_too no_values []
+      (subst (λ h. Allows lent (question_of_hint (is_path h) h text) []) own
+      (subst (λ b. Allows lent (question_of_hint b hint text) []) (sym not_so ∙ is) refl)))
+
+pub argument_values : (lent : Lent) (arg : Arg) (number : ℕ) (word before text : List ℕ) (found result : List CompletionCandidate)
+    → before ≡ front arg.value_delimiter word → text ≡ part arg.value_delimiter word → Gathers lent arg number text found → result ≡ map (as_value before (printed arg)) found → ArgumentValues lent arg word number result
+unfolding values
+argument_values lent arg number word before text found result is_before is_text gathers made = (
+  gathers.0,
+  subst (λ t. Allows lent (question arg number t) gathers.0) is_text gathers.1,
+  made ∙ (λ k. map (as_value (is_before k) (printed arg)) (gathers.2 k)) ∙ ap (λ t. map (as_value (front arg.value_delimiter word) (printed arg)) (gathered arg t gathers.0)) is_text,
+)

@@ -1,0 +1,37 @@
+-- Worked values.
+use Rattle.std.specs.Prelude.{◌≡◌, [], ◌∷◌, true, false, Some, None, refl, codes}
+use Rattle.std.specs.Char.{encode_utf8}
+use Rattle.cc_arg.specs.declared.arg.Arg.{Arg}
+use Rattle.cc_arg.specs.Arguments.{new_arg}
+use Rattle.cc_arg.specs.Printed.{printed, printed_behind, printed_names, printed_values}
+use Rattle.cc_candidates.specs.Candidate.{new_candidate}
+use Rattle.cc_values.specs.Parts.{front, front_length, part}
+use Rattle.cc_values.specs.Values.{gathered, question, nothing, values}
+
+front_of_three : front (Some 44) (codes "a,b,c") ≡ codes "a,b,"
+unfolding front_length encode_utf8
+front_of_three = refl
+
+part_of_three : part (Some 44) (codes "a,b,c") ≡ codes "c"
+unfolding front_length encode_utf8
+part_of_three = refl
+
+-- a delimiter of two bytes, `§`
+part_of_section : part (Some 167) (97 ∷ 194 ∷ 167 ∷ 98 ∷ []) ≡ codes "b"
+unfolding front_length encode_utf8
+part_of_section = refl
+
+abbrev color : Arg
+color = record (new_arg (codes "color")) {
+  short = Some 99;
+  long = Some (codes "color");
+  possible_values = Some (record { name = codes "auto"; help = None; hide = false } ∷ record { name = codes "never"; help = None; hide = true } ∷ []);
+}
+
+color_asks_nothing : question color 0 (codes "a") ≡ nothing
+unfolding question
+color_asks_nothing = refl
+
+values_of_color : values color (codes "a") [] ≡ record (new_candidate (codes "auto")) { tag = Some (codes "--color <color>") } ∷ []
+unfolding values gathered front_length printed printed_behind printed_names printed_values
+values_of_color = refl

@@ -1,0 +1,14 @@
+use Rattle.std.proofs.Common.{◌∙◌, ap}
+use Rattle.cc_values.specs.Parts.{front, part}
+use Rattle.cc_values.proofs.Gathering.{argument_values}
+use Rattle.cc_values.proofs.Results.{IfOk-map}
+use Rattle.cc_values.proofs.values.arg_values.Goals as goal
+
+pub returns : goal.returns
+returns g c =
+    IfOk-map c.as_values.result
+    (λ made is. argument_values _ c.args.argument.now c.args.number c.args.word.now _ _ c.in_ok-found.found.items made.items
+    (c.cut.ensures.front ∙ ap (λ delimiter. front delimiter c.args.word.now) c.get_value_delimiter.ensures)
+    (c.cut.ensures.part ∙ ap (λ delimiter. part delimiter c.args.word.now) c.get_value_delimiter.ensures)
+    c.in_ok-found.ensures is)
+    c.as_values.ensures

@@ -1,0 +1,82 @@
+//! Possible values as candidates.
+
+ghost use Rattle.std.specs.Prelude.{◌≡◌, filter, map, IfOk, IfErr};
+ghost use Rattle.cc_candidates.specs.Beginning.{begins};
+ghost use Rattle.cc_values.specs.Values.{value_candidate};
+
+use cc_arg::PossibleValue;
+use cc_base::Error;
+use cc_candidates::{CompletionCandidate, begins_with, copied};
+use std::alloc::{AllocError, Global};
+
+/// A candidate for each value: its name, its help and whether it is hidden, in the values' order.
+/// Fails with `Memory` alone, when an allocation fails.
+pub fn possible_value_candidates(
+    alloc: Global,
+    values: Vec<PossibleValue>,
+) -> Result<Vec<CompletionCandidate>, Error>
+    ensures ok { IfOk result (λ found. found.items ≡ map value_candidate values.items) }
+    ensures memory { IfErr result (λ error. error ≡ Error.Memory) }
+{
+    let found = candidates_of(alloc, values.as_slice())?;
+    Ok(found)
+}
+
+/// A candidate for each value whose name begins with the text, in the values' order. Fails with
+/// `Memory` alone, when an allocation fails.
+pub fn complete_possible_values(
+    alloc: Global,
+    text: &str,
+    values: Vec<PossibleValue>,
+) -> Result<Vec<CompletionCandidate>, Error>
+    ensures ok { IfOk result (λ found.
+        found.items ≡ filter (begins text.now) (map value_candidate values.items)) }
+    ensures memory { IfErr result (λ error. error ≡ Error.Memory) }
+{
+    let found = candidates_beginning(alloc, values.as_slice(), text)?;
+    Ok(found)
+}
+
+fn candidates_of(
+    alloc: Global,
+    values: &[PossibleValue],
+) -> Result<Vec<CompletionCandidate>, AllocError>
+    ensures { IfOk result (λ found. found.items ≡ map value_candidate values.now) }
+{
+    let mut found = Vec::new(alloc);
+    for value in values {
+        found.push(candidate_of(alloc, value)?)?;
+    }
+    Ok(found)
+}
+
+/// A candidate for each value whose name begins with the text; nothing is copied for another.
+pub(crate) fn candidates_beginning(
+    alloc: Global,
+    values: &[PossibleValue],
+    text: &str,
+) -> Result<Vec<CompletionCandidate>, AllocError>
+    ensures { IfOk result (λ found.
+        found.items ≡ filter (begins text.now) (map value_candidate values.now)) }
+{
+    let mut found = Vec::new(alloc);
+    for value in values {
+        if !begins_with(value.get_name(), text) {
+            continue;
+        }
+        found.push(candidate_of(alloc, value)?)?;
+    }
+    Ok(found)
+}
+
+fn candidate_of(alloc: Global, value: &PossibleValue) -> Result<CompletionCandidate, AllocError>
+    ensures { IfOk result (λ candidate. candidate ≡ value_candidate value.now) }
+{
+    let help = copied(alloc, value.get_help())?;
+    let name = String::from_str(alloc, value.get_name())?;
+    Ok(
+        CompletionCandidate::new(name)
+            .help(help)
+            .hide(value.is_hide_set()),
+    )
+}

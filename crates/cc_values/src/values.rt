@@ -1,0 +1,160 @@
+//! The values of an argument for a word.
+
+ghost use Rattle.std.specs.Prelude.{◌≡◌, ℕ, List, map, IfOk, OnOk};
+ghost use Rattle.cc_arg.specs.declared.value_hint.ValueHint.{ValueHint};
+ghost use Rattle.cc_candidates.specs.declared.candidate.CompletionCandidate.{CompletionCandidate};
+ghost use Rattle.cc_values.specs.Values.{Gathers, ArgumentValues, as_value, is_path, lent_by, sorted};
+ghost use Rattle.cc_arg.specs.Printed.{printed};
+
+use crate::parts::cut;
+use crate::possible::candidates_beginning;
+use cc_arg::{Arg, ValueHint, possible_values};
+use cc_candidates::{
+    Completers, CompletionCandidate, FnCandidates, FnCompleter, ValueCandidates, ValueCompleter,
+    beginning,
+};
+use std::alloc::{AllocError, Global};
+
+/// Something that is asked for paths: a folder, read from where a program runs. Only a failed
+/// allocation keeps it from an answer.
+pub trait PathSource {
+    // the lists that it may answer, for a kind of paths and the text to complete
+    ghost finds: { Self → ValueHint → List ℕ → List CompletionCandidate → Type 0 };
+
+    /// The paths of the kind that the hint names which complete the text, in any order.
+    fn find(
+        &self,
+        alloc: Global,
+        hint: ValueHint,
+        text: &str,
+    ) -> Result<Vec<CompletionCandidate>, AllocError>
+        ensures { IfOk result (λ found. finds self.now hint text.now found.items) };
+}
+
+/// The candidates for a word that is the value of this number, counted from 0, in one use of an
+/// argument. What stands up to the last delimiter of the word stays before each value, and a
+/// candidate without a tag gets the printed form of the argument. Fails when an allocation fails.
+pub fn arg_values<P: PathSource>(
+    alloc: Global,
+    argument: &Arg,
+    word: &str,
+    number: usize,
+    completers: &Completers,
+    paths: &P,
+) -> Result<Vec<CompletionCandidate>, AllocError>
+    ensures { IfOk result (λ found. ArgumentValues (lent_by
+        (λ item. (⟦<dyn ValueCompleter as ValueCompleter>⟧ item.vtable).answers item.value)
+        completers.now.completers.items
+        ⟦<FnCompleter as ValueCompleter>⟧.answers completers.now.completer_closures.items
+        (λ item. (⟦<dyn ValueCandidates as ValueCandidates>⟧ item.vtable).lists item.value)
+        completers.now.lists.items
+        ⟦<FnCandidates as ValueCandidates>⟧.lists completers.now.list_closures.items
+        (P.finds paths.now))
+        argument.now word.now number found.items) }
+{
+    let (before, part) = cut(word, argument.get_value_delimiter());
+    let found = gathered(alloc, argument, part, number, completers, paths)?;
+    as_values(alloc, argument, before, found)
+}
+
+// The candidates for a text without a delimiter.
+fn gathered<P: PathSource>(
+    alloc: Global,
+    argument: &Arg,
+    part: &str,
+    number: usize,
+    completers: &Completers,
+    paths: &P,
+) -> Result<Vec<CompletionCandidate>, AllocError>
+    ensures { IfOk result (λ found. Gathers (lent_by
+        (λ item. (⟦<dyn ValueCompleter as ValueCompleter>⟧ item.vtable).answers item.value)
+        completers.now.completers.items
+        ⟦<FnCompleter as ValueCompleter>⟧.answers completers.now.completer_closures.items
+        (λ item. (⟦<dyn ValueCandidates as ValueCandidates>⟧ item.vtable).lists item.value)
+        completers.now.lists.items
+        ⟦<FnCandidates as ValueCandidates>⟧.lists completers.now.list_closures.items
+        (P.finds paths.now))
+        argument.now number part.now found.items) }
+{
+    if let Some(completer) = argument.get_completer() {
+        return completer.complete_at(alloc, completers, number, part);
+    }
+    if let Some(list) = argument.get_candidates() {
+        let found = list.candidates(alloc, completers)?;
+        return Ok(beginning(found, part));
+    }
+    if let Some(values) = possible_values(argument) {
+        return candidates_beginning(alloc, values, part);
+    }
+    let hint = argument.get_value_hint();
+    if !is_path(hint) {
+        return Ok(Vec::new(alloc));
+    }
+    sorted_paths(alloc, paths, hint, part)
+}
+
+// Whether the values are paths of a kind.
+fn is_path(hint: ValueHint) -> bool
+    ensures { result ≡ is_path hint }
+{
+    matches!(
+        hint,
+        ValueHint::AnyPath | ValueHint::FilePath | ValueHint::DirPath | ValueHint::ExecutablePath
+    )
+}
+
+// The paths, sorted as one list.
+fn sorted_paths<P: PathSource>(
+    alloc: Global,
+    paths: &P,
+    hint: ValueHint,
+    part: &str,
+) -> Result<Vec<CompletionCandidate>, AllocError>
+    ensures { IfOk result (λ found. (answer : List CompletionCandidate)
+        × P.finds paths.now hint part.now answer × (found.items ≡ sorted answer)) }
+{
+    let mut found = paths.find(alloc, hint, part)?;
+    sort(&mut found)?;
+    Ok(found)
+}
+
+fn sort(candidates: &mut Vec<CompletionCandidate>) -> Result<(), AllocError>
+    ensures { OnOk result (candidates.new.items ≡ sorted candidates.old.items) }
+{
+    candidates.sort()?;
+    Ok(())
+}
+
+// The candidates after the earlier values of the word, each with a tag.
+fn as_values(
+    alloc: Global,
+    argument: &Arg,
+    before: &str,
+    found: Vec<CompletionCandidate>,
+) -> Result<Vec<CompletionCandidate>, AllocError>
+    ensures { IfOk result (λ values. values.items
+        ≡ map (as_value before.now (printed argument.now)) found.items) }
+{
+    let form = argument.to_string(alloc)?;
+    let mut values = Vec::new(alloc);
+    for candidate in found {
+        values.push(as_value(alloc, before, form.as_str(), candidate)?)?;
+    }
+    Ok(values)
+}
+
+fn as_value(
+    alloc: Global,
+    before: &str,
+    form: &str,
+    candidate: CompletionCandidate,
+) -> Result<CompletionCandidate, AllocError>
+    ensures { IfOk result (λ value. value ≡ as_value before.now form.now candidate) }
+{
+    let candidate = candidate.prefixed(alloc, before)?;
+    if candidate.get_tag().is_some() {
+        return Ok(candidate);
+    }
+    let tag = String::from_str(alloc, form)?;
+    Ok(candidate.tag(Some(tag)))
+}
