@@ -1,2 +1,3 @@
+pub mod InMemory
 pub mod PathCandidates
 pub mod PathTexts

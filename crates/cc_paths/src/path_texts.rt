@@ -39,7 +39,7 @@ pub fn join(alloc: Global, base: &str, path: &str) -> Result<String, AllocError>
 }
 
 // Whether the text ends in a slash.
-fn ends_in_slash(path: &str) -> bool
+pub(crate) fn ends_in_slash(path: &str) -> bool
     ensures { result ≡ ends_in_slash path.now }
 {
     path.as_bytes().last() == Some(&b'/')

@@ -45,9 +45,7 @@ impl<R: Files + Drop> Folder for RealFolder<R> {
     ghost home_path = { λ folder. folder.home };
 
     fn names(&self, alloc: Global, path: &str) -> Result<Vec<String>, FolderError> {
-        let entries = fs::read_dir(&(&self.files, alloc), path).map_err(|error| read_error(
-            &error,
-        ))?;
+        let entries = fs::read_dir(&(&self.files, alloc), path).map_err(|error| reason(&error))?;
         let mut names = Vec::new(alloc);
         for entry in entries {
             match entry {
@@ -82,7 +80,7 @@ impl<R: Files + Drop> Folder for RealFolder<R> {
 }
 
 // Why the names can't be listed.
-fn read_error(error: &io::Error) -> FolderError {
+fn reason(error: &io::Error) -> FolderError {
     if error.kind() == io::ErrorKind::OutOfMemory {
         FolderError::Memory
     } else {

@@ -1,0 +1,147 @@
+//! Files and folders in memory.
+
+ghost use Rattle.std.specs.Prelude.{◌≡◌, string_bytes, map, IfOk, None, Some, true, false, is_some};
+ghost use Rattle.std.specs.Option.{option_copied, option_map};
+ghost use Rattle.cc_paths.specs.InMemory.{folder_at, has_file, names_in, texts_of, without_slash};
+
+use crate::folder::{Folder, FolderError};
+use crate::path_texts::ends_in_slash;
+use std::alloc::{AllocError, Global};
+
+/// Files and folders in memory, for tests. One slash at the end of a path makes no difference.
+#[derive(Drop)]
+pub struct MemoryFolder {
+    folders: &'static [(&'static str, &'static [&'static str])],
+    files: &'static [&'static str],
+    home: Option<&'static str>,
+    fails: bool,
+}
+
+impl MemoryFolder {
+    /// Folders, each by its path and with the names in it, and the paths of files. None of these
+    /// paths ends in a slash.
+    pub fn new(
+        folders: &'static [(&'static str, &'static [&'static str])],
+        files: &'static [&'static str],
+    ) -> MemoryFolder
+        ensures folders { result.folders.now ≡ folders.now }
+        ensures files { result.files.now ≡ files.now }
+        ensures home { option_copied result.home ≡ None }
+        ensures fails { result.fails ≡ false }
+    {
+        MemoryFolder {
+            folders,
+            files,
+            home: None,
+            fails: false,
+        }
+    }
+
+    /// Sets the home folder of the user.
+    pub fn with_home(mut self, path: &'static str) -> MemoryFolder
+        ensures folders { result.folders.now ≡ self.folders.now }
+        ensures files { result.files.now ≡ self.files.now }
+        ensures home { option_copied result.home ≡ Some path.now }
+        ensures fails { result.fails ≡ self.fails }
+    {
+        self.home = Some(path);
+        self
+    }
+
+    /// Lets every call of `names` fail with `Memory`.
+    pub fn out_of_memory(mut self) -> MemoryFolder
+        ensures { result ≡ record self { fails = true } }
+    {
+        self.fails = true;
+        self
+    }
+}
+
+impl Folder for MemoryFolder {
+    ghost lists = { λ folder path listing. listing ≡ names_in folder.folders.now (without_slash path) };
+
+    ghost tells_dir = { λ folder path told.
+        told ≡ is_some (folder_at folder.folders.now (without_slash path)) };
+
+    ghost tells_file = { λ folder path told. told ≡ has_file folder.files.now (without_slash path) };
+
+    ghost tells_executable = { λ folder path told.
+        told ≡ has_file folder.files.now (without_slash path) };
+
+    ghost home_path = { λ folder. option_copied folder.home };
+
+    fn names(&self, alloc: Global, path: &str) -> Result<Vec<String>, FolderError> {
+        if self.fails {
+            return Err(FolderError::Memory);
+        }
+        match folder_at(self.folders, without_slash(path)) {
+            Some((_, names)) => Ok(copies(alloc, names)?),
+            None => Err(FolderError::Unreadable),
+        }
+    }
+
+    fn is_dir(&self, path: &str) -> bool {
+        folder_at(self.folders, without_slash(path)).is_some()
+    }
+
+    fn is_file(&self, path: &str) -> bool {
+        has_file(self.files, without_slash(path))
+    }
+
+    fn is_executable(&self, path: &str) -> bool {
+        has_file(self.files, without_slash(path))
+    }
+
+    fn home(&self) -> Option<&str> {
+        self.home
+    }
+}
+
+// The path without one slash at its end.
+fn without_slash(path: &str) -> &str
+    ensures { result.now ≡ without_slash path.now }
+{
+    if ends_in_slash(path) {
+        &path[..path.len() - 1]
+    } else {
+        path
+    }
+}
+
+// The first folder with this path.
+fn folder_at(
+    folders: &'static [(&'static str, &'static [&'static str])],
+    path: &str,
+) -> Option<(&'static str, &'static [&'static str])>
+    ensures { result ≡ folder_at folders.now path.now }
+{
+    for folder in folders {
+        if folder.0 == path {
+            return Some(*folder);
+        }
+    }
+    None
+}
+
+// Whether one of the files has this path.
+fn has_file(files: &[&str], path: &str) -> bool
+    ensures { result ≡ has_file files.now path.now }
+{
+    for file in files {
+        if *file == path {
+            return true;
+        }
+    }
+    false
+}
+
+// Copies of the names.
+fn copies(alloc: Global, names: &[&str]) -> Result<Vec<String>, AllocError>
+    ensures { IfOk result (λ copies. map string_bytes copies.items ≡ texts_of names.now) }
+{
+    let mut copies = Vec::new(alloc);
+    for name in names {
+        copies.push(String::from_str(alloc, name)?)?;
+    }
+    Ok(copies)
+}
