@@ -3,7 +3,7 @@ use Rattle.std.proofs.Common.{◌≡◌, ◌⊎◌, ℕ, suc, IsTrue, List, [], 
 use Rattle.cc_base.specs.Sorting.{in_order}
 use Rattle.cc_base.proofs.Members.{IsIn, IsIn-map, map-IsIn, IsIn-flat_map, flat_map-IsIn}
 use Rattle.cc_base.proofs.Sorted.{IsIn-in_order, in_order-IsIn}
-use Rattle.cc_command.specs.Names.{visible_names}
+use Rattle.cc_command.specs.Names.{visible_names, visible_child}
 use Rattle.cc_command.specs.Plain.{is_plain_tree, siblings_differ}
 use Rattle.cc_command.specs.Tree.{Tree, IsSibling}
 use Rattle.cc_command.proofs.PlainParts.{plain_tree}
@@ -11,7 +11,7 @@ use Rattle.cc_bash.specs.Arms.{arm_of, arm_below, node_arm, tree_arms}
 use Rattle.cc_bash.specs.CaseTable.{Case, node_cases, case_below, tree_cases, next_label, run, last_or, run_end}
 use Rattle.cc_bash.specs.Labels.{Labelled, root_label, child_label, labelled_node, labelled, labels, shared_label}
 use Rattle.cc_bash.specs.Reads.{arm_at, place_arm, place_label}
-use Rattle.cc_bash.specs.Walk.{Place, visible_child, next_place, places, walk, root_place, label_at, level_of}
+use Rattle.cc_bash.specs.Walk.{Place, next_place, places, walk, root_place, label_at, level_of}
 use Rattle.cc_bash.proofs.Clashes.{AllDifferBy-map, same_element, texts_differ}
 use Rattle.cc_bash.proofs.ListedNodes.{parents, siblings_listed, children_listed, children_differ}
 use Rattle.cc_bash.proofs.NextSteps.{bytes_tells, next_cases, visible_child-is, visible_child-of}

@@ -5,12 +5,11 @@ use Rattle.std.proofs.lemmas.Bool.{cases_Bool}
 use Rattle.std.proofs.lemmas.Bool.Decides.{not_from_Decides}
 use Rattle.std.proofs.lemmas.Slice.Eq.{bytes_eq-Decides}
 use Rattle.cc_base.proofs.Members.{IsIn}
-use Rattle.cc_command.specs.Names.{contains_name, visible_names}
+use Rattle.cc_command.specs.Names.{contains_name, visible_names, visible_child}
 use Rattle.cc_command.specs.Plain.{siblings_differ}
 use Rattle.cc_command.specs.Tree.{Forest, none, more, Tree, IsSibling}
 use Rattle.cc_command.proofs.SiblingNames.{contains_name-IsIn, first_differs, not_shared}
 use Rattle.cc_bash.specs.CaseTable.{Case, next_label}
-use Rattle.cc_bash.specs.Walk.{visible_child}
 
 -- two texts are the same or not
 pub bytes_tells : (a b : List ℕ) → ((bytes_eq a b ≡ true) × (a ≡ b))

@@ -1,20 +1,13 @@
 -- The walk through a tree by visible names, and the labels on its way.
-use Rattle.std.specs.Prelude.{ℕ, suc, List, [], ◌∷◌, ◌++◌, length, if◌then◌else◌, Option, Some, None}
+use Rattle.std.specs.Prelude.{ℕ, suc, List, [], ◌∷◌, ◌++◌, length, Option, Some, None}
 use Rattle.cc_command.specs.Tree.{Forest, none, more, Tree}
-use Rattle.cc_command.specs.Names.{contains_name, visible_names}
+use Rattle.cc_command.specs.Names.{visible_child}
 use Rattle.cc_bash.specs.Labels.{child_label}
 
 -- a node with all below it, and the names of the nodes that lead to it from the root
 pub record Place : Type 0 where
   pub path : List (List ℕ)
   pub tree : Tree
-
--- the first of the siblings that shows the word as a name
-abbrev pub visible_child : Forest → List ℕ → Option Tree
-visible_child none word = None
-visible_child (more node below rest) word =
-    if contains_name (visible_names node) word then Some (record { node = node; children = below })
-    else visible_child rest word
 
 -- from a node a word leads to the child that shows it as a name; any other word leads nowhere
 abbrev pub next_place : Place → List ℕ → Place
