@@ -25,9 +25,10 @@ abbrev pub script_line : App
 script_line = with_rule (with_rule (with_rule (new_app (codes "script"))
     (option_rule (codes "shell"))) (option_rule (codes "bin"))) tree_rule
 
--- the whole command line: one subcommand, which has to be there
+-- the whole command line: a version, and one subcommand, which has to be there
 abbrev pub program_line : App
 program_line = with_subcommand (on_top (λ s. record s {
+  has_version = true;
   subcommand_required = true;
   disable_help_subcommand = true;
 }) (new_app (codes "complgen"))) script_line.top

@@ -8,6 +8,21 @@ ghost use Rattle.cc_command_line.specs.CommandLine.{option_rule, program_line, s
 use clap::{Arg, Command};
 use std::alloc::{AllocError, Global};
 
+// The version of the crate that the scripts are those of.
+const VERSION: &str = "4.6.11";
+
+const SHELL_HELP: &str = "The shell: bash, elvish, fish, nushell, powershell or zsh";
+
+const BIN_HELP: &str = "The name by which the shell calls the program";
+
+const TREE_HELP: &str = "A JSON file that describes a command, with its arguments and subcommands";
+
+const AFTER_HELP: &str = "\
+Shells: bash, elvish, fish, nushell, powershell, zsh
+Tree file: a JSON object that describes a command, with its arguments and subcommands
+
+Example: complgen script --shell fish --bin app tree.json";
+
 // `--NAME VALUE`, which has to be there.
 fn option<'a>(
     alloc: Global,
@@ -33,7 +48,7 @@ fn tree<'a>(alloc: Global) -> Arg<'a>
     Arg::new(alloc, "tree")
         .value_name("TREE")
         .required(true)
-        .help("The JSON file with the tree of the command")
+        .help(TREE_HELP)
 }
 
 // `script --shell S --bin N TREE`
@@ -42,9 +57,9 @@ fn script<'a>(alloc: Global) -> Result<Command<'a>, AllocError>
     ensures local { IfOk result (λ command. (out-Command command).has_globals ≡ false) }
 {
     Command::new(alloc, "script")
-        .about("Writes a completion script")
-        .arg(option(alloc, "shell", "SHELL", "The shell"))?
-        .arg(option(alloc, "bin", "NAME", "The name of the binary"))?
+        .about("Writes a completion script to the standard output")
+        .arg(option(alloc, "shell", "SHELL", SHELL_HELP))?
+        .arg(option(alloc, "bin", "NAME", BIN_HELP))?
         .arg(tree(alloc))
 }
 
@@ -53,7 +68,10 @@ pub fn command_line<'a>(alloc: Global) -> Result<Command<'a>, AllocError>
     ensures { IfOk result (λ command. app_of command ≡ program_line) }
 {
     Command::new(alloc, "complgen")
-        .about("Shell completions from a JSON file that describes a command")
+        .bin_name("complgen")?
+        .version(VERSION)
+        .about("Writes shell completions for a command that a JSON file describes")
+        .after_help(AFTER_HELP)
         .subcommand_required(true)
         .disable_help_subcommand(true)
         .subcommand(script(alloc)?)

@@ -63,11 +63,53 @@ fn fails_on_unknown_words(rt: HostRuntime) {
     same(&rt, refusal.status, 2);
 }
 
+// Fails unless these words end with status 0 and this text.
+fn shows(rt: &impl Abort, alloc: Global, words: &[&str], wanted: &str) {
+    let refusal = failed(rt, alloc, words);
+    same(rt, (refusal.status, refusal.text.as_str()), (0, wanted));
+}
+
 #[test]
 fn shows_help(rt: HostRuntime) {
-    let refusal = failed(&rt, rt.alloc(), &["complgen", "--help"]);
-    same(&rt, refusal.status, 0);
+    let text = "Writes shell completions for a command that a JSON file describes\n\n\
+        Usage: complgen <COMMAND>\n\n\
+        Commands:\n  script  Writes a completion script to the standard output\n\n\
+        Options:\n  -h, --help     Print help\n  -V, --version  Print version\n\n\
+        Shells: bash, elvish, fish, nushell, powershell, zsh\n\
+        Tree file: a JSON object that describes a command, with its arguments and subcommands\n\n\
+        Example: complgen script --shell fish --bin app tree.json\n";
+    shows(&rt, rt.alloc(), &["complgen", "--help"], text);
+}
+
+#[test]
+fn shows_the_help_of_script(rt: HostRuntime) {
+    let text = "Writes a completion script to the standard output\n\n\
+        Usage: complgen script --shell <SHELL> --bin <NAME> <TREE>\n\n\
+        Arguments:\n  \
+        <TREE>  A JSON file that describes a command, with its arguments and subcommands\n\n\
+        Options:\n      \
+        --shell <SHELL>  The shell: bash, elvish, fish, nushell, powershell or zsh\n      \
+        --bin <NAME>     The name by which the shell calls the program\n  \
+        -h, --help           Print help\n";
+    shows(&rt, rt.alloc(), &["complgen", "script", "--help"], text);
+}
+
+#[test]
+fn shows_the_version(rt: HostRuntime) {
+    shows(
+        &rt,
+        rt.alloc(),
+        &["complgen", "--version"],
+        "complgen 4.6.11\n",
+    );
+}
+
+// The first word may be any path.
+#[test]
+fn names_itself_in_usage(rt: HostRuntime) {
+    let refusal = failed(&rt, rt.alloc(), &["out/program"]);
     assert!(rt; refusal.text.as_str().contains("Usage: complgen <COMMAND>"));
+    same(&rt, refusal.status, 2);
 }
 
 fn script_for_elvish(alloc: Global) -> Result<Plan, AllocError> {
