@@ -1,0 +1,248 @@
+-- Ids and tags that come one after another.
+use Rattle.std.proofs.Common.{◌≡◌, ◌⊎◌, ℕ, suc, ◌+◌, ◌<◌, List, [], ◌∷◌, ◌++◌, Bool, true, false, cond, not, ◌&&◌, ◌||◌, Option, Some, None, length, take, drop, get_or, map, refl, ap, sym, ◌∙◌, inl, inr, arith, append_assoc, drop-cons}
+use Rattle.std.specs.Prelude.{filter, option_map}
+use Rattle.std.specs.Option.{option_eq, option_or, unwrap_or}
+use Rattle.std.specs.Ordering.{is_eq, nat_cmp}
+use Rattle.std.specs.Str.{bytes_eq}
+use Rattle.std.specs.Cmp.Lexicographic.{slice_cmp, texts_ties}
+use Rattle.std.specs.BTreeSet.{BTreeSet, contains}
+use Rattle.std.specs.BTreeMap.{BTreeMap, get}
+use Rattle.std.proofs.lemmas.Bool.{cases_Bool}
+use Rattle.std.proofs.lemmas.List.{take_more, take-append-drop, length-take-le}
+use Rattle.std.proofs.lemmas.List.Elements.{filter_agree}
+use Rattle.cc_candidates.specs.declared.candidate.CompletionCandidate.{CompletionCandidate}
+use Rattle.cc_candidates.specs.Candidate.{texts_cmp}
+use Rattle.cc_gather.specs.Finished.{share, first_of_ids, has_tag, place_of}
+use Rattle.cc_gather.specs.Seen.{is_seen, marked, first_place}
+use Rattle.cc_gather.proofs.Places.{same_tags, tag_itself}
+
+or_false : (b : Bool) → (b || false) ≡ b
+or_false true = refl
+or_false false = refl
+
+or_true : (b : Bool) → (b || true) ≡ true
+or_true true = refl
+or_true false = refl
+
+by_test : (b x : Bool) → cond b true x ≡ (x || b)
+by_test true x = sym (or_true x)
+by_test false x = sym (or_false x)
+
+-- no id is kept
+pub seen_same : (seen : BTreeSet (List ℕ)) (other : Option (List ℕ)) → is_seen seen other ≡ (is_seen seen other || false)
+seen_same seen other = sym (or_false (is_seen seen other))
+
+-- an id that is kept is seen from then on
+pub seen_more : (before after : BTreeSet (List ℕ)) (id : List ℕ) →
+    ((q : List ℕ) → contains (slice_cmp nat_cmp) after q ≡ cond (is_eq (slice_cmp nat_cmp id q)) true (contains (slice_cmp nat_cmp) before q)) →
+    (other : Option (List ℕ)) → is_seen after other ≡ (is_seen before other || share (Some id) other)
+seen_more before after id updates None = refl
+seen_more before after id updates (Some q) =
+    updates q ∙ by_test (is_eq (slice_cmp nat_cmp id q)) (contains (slice_cmp nat_cmp) before q)
+    ∙ ap (λ b. contains (slice_cmp nat_cmp) before q || b) (sym (texts_ties id q))
+
+same_tag : (a b : Option (List ℕ)) → option_eq bytes_eq a b ≡ is_eq (texts_cmp a b)
+same_tag None None = refl
+same_tag None (Some y) = refl
+same_tag (Some x) None = refl
+same_tag (Some x) (Some y) = texts_ties x y
+
+-- a place that is kept is found from then on, where the tag had none
+kept_by : (b : Bool) (was : Option ℕ) (next : ℕ) → (b ≡ true → was ≡ None) → cond b (Some next) was ≡ option_or was (cond b (Some next) None)
+kept_by true was next h = let e = h refl in rw e refl
+kept_by false None next h = refl
+kept_by false (Some p) next h = refl
+
+pub filter_more : (p : CompletionCandidate → Bool) (id : Option (List ℕ)) (cs : List CompletionCandidate) →
+    filter p (filter (λ d. not (share id d.id)) cs) ≡ filter (λ d. p d && not (share id d.id)) cs
+filter_more p id [] = refl
+filter_more p id (c ∷ cs) = elim (cases_Bool (share id c.id)) [
+  | inl t ↦ elim (cases_Bool (p c)) [ inl u ↦ rw (t, u) (filter_more p id cs) | inr u ↦ rw (t, u) (filter_more p id cs) ]
+  | inr f ↦ elim (cases_Bool (p c)) [ inl u ↦ rw (f, u) (ap (λ rest. c ∷ rest) (filter_more p id cs)) | inr u ↦ rw (f, u) (filter_more p id cs) ]
+]
+
+and_not : (a b : Bool) → (not a && not b) ≡ not (a || b)
+and_not true b = refl
+and_not false b = refl
+
+-- the ids seen, with one more, leave out what a filter for that id does after them
+pub unseen_more : (before after : BTreeSet (List ℕ)) (c : CompletionCandidate) (cs : List CompletionCandidate) →
+    ((other : Option (List ℕ)) → is_seen after other ≡ (is_seen before other || share c.id other)) →
+    filter (λ d. not (is_seen before d.id)) (filter (λ d. not (share c.id d.id)) cs) ≡ filter (λ d. not (is_seen after d.id)) cs
+unseen_more before after c cs more =
+    filter_more (λ d. not (is_seen before d.id)) c.id cs
+    ∙ filter_agree (λ d. not (is_seen before d.id) && not (share c.id d.id)) (λ d. not (is_seen after d.id))
+    (λ d. and_not (is_seen before d.id) (share c.id d.id) ∙ ap not (sym (more d.id))) cs
+
+-- a candidate with a new id stays
+pub stays : (before after : BTreeSet (List ℕ)) (c : CompletionCandidate) (cs : List CompletionCandidate) →
+    ((other : Option (List ℕ)) → is_seen after other ≡ (is_seen before other || share c.id other)) →
+    true ≡ not (is_seen before c.id) →
+    filter (λ d. not (is_seen before d.id)) (first_of_ids (c ∷ cs)) ≡ c ∷ filter (λ d. not (is_seen after d.id)) (first_of_ids cs)
+stays before after c cs more new =
+    ap (λ b. cond b (c ∷ filter (λ d. not (is_seen before d.id)) (filter (λ d. not (share c.id d.id)) (first_of_ids cs)))
+    (filter (λ d. not (is_seen before d.id)) (filter (λ d. not (share c.id d.id)) (first_of_ids cs)))) (sym new)
+    ∙ ap (λ rest. c ∷ rest) (unseen_more before after c (first_of_ids cs) more)
+
+-- one with a seen id goes
+pub goes : (before after : BTreeSet (List ℕ)) (c : CompletionCandidate) (cs : List CompletionCandidate) →
+    ((other : Option (List ℕ)) → is_seen after other ≡ (is_seen before other || share c.id other)) →
+    false ≡ not (is_seen before c.id) →
+    filter (λ d. not (is_seen before d.id)) (first_of_ids (c ∷ cs)) ≡ filter (λ d. not (is_seen after d.id)) (first_of_ids cs)
+goes before after c cs more old =
+    ap (λ b. cond b (c ∷ filter (λ d. not (is_seen before d.id)) (filter (λ d. not (share c.id d.id)) (first_of_ids cs)))
+    (filter (λ d. not (is_seen before d.id)) (filter (λ d. not (share c.id d.id)) (first_of_ids cs)))) (sym old)
+    ∙ unseen_more before after c (first_of_ids cs) more
+
+-- no id is seen at first
+pub none_seen : (seen : BTreeSet (List ℕ)) (cs : List CompletionCandidate) → seen.keys ≡ [] → filter (λ d. not (is_seen seen d.id)) cs ≡ cs
+none_seen seen [] e = refl
+none_seen seen (c ∷ cs) e =
+    let no : is_seen seen c.id ≡ false = unseen c.id in
+    ap (λ b. cond (not b) (c ∷ filter (λ d. not (is_seen seen d.id)) cs) (filter (λ d. not (is_seen seen d.id)) cs)) no
+    ∙ ap (λ rest. c ∷ rest) (none_seen seen cs e)
+  where
+    unseen : (id : Option (List ℕ)) → is_seen seen id ≡ false
+    unseen None = refl
+    unseen (Some id) = rw e refl
+
+-- marks
+marked-push : {X : Type 0} → (marks : List Bool) (xs : List X) (mark : Bool) (x : X) → length marks ≡ length xs →
+    marked (marks ++ mark ∷ []) (xs ++ x ∷ []) ≡ marked marks xs ++ cond mark (x ∷ []) []
+marked-push [] [] true x e = refl
+marked-push [] [] false x e = refl
+marked-push [] (y ∷ ys) mark x e = absurd (omega (arith, e))
+marked-push (m ∷ ms) [] mark x e = absurd (omega (arith, e))
+marked-push (m ∷ ms) (y ∷ ys) mark x e = by m (marked-push ms ys mark x (omega (arith, e)))
+  where
+    by : (m : Bool) → marked (ms ++ mark ∷ []) (ys ++ x ∷ []) ≡ marked ms ys ++ cond mark (x ∷ []) []
+        → cond m (y ∷ marked (ms ++ mark ∷ []) (ys ++ x ∷ [])) (marked (ms ++ mark ∷ []) (ys ++ x ∷ []))
+        ≡ cond m (y ∷ marked ms ys) (marked ms ys) ++ cond mark (x ∷ []) []
+    by true h = ap (λ r. y ∷ r) h
+    by false h = h
+
+pub marked_end : {X : Type 0} → (marks : List Bool) (xs : List X) → (marks ≡ []) ⊎ (xs ≡ []) → marked marks xs ≡ []
+marked_end marks xs (inl e) = ap (λ ms. marked ms xs) e
+marked_end [] xs (inr e) = refl
+marked_end (m ∷ ms) xs (inr e) = ap (marked (m ∷ ms)) e
+
+-- a member at its index
+pub split_at : (cs : List CompletionCandidate) (i : ℕ) (c : CompletionCandidate) → i < length cs → c ≡ get_or cs i c →
+    drop i cs ≡ c ∷ drop (i + 1) cs
+split_at cs i c h is =
+    let e : suc i ≡ i + 1 = omega arith in
+    drop-cons cs i c h ∙ ap (λ k. get_or cs i c ∷ drop k cs) e ∙ ap (λ x. x ∷ drop (i + 1) cs) (sym is)
+
+pub taken : (cs : List CompletionCandidate) (i : ℕ) (c : CompletionCandidate) → i < length cs → c ≡ get_or cs i c →
+    take (i + 1) cs ≡ take i cs ++ c ∷ []
+taken cs i c h is = take_more cs i c h ∙ ap (λ x. take i cs ++ x ∷ []) (sym is)
+
+-- the steps of the loop
+abbrev unseen : BTreeSet (List ℕ) → List CompletionCandidate → List CompletionCandidate
+unseen seen cs = filter (λ d. not (is_seen seen d.id)) cs
+
+pub unseen_first : (seen : BTreeSet (List ℕ)) (marks : List Bool) (cs : List CompletionCandidate) → seen.keys ≡ [] → marks ≡ [] →
+    marked marks [] ++ filter (λ d. not (is_seen seen d.id)) (first_of_ids cs) ≡ first_of_ids cs
+unseen_first seen marks cs none empty =
+    ap (λ (ms : List Bool). marked ms [] ++ unseen seen (first_of_ids cs)) empty ∙ none_seen seen (first_of_ids cs) none
+
+pub marks_on : (before after : BTreeSet (List ℕ)) (marks more : List Bool) (cs : List CompletionCandidate) (i : ℕ) (c : CompletionCandidate) (new : Bool) →
+    i < length cs → c ≡ get_or cs i c → length marks ≡ i →
+    marked marks (take i cs) ++ filter (λ d. not (is_seen before d.id)) (first_of_ids (drop i cs)) ≡ first_of_ids cs →
+    ((other : Option (List ℕ)) → is_seen after other ≡ (is_seen before other || share c.id other)) →
+    new ≡ not (is_seen before c.id) → more ≡ marks ++ new ∷ [] →
+    marked more (take (i + 1) cs) ++ filter (λ d. not (is_seen after d.id)) (first_of_ids (drop (i + 1) cs)) ≡ first_of_ids cs
+marks_on before after marks more cs i c new within is count h add e push =
+    ap (λ ms. marked ms (take (i + 1) cs) ++ unseen after (first_of_ids (drop (i + 1) cs))) push
+    ∙ ap (λ xs. marked (marks ++ new ∷ []) xs ++ unseen after (first_of_ids (drop (i + 1) cs))) (taken cs i c within is)
+    ∙ ap (λ xs. xs ++ unseen after (first_of_ids (drop (i + 1) cs))) (marked-push marks (take i cs) new c (count ∙ sym (length-take-le i cs (omega (arith, within)))))
+    ∙ append_assoc (marked marks (take i cs)) (cond new (c ∷ []) []) (unseen after (first_of_ids (drop (i + 1) cs)))
+    ∙ ap (λ r. marked marks (take i cs) ++ r) (by new e ∙ ap (λ xs. unseen before (first_of_ids xs)) (sym (split_at cs i c within is)))
+    ∙ h
+  where
+    by : (new : Bool) → new ≡ not (is_seen before c.id) →
+        cond new (c ∷ []) [] ++ unseen after (first_of_ids (drop (i + 1) cs)) ≡ unseen before (first_of_ids (c ∷ drop (i + 1) cs))
+    by true e = sym (stays before after c (drop (i + 1) cs) add e)
+    by false e = sym (goes before after c (drop (i + 1) cs) add e)
+
+-- first places with one more candidate after
+pub first_place-push : (cs : List CompletionCandidate) (c : CompletionCandidate) (tag : Option (List ℕ)) →
+    first_place (cs ++ c ∷ []) tag ≡ option_or (first_place cs tag) (cond (option_eq bytes_eq c.tag tag) (Some (length cs)) None)
+first_place-push [] c tag = refl
+first_place-push (x ∷ cs) c tag = elim (cases_Bool (option_eq bytes_eq x.tag tag)) [
+  | inl t ↦ rw t refl
+  | inr f ↦ rw f (ap (option_map suc) (first_place-push cs c tag) ∙ moved (first_place cs tag) (option_eq bytes_eq c.tag tag))
+]
+  where
+    moved : (was : Option ℕ) (b : Bool) → option_map suc (option_or was (cond b (Some (length cs)) None)) ≡ option_or (option_map suc was) (cond b (Some (suc (length cs))) None)
+    moved (Some p) b = refl
+    moved None true = refl
+    moved None false = refl
+
+option_or_none : {X : Type 0} (x : Option X) → option_or x None ≡ x
+option_or_none None = refl
+option_or_none (Some x) = refl
+
+-- a tag with a place adds none
+pub place_kept : (places : BTreeMap (Option (List ℕ)) ℕ) (tag : Option (List ℕ)) (p next : ℕ) → get texts_cmp places tag ≡ Some p →
+    (other : Option (List ℕ)) → get texts_cmp places other ≡ option_or (get texts_cmp places other) (cond (option_eq bytes_eq tag other) (Some next) None)
+place_kept places tag p next e other = elim (cases_Bool (option_eq bytes_eq tag other)) [
+  | inl t ↦ let is : get texts_cmp places other ≡ Some p = ap (get texts_cmp places) (sym (same_tags tag other t)) ∙ e in
+      is ∙ sym (ap (λ x. option_or x (cond (option_eq bytes_eq tag other) (Some next) None)) is)
+  | inr f ↦ sym (option_or_none (get texts_cmp places other)) ∙ ap (λ b. option_or (get texts_cmp places other) (cond b (Some next) None)) (sym f)
+]
+
+-- one without gets it
+pub place_added : (before after : BTreeMap (Option (List ℕ)) ℕ) (tag : Option (List ℕ)) (next : ℕ) → get texts_cmp before tag ≡ None →
+    ((q : Option (List ℕ)) → get texts_cmp after q ≡ cond (is_eq (texts_cmp tag q)) (Some next) (get texts_cmp before q)) →
+    (other : Option (List ℕ)) → get texts_cmp after other ≡ option_or (get texts_cmp before other) (cond (option_eq bytes_eq tag other) (Some next) None)
+place_added before after tag next none updates other =
+    updates other ∙ ap (λ b. cond b (Some next) (get texts_cmp before other)) (sym (same_tag tag other))
+    ∙ kept_by (option_eq bytes_eq tag other) (get texts_cmp before other) next (λ t. ap (get texts_cmp before) (sym (same_tags tag other t)) ∙ none)
+
+-- the place that the whole list gives to a tag, from what stands before its member
+place_is : (cs ds : List CompletionCandidate) (c : CompletionCandidate) →
+    unwrap_or (first_place cs c.tag) (length cs) ≡ place_of (cs ++ c ∷ ds) c.tag
+place_is [] ds c = let e = tag_itself c.tag in rw e refl
+place_is (x ∷ cs) ds c = elim (cases_Bool (has_tag c.tag x)) [
+  | inl t ↦ rw t refl
+  | inr f ↦ rw f (more (first_place cs c.tag) ∙ ap suc (place_is cs ds c))
+]
+  where
+    more : (was : Option ℕ) → unwrap_or (option_map suc was) (suc (length cs)) ≡ suc (unwrap_or was (length cs))
+    more None = refl
+    more (Some p) = refl
+
+map-push : {X Y : Type 0} (f : X → Y) (xs : List X) (x : X) → map f (xs ++ x ∷ []) ≡ map f xs ++ f x ∷ []
+map-push f [] x = refl
+map-push f (y ∷ xs) x = ap (λ rest. f y ∷ rest) (map-push f xs x)
+
+length-map : {X Y : Type 0} (f : X → Y) (xs : List X) → length (map f xs) ≡ length xs
+length-map f [] = refl
+length-map f (x ∷ xs) = ap suc (length-map f xs)
+
+-- one more place
+pub places_on : (cs : List CompletionCandidate) (i : ℕ) (c : CompletionCandidate) (places more : List ℕ) (was : Option ℕ) (n place : ℕ) →
+    i < length cs → c ≡ get_or cs i c → places ≡ map (λ c. place_of cs c.tag) (take i cs) →
+    was ≡ first_place (take i cs) c.tag → n ≡ length places → place ≡ unwrap_or was n → more ≡ places ++ place ∷ [] →
+    more ≡ map (λ c. place_of cs c.tag) (take (i + 1) cs)
+places_on cs i c places more was n place within is placed e len value push =
+    let whole : take i cs ++ c ∷ drop (i + 1) cs ≡ cs = ap (λ r. take i cs ++ r) (sym (split_at cs i c within is)) ∙ take-append-drop i cs in
+    let at : place ≡ place_of cs c.tag =
+    value ∙ ap (λ w. unwrap_or w n) e
+    ∙ ap (unwrap_or (first_place (take i cs) c.tag)) (len ∙ ap length placed ∙ length-map (λ (c : CompletionCandidate). place_of cs c.tag) (take i cs))
+    ∙ place_is (take i cs) (drop (i + 1) cs) c ∙ ap (λ xs. place_of xs c.tag) whole in
+    push ∙ ap (λ k. k ++ place ∷ []) placed ∙ ap (λ q. map (λ c. place_of cs c.tag) (take i cs) ++ q ∷ []) at
+    ∙ sym (map-push (λ (c : CompletionCandidate). place_of cs c.tag) (take i cs) c)
+    ∙ ap (map (λ c. place_of cs c.tag)) (sym (taken cs i c within is))
+
+pub known_on : (before after : BTreeMap (Option (List ℕ)) ℕ) (cs : List CompletionCandidate) (i : ℕ) (c : CompletionCandidate) (places : List ℕ) (n : ℕ) →
+    i < length cs → c ≡ get_or cs i c → places ≡ map (λ c. place_of cs c.tag) (take i cs) → n ≡ length places →
+    ((tag : Option (List ℕ)) → get texts_cmp before tag ≡ first_place (take i cs) tag) →
+    ((other : Option (List ℕ)) → get texts_cmp after other ≡ option_or (get texts_cmp before other) (cond (option_eq bytes_eq c.tag other) (Some n) None)) →
+    (tag : Option (List ℕ)) → get texts_cmp after tag ≡ first_place (take (i + 1) cs) tag
+known_on before after cs i c places n within is placed len h kept tag =
+    kept tag ∙ ap (λ x. option_or x (cond (option_eq bytes_eq c.tag tag) (Some n) None)) (h tag)
+    ∙ ap (λ k. option_or (first_place (take i cs) tag) (cond (option_eq bytes_eq c.tag tag) (Some k) None))
+    (len ∙ ap length placed ∙ length-map (λ (c : CompletionCandidate). place_of cs c.tag) (take i cs))
+    ∙ sym (first_place-push (take i cs) c tag) ∙ ap (λ xs. first_place xs tag) (sym (taken cs i c within is))

@@ -1,0 +1,304 @@
+-- Finishing what is finished already.
+use Rattle.std.proofs.Common.{◌≡◌, ◌<◌, ◌≤◌, ◌⊎◌, List, [], ◌∷◌, ◌++◌, Bool, true, false, not, ◌||◌, cond, filter, refl, inl, inr, ap, ◌∙◌, sym, subst, arith}
+use Rattle.std.specs.List.{AllByRecursion, list_any}
+use Rattle.std.specs.List.Sorted.{ties}
+use Rattle.std.specs.Option.{option_cmp}
+use Rattle.std.specs.Ordering.{is_lt, nat_cmp, ordering_then}
+use Rattle.std.proofs.lemmas.Bool.{cases_Bool, cases_order}
+use Rattle.std.proofs.lemmas.List.Elements.{filter-append}
+use Rattle.std.proofs.lemmas.List.Folds.{list_any-append}
+use Rattle.cc_base.specs.Sorting.{in_order}
+use Rattle.cc_base.proofs.Members.{AllByRecursion-IsIn, AllByRecursion-from_IsIn}
+use Rattle.cc_base.proofs.Sorted.{AllByRecursion-in_order, in_order-IsIn}
+use Rattle.cc_candidates.specs.declared.candidate.CompletionCandidate.{CompletionCandidate}
+use Rattle.cc_gather.specs.Finished.{is_shown, shown, share, has_tag, place_of, first_of_ids, comes_before, grouped, finished, SharesNone, ShareNone, Differ, AreShown}
+use Rattle.cc_gather.proofs.InOrder.{up-in_order, apart, in_order-alike, filter-in_order, sorted_after}
+use Rattle.cc_gather.proofs.Places.{Tag, Has, tag_itself, place_front, place_back, place_below, place_tag, places_rise, below, cmp_less, cmp_equal, cmp_greater}
+use Rattle.cc_gather.proofs.FirstOfIds.{first_of_ids-append, first_of_ids-differ, first_of_ids-stays, differ-in_order, all_kept, all-first_of_ids}
+
+abbrev Candidates : Type 0
+Candidates = List CompletionCandidate
+
+-- EACH MEMBER'S TAG IS THERE
+
+or_right : (p q : Bool) → q ≡ true → (p || q) ≡ true
+or_right true q h = refl
+or_right false q h = h
+
+or_left : (p q : Bool) → p ≡ true → (p || q) ≡ true
+or_left true q h = refl
+or_left false q h = cc
+
+all_have : (v xs : Candidates) → ((t : Tag) → Has xs t → Has v t) → AllByRecursion (λ c. Has v c.tag) xs
+all_have v [] sub = tt
+all_have v (x ∷ xs) sub = (
+  sub x.tag (or_left (has_tag x.tag x) (list_any (has_tag x.tag) xs) (tag_itself x.tag)),
+  all_have v xs (λ t h. sub t (or_right (has_tag t x) (list_any (has_tag t) xs) h)),
+)
+
+has_back : (a v : Candidates) (t : Tag) → Has v t → Has (a ++ v) t
+has_back a v t h = list_any-append (has_tag t) a v ∙ or_right (list_any (has_tag t) a) (list_any (has_tag t) v) h
+
+has_front : (a v : Candidates) (t : Tag) → Has a t → Has (a ++ v) t
+has_front a v t h = list_any-append (has_tag t) a v ∙ or_left (list_any (has_tag t) a) (list_any (has_tag t) v) h
+
+all_both : {X : Type 0} (P : X → Type 0) (xs ys : List X) → AllByRecursion P xs → AllByRecursion P ys → AllByRecursion P (xs ++ ys)
+all_both P [] ys h k = k
+all_both P (x ∷ xs) ys h k = (h.0, all_both P xs ys h.1 k)
+
+-- a test that passes in a list passes in the list in order
+none_any : {X : Type 0} (p : X → Bool) (xs : List X) → AllByRecursion (λ x. p x ≡ false) xs → list_any p xs ≡ false
+none_any p [] h = refl
+none_any p (x ∷ xs) h = let e = h.0 in rw e (none_any p xs h.1)
+
+any_none : {X : Type 0} (p : X → Bool) (xs : List X) → list_any p xs ≡ false → AllByRecursion (λ x. p x ≡ false) xs
+any_none p [] h = tt
+any_none p (x ∷ xs) h = by (p x) refl h (any_none p xs)
+  where
+    by : (b : Bool) → p x ≡ b → (b || list_any p xs) ≡ false → (list_any p xs ≡ false → AllByRecursion (λ x. p x ≡ false) xs)
+        → (p x ≡ false) × AllByRecursion (λ x. p x ≡ false) xs
+    by true e h more = cc
+    by false e h more = (e, more h)
+
+any-in_order : {X : Type 0} (p : X → Bool) (by : X → X → Bool) (xs : List X) → list_any p xs ≡ true → list_any p (in_order by xs) ≡ true
+any-in_order p by xs h = elim (cases_Bool (list_any p (in_order by xs))) [
+  | inl y ↦ y
+  | inr n ↦
+      let none : list_any p xs ≡ false =
+      none_any p xs (AllByRecursion-from_IsIn (λ x. p x ≡ false) xs
+      (λ x at. AllByRecursion-IsIn (λ x. p x ≡ false) (in_order by xs) x (any_none p (in_order by xs) n) (in_order-IsIn by xs x at))) in
+      cc
+]
+
+-- GROUPED BEHIND A LIST
+
+module _ (a v : Candidates) where
+  abbrev sorted : Candidates
+  sorted = in_order (comes_before v) v
+
+  abbrev whole : Candidates
+  whole = a ++ v
+
+  abbrev twice : Candidates
+  twice = a ++ sorted
+
+  has_sorted : (t : Tag) → Has v t → Has sorted t
+  has_sorted t h = any-in_order (has_tag t) (comes_before v) v h
+
+  rise_back : (s t : Tag) → Has v s → Has v t → place_of v s < place_of v t → place_of sorted s < place_of sorted t
+  rise_back s t hs ht less = elim (cases_order (place_of sorted s) (place_of sorted t)) [
+    | inl e ↦ let same : s ≡ t = place_tag sorted s t (has_sorted s hs) e in
+        let no : place_of v t < place_of v t = rw same at less in absurd (omega (arith, no))
+    | inr o ↦ elim o [
+      | inl lt ↦ lt
+      | inr gt ↦
+          let no : place_of v t ≤ place_of v s = places_rise v sorted t s (up-in_order (comes_before v) (below v) v) (has_sorted t ht) (has_sorted s hs) gt in
+          absurd (omega (arith, no, less))
+    ]
+  ]
+
+  -- a tag that a lacks stands in what follows
+  later_has : (t : Tag) → list_any (has_tag t) a ≡ false → Has whole t → Has v t
+  later_has t lacks h = let e : (list_any (has_tag t) a || list_any (has_tag t) v) ≡ true = sym (list_any-append (has_tag t) a v) ∙ h in rw lacks at e
+
+  -- places rise after a as they do by themselves
+  agree : (s t : Tag) → Has whole s → Has whole t → place_of whole s < place_of whole t → place_of twice s < place_of twice t
+  agree s t hs ht less = elim (cases_Bool (list_any (has_tag s) a)) [
+    | inl sa ↦ elim (cases_Bool (list_any (has_tag t) a)) [
+      | inl ta ↦ let e1 = place_front a v s sa in let e2 = place_front a v t ta in let e3 = place_front a sorted s sa in let e4 = place_front a sorted t ta in omega (arith, e1, e2, e3, e4, less)
+      | inr ta ↦ let e3 = place_front a sorted s sa in let e4 = place_back a sorted t ta in let in_a = place_below a s sa in omega (arith, e3, e4, in_a)
+    ]
+    | inr sa ↦ elim (cases_Bool (list_any (has_tag t) a)) [
+      | inl ta ↦ let e1 = place_back a v s sa in let e2 = place_front a v t ta in let in_a = place_below a t ta in absurd (omega (arith, e1, e2, in_a, less))
+      | inr ta ↦
+          let e1 = place_back a v s sa in let e2 = place_back a v t ta in let e3 = place_back a sorted s sa in let e4 = place_back a sorted t ta in
+          let lt : place_of v s < place_of v t = omega (arith, e1, e2, less) in
+          let later = rise_back s t (later_has s sa hs) (later_has t ta ht) lt in
+          omega (arith, e3, e4, later)
+    ]
+  ]
+
+  -- so places compare alike
+  compare : (s t : Tag) → Has whole s → Has whole t → nat_cmp (place_of twice s) (place_of twice t) ≡ nat_cmp (place_of whole s) (place_of whole t)
+  compare s t hs ht = elim (cases_order (place_of whole s) (place_of whole t)) [
+    | inl e ↦ let same : s ≡ t = place_tag whole s t hs e in
+        cmp_equal (place_of twice s) (place_of twice t) (ap (place_of twice) same) ∙ sym (cmp_equal (place_of whole s) (place_of whole t) e)
+    | inr o ↦ elim o [
+      | inl lt ↦ cmp_less (place_of twice s) (place_of twice t) (agree s t hs ht lt) ∙ sym (cmp_less (place_of whole s) (place_of whole t) lt)
+      | inr gt ↦ cmp_greater (place_of twice s) (place_of twice t) (agree t s ht hs gt) ∙ sym (cmp_greater (place_of whole s) (place_of whole t) gt)
+    ]
+  ]
+
+  alike : (x y : CompletionCandidate) → Has whole x.tag → Has whole y.tag → comes_before twice x y ≡ comes_before whole x y
+  alike x y hx hy = ap (λ r. is_lt (ordering_then r (option_cmp nat_cmp x.display_order y.display_order))) (compare x.tag y.tag hx hy)
+
+  members : AllByRecursion (λ c. Has whole c.tag) twice
+  members = all_both (λ c. Has whole c.tag) a sorted (all_have whole a (λ t h. has_front a v t h))
+      (AllByRecursion-in_order (comes_before v) (λ c. Has whole c.tag) v (all_have whole v (λ t h. has_back a v t h)))
+
+  -- two members that one order tells apart the other does, too
+  told : (x y : CompletionCandidate) → Has v x.tag → Has v y.tag → comes_before v y x ≡ true → (comes_before whole y x ≡ true) ⊎ (comes_before whole x y ≡ true)
+  told x y hx hy e = elim (cases_order (place_of whole y.tag) (place_of whole x.tag)) [
+    | inl is ↦
+        let same : y.tag ≡ x.tag = place_tag whole y.tag x.tag (has_back a v y.tag hy) is in
+        inl (ap (λ r. is_lt (ordering_then r (option_cmp nat_cmp y.display_order x.display_order)))
+        (cmp_equal (place_of whole y.tag) (place_of whole x.tag) is ∙ sym (cmp_equal (place_of v y.tag) (place_of v x.tag) (ap (place_of v) same)))
+        ∙ e)
+    | inr o ↦ elim o [
+      | inl lt ↦ inl (ap (λ r. is_lt (ordering_then r (option_cmp nat_cmp y.display_order x.display_order))) (cmp_less (place_of whole y.tag) (place_of whole x.tag) lt))
+      | inr gt ↦ inr (ap (λ r. is_lt (ordering_then r (option_cmp nat_cmp x.display_order y.display_order))) (cmp_less (place_of whole x.tag) (place_of whole y.tag) gt))
+    ]
+  ]
+
+  alone : (z x y : CompletionCandidate) → Has v x.tag → Has v y.tag → comes_before v y x ≡ true →
+      ties (comes_before whole) z x ≡ true → ties (comes_before whole) z y ≡ true → ⊥
+  alone z x y hx hy e one other = elim (told x y hx hy e) [
+    | inl t ↦ apart (comes_before whole) (below whole) z x y t one other
+    | inr t ↦ apart (comes_before whole) (below whole) z y x t other one
+  ]
+
+  grouped_twice : grouped (a ++ grouped v) ≡ grouped (a ++ v)
+  unfolding grouped
+  grouped_twice =
+      in_order-alike (λ c. Has whole c.tag) (comes_before twice) (comes_before whole) alike twice members
+      ∙ sorted_after (comes_before whole) (below whole) a sorted v
+      (λ z. filter-in_order (λ c. Has v c.tag) (comes_before v) (ties (comes_before whole) z) (alone z) v (all_have v v (λ t h. h)))
+
+-- VISIBLE ONES
+
+shown_true : (cs : Candidates) → list_any is_shown cs ≡ true → shown cs ≡ filter is_shown cs
+unfolding shown
+shown_true cs e = rw e refl
+
+shown_false : (cs : Candidates) → list_any is_shown cs ≡ false → shown cs ≡ cs
+unfolding shown
+shown_false cs e = rw e refl
+
+kept : {X : Type 0} (p : X → Bool) (xs : List X) → AllByRecursion (λ x. p x ≡ true) xs → filter p xs ≡ xs
+kept p [] h = refl
+kept p (x ∷ xs) h = let e = h.0 in rw e (ap (λ s. x ∷ s) (kept p xs h.1))
+
+dropped : {X : Type 0} (p : X → Bool) (xs : List X) → AllByRecursion (λ x. p x ≡ false) xs → filter p xs ≡ []
+dropped p [] h = refl
+dropped p (x ∷ xs) h = let e = h.0 in rw e (dropped p xs h.1)
+
+passing : {X : Type 0} (p : X → Bool) (xs : List X) → AllByRecursion (λ x. p x ≡ true) (filter p xs)
+passing p [] = tt
+passing p (x ∷ xs) = by (p x) refl (passing p xs)
+  where
+    by : (b : Bool) → p x ≡ b → AllByRecursion (λ x. p x ≡ true) (filter p xs) → AllByRecursion (λ x. p x ≡ true) (cond b (x ∷ filter p xs) (filter p xs))
+    by true e h = (e, h)
+    by false e h = h
+
+-- of a list in which all are visible and one is there, the first of ids has a visible one
+first_shown : (cs : Candidates) → AreShown cs → list_any is_shown cs ≡ true → list_any is_shown (first_of_ids cs) ≡ true
+first_shown [] all e = cc
+first_shown (c ∷ cs) all e = or_left (is_shown c) (list_any is_shown (filter (λ d. not (share c.id d.id)) (first_of_ids cs))) all.0
+
+any_filter : (cs : Candidates) → list_any is_shown cs ≡ true → list_any is_shown (filter is_shown cs) ≡ true
+any_filter [] e = cc
+any_filter (c ∷ cs) e = by (is_shown c) refl e (any_filter cs)
+  where
+    by : (b : Bool) → is_shown c ≡ b → (b || list_any is_shown cs) ≡ true → (list_any is_shown cs ≡ true → list_any is_shown (filter is_shown cs) ≡ true)
+        → list_any is_shown (cond b (c ∷ filter is_shown cs) (filter is_shown cs)) ≡ true
+    by true t e more = or_left (is_shown c) (list_any is_shown (filter is_shown cs)) t
+    by false f e more = more e
+
+-- what is finished of a list with a visible one
+pub all-shown : (P : CompletionCandidate → Type 0) (cs : Candidates) → AllByRecursion P cs → AllByRecursion P (shown cs)
+all-shown P cs h = elim (cases_Bool (list_any is_shown cs)) [
+  | inl t ↦ subst (AllByRecursion P) (sym (shown_true cs t)) (all_kept P is_shown cs h)
+  | inr f ↦ subst (AllByRecursion P) (sym (shown_false cs f)) h
+]
+
+all-finished : (P : CompletionCandidate → Type 0) (cs : Candidates) → AllByRecursion P (shown cs) → AllByRecursion P (finished cs)
+unfolding finished grouped
+all-finished P cs h =
+    AllByRecursion-in_order (comes_before (first_of_ids (shown cs))) P (first_of_ids (shown cs)) (all-first_of_ids P (shown cs) h)
+
+-- WHERE A VISIBLE CANDIDATE WAS GATHERED NO HIDDEN ONE IS IN THE ANSWER
+pub visible : (cs : Candidates) → list_any is_shown cs ≡ true → AreShown (finished cs)
+visible cs e = all-finished (λ c. is_shown c ≡ true) cs (subst AreShown (sym (shown_true cs e)) (passing is_shown cs))
+
+-- TWO CANDIDATES OF AN ANSWER NEVER SHARE AN ID
+pub differ : (cs : Candidates) → Differ (finished cs)
+unfolding finished grouped
+differ cs = differ-in_order (comes_before (first_of_ids (shown cs))) (first_of_ids (shown cs)) (first_of_ids-differ (shown cs))
+
+-- THE LAW
+
+none_left : (a ys : Candidates) → ShareNone a ys → (p : CompletionCandidate → Bool) → ShareNone (filter p a) ys
+none_left a ys h p = all_kept (λ c. SharesNone c ys) p a h
+
+none_right : (a xs ys : Candidates) → ((P : CompletionCandidate → Type 0) → AllByRecursion P xs → AllByRecursion P ys) → ShareNone a xs → ShareNone a ys
+none_right [] xs ys moves h = tt
+none_right (c ∷ a) xs ys moves h = (moves (λ d. share c.id d.id ≡ false) h.0, none_right a xs ys moves h.1)
+
+any_both : (a ys : Candidates) (x y : Bool) → list_any is_shown a ≡ x → list_any is_shown ys ≡ y → list_any is_shown (a ++ ys) ≡ (x || y)
+any_both a ys x y e f = list_any-append is_shown a ys ∙ ap (λ p. p || list_any is_shown ys) e ∙ ap (λ q. x || q) f
+
+or_true : (x : Bool) → (x || true) ≡ true
+or_true true = refl
+or_true false = refl
+
+module _ (a b : Candidates) (apart : ShareNone a b) where
+  apart_finished : ShareNone a (finished b)
+  apart_finished = none_right a b (finished b) (λ P h. all-finished P b (all-shown P b h)) apart
+
+  stays : first_of_ids (finished b) ≡ finished b
+  stays = first_of_ids-stays (finished b) (differ b)
+
+  from : (f : Candidates) → first_of_ids (shown (a ++ finished b)) ≡ f ++ finished b → first_of_ids (shown (a ++ b)) ≡ f ++ first_of_ids (shown b) →
+      finished (a ++ finished b) ≡ finished (a ++ b)
+  unfolding finished
+  from f twice once = ap grouped twice ∙ grouped_twice f (first_of_ids (shown b)) ∙ ap grouped (sym once)
+
+  some_visible : list_any is_shown b ≡ true → list_any is_shown (finished b) ≡ true
+  unfolding finished grouped
+  some_visible e = any-in_order is_shown (comes_before (first_of_ids (shown b))) (first_of_ids (shown b))
+      (first_shown (shown b) (subst AreShown (sym (shown_true b e)) (passing is_shown b))
+      (ap (list_any is_shown) (shown_true b e) ∙ any_filter b e))
+
+  -- b has a visible one
+  after_visible : list_any is_shown b ≡ true → finished (a ++ finished b) ≡ finished (a ++ b)
+  after_visible e =
+      from (first_of_ids (filter is_shown a))
+      (ap first_of_ids (shown_true (a ++ finished b) (any_both a (finished b) (list_any is_shown a) true refl (some_visible e) ∙ or_true (list_any is_shown a))
+      ∙ filter-append is_shown a (finished b) ∙ ap (λ s. filter is_shown a ++ s) (kept is_shown (finished b) (visible b e)))
+      ∙ first_of_ids-append (filter is_shown a) (finished b) (none_left a (finished b) apart_finished is_shown)
+      ∙ ap (λ s. first_of_ids (filter is_shown a) ++ s) stays)
+      (ap first_of_ids (shown_true (a ++ b) (any_both a b (list_any is_shown a) true refl e ∙ or_true (list_any is_shown a)) ∙ filter-append is_shown a b)
+      ∙ first_of_ids-append (filter is_shown a) (filter is_shown b)
+      (none_left a (filter is_shown b) (none_right a b (filter is_shown b) (λ P h. all_kept P is_shown b h) apart) is_shown)
+      ∙ ap (λ s. first_of_ids (filter is_shown a) ++ first_of_ids s) (sym (shown_true b e)))
+
+  hidden : list_any is_shown b ≡ false → AllByRecursion (λ c. is_shown c ≡ false) (finished b)
+  hidden e = all-finished (λ c. is_shown c ≡ false) b (all-shown (λ c. is_shown c ≡ false) b (any_none is_shown b e))
+
+  -- nothing is visible
+  after_hidden : list_any is_shown a ≡ false → list_any is_shown b ≡ false → finished (a ++ finished b) ≡ finished (a ++ b)
+  after_hidden f e =
+      from (first_of_ids a)
+      (ap first_of_ids (shown_false (a ++ finished b) (any_both a (finished b) false false f (none_any is_shown (finished b) (hidden e))))
+      ∙ first_of_ids-append a (finished b) apart_finished ∙ ap (λ s. first_of_ids a ++ s) stays)
+      (ap first_of_ids (shown_false (a ++ b) (any_both a b false false f e)) ∙ first_of_ids-append a b apart
+      ∙ ap (λ s. first_of_ids a ++ first_of_ids s) (sym (shown_false b e)))
+
+  -- a alone has visible ones
+  front_visible : list_any is_shown a ≡ true → list_any is_shown b ≡ false → finished (a ++ finished b) ≡ finished (a ++ b)
+  unfolding finished
+  front_visible t e =
+      ap (λ s. grouped (first_of_ids s))
+      (shown_true (a ++ finished b) (any_both a (finished b) true false t (none_any is_shown (finished b) (hidden e)))
+      ∙ filter-append is_shown a (finished b) ∙ ap (λ s. filter is_shown a ++ s) (dropped is_shown (finished b) (hidden e) ∙ sym (dropped is_shown b (any_none is_shown b e)))
+      ∙ sym (filter-append is_shown a b) ∙ sym (shown_true (a ++ b) (any_both a b true false t e)))
+
+  -- FINISHING A LIST BEHIND ANOTHER ONE FIRST CHANGES NOTHING, WHERE THE TWO SHARE NO ID
+  pub finished_after : finished (a ++ finished b) ≡ finished (a ++ b)
+  finished_after = elim (cases_Bool (list_any is_shown b)) [
+    | inl e ↦ after_visible e
+    | inr e ↦ elim (cases_Bool (list_any is_shown a)) [
+      | inl t ↦ front_visible t e
+      | inr f ↦ after_hidden f e
+    ]
+  ]

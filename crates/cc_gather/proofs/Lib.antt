@@ -1,0 +1,12 @@
+pub mod CandidatesOrder
+pub mod Examples
+pub mod Filters
+pub mod FirstOfIds
+pub mod Groups
+pub mod InOrder
+pub mod InTurn
+pub mod Law
+pub mod LongNames
+pub mod Places
+pub mod WordKinds
+pub mod Zips

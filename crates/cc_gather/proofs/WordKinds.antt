@@ -1,0 +1,128 @@
+-- What a word asks of the options, from what the code's calls find.
+use Rattle.std.proofs.Common.{◌≡◌, ◌<◌, ◌==◌, ◌++◌, ℕ, suc, List, [], ◌∷◌, length, get_or, true, false, eqb, Some, None, refl, ap, sym, ◌∙◌, arith}
+use Rattle.std.specs.Prelude.{chars, codes, filter, find, IsUtf8, encode_utf8, if◌then◌else◌}
+use Rattle.std.proofs.lemmas.Bool.{eqb-true, ne_eqb}
+use Rattle.std.proofs.lemmas.Str.{chars_past_char, encodes-chars, chars-nil}
+use Rattle.cc_arg.specs.declared.arg.Arg.{Arg}
+use Rattle.cc_candidates.specs.Beginning.{begins}
+use Rattle.cc_gather.specs.Lookup.{has_long, value_argument}
+use Rattle.cc_gather.specs.Options.{longs, shorts}
+use Rattle.cc_gather.specs.Rows.{Listed, flag_row, long_row, short_row, before_equals, after_equals, asked_after, at_character, cluster, after_one_dash, after_two_dashes, row_of}
+
+empty : (s : List ℕ) → (length s == 0) ≡ true → s ≡ []
+empty [] e = refl
+empty (c ∷ s) e = let n : length (c ∷ s) ≡ 0 = eqb-true (length (c ∷ s)) 0 e in absurd (omega (arith, n))
+
+-- THE KINDS OF WORDS
+
+pub row_plain : (arguments : List Arg) (w : List ℕ) → ((rest : List ℕ) → w ≡ 45 ∷ rest → ⊥) →
+    row_of arguments w ≡ Listed (if length w == 0 then longs arguments ++ shorts (codes "-") arguments else [])
+unfolding row_of
+row_plain arguments [] h = refl
+row_plain arguments (c ∷ s) h =
+    let long : eqb (suc (length s)) 0 ≡ false = ne_eqb (suc (length s)) 0 (λ e. omega (arith, e)) in
+    rw (ne_eqb c 45 (λ e. h s (ap (λ x. x ∷ s) e)))
+    (ap (λ b. Listed (if b then longs arguments ++ shorts (codes "-") arguments else [])) (sym long))
+
+pub row_dash : (arguments : List Arg) (w s : List ℕ) → w ≡ 45 ∷ s → (length s == 0) ≡ true →
+    row_of arguments w ≡ Listed (shorts (codes "-") arguments ++ longs arguments)
+unfolding row_of
+row_dash arguments w s e h = ap (row_of arguments) (e ∙ ap (λ t. 45 ∷ t) (empty s h))
+
+one_short : (arguments : List Arg) (s : List ℕ) → (length s == 0) ≡ false → ((rest : List ℕ) → s ≡ 45 ∷ rest → ⊥) →
+    after_one_dash arguments s ≡ short_row arguments s
+one_short arguments [] e h = cc
+one_short arguments (c ∷ s) e h = rw (ne_eqb c 45 (λ e. h s (ap (λ x. x ∷ s) e))) refl
+
+pub row_short : (arguments : List Arg) (w s : List ℕ) → w ≡ 45 ∷ s → (length s == 0) ≡ false → ((rest : List ℕ) → s ≡ 45 ∷ rest → ⊥) →
+    row_of arguments w ≡ short_row arguments s
+unfolding row_of
+row_short arguments w s e f h = ap (row_of arguments) e ∙ one_short arguments s f h
+
+pub row_two : (arguments : List Arg) (w s t : List ℕ) → w ≡ 45 ∷ s → s ≡ 45 ∷ t → (length t == 0) ≡ true →
+    row_of arguments w ≡ Listed (longs arguments)
+unfolding row_of
+row_two arguments w s t e f h = ap (row_of arguments) (e ∙ ap (λ x. 45 ∷ x) (f ∙ ap (λ x. 45 ∷ x) (empty t h)))
+
+two_long : (arguments : List Arg) (t : List ℕ) → (length t == 0) ≡ false → after_two_dashes arguments t ≡ long_row arguments t (after_equals t)
+two_long arguments [] e = cc
+two_long arguments (c ∷ t) e = refl
+
+pub row_long : (arguments : List Arg) (w s t : List ℕ) → w ≡ 45 ∷ s → s ≡ 45 ∷ t → (length t == 0) ≡ false →
+    row_of arguments w ≡ long_row arguments t (after_equals t)
+unfolding row_of
+row_long arguments w s t e f h = ap (row_of arguments) (e ∙ ap (λ x. 45 ∷ x) f) ∙ two_long arguments t h
+
+-- THE FIRST `=`
+
+no_equals_tail : (c : ℕ) (s : List ℕ) → ((i : ℕ) → i < length (c ∷ s) → get_or (c ∷ s) i 0 ≡ 61 → ⊥) →
+    (i : ℕ) → i < length s → get_or s i 0 ≡ 61 → ⊥
+no_equals_tail c s h i below e = h (suc i) (omega arith) e
+
+pub after_none : (s : List ℕ) → ((i : ℕ) → i < length s → get_or s i 0 ≡ 61 → ⊥) → after_equals s ≡ None
+after_none [] h = refl
+after_none (c ∷ s) h =
+    let other : eqb c 61 ≡ false = ne_eqb c 61 (h 0 (omega arith)) in
+    rw other (after_none s (no_equals_tail c s h))
+
+pub after_some : (s t : List ℕ) → ((i : ℕ) → i < length s → get_or s i 0 ≡ 61 → ⊥) → after_equals (s ++ 61 ∷ t) ≡ Some t
+after_some [] t h = refl
+after_some (c ∷ s) t h =
+    let other : eqb c 61 ≡ false = ne_eqb c 61 (h 0 (omega arith)) in
+    rw other (after_some s t (no_equals_tail c s h))
+
+pub before_some : (s t : List ℕ) → ((i : ℕ) → i < length s → get_or s i 0 ≡ 61 → ⊥) → before_equals (s ++ 61 ∷ t) ≡ s
+before_some [] t h = refl
+before_some (c ∷ s) t h =
+    let other : eqb c 61 ≡ false = ne_eqb c 61 (h 0 (omega arith)) in
+    rw other (ap (λ r. c ∷ r) (before_some s t (no_equals_tail c s h)))
+
+pub long_none : (arguments : List Arg) (long : List ℕ) → ((i : ℕ) → i < length long → get_or long i 0 ≡ 61 → ⊥) →
+    long_row arguments long (after_equals long) ≡ Listed (filter (begins (codes "--" ++ long)) (longs arguments))
+long_none arguments long h = ap (long_row arguments long) (after_none long h)
+
+pub long_some : (arguments : List Arg) (long flag text : List ℕ) → long ≡ flag ++ 61 ∷ text → ((i : ℕ) → i < length flag → get_or flag i 0 ≡ 61 → ⊥) →
+    long_row arguments long (after_equals long) ≡ flag_row (find (has_long flag) arguments) flag text
+long_some arguments long flag text is h =
+    ap (long_row arguments long) (ap after_equals is ∙ after_some flag text h)
+    ∙ ap (λ f. flag_row (find (has_long f) arguments) f text) (ap before_equals is ∙ before_some flag text h)
+
+-- THE VALUE CHARACTER
+
+pub asked_plain : (argument : Arg) (before rest : List ℕ) → ((s : List ℕ) → rest ≡ 61 ∷ s → ⊥) →
+    asked_after argument before rest ≡ record { argument = argument; before = before; text = rest }
+asked_plain argument before [] h = refl
+asked_plain argument before (c ∷ s) h = rw (ne_eqb c 61 (λ e. h s (ap (λ x. x ∷ s) e))) refl
+
+pub asked_equals : (argument : Arg) (before rest s : List ℕ) → rest ≡ 61 ∷ s →
+    asked_after argument before rest ≡ record { argument = argument; before = before ++ codes "="; text = s }
+asked_equals argument before rest s e = ap (asked_after argument before) e
+
+past : (arguments : List Arg) (before bs rest : List ℕ) (c : ℕ) → IsUtf8 bs → bs ≡ encode_utf8 c ++ rest →
+    cluster arguments before (chars bs)
+    ≡ at_character (value_argument arguments c) (before ++ encode_utf8 c) (chars rest) (cluster arguments (before ++ encode_utf8 c) (chars rest))
+past arguments before bs rest c u e = ap (cluster arguments before) (chars_past_char bs rest c u e)
+
+pub past_none : (arguments : List Arg) (before more bs rest : List ℕ) (c : ℕ) → IsUtf8 bs → bs ≡ encode_utf8 c ++ rest →
+    more ≡ before ++ encode_utf8 c → value_argument arguments c ≡ None →
+    cluster arguments before (chars bs) ≡ cluster arguments more (chars rest)
+past_none arguments before more bs rest c u e push none =
+    past arguments before bs rest c u e
+    ∙ ap (λ o. at_character o (before ++ encode_utf8 c) (chars rest) (cluster arguments (before ++ encode_utf8 c) (chars rest))) none
+    ∙ ap (λ b. cluster arguments b (chars rest)) (sym push)
+
+pub past_some : (arguments : List Arg) (before more bs rest : List ℕ) (c : ℕ) (argument : Arg) → IsUtf8 bs → IsUtf8 rest → bs ≡ encode_utf8 c ++ rest →
+    more ≡ before ++ encode_utf8 c → Some argument ≡ value_argument arguments c →
+    cluster arguments before (chars bs) ≡ Some (asked_after argument more rest)
+past_some arguments before more bs rest c argument u v e push some =
+    past arguments before bs rest c u e
+    ∙ ap (λ o. at_character o (before ++ encode_utf8 c) (chars rest) (cluster arguments (before ++ encode_utf8 c) (chars rest))) (sym some)
+    ∙ ap (λ r. Some (asked_after argument (before ++ encode_utf8 c) r)) (encodes-chars rest v)
+    ∙ ap (λ b. Some (asked_after argument b rest)) (sym push)
+
+pub past_end : (arguments : List Arg) (before rest : List ℕ) → length rest ≡ 0 → cluster arguments before (chars rest) ≡ None
+past_end arguments before rest e = ap (λ s. cluster arguments before (chars s)) (none rest e) ∙ ap (cluster arguments before) chars-nil
+  where
+    none : (rest : List ℕ) → length rest ≡ 0 → rest ≡ []
+    none [] e = refl
+    none (x ∷ xs) e = absurd (omega (arith, e))

@@ -1,0 +1,45 @@
+-- The candidates that are children of a command.
+use Rattle.std.specs.Prelude.{ℕ, List, [], ◌++◌, map, filter, Bool, true, Some, unwrap_or, codes, nat_eq, if◌then◌else◌}
+use Rattle.std.specs.List.{dedup, starts_with}
+use Rattle.std.specs.Ordering.{is_lt, eq_by_cmp}
+use Rattle.cc_base.specs.Sorting.{in_order}
+use Rattle.cc_candidates.specs.Beginning.{begins}
+use Rattle.cc_command.specs.declared.node.Node.{Node}
+use Rattle.cc_command.specs.Tree.{Forest, none, more, Tree}
+use Rattle.cc_command.specs.Names.{visible_names}
+use Rattle.cc_candidates.specs.declared.candidate.CompletionCandidate.{CompletionCandidate}
+use Rattle.cc_candidates.specs.Candidate.{candidate_cmp}
+
+-- a name of a child; its id has the child's own name
+abbrev pub child_candidate : Node → Node → Bool → List ℕ → CompletionCandidate
+child_candidate parent node hidden name = record {
+  value = name;
+  help = node.about;
+  id = Some (codes "command::" ++ node.name);
+  tag = Some (unwrap_or parent.subcommand_help_heading (codes "Commands"));
+  display_order = Some (unwrap_or node.display_order 999);
+  hidden = hidden;
+}
+
+-- a child's visible names, then its hidden aliases, hidden
+abbrev pub child_candidates : Node → Node → List CompletionCandidate
+child_candidates parent node =
+    map (child_candidate parent node node.hide) (visible_names node) ++ map (child_candidate parent node true) node.aliases
+
+-- those of all siblings
+abbrev pub children_candidates : Node → Forest → List CompletionCandidate
+children_candidates parent none = []
+children_candidates parent (more node below rest) = child_candidates parent node ++ children_candidates parent rest
+
+-- the lent list, where the node takes names of other programs
+abbrev pub external : Node → List CompletionCandidate → List CompletionCandidate
+external node lent = if node.allow_external_subcommands then lent else []
+
+-- in the order of candidates, equal ones once
+unfoldable pub in_candidates_order : List CompletionCandidate → List CompletionCandidate
+in_candidates_order cs = dedup (eq_by_cmp candidate_cmp) (in_order (λ x y. is_lt (candidate_cmp x y)) cs)
+
+-- the children's names and the lent list, those that begin with the word, in order
+unfoldable pub subcommand_candidates : Tree → List CompletionCandidate → List ℕ → List CompletionCandidate
+subcommand_candidates tree lent word =
+    in_candidates_order (filter (begins word) (children_candidates tree.node tree.children ++ external tree.node lent))

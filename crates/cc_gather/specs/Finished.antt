@@ -1,0 +1,67 @@
+-- What is answered of the candidates that were gathered.
+use Rattle.std.specs.Prelude.{◌≡◌, ℕ, suc, List, [], ◌∷◌, Bool, true, false, not, Option, Some, None, filter, bytes_eq, if◌then◌else◌}
+use Rattle.std.specs.List.{list_any, AllByRecursion}
+use Rattle.std.specs.Option.{option_eq, option_cmp}
+use Rattle.std.specs.Ordering.{is_lt, nat_cmp, ordering_then}
+use Rattle.cc_base.specs.Sorting.{in_order}
+use Rattle.cc_candidates.specs.declared.candidate.CompletionCandidate.{CompletionCandidate}
+
+-- the candidate is not hidden
+abbrev pub is_shown : CompletionCandidate → Bool
+is_shown c = not c.hidden
+
+-- the visible ones, or all where none is
+unfoldable pub shown : List CompletionCandidate → List CompletionCandidate
+shown cs = if list_any is_shown cs then filter is_shown cs else cs
+
+-- both are there and the same
+abbrev pub share : Option (List ℕ) → Option (List ℕ) → Bool
+share (Some one) (Some other) = bytes_eq one other
+share (Some one) None = false
+share None other = false
+
+-- those whose id no earlier one has
+abbrev pub first_of_ids : List CompletionCandidate → List CompletionCandidate
+first_of_ids [] = []
+first_of_ids (c ∷ cs) = c ∷ filter (λ d. not (share c.id d.id)) (first_of_ids cs)
+
+-- the candidate has the tag; to have none is a tag of its own
+abbrev pub has_tag : Option (List ℕ) → CompletionCandidate → Bool
+has_tag tag c = option_eq bytes_eq c.tag tag
+
+-- how many stand before the first with the tag: the place of the tag's first member
+abbrev pub place_of : List CompletionCandidate → Option (List ℕ) → ℕ
+place_of [] tag = 0
+place_of (c ∷ cs) tag = if has_tag tag c then 0 else suc (place_of cs tag)
+
+-- one stands before another: by the place of its tag's first member, then by the display order, none
+-- before some
+abbrev pub comes_before : List CompletionCandidate → CompletionCandidate → CompletionCandidate → Bool
+comes_before cs one other =
+    is_lt (ordering_then (nat_cmp (place_of cs one.tag) (place_of cs other.tag))
+    (option_cmp nat_cmp one.display_order other.display_order))
+
+-- grouped by tags, and within one by display order; ties keep their order
+unfoldable pub grouped : List CompletionCandidate → List CompletionCandidate
+grouped cs = in_order (comes_before cs) cs
+
+-- the visible ones if any is, of each id the first, grouped
+unfoldable pub finished : List CompletionCandidate → List CompletionCandidate
+finished cs = grouped (first_of_ids (shown cs))
+
+-- the candidate shares its id with none of these
+abbrev pub SharesNone : CompletionCandidate → List CompletionCandidate → Type 0
+SharesNone c ds = AllByRecursion (λ d. share c.id d.id ≡ false) ds
+
+-- no candidate of one list shares its id with one of the other
+abbrev pub ShareNone : List CompletionCandidate → List CompletionCandidate → Type 0
+ShareNone cs ds = AllByRecursion (λ c. SharesNone c ds) cs
+
+-- no two share an id
+abbrev pub Differ : List CompletionCandidate → Type 0
+Differ [] = Unit {0}
+Differ (c ∷ cs) = SharesNone c cs × Differ cs
+
+-- all are visible
+abbrev pub AreShown : List CompletionCandidate → Type 0
+AreShown cs = AllByRecursion (λ c. is_shown c ≡ true) cs

@@ -1,0 +1,9 @@
+pub mod Children
+pub mod Finished
+pub mod Lookup
+pub mod Numbers
+pub mod OptionRows
+pub mod Options
+pub mod Placed
+pub mod Rows
+pub mod Seen

@@ -1,0 +1,101 @@
+-- What a word asks of the options.
+use Rattle.std.specs.Prelude.{◌≡◌, ℕ, List, [], ◌∷◌, ◌++◌, ◌==◌, map, filter, find, Bool, true, Option, Some, None, unwrap_or, codes, bytes_eq, chars, encode_utf8, encode_utf8_all, if◌then◌else◌}
+use Rattle.std.specs.List.{flat_map, list_any}
+use Rattle.std.specs.Option.{option_map, option_or, option_eq}
+use Rattle.cc_arg.specs.declared.arg.Arg.{Arg}
+use Rattle.cc_arg.specs.Arguments.{takes_values}
+use Rattle.cc_arg.specs.ShownNames.{shown_longs, shown_shorts}
+use Rattle.cc_candidates.specs.declared.candidate.CompletionCandidate.{CompletionCandidate}
+use Rattle.cc_candidates.specs.Beginning.{begins}
+use Rattle.cc_gather.specs.Numbers.{is_number}
+
+use Rattle.cc_gather.specs.Lookup.{has_long, value_argument}
+use Rattle.cc_gather.specs.Options.{longs, shorts}
+
+-- what is asked for: values of an argument for a text, with a text before each
+pub record Asked : Type 0 where
+  pub argument : Arg
+  pub before : List ℕ
+  pub text : List ℕ
+
+-- what a word asks of the options
+pub data Row : Type 0 where
+  Listed : (candidates : List CompletionCandidate) → Row
+  ValuesOf : (asked : Asked) → Row
+
+-- THE LONG OF A WORD
+
+-- what stands before the first `=`
+abbrev pub before_equals : List ℕ → List ℕ
+before_equals [] = []
+before_equals (c ∷ s) = if c == 61 then [] else c ∷ before_equals s
+
+-- what stands after the first `=`, if there is one
+abbrev pub after_equals : List ℕ → Option (List ℕ)
+after_equals [] = None
+after_equals (c ∷ s) = if c == 61 then Some s else after_equals s
+
+-- values of the argument that the flag names
+abbrev pub flag_row : Option Arg → List ℕ → List ℕ → Row
+flag_row None flag text = Listed []
+flag_row (Some argument) flag text = ValuesOf (record { argument = argument; before = codes "--" ++ flag ++ codes "="; text = text })
+
+-- after `--`: the longs that begin so; with a `=` the values of the first argument with that long
+abbrev pub long_row : List Arg → List ℕ → Option (List ℕ) → Row
+long_row arguments long None = Listed (filter (begins (codes "--" ++ long)) (longs arguments))
+long_row arguments long (Some text) = flag_row (find (has_long (before_equals long)) arguments) (before_equals long) text
+
+-- THE SHORTS OF A WORD
+
+-- a `=` in front of a value belongs to what stands before it
+abbrev pub asked_after : Arg → List ℕ → List ℕ → Asked
+asked_after argument before [] = record { argument = argument; before = before; text = [] }
+asked_after argument before (c ∷ s) =
+    if c == 61 then record { argument = argument; before = before ++ codes "="; text = s }
+    else record { argument = argument; before = before; text = c ∷ s }
+
+-- a character whose argument takes values asks for them; any other leaves it to the characters after it
+abbrev pub at_character : Option Arg → List ℕ → List ℕ → Option Asked → Option Asked
+at_character None before after others = others
+at_character (Some argument) before after others = Some (asked_after argument before (encode_utf8_all after))
+
+-- what the first value character of a short word asks for
+abbrev pub cluster : List Arg → List ℕ → List ℕ → Option Asked
+cluster arguments before [] = None
+cluster arguments before (c ∷ cs) =
+    at_character (value_argument arguments c) (before ++ encode_utf8 c) cs (cluster arguments (before ++ encode_utf8 c) cs)
+
+-- without a value character the shorts after the word
+abbrev pub cluster_row : List Arg → List ℕ → Option Asked → Row
+cluster_row arguments word None = Listed (shorts word arguments)
+cluster_row arguments word (Some asked) = ValuesOf asked
+
+-- after `-`: none for a negative number
+abbrev pub short_row : List Arg → List ℕ → Row
+short_row arguments after =
+    if is_number after then Listed []
+    else cluster_row arguments (codes "-" ++ after) (cluster arguments (codes "-") (chars after))
+
+-- THE ROWS
+
+abbrev pub after_two_dashes : List Arg → List ℕ → Row
+after_two_dashes arguments [] = Listed (longs arguments)
+after_two_dashes arguments (c ∷ s) = long_row arguments (c ∷ s) (after_equals (c ∷ s))
+
+abbrev pub after_one_dash : List Arg → List ℕ → Row
+after_one_dash arguments [] = Listed (shorts (codes "-") arguments ++ longs arguments)
+after_one_dash arguments (c ∷ s) = if c == 45 then after_two_dashes arguments s else short_row arguments (c ∷ s)
+
+unfoldable pub row_of : List Arg → List ℕ → Row
+row_of arguments [] = Listed (longs arguments ++ shorts (codes "-") arguments)
+row_of arguments (c ∷ s) = if c == 45 then after_one_dash arguments s else Listed []
+
+-- the candidate with a text before its value
+abbrev pub prefixed : List ℕ → CompletionCandidate → CompletionCandidate
+prefixed before c = record c { value = before ++ c.value }
+
+-- what is answered of a row, where a relation says which values there are
+abbrev pub IsRow : (Arg → List ℕ → List CompletionCandidate → Type 0) → Row → List CompletionCandidate → Type 0
+IsRow gives (Listed candidates) found = found ≡ candidates
+IsRow gives (ValuesOf asked) found =
+    (values : List CompletionCandidate) × (gives asked.argument asked.text values × (found ≡ map (prefixed asked.before) values))

@@ -1,0 +1,23 @@
+-- What is known of the ids and tags of the candidates so far.
+use Rattle.std.specs.Prelude.{ℕ, suc, List, [], ◌∷◌, Bool, false, Option, Some, None, if◌then◌else◌, option_map}
+use Rattle.std.specs.BTreeSet.{BTreeSet, contains}
+use Rattle.std.specs.Ordering.{nat_cmp}
+use Rattle.std.specs.Cmp.Lexicographic.{slice_cmp}
+use Rattle.cc_candidates.specs.declared.candidate.CompletionCandidate.{CompletionCandidate}
+use Rattle.cc_gather.specs.Finished.{has_tag}
+
+-- there is an id, and it is among those that a set holds
+abbrev pub is_seen : BTreeSet (List ℕ) → Option (List ℕ) → Bool
+is_seen seen None = false
+is_seen seen (Some id) = contains (slice_cmp nat_cmp) seen id
+
+-- the elements with a mark
+abbrev pub marked : {X : Type 0} → List Bool → List X → List X
+marked [] xs = []
+marked (mark ∷ marks) [] = []
+marked (mark ∷ marks) (x ∷ xs) = if mark then x ∷ marked marks xs else marked marks xs
+
+-- where a tag first stands; none where it does not
+abbrev pub first_place : List CompletionCandidate → Option (List ℕ) → Option ℕ
+first_place [] tag = None
+first_place (c ∷ cs) tag = if has_tag tag c then Some 0 else option_map suc (first_place cs tag)

@@ -1,0 +1,179 @@
+//! The candidates that are children of a command.
+
+ghost use Rattle.std.specs.Prelude.{◌≡◌, ◌++◌, [], ◌∷◌, map, filter, nat_eq, codes, Some, IfOk, OnOk};
+ghost use Rattle.std.specs.List.{dedup, starts_with};
+ghost use Rattle.std.specs.Option.{option_copied, option_map};
+ghost use Rattle.std.specs.String.{string_bytes};
+ghost use Rattle.cc_candidates.specs.Beginning.{begins};
+ghost use Rattle.cc_command.specs.Tree.{forest_of};
+ghost use Rattle.cc_command.specs.Names.{visible_names};
+ghost use Rattle.cc_gather.specs.Children.{child_candidate, child_candidates, children_candidates, external, in_candidates_order, subcommand_candidates};
+
+use cc_base::Text;
+use cc_candidates::{CompletionCandidate, beginning, begins_with, copied};
+use cc_command::Command;
+use std::alloc::{AllocError, Global};
+
+/// The candidates that are children: names, visible and hidden aliases, and where the command takes
+/// names of other programs those of a lent list; those that begin with the word, in the order of
+/// candidates, equal ones once.
+#[tactic(auto, unfolding(crate::specs::Children::subcommand_candidates))]
+pub fn subcommand_candidates(
+    alloc: Global,
+    command: &Command,
+    lent: Vec<CompletionCandidate>,
+    word: &str,
+) -> Result<Vec<CompletionCandidate>, AllocError>
+    ensures { IfOk result (λ answer. answer.items ≡ subcommand_candidates command.now lent.items word.now) }
+{
+    let mut found = children_beginning(alloc, command, word)?;
+    let mut lent = beginning(external(alloc, command, lent), word);
+    found.append(&mut lent)?;
+    sort(&mut found)?;
+    Ok(found)
+}
+
+// The lent list, where the command takes names of other programs.
+fn external(
+    alloc: Global,
+    command: &Command,
+    lent: Vec<CompletionCandidate>,
+) -> Vec<CompletionCandidate>
+    ensures { result.items ≡ external command.now.node lent.items }
+{
+    if command.is_allow_external_subcommands_set() {
+        return lent;
+    }
+    Vec::new(alloc)
+}
+
+// Sorts, and leaves equal neighbours out.
+fn sort(candidates: &mut Vec<CompletionCandidate>) -> Result<(), AllocError>
+    ensures { OnOk result (candidates.new.items ≡ in_candidates_order candidates.old.items) }
+{
+    candidates.sort()?;
+    candidates.dedup();
+    Ok(())
+}
+
+fn children_beginning(
+    alloc: Global,
+    command: &Command,
+    word: &str,
+) -> Result<Vec<CompletionCandidate>, AllocError>
+    ensures { IfOk result (λ found. found.items
+        ≡ filter (begins word.now) (children_candidates command.now.node command.now.children)) }
+{
+    let mut found = Vec::new(alloc);
+    push_children(&mut found, alloc, command, command.get_subcommands(), word)?;
+    Ok(found)
+}
+
+// Adds the candidates of siblings that begin with the word.
+fn push_children(
+    found: &mut Vec<CompletionCandidate>,
+    alloc: Global,
+    parent: &Command,
+    siblings: &[Command],
+    word: &str,
+) -> Result<(), AllocError>
+    ensures { OnOk result (found.new.items ≡ found.old.items
+        ++ filter (begins word.now) (children_candidates parent.now.node (forest_of siblings.now))) }
+{
+    for child in siblings {
+        push_child(found, alloc, parent, child, word)?;
+    }
+    Ok(())
+}
+
+// Adds the candidates of a child that begin with the word: its name, its visible aliases, then its
+// hidden ones.
+fn push_child(
+    found: &mut Vec<CompletionCandidate>,
+    alloc: Global,
+    parent: &Command,
+    child: &Command,
+    word: &str,
+) -> Result<(), AllocError>
+    ensures { OnOk result (found.new.items ≡ found.old.items
+        ++ filter (begins word.now) (child_candidates parent.now.node child.now.node)) }
+{
+    let hidden = child.is_hide_set();
+    push_name(found, alloc, parent, child, child.get_name(), hidden, word)?;
+    push_names(
+        found,
+        alloc,
+        parent,
+        child,
+        child.get_visible_aliases(),
+        hidden,
+        word,
+    )?;
+    push_names(found, alloc, parent, child, child.get_aliases(), true, word)?;
+    Ok(())
+}
+
+// Adds a candidate for each of the names that begin with the word.
+#[tactic(auto, using(crate::proofs::Filters::filter_first))]
+fn push_names(
+    found: &mut Vec<CompletionCandidate>,
+    alloc: Global,
+    parent: &Command,
+    child: &Command,
+    names: &[Text],
+    hidden: bool,
+    word: &str,
+) -> Result<(), AllocError>
+    ensures { OnOk result (found.new.items ≡ found.old.items
+        ++ filter (begins word.now) (map (child_candidate parent.now.node child.now.node hidden) names.now)) }
+{
+    for name in names {
+        push_name(found, alloc, parent, child, name.as_str(), hidden, word)?;
+    }
+    Ok(())
+}
+
+// Adds the candidate for a name, if that begins with the word.
+fn push_name(
+    found: &mut Vec<CompletionCandidate>,
+    alloc: Global,
+    parent: &Command,
+    child: &Command,
+    name: &str,
+    hidden: bool,
+    word: &str,
+) -> Result<(), AllocError>
+    ensures { OnOk result (found.new.items ≡ found.old.items
+        ++ filter (begins word.now) (child_candidate parent.now.node child.now.node hidden name.now ∷ [])) }
+{
+    if !begins_with(name, word) {
+        return Ok(());
+    }
+    found.push(child_candidate(alloc, parent, child, name, hidden)?)?;
+    Ok(())
+}
+
+// The candidate for a name of a child.
+fn child_candidate(
+    alloc: Global,
+    parent: &Command,
+    child: &Command,
+    name: &str,
+    hidden: bool,
+) -> Result<CompletionCandidate, AllocError>
+    ensures { IfOk result (λ candidate. candidate ≡ child_candidate parent.now.node child.now.node hidden name.now) }
+{
+    let heading = parent.get_subcommand_help_heading().unwrap_or("Commands");
+    let tag = String::from_str(alloc, heading)?;
+    let mut id = String::from_str(alloc, "command::")?;
+    id.push_str(child.get_name())?;
+    let help = copied(alloc, child.get_about())?;
+    Ok(
+        CompletionCandidate::new(String::from_str(alloc, name)?)
+            .help(help)
+            .id(Some(id))
+            .tag(Some(tag))
+            .display_order(Some(child.get_display_order()))
+            .hide(hidden),
+    )
+}

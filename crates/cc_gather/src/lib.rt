@@ -1,0 +1,15 @@
+//! What completion gathers for a word, and how the list is finished.
+#![tactic(auto)]
+
+mod children;
+mod finishing;
+mod longs;
+mod lookup;
+mod numbers;
+mod option_rows;
+mod options;
+mod shorts;
+
+pub use crate::children::subcommand_candidates;
+pub use crate::finishing::{finished, finished_after};
+pub use crate::option_rows::{OptionRow, ValuesAsked, all_prefixed, option_row};

@@ -1,0 +1,233 @@
+//! What a word asks of the options.
+
+ghost use Rattle.std.specs.Prelude.{◌≡◌, ◌++◌, [], ◌==◌, map, codes, find, chars, length, IfOk, if◌then◌else◌};
+ghost use Rattle.std.specs.Option.{option_map};
+ghost use Rattle.std.specs.String.{string_bytes};
+ghost use Rattle.cc_gather.specs.Lookup.{has_long};
+ghost use Rattle.cc_gather.specs.OptionRows.{asked_of, row_given};
+ghost use Rattle.cc_gather.specs.Options.{longs, shorts};
+ghost use Rattle.cc_gather.specs.Rows.{after_equals, asked_after, cluster, flag_row, long_row, prefixed, row_of, short_row};
+
+use crate::longs::{longs, longs_beginning};
+use crate::lookup::{value_argument, with_long};
+use crate::numbers::is_number;
+use crate::shorts::shorts;
+use cc_arg::Arg;
+use cc_base::{Text, TextRef};
+use cc_candidates::CompletionCandidate;
+use std::alloc::{AllocError, Global};
+
+/// What a word asks of the options of a command.
+#[derive(Drop)]
+pub enum OptionRow<'a> {
+    /// These candidates.
+    Listed(Vec<CompletionCandidate>),
+    /// Values of an argument.
+    ValuesOf(ValuesAsked<'a>),
+}
+
+/// Values that are asked for. A candidate for the word is a value with the text before it.
+#[derive(Drop)]
+pub struct ValuesAsked<'a> {
+    /// The argument.
+    pub argument: &'a Arg,
+    /// What the word has before the value: a flag with its `=`, or a dash and shorts.
+    pub before: Text,
+    /// The text to complete.
+    pub text: TextRef<'a>,
+}
+
+/// What a word asks of the options. Fails only where an allocation fails.
+pub fn option_row<'a>(
+    alloc: Global,
+    arguments: &'a [Arg],
+    word: &'a str,
+) -> Result<OptionRow<'a>, AllocError>
+    ensures { IfOk result (λ row. row_given row ≡ row_of arguments.now word.now) }
+{
+    let Some(rest) = word.strip_prefix('-') else {
+        let found = without_dash(alloc, arguments, word)?;
+        return Ok(OptionRow::Listed(found));
+    };
+    if rest.is_empty() {
+        let found = shorts_then_longs(alloc, arguments)?;
+        return Ok(OptionRow::Listed(found));
+    }
+    let Some(long) = rest.strip_prefix('-') else {
+        let row = short_options(alloc, arguments, word, rest)?;
+        return Ok(row);
+    };
+    if long.is_empty() {
+        let found = longs(alloc, arguments)?;
+        return Ok(OptionRow::Listed(found));
+    }
+    let row = long_options(alloc, arguments, long)?;
+    Ok(row)
+}
+
+/// The candidates, with a text before the value of each. Fails only where an allocation fails.
+pub fn all_prefixed(
+    alloc: Global,
+    candidates: Vec<CompletionCandidate>,
+    before: &str,
+) -> Result<Vec<CompletionCandidate>, AllocError>
+    ensures { IfOk result (λ found. found.items ≡ map (prefixed before.now) candidates.items) }
+{
+    let mut found = Vec::new(alloc);
+    for candidate in candidates {
+        found.push(candidate.prefixed(alloc, before)?)?;
+    }
+    Ok(found)
+}
+
+fn without_dash(
+    alloc: Global,
+    arguments: &[Arg],
+    word: &str,
+) -> Result<Vec<CompletionCandidate>, AllocError>
+    ensures { IfOk result (λ found. found.items
+        ≡ (if length word.now == 0 then longs arguments.now ++ shorts (codes "-") arguments.now else [])) }
+{
+    if word.is_empty() {
+        return longs_then_shorts(alloc, arguments);
+    }
+    Ok(Vec::new(alloc))
+}
+
+fn longs_then_shorts(
+    alloc: Global,
+    arguments: &[Arg],
+) -> Result<Vec<CompletionCandidate>, AllocError>
+    ensures { IfOk result (λ found. found.items ≡ longs arguments.now ++ shorts (codes "-") arguments.now) }
+{
+    let mut found = longs(alloc, arguments)?;
+    found.append(&mut shorts(alloc, arguments, "-")?)?;
+    Ok(found)
+}
+
+fn shorts_then_longs(
+    alloc: Global,
+    arguments: &[Arg],
+) -> Result<Vec<CompletionCandidate>, AllocError>
+    ensures { IfOk result (λ found. found.items ≡ shorts (codes "-") arguments.now ++ longs arguments.now) }
+{
+    let mut found = shorts(alloc, arguments, "-")?;
+    found.append(&mut longs(alloc, arguments)?)?;
+    Ok(found)
+}
+
+// Of a word that begins with two dashes and goes on.
+fn long_options<'a>(
+    alloc: Global,
+    arguments: &'a [Arg],
+    long: &'a str,
+) -> Result<OptionRow<'a>, AllocError>
+    ensures { IfOk result
+        (λ row. row_given row ≡ long_row arguments.now long.now (after_equals long.now)) }
+{
+    match long.split_once('=') {
+        None => {
+            let found = longs_beginning(alloc, arguments, long)?;
+            Ok(OptionRow::Listed(found))
+        }
+        Some((flag, text)) => {
+            let row = flag_values(alloc, arguments, flag, text)?;
+            Ok(row)
+        }
+    }
+}
+
+fn flag_values<'a>(
+    alloc: Global,
+    arguments: &'a [Arg],
+    flag: &str,
+    text: &'a str,
+) -> Result<OptionRow<'a>, AllocError>
+    ensures { IfOk result (λ row. row_given row
+        ≡ flag_row (find (has_long flag.now) arguments.now) flag.now text.now) }
+{
+    let Some(argument) = with_long(arguments, flag) else {
+        return Ok(OptionRow::Listed(Vec::new(alloc)));
+    };
+    let before = flag_before(alloc, flag)?;
+    Ok(OptionRow::ValuesOf(ValuesAsked {
+        argument,
+        before,
+        text: TextRef::new(text),
+    }))
+}
+
+fn flag_before(alloc: Global, flag: &str) -> Result<Text, AllocError>
+    ensures { IfOk result (λ before. before ≡ codes "--" ++ flag.now ++ codes "=") }
+{
+    let mut before = String::from_str(alloc, "--")?;
+    before.push_str(flag)?;
+    before.push_str("=")?;
+    Ok(Text::from(before))
+}
+
+// Of a word that begins with one dash and goes on.
+fn short_options<'a>(
+    alloc: Global,
+    arguments: &'a [Arg],
+    word: &str,
+    rest: &'a str,
+) -> Result<OptionRow<'a>, AllocError>
+    requires { word.now ≡ codes "-" ++ rest.now }
+    ensures { IfOk result (λ row. row_given row ≡ short_row arguments.now rest.now) }
+{
+    if is_number(rest) {
+        return Ok(OptionRow::Listed(Vec::new(alloc)));
+    }
+    match cluster(alloc, arguments, rest)? {
+        Some(asked) => Ok(OptionRow::ValuesOf(asked)),
+        None => {
+            let found = shorts(alloc, arguments, word)?;
+            Ok(OptionRow::Listed(found))
+        }
+    }
+}
+
+// What the first value character asks for.
+fn cluster<'a>(
+    alloc: Global,
+    arguments: &'a [Arg],
+    characters: &'a str,
+) -> Result<Option<ValuesAsked<'a>>, AllocError>
+    ensures { IfOk result (λ asked. option_map asked_of asked
+        ≡ cluster arguments.now (codes "-") (chars characters.now)) }
+{
+    let mut before = String::from_str(alloc, "-")?;
+    let mut rest = characters.chars();
+    while let Some(character) = rest.next() {
+        before.push(character)?;
+        if let Some(argument) = value_argument(arguments, character) {
+            let asked = asked_after(argument, before, rest.as_str())?;
+            return Ok(Some(asked));
+        }
+    }
+    Ok(None)
+}
+
+// A `=` in front of a value belongs to what stands before it.
+fn asked_after<'a>(
+    argument: &'a Arg,
+    mut before: String,
+    rest: &'a str,
+) -> Result<ValuesAsked<'a>, AllocError>
+    ensures { IfOk result (λ asked. asked_of asked ≡ asked_after argument.now (string_bytes before) rest.now) }
+{
+    let Some(text) = rest.strip_prefix('=') else {
+        return Ok(ValuesAsked {
+            argument,
+            before: Text::from(before),
+            text: TextRef::new(rest),
+        });
+    };
+    before.push_str("=")?;
+    Ok(ValuesAsked {
+        argument,
+        before: Text::from(before),
+        text: TextRef::new(text),
+    })
+}
