@@ -1,0 +1,23 @@
+-- The line that leads to what is offered.
+use Rattle.std.proofs.Common.{◌≡◌, subst, sym, ℕ, List, []}
+use Rattle.std.specs.Prelude.{get_or}
+use Rattle.cc_candidates.specs.declared.candidate.CompletionCandidate.{CompletionCandidate}
+use Rattle.cc_command.specs.Tree.{Tree}
+use Rattle.cc_values.specs.Values.{Lent}
+use Rattle.cc_walk.specs.declared.state.State.{State}
+use Rattle.cc_walk.specs.Line.{IsLine}
+use Rattle.cc_engine.specs.Completion.{Completes, Offers, words_before}
+
+-- a line over the words before the index, and what is offered at its end for the word there
+pub completes : (lent : Lent) (root top : Tree) (node place : Tree) (state : State) (words before : List (List ℕ)) (index : ℕ)
+    (word : List ℕ) (found : List CompletionCandidate)
+    → top ≡ root → node ≡ place → before ≡ words_before root.node words index → word ≡ get_or words index []
+    → IsLine top before place state → Offers lent node state word found
+    → Completes lent root words index found
+completes lent root top node place state words before index word found is_root is_place is_before is_word line offered = (
+  node,
+  state,
+  subst (λ r. IsLine r (words_before root.node words index) node state) is_root
+      (subst (λ b. IsLine top b node state) is_before (subst (λ n. IsLine top before n state) (sym is_place) line)),
+  subst (λ w. Offers lent node state w found) is_word offered,
+)

@@ -1,0 +1,176 @@
+-- What is offered for the word at an index: what it asks of those who lend candidates, and the list that
+-- is made of their answers.
+use Rattle.std.specs.Prelude.{ℕ, List, [], ◌++◌, map, take, drop, get_or, ◌≡◌, ◌⊎◌, ◌&&◌, nat_le, nat_lt, Bool, false, Option, Some, None, if◌then◌else◌}
+use Rattle.cc_arg.specs.declared.arg.Arg.{Arg}
+use Rattle.cc_base.specs.declared.error.Error.{Error}
+use Rattle.cc_base.specs.declared.error.Error.TheVariants.{Memory, NoCompletion}
+use Rattle.cc_command.specs.Built.{built_tree}
+use Rattle.cc_candidates.specs.declared.candidate.CompletionCandidate.{CompletionCandidate}
+use Rattle.cc_candidates.specs.declared.numbers.SubcommandCandidates.{SubcommandCandidates}
+use Rattle.cc_command.specs.declared.node.Node.{Node}
+use Rattle.cc_command.specs.Tree.{Tree}
+use Rattle.cc_gather.specs.Children.{subcommand_candidates}
+use Rattle.cc_gather.specs.Finished.{finished}
+use Rattle.cc_gather.specs.Rows.{Row, Listed, ValuesOf, prefixed, row_of}
+use Rattle.cc_values.specs.Parts.{part}
+use Rattle.cc_values.specs.Values.{Allows, Lent, Question, nothing, candidates, question, values}
+use Rattle.cc_walk.specs.declared.state.Pending.{Pending}
+use Rattle.cc_walk.specs.declared.state.Pending.TheVariants.{OptionOpen}
+use Rattle.cc_walk.specs.declared.state.State.{State}
+use Rattle.cc_walk.specs.Line.{IsLine}
+use Rattle.cc_walk.specs.Lookup.{positional_at}
+use Rattle.cc_engine.specs.declared.offer.Offer.{Offer}
+use Rattle.cc_engine.specs.Offer.{least, offer_by}
+
+-- THE CHILDREN
+
+-- the lent list of this number
+abbrev pub list_question : Option SubcommandCandidates → Question
+list_question None = nothing
+list_question (Some list) = candidates list.number
+
+-- the children ask for a lent list where the command takes names of other programs
+abbrev pub children_question : Bool → Node → Question
+children_question offered node =
+    if offered && node.allow_external_subcommands then list_question node.candidates else nothing
+
+-- the children's names that begin with the word, and those of the lent list
+abbrev pub offered_children : Bool → Tree → List ℕ → List CompletionCandidate → List CompletionCandidate
+offered_children offered tree word given = if offered then subcommand_candidates tree given word else []
+
+-- THE VALUES OF THE POSITIONAL
+
+abbrev pub positional_question : Option Arg → Option ℕ → List ℕ → Question
+positional_question None number word = nothing
+positional_question (Some argument) None word = nothing
+positional_question (Some argument) (Some number) word = question argument number (part argument.value_delimiter word)
+
+abbrev pub positional_values : Option Arg → Option ℕ → List ℕ → List CompletionCandidate → List CompletionCandidate
+positional_values None number word given = []
+positional_values (Some argument) None word given = []
+positional_values (Some argument) (Some number) word given = values argument word given
+
+-- THE OPTIONS
+
+-- the row of the word, where options are offered
+abbrev pub offered_row : Bool → List Arg → List ℕ → Row
+offered_row offered arguments word = if offered then row_of arguments word else Listed []
+
+-- values within the word are the first of their argument
+abbrev pub row_question : Row → Question
+row_question (Listed found) = nothing
+row_question (ValuesOf asked) = question asked.argument 0 (part asked.argument.value_delimiter asked.text)
+
+abbrev pub row_candidates : Row → List CompletionCandidate → List CompletionCandidate
+row_candidates (Listed found) given = found
+row_candidates (ValuesOf asked) given = map (prefixed asked.before) (values asked.argument asked.text given)
+
+-- THE OPEN OPTION
+
+-- as many values as it has are the number of the next one, counted from 0
+abbrev pub open_question : Pending → List ℕ → Question
+open_question (OptionOpen option count) word = question option count (part option.value_delimiter word)
+open_question _ word = nothing
+
+-- THE WORD
+
+-- what a word asks: for the children, the positional, a value within an option's word, the open option
+pub record Questions : Type 0 where
+  pub children : Question
+  pub positional : Question
+  pub within : Question
+  pub opened : Question
+
+-- a list for each question
+pub record Given : Type 0 where
+  pub children : List CompletionCandidate
+  pub positional : List CompletionCandidate
+  pub within : List CompletionCandidate
+  pub opened : List CompletionCandidate
+
+-- each list may be answered to its question
+pub record AreAllowed (lent : Lent) (asked : Questions) (given : Given) : Type 0 where
+  pub children : Allows lent asked.children given.children
+  pub positional : Allows lent asked.positional given.positional
+  pub within : Allows lent asked.within given.within
+  pub opened : Allows lent asked.opened given.opened
+
+-- what the offered lists ask
+abbrev pub offer_questions : Tree → ℕ → Offer → Pending → List ℕ → Questions
+offer_questions tree place offer pending word = record {
+  children = children_question offer.children tree.node;
+  positional = positional_question (positional_at tree.node.arguments place) offer.value word;
+  within = row_question (offered_row offer.options tree.node.arguments word);
+  opened = open_question pending word;
+}
+
+-- what the word at a node asks, where the words before it lead to this state
+abbrev pub questions : Tree → State → List ℕ → Questions
+questions tree state word =
+    offer_questions tree state.place (offer_by tree.node.arguments state.place state.escaped state.pending) state.pending word
+
+-- the offered lists, one after another
+abbrev pub offered : Tree → ℕ → Offer → List ℕ → Given → List CompletionCandidate
+offered tree place offer word given =
+    (offered_children offer.children tree word given.children
+    ++ positional_values (positional_at tree.node.arguments place) offer.value word given.positional)
+    ++ row_candidates (offered_row offer.options tree.node.arguments word) given.within
+
+-- finished: the values of an option that has too few alone; those of one that may end here, and after
+-- them the finished others; else the others
+abbrev pub finished_with : Pending → List ℕ → List CompletionCandidate → List CompletionCandidate → List CompletionCandidate
+finished_with (OptionOpen option count) word given others =
+    if nat_le (least option) count then finished (values option word given ++ finished others) else finished (values option word given)
+finished_with _ word given others = finished others
+
+-- what is offered for the word, where these lists are given
+abbrev pub answer : Tree → State → List ℕ → Given → List CompletionCandidate
+answer tree state word given =
+    finished_with state.pending word given.opened
+    (offered tree state.place (offer_by tree.node.arguments state.place state.escaped state.pending) word given)
+
+-- the lists that may be offered for the word at a node
+abbrev pub Offers : Lent → Tree → State → List ℕ → List CompletionCandidate → Type 0
+Offers lent tree state word result =
+    (given : Given) × AreAllowed lent (questions tree state word) given × (result ≡ answer tree state word given)
+
+-- the lists that may be offered for the word, the values of an open option aside
+pub record AreOffered (lent : Lent) (tree : Tree) (place : ℕ) (offer : Offer) (word : List ℕ) (found : List CompletionCandidate) : Type 0 where
+  pub children : List CompletionCandidate
+  pub children_given : Allows lent (children_question offer.children tree.node) children
+  pub positional : List CompletionCandidate
+  pub positional_given : Allows lent (positional_question (positional_at tree.node.arguments place) offer.value word) positional
+  pub within : List CompletionCandidate
+  pub within_given : Allows lent (row_question (offered_row offer.options tree.node.arguments word)) within
+  pub is : found ≡ (offered_children offer.children tree word children
+      ++ positional_values (positional_at tree.node.arguments place) offer.value word positional)
+      ++ row_candidates (offered_row offer.options tree.node.arguments word) within
+
+-- THE WORDS
+
+-- how many words stand before those of the command: the program's name
+abbrev pub names_before : Node → ℕ
+names_before node = if node.no_binary_name then 0 else 1
+
+-- there is a word at the index, and it isn't the program's name
+abbrev pub is_in_range : Node → ℕ → ℕ → Bool
+is_in_range node count index = nat_le (names_before node) index && nat_lt index count
+
+-- the words before the index, without the program's name
+abbrev pub words_before : Node → List (List ℕ) → ℕ → List (List ℕ)
+words_before node words index = drop (names_before node) (take index words)
+
+-- What may be offered for the word at the index: the words before it lead to one node and one state, and
+-- the list is one that may be offered there.
+abbrev pub Completes : Lent → Tree → List (List ℕ) → ℕ → List CompletionCandidate → Type 0
+Completes lent root words index result =
+    (tree : Tree) × (state : State)
+    × IsLine root (words_before root.node words index) tree state
+    × Offers lent tree state (get_or words index []) result
+
+-- How a call that builds the tree and finds no candidates ends: out of memory, with the tree as it was or
+-- built; or with the tree built and the index out of range.
+abbrev pub Refuses : Tree → Tree → ℕ → ℕ → Error → Type 0
+Refuses old new count index Memory = (new ≡ old) ⊎ (new ≡ built_tree old)
+Refuses old new count index NoCompletion = (new ≡ built_tree old) × (is_in_range new.node count index ≡ false)
+Refuses old new count index _ = ⊥

@@ -1,0 +1,3 @@
+pub mod Completion
+pub mod Offer
+pub mod Paths

@@ -1,0 +1,40 @@
+-- Which lists the words before the index leave open to the word there.
+use Rattle.std.specs.Prelude.{ℕ, List, Bool, false, true, not, ◌&&◌, nat_le, Option, Some, None, if◌then◌else◌}
+use Rattle.cc_arg.specs.declared.arg.Arg.{Arg}
+use Rattle.cc_arg.specs.Arguments.{range_of}
+use Rattle.cc_walk.specs.declared.state.Pending.{Pending}
+use Rattle.cc_walk.specs.declared.state.Pending.TheVariants.{Nothing, OptionOpen, PositionalRun, PlaceMoved}
+use Rattle.cc_walk.specs.Lookup.{positional_at}
+use Rattle.cc_engine.specs.declared.offer.Offer.{Offer}
+
+-- the least count of values in one use of the argument
+abbrev pub least : Arg → ℕ
+least argument = (range_of argument).least
+
+-- the positional, where there is one, asks for no more values than these
+abbrev pub has_enough : Option Arg → ℕ → Bool
+has_enough None count = true
+has_enough (Some argument) count = nat_le (least argument) count
+
+-- nothing at all
+abbrev pub no_offer : Offer
+no_offer = record { children = false; value = None; options = false }
+
+-- the children, the first value of the positional, and the options before a `--`
+abbrev pub full_offer : Bool → Offer
+full_offer escaped = record { children = true; value = Some 0; options = not escaped }
+
+-- After a run of values the next value of the positional, and the options where no `--` was read and
+-- the run is long enough; right after the last value of a positional that `--` precedes, the first
+-- value of the next one alone; beside the values of an open option all that is offered without one,
+-- where the option has enough values.
+abbrev pub offer_by : List Arg → ℕ → Bool → Pending → Offer
+offer_by arguments place escaped Nothing = full_offer escaped
+offer_by arguments place escaped (PositionalRun count) = record {
+  children = false;
+  value = Some count;
+  options = not escaped && has_enough (positional_at arguments place) count;
+}
+offer_by arguments place escaped PlaceMoved = record { children = false; value = Some 0; options = false }
+offer_by arguments place escaped (OptionOpen option count) =
+    if nat_le (least option) count then full_offer escaped else no_offer

@@ -1,0 +1,127 @@
+//! The candidates for a word of a command line.
+
+ghost use Rattle.std.specs.Prelude.{◌≡◌, ◌<◌, [], get_or, length, map, string_bytes, true, IfOk, IfErr, OnOk};
+ghost use Rattle.std.specs.Option.{option_copied};
+ghost use Rattle.cc_command.specs.Built.{built_tree};
+ghost use Rattle.cc_engine.specs.Completion.{Completes, Refuses, is_in_range, names_before, words_before};
+ghost use Rattle.cc_engine.specs.Paths.{PathsOf};
+ghost use Rattle.cc_values.specs.Values.{lent_by};
+
+use crate::answering::offered;
+use crate::folder_paths::FolderPaths;
+use cc_base::Error;
+use cc_candidates::{
+    Completers, CompletionCandidate, FnCandidates, FnCompleter, ValueCandidates, ValueCompleter,
+};
+use cc_command::Command;
+use cc_flat::{Flat, Index};
+use cc_paths::Folder;
+use cc_values::PathSource;
+use cc_walk::line_of;
+use std::alloc::{AllocError, Global};
+
+/// The candidates for the word at the index, of a command that is built first.
+///
+/// The words are those of a command line, the program's name first unless `no_binary_name` is set.
+/// Value hints are completed from the folder and the current folder; values and names of other
+/// programs from the completers and lists that are lent, by their numbers.
+///
+/// Fails with `NoCompletion` where no word stands at the index, or the program's name does; the
+/// command is built all the same. Fails with `Memory`, and the command is then as it was or built.
+pub fn complete<D: Folder>(
+    alloc: Global,
+    command: &mut Command,
+    words: Vec<String>,
+    index: usize,
+    current_dir: Option<&str>,
+    folder: &D,
+    completers: &Completers,
+) -> Result<Vec<CompletionCandidate>, Error>
+    ensures candidates { IfOk result (λ found. Completes (lent_by
+        (λ item. (⟦<dyn ValueCompleter as ValueCompleter>⟧ item.vtable).answers item.value)
+        completers.now.completers.items
+        ⟦<FnCompleter as ValueCompleter>⟧.answers completers.now.completer_closures.items
+        (λ item. (⟦<dyn ValueCandidates as ValueCandidates>⟧ item.vtable).lists item.value)
+        completers.now.lists.items
+        ⟦<FnCandidates as ValueCandidates>⟧.lists completers.now.list_closures.items
+        (PathsOf (D.lists folder.now) (D.tells_dir folder.now) (D.tells_file folder.now)
+        (D.tells_executable folder.now) (D.home_path folder.now)
+        (option_copied current_dir.entry)))
+        command.new (map string_bytes words.items) index found.items) }
+    ensures built { OnOk result (command.new ≡ built_tree command.old) }
+    ensures in_range { OnOk result (is_in_range command.new.node (length words.items) index ≡ true) }
+    ensures errors { IfErr result (Refuses command.old command.new (length words.items) index) }
+{
+    command.build(alloc)?;
+    if !in_range(command, words.len(), index) {
+        return Err(Error::NoCompletion);
+    }
+    let paths = FolderPaths {
+        folder,
+        current_dir,
+    };
+    let found = completed(alloc, command, words.as_slice(), index, completers, &paths)?;
+    Ok(found)
+}
+
+fn names_before(command: &Command) -> usize
+    ensures { result ≡ names_before command.now.node }
+{
+    if command.is_no_binary_name_set() {
+        0
+    } else {
+        1
+    }
+}
+
+fn in_range(command: &Command, count: usize, index: usize) -> bool
+    ensures { result ≡ is_in_range command.now.node count index }
+{
+    names_before(command) <= index && index < count
+}
+
+// The candidates of a command that is built, for an index in range.
+fn completed<P: PathSource>(
+    alloc: Global,
+    command: &Command,
+    words: &[String],
+    index: usize,
+    completers: &Completers,
+    paths: &P,
+) -> Result<Vec<CompletionCandidate>, AllocError>
+    requires { is_in_range command.now.node (length words.now) index ≡ true }
+    ensures { IfOk result (λ found. Completes (lent_by
+        (λ item. (⟦<dyn ValueCompleter as ValueCompleter>⟧ item.vtable).answers item.value)
+        completers.now.completers.items
+        ⟦<FnCompleter as ValueCompleter>⟧.answers completers.now.completer_closures.items
+        (λ item. (⟦<dyn ValueCandidates as ValueCandidates>⟧ item.vtable).lists item.value)
+        completers.now.lists.items
+        ⟦<FnCandidates as ValueCandidates>⟧.lists completers.now.list_closures.items
+        (P.finds paths.now))
+        command.now (map string_bytes words.now) index found.items) }
+{
+    let flat = Flat::new(alloc, command)?;
+    let tree = Index::new(alloc, flat)?;
+    let line = line_of(&tree, words_before(command, words, index));
+    let node = tree.flat().command(line.node);
+    let word = word_at(words, index);
+    let found = offered(alloc, node, &line.state, word, completers, paths)?;
+    Ok(found)
+}
+
+// The words before the index, without the program's name.
+fn words_before<'w>(command: &Command, words: &'w [String], index: usize) -> &'w [String]
+    requires { is_in_range command.now.node (length words.now) index ≡ true }
+    ensures { map string_bytes result.now
+        ≡ words_before command.now.node (map string_bytes words.now) index }
+{
+    let before = &words[..index];
+    &before[names_before(command)..]
+}
+
+fn word_at(words: &[String], index: usize) -> &str
+    requires { index < length words.now }
+    ensures { result.now ≡ get_or (map string_bytes words.now) index [] }
+{
+    words[index].as_str()
+}

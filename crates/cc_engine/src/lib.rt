@@ -1,0 +1,10 @@
+//! What a shell is offered while its user types: the candidates for a word of a command line.
+#![tactic(auto)]
+
+mod answering;
+mod asking;
+mod completion;
+mod folder_paths;
+mod offer;
+
+pub use crate::completion::complete;

@@ -1,0 +1,91 @@
+//! Which lists the words before the index leave open to the word there.
+
+ghost use Rattle.std.specs.Prelude.{◌≡◌};
+ghost use Rattle.std.specs.Option.{option_copied};
+ghost use Rattle.cc_engine.specs.Offer.{full_offer, has_enough, least, no_offer, offer_by};
+
+use cc_arg::Arg;
+use cc_walk::{Pending, State, positional_at};
+
+/// The lists that are offered besides the values of an open option.
+#[derive(Drop)]
+pub(crate) struct Offer {
+    /// Whether the children of the node are offered.
+    pub children: bool,
+    /// The number of the value of the positional at the place, where its values are offered.
+    pub value: Option<usize>,
+    /// Whether the options of the node are offered.
+    pub options: bool,
+}
+
+impl Offer {
+    /// What the words leave open at a node with these arguments.
+    pub(crate) fn new(arguments: &[Arg], state: &State<'_>) -> Offer
+        ensures { result ≡ offer_by arguments.now state.now.place state.now.escaped
+            state.now.pending }
+    {
+        match &state.pending {
+            Pending::Nothing => Offer::full(state.escaped),
+            Pending::PositionalRun(count) => Offer {
+                children: false,
+                value: Some(*count),
+                options: !state.escaped
+                    && has_enough(positional_at(arguments, state.place), *count),
+            },
+            Pending::PlaceMoved => Offer {
+                children: false,
+                value: Some(0),
+                options: false,
+            },
+            Pending::OptionOpen(option, count) => {
+                if least(option.get()) <= *count {
+                    Offer::full(state.escaped)
+                } else {
+                    Offer::none()
+                }
+            }
+        }
+    }
+
+    fn full(escaped: bool) -> Offer
+        ensures { result ≡ full_offer escaped }
+    {
+        Offer {
+            children: true,
+            value: Some(0),
+            options: !escaped,
+        }
+    }
+
+    fn none() -> Offer
+        ensures { result ≡ no_offer }
+    {
+        Offer {
+            children: false,
+            value: None,
+            options: false,
+        }
+    }
+}
+
+/// The least count of values in one use of an argument.
+pub(crate) fn least(argument: &Arg) -> usize
+    ensures { result ≡ least argument.now }
+{
+    if let Some(range) = argument.get_num_args() {
+        return range.min_values();
+    }
+    if !argument.get_action().takes_values() {
+        return 0;
+    }
+    argument.get_value_names().len().max(1)
+}
+
+fn has_enough(positional: Option<&Arg>, count: usize) -> bool
+    ensures { result ≡ has_enough (option_copied positional.entry) count }
+{
+    match positional {
+        None => true,
+        Some(argument) => least(argument) <= count,
+    }
+}

@@ -1,0 +1,12 @@
+//! Tests of what is offered for a word of a command line. Trees are tree files, and values from
+//! outside come from a folder in memory and from completers of the tests.
+#![tactic(auto)]
+
+#[cfg(test)]
+mod candidates;
+#[cfg(test)]
+mod fixtures;
+#[cfg(test)]
+mod offered;
+#[cfg(test)]
+mod paths;

@@ -1,0 +1,65 @@
+//! What is offered, as one text.
+
+use cc_base::Error;
+use cc_candidates::{Completers, CompletionCandidate};
+use cc_engine::complete;
+use cc_paths::{Folder, MemoryFolder};
+use cc_tree_file::read_tree;
+use std::alloc::{AllocError, Global};
+use std::process::Abort;
+
+/// The values that the command of a tree file offers for the last of the words, each with a space
+/// after it.
+pub(crate) fn offered<R: Abort + AllocGlobal>(rt: &R, tree: &str, words: &[&str]) -> String {
+    let folder = MemoryFolder::new(&[], &[]);
+    offered_in(rt, tree, words, None, &folder)
+}
+
+/// The same where the program runs in a folder.
+pub(crate) fn offered_in<R: Abort + AllocGlobal, D: Folder>(
+    rt: &R,
+    tree: &str,
+    words: &[&str],
+    current_dir: Option<&str>,
+    folder: &D,
+) -> String {
+    let index = words.len() - 1;
+    let found = found_at(rt.alloc(), tree, words, index, current_dir, folder);
+    values(rt.alloc(), found.expect(rt, "no candidates")).expect(rt, "no text")
+}
+
+/// What is found for the word at an index.
+pub(crate) fn found_at<D: Folder>(
+    alloc: Global,
+    tree: &str,
+    words: &[&str],
+    index: usize,
+    current_dir: Option<&str>,
+    folder: &D,
+) -> Result<Vec<CompletionCandidate>, Error> {
+    let Ok(mut command) = read_tree(alloc, tree.as_bytes()) else {
+        return Err(Error::Memory);
+    };
+    let words = owned(alloc, words)?;
+    let lent = Completers::new(alloc, Vec::new(alloc), Vec::new(alloc));
+    let found = complete(alloc, &mut command, words, index, current_dir, folder, &lent);
+    drop(command);
+    found
+}
+
+fn owned(alloc: Global, words: &[&str]) -> Result<Vec<String>, AllocError> {
+    let mut owned = Vec::new(alloc);
+    for word in words {
+        owned.push(String::from_str(alloc, word)?)?;
+    }
+    Ok(owned)
+}
+
+fn values(alloc: Global, found: Vec<CompletionCandidate>) -> Result<String, AllocError> {
+    let mut text = String::new(alloc);
+    for candidate in found {
+        text.push_str(candidate.get_value())?;
+        text.push(' ')?;
+    }
+    Ok(text)
+}
