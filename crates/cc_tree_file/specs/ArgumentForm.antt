@@ -10,13 +10,14 @@ use Rattle.cc_tree_file.specs.TreeForm.{hint_of, number_of, range_of, texts_of, 
 
 -- the keys that an argument may have
 unfoldable pub argument_keys : List (List ℕ)
-argument_keys = codes "id" ∷ codes "short" ∷ codes "long" ∷ codes "help" ∷ codes "action"
-    ∷ codes "num_args" ∷ codes "short_aliases" ∷ codes "visible_short_aliases" ∷ codes "aliases"
-    ∷ codes "visible_aliases" ∷ codes "value_names" ∷ codes "possible_values"
-    ∷ codes "value_hint" ∷ codes "index" ∷ codes "value_terminator" ∷ codes "conflicts_with"
-    ∷ codes "required" ∷ codes "last" ∷ codes "global" ∷ codes "hide" ∷ []
+argument_keys = codes "id" ∷ codes "short" ∷ codes "long" ∷ codes "help" ∷ codes "help_heading"
+    ∷ codes "action" ∷ codes "num_args" ∷ codes "short_aliases" ∷ codes "visible_short_aliases"
+    ∷ codes "aliases" ∷ codes "visible_aliases" ∷ codes "value_names" ∷ codes "value_delimiter"
+    ∷ codes "possible_values" ∷ codes "value_hint" ∷ codes "index" ∷ codes "display_order"
+    ∷ codes "value_terminator" ∷ codes "conflicts_with" ∷ codes "required" ∷ codes "last"
+    ∷ codes "global" ∷ codes "hide" ∷ codes "allow_hyphen_values" ∷ []
 
--- ---- names
+-- ---- names, the help and its heading
 
 abbrev pub with_short : Data → Arg → Option Arg
 with_short = with_key (codes "short") character_of
@@ -28,8 +29,13 @@ with_long = with_key (codes "long") as_str (λ argument long. record argument { 
 abbrev pub with_help : Data → Arg → Option Arg
 with_help = with_key (codes "help") as_str (λ argument help. record argument { help = Some help })
 
+abbrev pub with_help_heading : Data → Arg → Option Arg
+with_help_heading = with_key (codes "help_heading") as_str
+    (λ argument heading. record argument { help_heading = Some heading })
+
 abbrev pub with_names : Data → Arg → Option Arg
 with_names d argument = with_short d argument >>= with_long d >>= with_help d
+    >>= with_help_heading d
 
 -- ---- values
 
@@ -49,6 +55,10 @@ with_value_name argument name =
 abbrev pub with_value_names : Data → Arg → Option Arg
 with_value_names = with_key (codes "value_names") texts_of (fold with_value_name)
 
+abbrev pub with_value_delimiter : Data → Arg → Option Arg
+with_value_delimiter = with_key (codes "value_delimiter") character_of
+    (λ argument delimiter. record argument { value_delimiter = Some delimiter })
+
 abbrev pub with_possible_values : Data → Arg → Option Arg
 with_possible_values = with_key (codes "possible_values") possible_values_of
     (λ argument values. record argument { possible_values = Some values })
@@ -59,13 +69,17 @@ with_value_hint = with_key (codes "value_hint") (λ d. as_str d >>= hint_of)
 
 abbrev pub with_values : Data → Arg → Option Arg
 with_values d argument = with_action d argument >>= with_num_args d >>= with_value_names d
-    >>= with_possible_values d >>= with_value_hint d
+    >>= with_value_delimiter d >>= with_possible_values d >>= with_value_hint d
 
--- ---- its index, the word that ends its values, and the arguments that exclude it
+-- ---- its index, its display order, the word that ends its values, and the arguments that exclude it
 
 abbrev pub with_index : Data → Arg → Option Arg
 with_index = with_key (codes "index") number_of
     (λ argument index. record argument { index = Some index })
+
+abbrev pub with_display_order : Data → Arg → Option Arg
+with_display_order = with_key (codes "display_order") number_of
+    (λ argument order. record argument { display_order = Some order })
 
 abbrev pub with_value_terminator : Data → Arg → Option Arg
 with_value_terminator = with_key (codes "value_terminator") as_str
@@ -80,9 +94,11 @@ with_conflicts = with_key (codes "conflicts_with") texts_of (fold with_conflict)
 
 abbrev pub with_surroundings : Data → Arg → Option Arg
 with_surroundings d argument =
-    with_index d argument >>= with_value_terminator d >>= with_conflicts d
+    with_index d argument >>= with_display_order d >>= with_value_terminator d
+    >>= with_conflicts d
 
--- ---- whether it has to be given, only after `--`, also below; whether help texts leave it out
+-- ---- whether it has to be given, only after `--`, also below; whether help texts leave it out;
+-- whether its values may begin with `-`
 
 abbrev pub with_required : Data → Arg → Option Arg
 with_required = with_key (codes "required") as_bool
@@ -98,8 +114,13 @@ with_global = with_key (codes "global") as_bool
 abbrev pub with_hide : Data → Arg → Option Arg
 with_hide = with_key (codes "hide") as_bool (λ argument hide. record argument { hide = hide })
 
+abbrev pub with_allow_hyphen_values : Data → Arg → Option Arg
+with_allow_hyphen_values = with_key (codes "allow_hyphen_values") as_bool
+    (λ argument allow. record argument { allow_hyphen_values = allow })
+
 abbrev pub with_flags : Data → Arg → Option Arg
 with_flags d argument = with_required d argument >>= with_last d >>= with_global d >>= with_hide d
+    >>= with_allow_hyphen_values d
 
 -- ---- aliases
 

@@ -17,7 +17,8 @@ command_keys = codes "name" ∷ codes "bin_name" ∷ codes "about" ∷ codes "ve
     ∷ codes "subcommand_help_heading" ∷ codes "aliases" ∷ codes "visible_aliases"
     ∷ codes "display_order" ∷ codes "hide" ∷ codes "disable_help_flag"
     ∷ codes "disable_version_flag" ∷ codes "disable_help_subcommand"
-    ∷ codes "allow_external_subcommands" ∷ codes "args" ∷ codes "subcommands" ∷ []
+    ∷ codes "allow_external_subcommands" ∷ codes "no_binary_name" ∷ codes "args"
+    ∷ codes "subcommands" ∷ []
 
 -- ---- texts
 
@@ -68,7 +69,8 @@ abbrev pub with_display_order : Data → Tree → Option Tree
 with_display_order = with_key (codes "display_order") number_of
     (λ tree order. with_root (λ node. record node { display_order = Some order }) tree)
 
--- ---- what is left out, and whether other programs may be named
+-- ---- what is left out, whether other programs may be named, and whether the program's name is
+-- no word of a command line
 
 abbrev pub with_hide : Data → Tree → Option Tree
 with_hide = with_key (codes "hide") as_bool
@@ -90,10 +92,14 @@ abbrev pub with_allow_external_subcommands : Data → Tree → Option Tree
 with_allow_external_subcommands = with_key (codes "allow_external_subcommands") as_bool
     (λ tree allow. with_root (λ node. record node { allow_external_subcommands = allow }) tree)
 
+abbrev pub with_no_binary_name : Data → Tree → Option Tree
+with_no_binary_name = with_key (codes "no_binary_name") as_bool
+    (λ tree none. with_root (λ node. record node { no_binary_name = none }) tree)
+
 abbrev pub with_flags : Data → Tree → Option Tree
 with_flags d tree = with_hide d tree >>= with_disable_help_flag d
     >>= with_disable_version_flag d >>= with_disable_help_subcommand d
-    >>= with_allow_external_subcommands d
+    >>= with_allow_external_subcommands d >>= with_no_binary_name d
 
 -- ---- arguments
 

@@ -14,11 +14,12 @@ use cc_arg::Arg;
 use serde_json::Value;
 use std::alloc::Global;
 
-const KEYS: [&str; 20] = [
+const KEYS: [&str; 24] = [
     "id",
     "short",
     "long",
     "help",
+    "help_heading",
     "action",
     "num_args",
     "short_aliases",
@@ -26,15 +27,18 @@ const KEYS: [&str; 20] = [
     "aliases",
     "visible_aliases",
     "value_names",
+    "value_delimiter",
     "possible_values",
     "value_hint",
     "index",
+    "display_order",
     "value_terminator",
     "conflicts_with",
     "required",
     "last",
     "global",
     "hide",
+    "allow_hyphen_values",
 ];
 
 /// The argument that an object describes.
@@ -79,7 +83,8 @@ fn with_names(alloc: Global, arg: Arg, tree: &Value) -> Result<Arg, TreeError>
 {
     let arg = with_short(arg, tree)?;
     let arg = with_long(alloc, arg, tree)?;
-    with_help(alloc, arg, tree)
+    let arg = with_help(alloc, arg, tree)?;
+    with_help_heading(alloc, arg, tree)
 }
 
 fn with_short(arg: Arg, tree: &Value) -> Result<Arg, TreeError>
@@ -109,12 +114,22 @@ fn with_help(alloc: Global, arg: Arg, tree: &Value) -> Result<Arg, TreeError>
     }
 }
 
+fn with_help_heading(alloc: Global, arg: Arg, tree: &Value) -> Result<Arg, TreeError>
+    ensures { GivesSame result (form.with_help_heading (view tree.now) arg) }
+{
+    match tree.get("help_heading") {
+        Some(value) => text(alloc, value).map(|heading| arg.help_heading(heading)),
+        None => Ok(arg),
+    }
+}
+
 fn with_values(alloc: Global, arg: Arg, tree: &Value) -> Result<Arg, TreeError>
     ensures { GivesSame result (form.with_values (view tree.now) arg) }
 {
     let arg = with_action(arg, tree)?;
     let arg = with_num_args(arg, tree)?;
     let arg = with_value_names(alloc, arg, tree)?;
+    let arg = with_value_delimiter(arg, tree)?;
     let arg = with_possible_values(alloc, arg, tree)?;
     with_value_hint(arg, tree)
 }
@@ -156,6 +171,15 @@ fn add_value_names(arg: Arg, names: Vec<String>) -> Result<Arg, TreeError>
     Ok(arg)
 }
 
+fn with_value_delimiter(arg: Arg, tree: &Value) -> Result<Arg, TreeError>
+    ensures { GivesSame result (form.with_value_delimiter (view tree.now) arg) }
+{
+    match tree.get("value_delimiter") {
+        Some(value) => character(value).map(|delimiter| arg.value_delimiter(delimiter)),
+        None => Ok(arg),
+    }
+}
+
 fn with_possible_values(alloc: Global, arg: Arg, tree: &Value) -> Result<Arg, TreeError>
     ensures { GivesSame result (form.with_possible_values (view tree.now) arg) }
 {
@@ -178,6 +202,7 @@ fn with_surroundings(alloc: Global, arg: Arg, tree: &Value) -> Result<Arg, TreeE
     ensures { GivesSame result (form.with_surroundings (view tree.now) arg) }
 {
     let arg = with_index(arg, tree)?;
+    let arg = with_display_order(arg, tree)?;
     let arg = with_value_terminator(alloc, arg, tree)?;
     with_conflicts(alloc, arg, tree)
 }
@@ -187,6 +212,15 @@ fn with_index(arg: Arg, tree: &Value) -> Result<Arg, TreeError>
 {
     match tree.get("index") {
         Some(value) => number(value).map(|index| arg.index(index)),
+        None => Ok(arg),
+    }
+}
+
+fn with_display_order(arg: Arg, tree: &Value) -> Result<Arg, TreeError>
+    ensures { GivesSame result (form.with_display_order (view tree.now) arg) }
+{
+    match tree.get("display_order") {
+        Some(value) => number(value).map(|order| arg.display_order(order)),
         None => Ok(arg),
     }
 }
@@ -225,7 +259,8 @@ fn with_flags(arg: Arg, tree: &Value) -> Result<Arg, TreeError>
     let arg = with_required(arg, tree)?;
     let arg = with_last(arg, tree)?;
     let arg = with_global(arg, tree)?;
-    with_hide(arg, tree)
+    let arg = with_hide(arg, tree)?;
+    with_allow_hyphen_values(arg, tree)
 }
 
 fn with_required(arg: Arg, tree: &Value) -> Result<Arg, TreeError>
@@ -260,6 +295,15 @@ fn with_hide(arg: Arg, tree: &Value) -> Result<Arg, TreeError>
 {
     match tree.get("hide") {
         Some(value) => boolean(value).map(|hide| arg.hide(hide)),
+        None => Ok(arg),
+    }
+}
+
+fn with_allow_hyphen_values(arg: Arg, tree: &Value) -> Result<Arg, TreeError>
+    ensures { GivesSame result (form.with_allow_hyphen_values (view tree.now) arg) }
+{
+    match tree.get("allow_hyphen_values") {
+        Some(value) => boolean(value).map(|allow| arg.allow_hyphen_values(allow)),
         None => Ok(arg),
     }
 }

@@ -13,7 +13,7 @@ use cc_command::Command;
 use serde_json::Value;
 use std::alloc::Global;
 
-const KEYS: [&str; 15] = [
+const KEYS: [&str; 16] = [
     "name",
     "bin_name",
     "about",
@@ -27,6 +27,7 @@ const KEYS: [&str; 15] = [
     "disable_version_flag",
     "disable_help_subcommand",
     "allow_external_subcommands",
+    "no_binary_name",
     "args",
     "subcommands",
 ];
@@ -207,7 +208,8 @@ fn with_flags(command: Command, tree: &Value) -> Result<Command, TreeError>
     let command = with_disable_help_flag(command, tree)?;
     let command = with_disable_version_flag(command, tree)?;
     let command = with_disable_help_subcommand(command, tree)?;
-    with_allow_external_subcommands(command, tree)
+    let command = with_allow_external_subcommands(command, tree)?;
+    with_no_binary_name(command, tree)
 }
 
 fn with_hide(command: Command, tree: &Value) -> Result<Command, TreeError>
@@ -251,6 +253,15 @@ fn with_allow_external_subcommands(command: Command, tree: &Value) -> Result<Com
 {
     match tree.get("allow_external_subcommands") {
         Some(value) => boolean(value).map(|allow| command.allow_external_subcommands(allow)),
+        None => Ok(command),
+    }
+}
+
+fn with_no_binary_name(command: Command, tree: &Value) -> Result<Command, TreeError>
+    ensures { GivesSame result (form.with_no_binary_name (view tree.now) command) }
+{
+    match tree.get("no_binary_name") {
+        Some(value) => boolean(value).map(|none| command.no_binary_name(none)),
         None => Ok(command),
     }
 }
