@@ -19,8 +19,10 @@ pub(crate) fn cut(word: &str, delimiter: Option<char>) -> (&str, &str)
 // A text up to the end of the place where another stands for the last time, and what follows.
 fn cut_after<'a>(text: &'a str, sought: &str) -> (&'a str, &'a str)
     requires { 0 < length sought.now }
-    ensures front { result.0.now ≡ take (through sought.now (last_place sought.now text.now)) text.now }
-    ensures part { result.1.now ≡ drop (through sought.now (last_place sought.now text.now)) text.now }
+    ensures front { result.0.now
+        ≡ take (through sought.now (last_place sought.now text.now)) text.now }
+    ensures part { result.1.now
+        ≡ drop (through sought.now (last_place sought.now text.now)) text.now }
 {
     match text.rfind(sought) {
         Some(place) => text.split_at(place + sought.len()),

@@ -1,4 +1,4 @@
-use Rattle.std.proofs.Common.{◌∙◌, ap, sym, Some, rules}
+use Rattle.std.proofs.Common.{◌∙◌, ap, sym, rules}
 use Rattle.std.specs.Option.{option_copied}
 use Rattle.cc_values.proofs.Gathering.{of_completer, of_list, of_nothing, of_paths, of_values}
 use Rattle.cc_values.proofs.Results.{IfOk-map}
