@@ -195,6 +195,26 @@ fn has_the_fields_of_an_argument(rt: &impl Abort, arg: &Arg) {
     has_the_possible_values(rt, possible_values(arg));
 }
 
+// What live completion reads of an argument and of its command.
+const LIVE: &str = "{\"name\": \"app\", \"no_binary_name\": true, \"args\": [{\"id\": \"o\",
+    \"long\": \"out\", \"help_heading\": \"Output\", \"value_delimiter\": \"§\",
+    \"display_order\": 7, \"allow_hyphen_values\": true}, {\"id\": \"p\"}]}";
+
+#[test]
+fn the_keys_that_live_completion_reads_set_their_fields(rt: HostRuntime) {
+    let command = tree(&rt, rt.alloc(), LIVE);
+    assert!(rt; command.is_no_binary_name_set());
+    let [option, other] = command.get_arguments() else {
+        panic!(rt; "not two arguments");
+    };
+    same(&rt, option.get_help_heading(), Some("Output"));
+    same(&rt, option.get_value_delimiter(), Some('§'));
+    same(&rt, option.get_display_order(), 7);
+    assert!(rt; option.is_allow_hyphen_values_set());
+    assert!(rt; !other.is_allow_hyphen_values_set());
+    drop(command);
+}
+
 fn has_the_possible_values(rt: &impl Abort, values: Option<&[PossibleValue]>) {
     let Some([first, last]) = values else {
         panic!(rt; "not two values");
