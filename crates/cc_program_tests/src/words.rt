@@ -2,6 +2,7 @@
 
 use crate::checks::{is, same};
 use cc_command_line::{Plan, Refusal, plan};
+use clap_complete::Shell;
 use std::alloc::{AllocError, Global};
 use std::convert::AsStr;
 use std::process::Abort;
@@ -92,6 +93,22 @@ fn shows_the_help_of_script(rt: HostRuntime) {
         --bin <NAME>     The name by which the shell calls the program\n  \
         -h, --help           Print help\n";
     shows(&rt, rt.alloc(), &["complgen", "script", "--help"], text);
+}
+
+// Fails unless the text holds the name of this shell.
+fn names(rt: &impl Abort, alloc: Global, text: &str, shell: Shell) {
+    let name = format!(in alloc; "{shell}").expect(rt, "no name");
+    assert!(rt; text.contains(name.as_str()), "no {shell}");
+}
+
+#[test]
+fn help_names_each_shell(rt: HostRuntime) {
+    let program = failed(&rt, rt.alloc(), &["complgen", "--help"]);
+    let script = failed(&rt, rt.alloc(), &["complgen", "script", "--help"]);
+    for shell in Shell::value_variants() {
+        names(&rt, rt.alloc(), program.text.as_str(), *shell);
+        names(&rt, rt.alloc(), script.text.as_str(), *shell);
+    }
 }
 
 #[test]
