@@ -35,8 +35,8 @@ word_prefix word = if is_folder_word word then word else unwrap_or (path_parent 
 unfoldable pub word_name : List ℕ → List ℕ
 word_name word = if is_folder_word word then [] else unwrap_or (path_file_name word) []
 
--- what follows `~` as the first piece, and the slashes and `.` pieces next to it; none for a path with
--- another first piece
+-- what follows `~` as the first piece, and the slashes and `.` pieces next to it; none for a path
+-- with another first piece
 abbrev pub below_home : List ℕ → Option (List ℕ)
 below_home path = if bytes_eq (before_first is_slash path) (codes "~")
     then Some (past_leading (after_first is_slash path)) else None
@@ -45,8 +45,8 @@ below_home path = if bytes_eq (before_first is_slash path) (codes "~")
 abbrev pub join_some : Option (List ℕ) → List ℕ → Option (List ℕ)
 join_some folder path = option_map (λ from. path_join from path) folder
 
--- the folder whose names are listed for a prefix, under a home folder and a current folder; none where
--- it needs one of them that is missing
+-- the folder whose names are listed for a prefix, under a home folder and a current folder; none
+-- where it needs one of them that is missing
 unfoldable pub search_root : Option (List ℕ) → Option (List ℕ) → List ℕ → Option (List ℕ)
 search_root home current prefix =
     if is_absolute prefix then Some prefix

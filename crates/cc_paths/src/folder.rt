@@ -55,8 +55,8 @@ pub trait Folder {
     // the home folder of the user
     ghost home_path: { Self → Option (List ℕ) };
 
-    /// The names in the folder at a path, in any order. Fails with `Unreadable` where the path isn't
-    /// that of a folder that can be read, and with `Memory` when memory runs out.
+    /// The names in the folder at a path, in any order. Fails with `Unreadable` where the path
+    /// isn't that of a folder that can be read, and with `Memory` when memory runs out.
     fn names(&self, alloc: Global, path: &str) -> Result<Vec<String>, FolderError>
         ensures ok { IfOk result
             (λ names. lists self.now path.now (Some (map string_bytes names.items))) }

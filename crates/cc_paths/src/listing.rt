@@ -21,8 +21,8 @@ use std::alloc::{AllocError, Global};
 /// other folders, sorted.
 ///
 /// The word is a folder, as it was written, and the start of a name in it. A word that begins with
-/// `~/` leads into the home folder, any other relative word into the current folder; without the one
-/// that it needs there are no candidates. The value of a folder ends in a slash; a name that begins
+/// `~/` leads into the home folder, any other relative word into the current folder; without the
+/// one that it needs there are no candidates. The value of a folder ends in a slash; a name that begins
 /// with a dot is hidden. For an empty word `.` is a candidate where the current folder passes. A
 /// folder that can't be read has no names.
 ///
@@ -92,8 +92,8 @@ fn names_at<D: Folder>(alloc: Global, folder: &D, root: &str) -> Result<Vec<Stri
     }
 }
 
-// What the folder and the test say of the names that begin with the start. The folder is asked about
-// each of these once, and about no others.
+// What the folder and the test say of the names that begin with the start. The folder is asked
+// about each of these once, and about no others.
 fn ask_all<D: Folder, T: PathTest<D>>(
     alloc: Global,
     folder: &D,

@@ -12,8 +12,9 @@ use std::rt::Files;
 use std::{fs, io};
 
 /// The files and folders of the operating system. Every file counts as executable. An entry that
-/// can't be read is left out of the names; a path that can't be asked about is neither a folder nor a
-/// file. What the system says is not known beforehand, so the contracts of `Folder` say nothing here.
+/// can't be read is left out of the names; a path that can't be asked about is neither a folder nor
+/// a file. What the system says is not known beforehand, so the contracts of `Folder` say nothing
+/// here.
 #[derive(Drop)]
 pub struct RealFolder<R> {
     files: R,
