@@ -3,10 +3,11 @@
 use crate::checks::{is, is_none, same};
 use cc_base::{Collected, Error, as_error};
 use cc_quote::{
-    ElvishEscape, PowershellEscape, elvish_escape, elvish_word, fish_double, fish_escape,
-    fish_help_for_eval, fish_quote, fish_quote_for_eval, fish_word, posix_quote, posix_word,
-    powershell_escape, powershell_word, push_escaped, put_escaped, put_escaped_piece,
-    zsh_escape_help, zsh_escape_value, zsh_unescape,
+    ElvishEscape, PowershellEscape, bash_double, bash_double_word, elvish_escape, elvish_word,
+    fish_double, fish_escape, fish_help_for_eval, fish_quote, fish_quote_for_eval, fish_word,
+    posix_quote, posix_word, powershell_escape, powershell_word, push_escaped, put_escaped,
+    put_escaped_piece, zsh_escape_help, zsh_escape_value, zsh_reply_help, zsh_reply_value,
+    zsh_unescape,
 };
 use std::alloc::{AllocError, Global};
 use std::process::Abort;
@@ -16,6 +17,30 @@ fn reads(rt: &impl Abort, read: Result<Option<(String, &str)>, Error>, word: &st
     let (shown, left) = read.expect(rt, "out of memory").expect(rt, "no word");
     same(rt, shown.as_str(), word);
     same(rt, left, rest);
+}
+
+#[test]
+fn bash_doubles(rt: HostRuntime) {
+    let alloc = rt.alloc();
+    is(
+        &rt,
+        bash_double(alloc, "/opt/VAR \"NAME\"/c"),
+        "/opt/VAR \\\"NAME\\\"/c",
+    );
+    is(&rt, bash_double(alloc, "/o'p $x"), "/o'p \\$x");
+}
+
+#[test]
+fn bash_reads_doubles(rt: HostRuntime) {
+    let alloc = rt.alloc();
+    reads(
+        &rt,
+        bash_double_word(alloc, "\"/o'p \\$x é\" -- y"),
+        "/o'p $x é",
+        " -- y",
+    );
+    is_none(&rt, bash_double_word(alloc, "a\"b\""));
+    is_none(&rt, bash_double_word(alloc, "\"a\\\""));
 }
 
 #[test]
@@ -166,4 +191,10 @@ fn zsh_takes_backslashes_off(rt: HostRuntime) {
     let read = read.expect(&rt, "a backslash is last");
     same(&rt, read.as_str(), "a]bé\\e f");
     is_none(&rt, zsh_unescape(rt.alloc(), "a\\\\\\"));
+}
+
+#[test]
+fn zsh_escapes_replies(rt: HostRuntime) {
+    is(&rt, zsh_reply_value(rt.alloc(), "a:b\\c"), "a\\:b\\\\c");
+    is(&rt, zsh_reply_help(rt.alloc(), "c:d\\e"), "c:d\\\\e");
 }

@@ -46,7 +46,7 @@ double_byte_from : (byte : ℕ) (word rest : List ℕ) → fish_double_from (in_
 unfolding fish_sign
 double_byte_from byte word rest = grind (arith, nat_tests)
 
-double_from : (text word rest : List ℕ) → fish_double_from (in_double word) (double_escaped text ++ rest) ≡ fish_double_from (in_double (word ++ text)) rest
+pub double_from : (text word rest : List ℕ) → fish_double_from (in_double word) (double_escaped text ++ rest) ≡ fish_double_from (in_double (word ++ text)) rest
 double_from [] word rest = rw append-nil
 double_from (byte ∷ text) word rest =
     ap (fish_double_from (in_double word)) (append_assoc (double_byte byte) (double_escaped text) rest)

@@ -1,3 +1,6 @@
+pub mod BashCharacters
+pub mod BashDoubles
+pub mod BeforeBlanks
 pub mod Blanks
 pub mod ByteEscapes
 pub mod Characters
@@ -21,4 +24,5 @@ pub mod Runs
 pub mod WithinQuotes
 pub mod WordReading
 mod ZshExamples
+pub mod ZshReplies
 pub mod ZshWords

@@ -32,7 +32,7 @@ resumed place word s rest after = elim after [
 ]
 
 -- it goes on
-goes_on : (place next : Place) (byte : ℕ) (rest : List Sign) (word : List ℕ) → next_place place (sign byte) ≡ Some next
+pub goes_on : (place next : Place) (byte : ℕ) (rest : List Sign) (word : List ℕ) → next_place place (sign byte) ≡ Some next
     → posix_word_from place word (sign byte ∷ rest) ≡ posix_word_from next (word_after place (sign byte) word (byte ∷ [])) rest
 unfolding posix_word_from
 goes_on place next byte rest word e =
@@ -48,18 +48,18 @@ stops place byte rest word e =
 -- ---- one character
 
 -- a byte from 128 on means nothing to the reader
-high_sign : (byte : ℕ) → 128 ≤ byte → sign byte ≡ other byte
+pub high_sign : (byte : ℕ) → 128 ≤ byte → sign byte ≡ other byte
 unfolding sign
 high_sign byte h = grind (arith, nat_tests)
 
 -- the place after such a byte
-abbrev after_other : Place → Place
+abbrev pub after_other : Place → Place
 after_other InSingle = InSingle
 after_other InDouble = InDouble
 after_other InDoubleEscaped = InDouble
 after_other _ = Bare
 
-next-other : (place : Place) (byte : ℕ) → next_place place (other byte) ≡ Some (after_other place)
+pub next-other : (place : Place) (byte : ℕ) → next_place place (other byte) ≡ Some (after_other place)
 unfolding next_place
 next-other Before byte = refl
 next-other BeforeEscaped byte = refl
@@ -70,7 +70,7 @@ next-other InDouble byte = refl
 next-other InDoubleEscaped byte = refl
 
 -- two such bytes in a row
-more-other : (place : Place) (first byte : ℕ) (word run bytes : List ℕ)
+pub more-other : (place : Place) (first byte : ℕ) (word run bytes : List ℕ)
     → word_after (after_other place) (other byte) (word_after place (other first) word run) bytes ≡ word_after place (other first) word (run ++ bytes)
 unfolding word_after
 more-other Before first byte word run bytes = append_assoc word run bytes
@@ -107,7 +107,7 @@ high_run place first run (byte ∷ bytes) rest word h =
     ∙ ap (λ r. posix_word_from (after_other place) (word_after place (other first) word r) (map sign rest)) (append_assoc run (byte ∷ []) bytes)
 
 -- what the place and the word are after such a byte does not depend on which it is
-same-word : (place : Place) (a b : ℕ) (word bytes : List ℕ) → word_after place (other a) word bytes ≡ word_after place (other b) word bytes
+pub same-word : (place : Place) (a b : ℕ) (word bytes : List ℕ) → word_after place (other a) word bytes ≡ word_after place (other b) word bytes
 unfolding word_after
 same-word Before a b word bytes = refl
 same-word BeforeEscaped a b word bytes = refl
@@ -149,12 +149,12 @@ character_stops place c rest word e = by_bytes c (encode_utf8 c) (character c) e
 -- ---- quoted texts
 
 -- a byte that needs no quotes means nothing to the reader
-safe_sign : (byte : ℕ) → is_posix_safe byte ≡ true → sign byte ≡ other byte
+pub safe_sign : (byte : ℕ) → is_posix_safe byte ≡ true → sign byte ≡ other byte
 unfolding is_posix_safe sign
 safe_sign byte h = grind (arith, nat_tests)
 
 -- such bytes in a bare word
-bare_run : (run rest word : List ℕ) → list_all is_posix_safe run ≡ true → posix_word_from Bare word (map sign (run ++ rest)) ≡ posix_word_from Bare (word ++ run) (map sign rest)
+pub bare_run : (run rest word : List ℕ) → list_all is_posix_safe run ≡ true → posix_word_from Bare word (map sign (run ++ rest)) ≡ posix_word_from Bare (word ++ run) (map sign rest)
 unfolding next_place word_after
 bare_run [] rest word h = ap (λ w. posix_word_from Bare w (map sign rest)) (sym (append-nil word))
 bare_run (byte ∷ run) rest word h =
@@ -199,7 +199,7 @@ escaped_byte byte rest word = by_test (byte == 39) refl
     by_test false e = by_sign (sign byte) (kept e) (byte_of-sign byte)
 
 -- an escaped text between `'`
-escaped_text : (text rest word : List ℕ) → posix_word_from InSingle word (map sign (posix_escaped text ++ rest)) ≡ posix_word_from InSingle (word ++ text) (map sign rest)
+pub escaped_text : (text rest word : List ℕ) → posix_word_from InSingle word (map sign (posix_escaped text ++ rest)) ≡ posix_word_from InSingle (word ++ text) (map sign rest)
 escaped_text [] rest word = ap (λ w. posix_word_from InSingle w (map sign rest)) (sym (append-nil word))
 escaped_text (byte ∷ text) rest word =
     ap (λ t. posix_word_from InSingle word (map sign t)) (append_assoc (posix_escaped_byte byte) (posix_escaped text) rest)

@@ -82,3 +82,11 @@ module _ (signs : List ℕ → List Sign) (are : AreSigns signs) where
       ∙ ap (word_from before) (are.of_other byte (front ++ back) clear.0 none_here)
       ∙ bare_run front back (byte ∷ []) clear.1
       ∙ bare_end back (byte ∷ front) at.0.ends
+
+  -- a run without a blank, and a space: the word ends there
+  pub word_before_space : (byte : ℕ) (run rest : List ℕ) → BeginsWithNoQuote signs (byte ∷ run ++ 32 ∷ rest) → NonePass is_blank (byte ∷ run)
+      → word_from before (signs (byte ∷ run ++ 32 ∷ rest)) ≡ Some (byte ∷ run, 32 ∷ rest)
+  word_before_space byte run rest none clear =
+      ap (word_from before) (are.of_other byte (run ++ 32 ∷ rest) clear.0 none)
+      ∙ bare_run run (32 ∷ rest) (byte ∷ []) clear.1
+      ∙ bare_end (32 ∷ rest) (byte ∷ run) (inr (32, rest, refl, refl))

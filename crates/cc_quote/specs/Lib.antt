@@ -1,3 +1,4 @@
+pub mod BashDouble
 pub mod ElvishQuote
 pub mod ElvishTokens
 pub mod Escapes
@@ -13,3 +14,4 @@ pub mod QuotedWord
 pub mod Signs
 pub mod Tokens
 pub mod ZshQuote
+pub mod ZshReply

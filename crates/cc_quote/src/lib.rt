@@ -3,6 +3,7 @@
 //! space of each line feed. No reader expands anything.
 #![tactic(auto)]
 
+mod bash;
 mod elvish;
 mod escape;
 mod fish;
@@ -11,7 +12,9 @@ mod posix;
 mod powershell;
 mod word;
 mod zsh;
+mod zsh_reply;
 
+pub use crate::bash::{BashDouble, bash_double, bash_double_word};
 pub use crate::elvish::{ElvishEscape, elvish_escape, elvish_word};
 pub use crate::escape::{Escape, push_escaped, put_escaped, put_escaped_piece};
 pub use crate::fish::{
@@ -24,3 +27,4 @@ pub use crate::powershell::{PowershellEscape, powershell_escape, powershell_word
 pub use crate::zsh::{
     ZshHelpEscape, ZshValueEscape, zsh_escape_help, zsh_escape_value, zsh_unescape,
 };
+pub use crate::zsh_reply::{ZshReplyHelp, ZshReplyValue, zsh_reply_help, zsh_reply_value};

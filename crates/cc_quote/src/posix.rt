@@ -109,7 +109,7 @@ fn is_safe(byte: u8) -> bool
 // Where the reader of a word is: before the word; in it, outside quotes, between `'` or between
 // `"`; or after a backslash in each of these but `'`.
 #[derive(Clone, Copy)]
-enum Place {
+pub(crate) enum Place {
     Before,
     BeforeEscaped,
     Bare,
@@ -151,7 +151,7 @@ fn read_word(alloc: Global, text: &str) -> Result<Option<(String, &str)>, AllocE
 
 // The place after a character; `None` where the word ends before it.
 #[tactic(auto, unfolding(crate::specs::PosixQuote::next_place, crate::specs::PosixTokens::sign))]
-fn next_place(place: Place, character: char) -> Option<Place>
+pub(crate) fn next_place(place: Place, character: char) -> Option<Place>
     ensures { result ≡ next_place place (sign character) }
 {
     match (place, character) {
@@ -174,7 +174,7 @@ fn next_place(place: Place, character: char) -> Option<Place>
 
 // Adds to the word what the character at a place spells.
 #[tactic(auto, unfolding(crate::specs::PosixQuote::word_after, crate::specs::PosixTokens::sign))]
-fn push_added(place: Place, character: char, word: &mut String) -> Result<(), AllocError>
+pub(crate) fn push_added(place: Place, character: char, word: &mut String) -> Result<(), AllocError>
     ensures { OnOk result
         (string_bytes word.new
         ≡ word_after place (sign character) (string_bytes word.old) (encode_utf8 character)) }

@@ -1,0 +1,204 @@
+-- How the reader of a text between two `"` of bash goes on by one character.
+use Rattle.std.specs.Prelude.{⊤}
+use Rattle.std.proofs.Common.{◌≡◌, ◌≢◌, ℕ, true, false, List, [], ◌∷◌, ◌++◌, map, Some, None, unwrap_or, encode_utf8, refl, sym, subst, ◌∙◌, ap, append_assoc, append-nil}
+use Rattle.cc_quote.specs.BashDouble.{bash_double_from, bash_double_of, bash_double_signs, closes_double}
+use Rattle.cc_quote.specs.PosixTokens.{Sign, sign, byte_of}
+use Rattle.cc_quote.specs.PosixTokens.Sign.{blank, line_feed, single_quote, double_quote, backslash, special, other}
+use Rattle.cc_quote.specs.PosixQuote.{next_place, word_after}
+use Rattle.cc_quote.specs.declared.posix.Place.{Place}
+use Rattle.cc_quote.specs.declared.posix.Place.TheVariants.{Before, BeforeEscaped, Bare, BareEscaped, InSingle, InDouble, InDoubleEscaped}
+use Rattle.cc_quote.proofs.Characters.{AreHigh, IsCharacter, character}
+use Rattle.cc_quote.proofs.Characters.IsCharacter.{low, high}
+use Rattle.cc_quote.proofs.PosixWords.{byte_of-sign, bytes-signs, high_sign, same-word}
+
+-- between the two `"`
+abbrev pub IsWithin : Place → Type 0
+IsWithin InDouble = ⊤
+IsWithin InDoubleEscaped = ⊤
+IsWithin _ = ⊥
+
+-- ---- one byte
+
+-- the quote that closes
+closes : (place : Place) (s : Sign) (rest : List Sign) (word : List ℕ) → closes_double place s ≡ true
+    → bash_double_from place word (s ∷ rest) ≡ Some (word, map byte_of rest)
+unfolding closes_double bash_double_from next_place
+closes InDouble double_quote rest word e = refl
+closes InDouble (blank _) rest word e = cc
+closes InDouble line_feed rest word e = cc
+closes InDouble single_quote rest word e = cc
+closes InDouble backslash rest word e = cc
+closes InDouble (special _) rest word e = cc
+closes InDouble (other _) rest word e = cc
+closes InDoubleEscaped s rest word e = cc
+closes Before s rest word e = cc
+closes BeforeEscaped s rest word e = cc
+closes Bare s rest word e = cc
+closes BareEscaped s rest word e = cc
+closes InSingle s rest word e = cc
+
+-- the place after any other
+abbrev next_within : Place → Sign → Place
+next_within InDouble backslash = InDoubleEscaped
+next_within _ _ = InDouble
+
+next_is : (place : Place) (s : Sign) → IsWithin place → closes_double place s ≡ false → next_place place s ≡ Some (next_within place s)
+unfolding closes_double next_place
+next_is InDouble (blank _) h e = refl
+next_is InDouble line_feed h e = refl
+next_is InDouble single_quote h e = refl
+next_is InDouble double_quote h e = cc
+next_is InDouble backslash h e = refl
+next_is InDouble (special _) h e = refl
+next_is InDouble (other _) h e = refl
+next_is InDoubleEscaped s h e = refl
+next_is Before s h e = absurd h
+next_is BeforeEscaped s h e = absurd h
+next_is Bare s h e = absurd h
+next_is BareEscaped s h e = absurd h
+next_is InSingle s h e = absurd h
+
+-- any other byte
+goes_on : (place : Place) (s : Sign) (rest : List Sign) (word : List ℕ) → IsWithin place → closes_double place s ≡ false
+    → bash_double_from place word (s ∷ rest) ≡ bash_double_from (next_within place s) (word_after place s word (byte_of s ∷ [])) rest
+unfolding closes_double bash_double_from next_place
+goes_on InDouble (blank _) rest word h e = refl
+goes_on InDouble line_feed rest word h e = refl
+goes_on InDouble single_quote rest word h e = refl
+goes_on InDouble double_quote rest word h e = cc
+goes_on InDouble backslash rest word h e = refl
+goes_on InDouble (special _) rest word h e = refl
+goes_on InDouble (other _) rest word h e = refl
+goes_on InDoubleEscaped s rest word h e = refl
+goes_on Before s rest word h e = absurd h
+goes_on BeforeEscaped s rest word h e = absurd h
+goes_on Bare s rest word h e = absurd h
+goes_on BareEscaped s rest word h e = absurd h
+goes_on InSingle s rest word h e = absurd h
+
+-- ---- one character
+
+never_closes : (place : Place) (byte : ℕ) → closes_double place (other byte) ≡ false
+unfolding closes_double
+never_closes Before byte = refl
+never_closes BeforeEscaped byte = refl
+never_closes Bare byte = refl
+never_closes BareEscaped byte = refl
+never_closes InSingle byte = refl
+never_closes InDouble byte = refl
+never_closes InDoubleEscaped byte = refl
+
+-- bytes from 128 on
+high_run : (bytes rest word : List ℕ) → AreHigh bytes
+    → bash_double_from InDouble word (map sign (bytes ++ rest)) ≡ bash_double_from InDouble (word ++ bytes) (map sign rest)
+unfolding bash_double_from next_place word_after byte_of
+high_run [] rest word h = ap (λ w. bash_double_from InDouble w (map sign rest)) (sym (append-nil word))
+high_run (byte ∷ bytes) rest word h =
+    ap (λ s. bash_double_from InDouble word (s ∷ map sign (bytes ++ rest))) (high_sign byte h.0)
+    ∙ high_run bytes rest (word ++ byte ∷ []) h.1
+    ∙ ap (λ w. bash_double_from InDouble w (map sign rest)) (append_assoc word (byte ∷ []) bytes)
+
+-- the word after a first such byte, and more of them
+more : (place : Place) (first : ℕ) (word run bytes : List ℕ) → word_after place (other first) word run ++ bytes ≡ word_after place (other first) word (run ++ bytes)
+unfolding word_after
+more Before first word run bytes = append_assoc word run bytes
+more BeforeEscaped first word run bytes = append_assoc word run bytes
+more Bare first word run bytes = append_assoc word run bytes
+more BareEscaped first word run bytes = append_assoc word run bytes
+more InSingle first word run bytes = append_assoc word run bytes
+more InDouble first word run bytes = append_assoc word run bytes
+more InDoubleEscaped first word run bytes = append_assoc (word ++ 92 ∷ []) run bytes
+
+-- where such a byte leads
+other_within : (place : Place) (byte : ℕ) → next_within place (other byte) ≡ InDouble
+other_within Before byte = refl
+other_within BeforeEscaped byte = refl
+other_within Bare byte = refl
+other_within BareEscaped byte = refl
+other_within InSingle byte = refl
+other_within InDouble byte = refl
+other_within InDoubleEscaped byte = refl
+
+-- the quote that closes is one byte
+pub character_closes : (place : Place) (c : ℕ) (rest word : List ℕ) → closes_double place (sign c) ≡ true
+    → bash_double_from place word (map sign (encode_utf8 c ++ rest)) ≡ Some (word, rest)
+character_closes place c rest word e = by_bytes c (encode_utf8 c) (character c) e
+  where
+    by_bytes : (c : ℕ) (bytes : List ℕ) → IsCharacter c bytes → closes_double place (sign c) ≡ true
+        → bash_double_from place word (map sign (bytes ++ rest)) ≡ Some (word, rest)
+    by_bytes c bytes (low byte below) e = closes place (sign byte) (map sign rest) word e ∙ ap (λ r. Some (word, r)) (bytes-signs rest)
+    by_bytes c bytes (high number byte run above first h) e =
+        let wrong : false ≡ true = sym (never_closes place number) ∙ ap (closes_double place) (sym (high_sign number above)) ∙ e in cc
+
+same_place : (a b : Place) → Some a ≡ Some b → a ≡ b
+same_place a b h = ap (λ p. unwrap_or p InDouble) h
+
+-- any other character
+pub character_read : (place next : Place) (c : ℕ) (rest word : List ℕ) → IsWithin place → closes_double place (sign c) ≡ false → next_place place (sign c) ≡ Some next
+    → bash_double_from place word (map sign (encode_utf8 c ++ rest)) ≡ bash_double_from next (word_after place (sign c) word (encode_utf8 c)) (map sign rest)
+unfolding byte_of bash_double_from
+character_read place next c rest word within e is =
+    by_bytes c (encode_utf8 c) (character c) e
+    ∙ ap (λ p. bash_double_from p (word_after place (sign c) word (encode_utf8 c)) (map sign rest)) (same_place (next_within place (sign c)) next (sym (next_is place (sign c) within e) ∙ is))
+  where
+    by_bytes : (c : ℕ) (bytes : List ℕ) → IsCharacter c bytes → closes_double place (sign c) ≡ false
+        → bash_double_from place word (map sign (bytes ++ rest)) ≡ bash_double_from (next_within place (sign c)) (word_after place (sign c) word bytes) (map sign rest)
+    by_bytes c bytes (low byte below) e =
+        goes_on place (sign byte) (map sign rest) word within e
+        ∙ ap (λ b. bash_double_from (next_within place (sign byte)) (word_after place (sign byte) word (b ∷ [])) (map sign rest)) (byte_of-sign byte)
+    by_bytes c bytes (high number byte run above first h) e =
+        ap (λ s. bash_double_from place word (s ∷ map sign (run ++ rest))) (high_sign byte first)
+        ∙ goes_on place (other byte) (map sign (run ++ rest)) word within (never_closes place byte)
+        ∙ ap (λ p. bash_double_from p (word_after place (other byte) word (byte ∷ [])) (map sign (run ++ rest))) (other_within place byte)
+        ∙ high_run run rest (word_after place (other byte) word (byte ∷ [])) h
+        ∙ ap (λ w. bash_double_from InDouble w (map sign rest)) (more place byte word (byte ∷ []) run ∙ same-word place byte number word (byte ∷ run))
+        ∙ ap (λ p. bash_double_from p (word_after place (other number) word (byte ∷ run)) (map sign rest)) (sym (other_within place number))
+        ∙ ap (λ s. bash_double_from (next_within place s) (word_after place s word (byte ∷ run)) (map sign rest)) (sym (high_sign number above))
+
+-- the reader stays between the two `"`
+within_next : (place : Place) (s : Sign) → IsWithin place → IsWithin (next_within place s)
+within_next InDouble (blank _) h = tt
+within_next InDouble line_feed h = tt
+within_next InDouble single_quote h = tt
+within_next InDouble double_quote h = tt
+within_next InDouble backslash h = tt
+within_next InDouble (special _) h = tt
+within_next InDouble (other _) h = tt
+within_next InDoubleEscaped s h = tt
+within_next Before s h = absurd h
+within_next BeforeEscaped s h = absurd h
+within_next Bare s h = absurd h
+within_next BareEscaped s h = absurd h
+within_next InSingle s h = absurd h
+
+pub stays_within : (place next : Place) (c : ℕ) → IsWithin place → closes_double place (sign c) ≡ false → next_place place (sign c) ≡ Some next → IsWithin next
+stays_within place next c h e is = subst IsWithin (same_place (next_within place (sign c)) next (sym (next_is place (sign c) h e) ∙ is)) (within_next place (sign c) h)
+
+-- ---- the ends of the reading
+
+-- between two `"` there is always a next place
+pub never_stops : (place : Place) (c : ℕ) → IsWithin place → closes_double place (sign c) ≡ false → next_place place (sign c) ≡ None → ⊥
+never_stops place c h e is = let wrong : Some (next_within place (sign c)) ≡ None = sym (next_is place (sign c) h e) ∙ is in cc
+
+-- a text that does not begin with `"`
+pub double_none : (text : List ℕ) → ((rest : List ℕ) → text ≢ 34 ∷ rest) → bash_double_of text ≡ None
+unfolding bash_double_of bash_double_signs byte_of
+double_none [] h = refl
+double_none (byte ∷ rest) h = by (sign byte) refl
+  where
+    is_quote : (byte : ℕ) → sign byte ≡ double_quote → byte ≡ 34
+    is_quote byte e = sym (byte_of-sign byte) ∙ ap byte_of e
+
+    by : (s : Sign) → sign byte ≡ s → bash_double_signs (s ∷ map sign rest) ≡ None
+    by (blank _) e = refl
+    by line_feed e = refl
+    by single_quote e = refl
+    by double_quote e = absurd (h rest (ap (λ b. b ∷ rest) (is_quote byte e)))
+    by backslash e = refl
+    by (special _) e = refl
+    by (other _) e = refl
+
+-- one that does
+pub double_some : (text inside : List ℕ) → text ≡ 34 ∷ inside → bash_double_of text ≡ bash_double_from InDouble [] (map sign inside)
+unfolding bash_double_of bash_double_signs sign
+double_some text inside e = ap bash_double_of e

@@ -1,0 +1,123 @@
+//! Texts between two `"` of bash.
+
+ghost use Rattle.std.specs.Prelude.{◌≡◌, [], ◌++◌, true, codes, map, IfOk, IfErr, Some};
+ghost use Rattle.std.specs.String.{string_bytes};
+ghost use Rattle.cc_quote.specs.BashDouble.{
+  bash_double_from,
+  bash_double_of,
+  bash_doubled,
+  bash_doubled_byte,
+  closes_double,
+  is_double_marked,
+};
+ghost use Rattle.cc_quote.specs.PosixTokens.{sign};
+ghost use Rattle.cc_quote.specs.QuotedWord.{contents};
+ghost use Rattle.cc_quote.specs.declared.posix.Place.TheVariants.{InDouble};
+ghost use Rattle.memchr.specs.Find.{IsFirstByte};
+
+use crate::escape::{Escape, push_escaped};
+use crate::posix::{Place, next_place, push_added};
+use crate::word::split_first;
+use cc_base::Error;
+use std::alloc::{AllocError, Global};
+
+/// bash's escape of a text between two `"`: a backslash before `\`, `"`, `$` and a backtick.
+pub struct BashDouble;
+
+impl Escape for BashDouble {
+    ghost escaped = { λ _ text. bash_doubled text };
+
+    fn split<'a>(&self, text: &'a str) -> Option<(&'a str, &'static str, &'a str)> {
+        let bytes = text.as_bytes();
+        let Some(at) = find_marked(bytes) else {
+            return None;
+        };
+        let replacement = marked(bytes[at]);
+        Some((&text[..at], replacement, &text[at + 1..]))
+    }
+}
+
+// The place of the first byte that is escaped.
+fn find_marked(bytes: &[u8]) -> Option<usize>
+    ensures { IsFirstByte is_double_marked bytes.now result }
+{
+    for at in 0..bytes.len() {
+        if matches!(bytes[at], b'\\' | b'"' | b'$' | b'`') {
+            return Some(at);
+        }
+    }
+    None
+}
+
+// What stands for a byte that is escaped.
+fn marked(byte: u8) -> &'static str
+    requires { is_double_marked byte ≡ true }
+    ensures { result.now ≡ bash_doubled_byte byte }
+{
+    match byte {
+        b'\\' => "\\\\",
+        b'"' => "\\\"",
+        b'$' => "\\$",
+        _ => "\\`",
+    }
+}
+
+/// The text as it stands between two `"` in bash: a backslash before `\`, `"`, `$` and a backtick.
+/// Fails with `Memory` alone.
+#[tactic(auto, using(crate::proofs::BashDoubles::doubled_reads_back))]
+pub fn bash_double(alloc: Global, text: &str) -> Result<String, Error>
+    ensures escaped { IfOk result (λ escaped. string_bytes escaped ≡ bash_doubled text.now) }
+
+    // Between two `"` it is read as the text, and nothing is left.
+    ensures read_back { IfOk result
+        (λ escaped. bash_double_of (codes "\"" ++ string_bytes escaped ++ codes "\"")
+        ≡ Some (text.now, [])) }
+    ensures memory { IfErr result (λ error. error ≡ Error.Memory) }
+{
+    let mut escaped = String::new(alloc);
+    push_escaped(&BashDouble, text, &mut escaped)?;
+    Ok(escaped)
+}
+
+/// What a text that begins with `"` spells up to the `"` that closes it, as `posix_word` reads it
+/// there, and what follows that. `None` where the text begins with no `"` or does not close it.
+/// Fails with `Memory` alone.
+pub fn bash_double_word(alloc: Global, text: &str) -> Result<Option<(String, &str)>, Error>
+    ensures double { IfOk result (λ read. contents read ≡ bash_double_of text.now) }
+    ensures memory { IfErr result (λ error. error ≡ Error.Memory) }
+{
+    match text.strip_prefix('"') {
+        Some(inside) => Ok(read_double(alloc, inside)?),
+        None => Ok(None),
+    }
+}
+
+// What stands up to the quote that closes, where memory suffices.
+fn read_double(alloc: Global, text: &str) -> Result<Option<(String, &str)>, AllocError>
+    ensures { IfOk result (λ read. contents read
+        ≡ bash_double_from InDouble [] (map sign text.now)) }
+{
+    let mut place = Place::InDouble;
+    let mut word = String::new(alloc);
+    let mut rest = text;
+    while let Some((character, after)) = split_first(rest) {
+        if closes_double(place, character) {
+            return Ok(Some((word, after)));
+        }
+        let Some(next) = next_place(place, character) else {
+            return Ok(None);
+        };
+        push_added(place, character, &mut word)?;
+        place = next;
+        rest = after;
+    }
+    Ok(None)
+}
+
+// Whether a character is the quote that closes.
+#[tactic(auto, unfolding(crate::specs::BashDouble::closes_double, crate::specs::PosixTokens::sign))]
+fn closes_double(place: Place, character: char) -> bool
+    ensures { result ≡ closes_double place (sign character) }
+{
+    matches!((place, character), (Place::InDouble, '"'))
+}
