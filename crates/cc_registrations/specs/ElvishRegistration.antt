@@ -1,0 +1,72 @@
+-- The registration for Elvish, and what its parts are read as.
+use Rattle.std.specs.Prelude.{◌≡◌, ℕ, IsTrue, List, ◌++◌, Option, Some, option_map, codes}
+use Rattle.cc_command.specs.PlainName.{is_plain_name}
+use Rattle.cc_quote.specs.ElvishQuote.{elvish_word_of}
+use Rattle.cc_quote.specs.PosixQuote.{posix_quoted}
+use Rattle.cc_registrations.specs.Found.{between, last_run, up_to, word_after}
+use Rattle.cc_registrations.specs.Names.{is_plain_path}
+
+-- ---- its text
+
+-- up to the binary
+unfoldable pub registration_begins : List ℕ
+registration_begins =
+    codes "\n"
+    ++ codes "set edit:completion:arg-completer["
+
+-- between the binary and the variable
+unfoldable pub function_head : List ℕ
+function_head =
+    codes "] = { |@words|\n"
+    ++ codes "    var index = (count $words)\n"
+    ++ codes "    set index = (- $index 1)\n"
+    ++ codes "\n"
+    ++ codes "    put (env _CLAP_IFS=\"\\n\" _CLAP_COMPLETE_INDEX=(to-string $index) "
+
+-- between the variable and the completer
+unfoldable pub shell_set : List ℕ
+shell_set = codes "=\"elvish\" "
+
+-- after the completer
+unfoldable pub registration_ends : List ℕ
+registration_ends =
+    codes " -- $@words) | to-lines\n"
+    ++ codes "}\n"
+    ++ codes "\n"
+
+-- the registration
+unfoldable pub elvish_registration : List ℕ → List ℕ → List ℕ → List ℕ
+elvish_registration variable bin completer =
+    (((((registration_begins ++ posix_quoted bin) ++ function_head) ++ variable) ++ shell_set)
+    ++ posix_quoted completer)
+    ++ registration_ends
+
+-- ---- how it is read
+
+-- what follows the variable
+unfoldable pub variable_ends : List ℕ
+variable_ends = codes "=\"elvish\""
+
+-- the variable: what stands before it, after the last blank
+unfoldable pub elvish_variable : List ℕ → Option (List ℕ)
+elvish_variable text = option_map last_run (up_to variable_ends text)
+
+-- the completer: the word after it
+unfoldable pub elvish_completer : List ℕ → Option (List ℕ)
+elvish_completer text = word_after elvish_word_of variable_ends text
+
+-- the binary: the key of the completer
+unfoldable pub elvish_binary : List ℕ → Option (List ℕ)
+elvish_binary text = between (codes "arg-completer[") (codes "]") text
+
+-- the registration is read as what it was made for
+pub record ElvishRegistrationReads (variable bin completer : List ℕ) : Type 0 where
+  pub variable_read : elvish_variable (elvish_registration variable bin completer) ≡ Some variable
+  pub completer_read : elvish_completer (elvish_registration variable bin completer) ≡ Some completer
+  pub binary_read : elvish_binary (elvish_registration variable bin completer) ≡ Some bin
+
+-- the registration of a plain variable and binary and a plain path is read so
+abbrev pub ElvishReads : List ℕ → List ℕ → List ℕ → Type 0
+ElvishReads variable bin completer =
+    IsTrue (is_plain_name variable) → IsTrue (is_plain_name bin) → IsTrue (is_plain_path completer)
+    → ElvishRegistrationReads variable bin completer

@@ -1,0 +1,94 @@
+-- Places in a text, found by what stands there.
+use Rattle.std.specs.Prelude.{ℕ, Bool, true, false, List, [], ◌∷◌, ◌++◌, ◌==◌, Option, Some, None, option_map, if◌then◌else◌, bytes_eq}
+use Rattle.std.specs.Option.{option_and_then}
+use Rattle.cc_base.specs.Bytes.{line_feed}
+use Rattle.cc_quote.specs.Signs.{is_blank}
+
+-- the text after this front; none where it begins otherwise
+unfoldable pub after : List ℕ → List ℕ → Option (List ℕ)
+after [] text = Some text
+after (byte ∷ front) [] = None
+after (byte ∷ front) (first ∷ text) = elim (byte == first) [
+  | true ↦ after front text
+  | false ↦ None
+]
+
+-- a cut with some text more before it
+unfoldable pub with_front : List ℕ → Option (List ℕ × List ℕ) → Option (List ℕ × List ℕ)
+with_front front None = None
+with_front front (Some (before, rest)) = Some (front ++ before, rest)
+
+-- the text before the first place where a mark stands, and the text after the mark; none where it
+-- stands nowhere
+unfoldable pub cut_at : List ℕ → List ℕ → Option (List ℕ × List ℕ)
+cut_at mark [] = None
+cut_at mark (byte ∷ text) = elim (after mark (byte ∷ text)) [
+  | Some rest ↦ Some ([], rest)
+  | None ↦ with_front (byte ∷ []) (cut_at mark text)
+]
+
+-- the text before the first place where a mark stands
+unfoldable pub up_to : List ℕ → List ℕ → Option (List ℕ)
+up_to mark text = option_map (λ cut. cut.0) (cut_at mark text)
+
+-- the text after it
+unfoldable pub after_mark : List ℕ → List ℕ → Option (List ℕ)
+after_mark mark text = option_map (λ cut. cut.1) (cut_at mark text)
+
+-- the text between the first place of a mark and the next place of another
+unfoldable pub between : List ℕ → List ℕ → List ℕ → Option (List ℕ)
+between opening closing text = option_and_then (up_to closing) (after_mark opening text)
+
+-- the text without the blanks that it begins with
+unfoldable pub without_blanks : List ℕ → List ℕ
+without_blanks [] = []
+without_blanks (byte ∷ text) = elim (is_blank byte) [
+  | true ↦ without_blanks text
+  | false ↦ byte ∷ text
+]
+
+-- the text after the last byte that passes, with what stands before it since one passed
+unfoldable pub after_last_from : (ℕ → Bool) → List ℕ → List ℕ → List ℕ
+after_last_from passes run [] = run
+after_last_from passes run (byte ∷ text) = elim (passes byte) [
+  | true ↦ after_last_from passes [] text
+  | false ↦ after_last_from passes (run ++ byte ∷ []) text
+]
+
+-- the last line of a text
+unfoldable pub last_line : List ℕ → List ℕ
+last_line text = after_last_from (λ byte. byte == line_feed) [] text
+
+-- what a text ends with, after its last blank
+unfoldable pub last_run : List ℕ → List ℕ
+last_run text = after_last_from is_blank [] text
+
+-- the word that a reader finds, after blanks
+unfoldable pub word_by : (List ℕ → Option (List ℕ × List ℕ)) → List ℕ → Option (List ℕ)
+word_by reader text = option_map (λ read. read.0) (reader (without_blanks text))
+
+-- that word after the first place of a mark
+unfoldable pub word_after : (List ℕ → Option (List ℕ × List ℕ)) → List ℕ → List ℕ → Option (List ℕ)
+word_after reader mark text = option_and_then (word_by reader) (after_mark mark text)
+
+-- ---- words between blanks
+
+-- a word that ended, if it has a byte, before others
+unfoldable pub ended : List ℕ → List (List ℕ) → List (List ℕ)
+ended [] words = words
+ended (byte ∷ word) words = (byte ∷ word) ∷ words
+
+-- the words of a text, after the one that is begun
+unfoldable pub words_from : List ℕ → List ℕ → List (List ℕ)
+words_from word [] = ended word []
+words_from word (byte ∷ text) = elim (is_blank byte) [
+  | true ↦ ended word (words_from [] text)
+  | false ↦ words_from (word ++ byte ∷ []) text
+]
+
+-- the word before the last, which must be this one
+unfoldable pub before_last : List ℕ → List (List ℕ) → Option (List ℕ)
+before_last last [] = None
+before_last last (word ∷ []) = None
+before_last last (word ∷ next ∷ []) = if bytes_eq next last then Some word else None
+before_last last (word ∷ next ∷ third ∷ words) = before_last last (next ∷ third ∷ words)

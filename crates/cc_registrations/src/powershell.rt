@@ -1,0 +1,192 @@
+//! The registration for PowerShell.
+
+ghost use Rattle.std.specs.Prelude.{◌≡◌};
+ghost use Rattle.cc_base.specs.Writes.{Writes};
+ghost use Rattle.cc_registrations.specs.PowershellRegistration.{
+  PowershellReads,
+  arguments,
+  call,
+  call_begins,
+  call_ends,
+  environment,
+  otherwise,
+  powershell_registration,
+  prev_ends,
+  registration_begins,
+  registration_ends,
+  registration_head,
+  registration_tail,
+  script_head,
+};
+
+use crate::words::put_posix_quoted;
+use cc_base::{Error, Sink, put_all};
+use std::alloc::Global;
+
+/// Writes the registration for PowerShell: of the variable that asks for completions, the binary and
+/// the completer that is run. Fails with `Write` where the sink fails, and with `Memory`.
+pub fn write_powershell<W: Sink>(
+    alloc: Global,
+    variable: &str,
+    bin: &str,
+    completer: &str,
+    sink: &mut W,
+) -> Result<(), Error>
+    ensures written { Writes W.taken W.failed result sink.old sink.new
+        (powershell_registration variable.now bin.now completer.now) }
+    ensures read_back { PowershellReads variable.now bin.now completer.now }
+{
+    write_text(alloc, variable, bin, completer, sink)
+}
+
+// Writes its whole text.
+#[tactic(auto, unfolding(crate::specs::PowershellRegistration::powershell_registration))]
+fn write_text<W: Sink>(
+    alloc: Global,
+    variable: &str,
+    bin: &str,
+    completer: &str,
+    sink: &mut W,
+) -> Result<(), Error>
+    ensures { Writes W.taken W.failed result sink.old sink.new
+        (powershell_registration variable.now bin.now completer.now) }
+{
+    write_head(alloc, bin, sink)?;
+    write_call(variable, sink)?;
+    put_posix_quoted(alloc, completer, sink)?;
+    write_tail(variable, sink)
+}
+
+// What stands up to the first place of the variable.
+#[tactic(auto, unfolding(crate::specs::PowershellRegistration::registration_head))]
+fn write_head<W: Sink>(alloc: Global, bin: &str, sink: &mut W) -> Result<(), Error>
+    ensures { Writes W.taken W.failed result sink.old sink.new (registration_head bin.now) }
+{
+    put_all(sink, registration_begins().as_bytes())?;
+    put_posix_quoted(alloc, bin, sink)?;
+    put_all(sink, script_head().as_bytes())?;
+    put_all(sink, environment().as_bytes())
+}
+
+// What stands from there up to the completer.
+#[tactic(auto, unfolding(crate::specs::PowershellRegistration::call))]
+fn write_call<W: Sink>(variable: &str, sink: &mut W) -> Result<(), Error>
+    ensures { Writes W.taken W.failed result sink.old sink.new (call variable.now) }
+{
+    put_all(sink, variable.as_bytes())?;
+    put_all(sink, prev_ends().as_bytes())?;
+    put_all(sink, variable.as_bytes())?;
+    put_all(sink, arguments().as_bytes())?;
+    put_all(sink, call_begins().as_bytes())
+}
+
+// What stands after the completer.
+#[tactic(auto, unfolding(crate::specs::PowershellRegistration::registration_tail))]
+fn write_tail<W: Sink>(variable: &str, sink: &mut W) -> Result<(), Error>
+    ensures { Writes W.taken W.failed result sink.old sink.new (registration_tail variable.now) }
+{
+    put_all(sink, call_ends().as_bytes())?;
+    put_all(sink, variable.as_bytes())?;
+    put_all(sink, otherwise().as_bytes())?;
+    put_all(sink, variable.as_bytes())?;
+    put_all(sink, registration_ends().as_bytes())
+}
+
+#[tactic(auto, unfolding(crate::specs::PowershellRegistration::registration_begins))]
+fn registration_begins() -> &'static str
+    ensures { result.now ≡ registration_begins }
+{
+    "
+Register-ArgumentCompleter -Native -CommandName "
+}
+
+#[tactic(auto, unfolding(crate::specs::PowershellRegistration::script_head))]
+fn script_head() -> &'static str
+    ensures { result.now ≡ script_head }
+{
+    " -ScriptBlock {
+    param($wordToComplete, $commandAst, $cursorPosition)
+
+    $prev = "
+}
+
+#[tactic(auto, unfolding(crate::specs::PowershellRegistration::environment))]
+fn environment() -> &'static str
+    ensures { result.now ≡ environment }
+{
+    "$env:"
+}
+
+#[tactic(auto, unfolding(crate::specs::PowershellRegistration::prev_ends))]
+fn prev_ends() -> &'static str
+    ensures { result.now ≡ prev_ends }
+{
+    ";
+    $env:"
+}
+
+#[tactic(auto, unfolding(crate::specs::PowershellRegistration::arguments))]
+fn arguments() -> &'static str
+    ensures { result.now ≡ arguments }
+{
+    " = \"powershell\";
+
+    $args = $commandAst.Extent.Text
+    $args = $args.Substring(0, [math]::Min($cursorPosition, $args.Length));
+    if ($wordToComplete -eq \"\") {
+        $args += \" ''\";
+    }
+
+    $results = Invoke-Expression @\""
+}
+
+#[tactic(auto, unfolding(crate::specs::PowershellRegistration::call_begins))]
+fn call_begins() -> &'static str
+    ensures { result.now ≡ call_begins }
+{
+    "
+& "
+}
+
+#[tactic(auto, unfolding(crate::specs::PowershellRegistration::call_ends))]
+fn call_ends() -> &'static str
+    ensures { result.now ≡ call_ends }
+{
+    " -- $args
+\"@;
+    if ($null -eq $prev) {
+        Remove-Item Env:\\"
+}
+
+#[tactic(auto, unfolding(crate::specs::PowershellRegistration::otherwise))]
+fn otherwise() -> &'static str
+    ensures { result.now ≡ otherwise }
+{
+    ";
+    } else {
+        $env:"
+}
+
+#[tactic(auto, unfolding(crate::specs::PowershellRegistration::registration_ends))]
+fn registration_ends() -> &'static str
+    ensures { result.now ≡ registration_ends }
+{
+    " = $prev;
+    }
+    $results | ForEach-Object {
+        $split = $_.Split(\"`t\");
+        $cmd = $split[0];
+
+        if ($split.Length -eq 2) {
+            $help = $split[1];
+        }
+        else {
+            $help = $split[0];
+        }
+
+        [System.Management.Automation.CompletionResult]::new($cmd, $cmd, 'ParameterValue', $help)
+    }
+};
+        
+"
+}
