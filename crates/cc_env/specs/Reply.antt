@@ -1,0 +1,168 @@
+-- Replies: the candidates as a shell reads them, and how a reply is read.
+use Rattle.std.specs.Prelude.{⊤, ◌≡◌, ◌≢◌, ◌⊎◌, ℕ, true, false, List, [], ◌∷◌, ◌++◌, ◌==◌, Option, Some, None, map, flat_map, option_map, codes}
+use Rattle.std.specs.List.{AllByRecursion}
+use Rattle.cc_base.specs.Bytes.{colon, line_feed, tab}
+use Rattle.cc_base.specs.Joined.{joined}
+use Rattle.cc_quote.specs.ZshQuote.{Mark, marks, unmarked}
+use Rattle.cc_quote.specs.ZshQuote.Mark.{kept, escaped, unended}
+use Rattle.cc_quote.specs.ZshReply.{zsh_replied_help, zsh_replied_value}
+use Rattle.cc_registrations.specs.Found.{cut_at}
+use Rattle.cc_candidates.specs.declared.candidate.CompletionCandidate.{CompletionCandidate}
+
+abbrev carriage_return : ℕ
+carriage_return = 13
+
+-- a line without a carriage return at its end
+unfoldable pub without_return : List ℕ → List ℕ
+without_return [] = []
+without_return (byte ∷ []) = elim (byte == carriage_return) [ true ↦ [] | false ↦ byte ∷ [] ]
+without_return (byte ∷ next ∷ line) = byte ∷ without_return (next ∷ line)
+
+-- what stands before the first line feed, and before a carriage return right before it; all, where
+-- there is no line feed
+unfoldable pub first_line : List ℕ → List ℕ
+first_line text = elim (cut_at (line_feed ∷ []) text) [
+  | Some (line, rest) ↦ without_return line
+  | None ↦ text
+]
+
+-- what a reply tells of a candidate: its value and the first line of its help
+pub record Shown : Type 0 where
+  pub value : List ℕ
+  pub help : Option (List ℕ)
+
+abbrev pub shown : CompletionCandidate → Shown
+shown candidate = record { value = candidate.value; help = option_map first_line candidate.help }
+
+-- ---- the texts
+
+-- values alone, joined
+abbrev pub values_reply : List ℕ → List CompletionCandidate → List ℕ
+values_reply between candidates = joined between (map (λ candidate. candidate.value) candidates)
+
+-- a help after a colon
+unfoldable pub colon_help : Option (List ℕ) → List ℕ
+colon_help None = []
+colon_help (Some help) = codes ":" ++ zsh_replied_help help
+
+-- a value, and its help after a colon
+unfoldable pub zsh_item : Shown → List ℕ
+zsh_item item = zsh_replied_value item.value ++ colon_help item.help
+
+-- such items, joined
+abbrev pub zsh_reply : List ℕ → List CompletionCandidate → List ℕ
+zsh_reply between candidates =
+    joined between (map (λ candidate. zsh_item (shown candidate)) candidates)
+
+-- a help after a tab
+unfoldable pub tab_help : Option (List ℕ) → List ℕ
+tab_help None = []
+tab_help (Some help) = codes "\t" ++ help
+
+-- a line of a value, and its help after a tab
+unfoldable pub shown_line : Shown → List ℕ
+shown_line item = (item.value ++ tab_help item.help) ++ codes "\n"
+
+-- a line for each candidate
+abbrev pub candidate_line : CompletionCandidate → List ℕ
+candidate_line candidate = shown_line (shown candidate)
+
+abbrev pub lines_reply : List CompletionCandidate → List ℕ
+lines_reply candidates = flat_map candidate_line candidates
+
+-- ---- how they are read
+
+-- the pieces of a text between the places of a byte, after the piece that is begun
+unfoldable pub pieces_from : ℕ → List ℕ → List ℕ → List (List ℕ)
+pieces_from separator piece [] = piece ∷ []
+pieces_from separator piece (byte ∷ text) = elim (byte == separator) [
+  | true ↦ piece ∷ pieces_from separator [] text
+  | false ↦ pieces_from separator (piece ++ byte ∷ []) text
+]
+
+-- the values of a reply; an empty one has none
+unfoldable pub values_read : ℕ → List ℕ → List (List ℕ)
+values_read separator [] = []
+values_read separator (byte ∷ text) = pieces_from separator [] (byte ∷ text)
+
+-- a value, up to the first colon that no backslash escapes, and a help after it; without the
+-- backslashes
+unfoldable pub shown_from : List ℕ → List Mark → Option Shown
+shown_from value [] = Some (record { value = value; help = None })
+shown_from value (unended ∷ rest) = None
+shown_from value (escaped byte ∷ rest) = shown_from (value ++ byte ∷ []) rest
+shown_from value (kept byte ∷ rest) = elim (byte == colon) [
+  | true ↦ option_map (λ help. record { value = value; help = Some help }) (unmarked rest)
+  | false ↦ shown_from (value ++ byte ∷ []) rest
+]
+
+-- what a reply of zsh tells, piece by piece
+unfoldable pub zsh_read : ℕ → List ℕ → List (Option Shown)
+zsh_read separator text = map (λ piece. shown_from [] (marks piece)) (values_read separator text)
+
+-- the lines that end in a line feed, after the one that is begun
+unfoldable pub lines_from : List ℕ → List ℕ → List (List ℕ)
+lines_from line [] = []
+lines_from line (byte ∷ text) = elim (byte == line_feed) [
+  | true ↦ line ∷ lines_from [] text
+  | false ↦ lines_from (line ++ byte ∷ []) text
+]
+
+-- a value, up to the first tab, and a help after it
+unfoldable pub line_shown : List ℕ → Shown
+line_shown line = elim (cut_at (tab ∷ []) line) [
+  | Some (value, help) ↦ record { value = value; help = Some help }
+  | None ↦ record { value = line; help = None }
+]
+
+-- what a reply of fish or PowerShell tells, line by line
+unfoldable pub lines_read : List ℕ → List Shown
+lines_read text = map line_shown (lines_from [] text)
+
+-- ---- what replies are read as
+
+-- none of a text's bytes is this one
+abbrev pub IsWithout : ℕ → List ℕ → Type 0
+IsWithout special text = AllByRecursion (λ byte. (byte == special) ≡ false) text
+
+abbrev pub IsHelpWithout : ℕ → Option (List ℕ) → Type 0
+IsHelpWithout special None = ⊤
+IsHelpWithout special (Some help) = IsWithout special help
+
+-- a value with a byte, and neither it nor the first line of its help has the separator; nor has the
+-- value a line feed or a tab, nor that line a line feed
+pub record IsSendable (separator : ℕ) (item : Shown) : Type 0 where
+  pub some : item.value ≢ []
+  pub value : IsWithout separator item.value
+  pub help : IsHelpWithout separator item.help
+  pub one_line : IsWithout line_feed item.value
+  pub help_line : IsHelpWithout line_feed item.help
+  pub no_tab : IsWithout tab item.value
+
+abbrev pub AreSendable : ℕ → List CompletionCandidate → Type 0
+AreSendable separator candidates =
+    AllByRecursion (λ candidate. IsSendable separator (shown candidate)) candidates
+
+-- ---- the laws
+
+-- a line feed, or a vertical tab, stands between values
+abbrev pub IsSeparator : ℕ → Type 0
+IsSeparator byte = (byte ≡ 10) ⊎ (byte ≡ 11)
+
+-- the reply is read as the values
+abbrev pub ValuesRead : List ℕ → List CompletionCandidate → Type 0
+ValuesRead between candidates =
+    (byte : ℕ) → IsSeparator byte → between ≡ byte ∷ [] → AreSendable byte candidates
+    → values_read byte (values_reply between candidates)
+    ≡ map (λ candidate. candidate.value) candidates
+
+-- the reply is read as the values and the first lines of the helps
+abbrev pub ZshReplyRead : List ℕ → List CompletionCandidate → Type 0
+ZshReplyRead between candidates =
+    (byte : ℕ) → IsSeparator byte → between ≡ byte ∷ [] → AreSendable byte candidates
+    → zsh_read byte (zsh_reply between candidates)
+    ≡ map (λ candidate. Some (shown candidate)) candidates
+
+abbrev pub LinesRead : List CompletionCandidate → Type 0
+LinesRead candidates =
+    AreSendable 10 candidates → lines_read (lines_reply candidates) ≡ map shown candidates

@@ -1,0 +1,103 @@
+//! Values of environment variables, handed in.
+
+ghost use Rattle.std.specs.Prelude.{◌≡◌, unwrap_or};
+ghost use Rattle.std.specs.Option.{option_copied};
+ghost use Rattle.std.specs.Prelude.{codes, option_map, find};
+ghost use Rattle.std.specs.Str.{bytes_eq};
+ghost use Rattle.std.specs.String.{string_bytes};
+ghost use Rattle.cc_env.specs.Environment.{index_name, separator_of, value_of, IsIndex};
+ghost use Rattle.cc_env.specs.Environment.{IsNumberOf};
+
+use cc_base::{Items, Text};
+
+/// A variable and its value.
+#[derive(Drop, Debug)]
+pub struct Variable {
+    name: Text,
+    value: Text,
+}
+
+impl Variable {
+    /// A variable of this name and value.
+    pub fn new(name: String, value: String) -> Variable
+        ensures name { result.name ≡ string_bytes name }
+        ensures value { result.value ≡ string_bytes value }
+    {
+        Variable {
+            name: Text::from(name),
+            value: Text::from(value),
+        }
+    }
+
+    fn is_named(&self, name: &str) -> bool
+        ensures { result ≡ bytes_eq self.now.name name.now }
+    {
+        self.name.as_str() == name
+    }
+}
+
+/// Values of environment variables.
+#[derive(Drop, Debug)]
+pub struct EnvValues {
+    variables: Items<Variable>,
+}
+
+impl EnvValues {
+    /// These variables.
+    pub fn new(variables: Vec<Variable>) -> EnvValues
+        ensures { result.variables ≡ variables.items }
+    {
+        EnvValues {
+            variables: Items::from(variables),
+        }
+    }
+
+    /// The value of the first variable of this name.
+    pub fn get(&self, name: &str) -> Option<&str>
+        ensures { option_copied result ≡ value_of name.now self.now }
+    {
+        let found = self.find(name)?;
+        Some(found.value.as_str())
+    }
+
+    fn find(&self, name: &str) -> Option<&Variable>
+        ensures { option_map (λ v. v.now) result
+            ≡ find (λ v. bytes_eq v.name name.now) self.now.variables }
+    {
+        self.variables
+            .as_slice()
+            .iter()
+            .find(|variable| variable.is_named(name))
+    }
+
+    /// The index of the word to complete, as `_CLAP_COMPLETE_INDEX` tells it: digits, with one `+`
+    /// in front at most, that write a `usize`; else 0.
+    pub fn index(&self) -> usize
+        ensures { IsIndex (value_of index_name self.now) result }
+    {
+        let Some(text) = self.get("_CLAP_COMPLETE_INDEX") else {
+            return 0;
+        };
+        number(text)
+    }
+
+    /// What stands between the values of a reply: that of `_CLAP_IFS`, else a line feed.
+    pub fn separator(&self) -> &str
+        ensures { result.now ≡ separator_of self.now }
+    {
+        match self.get("_CLAP_IFS") {
+            Some(separator) => separator,
+            None => "\n",
+        }
+    }
+}
+
+// The number that a text writes, and 0 where it writes none.
+fn number(text: &str) -> usize
+    ensures { IsNumberOf text.now result }
+{
+    match text.parse::<usize>() {
+        Ok(number) => number,
+        Err(_) => 0,
+    }
+}

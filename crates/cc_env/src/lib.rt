@@ -1,0 +1,8 @@
+//! Live completion: what the environment tells, and the replies to shells.
+#![tactic(auto)]
+
+mod environment;
+mod reply;
+
+pub use crate::environment::{EnvValues, Variable};
+pub use crate::reply::{write_lines, write_values, write_zsh_items};
