@@ -96,7 +96,8 @@ variable_ends = codes "=\"bash\" \\\n"
 
 -- the variable: on the first line that ends so, up to that, without blanks before it
 unfoldable pub bash_variable : List ℕ → Option (List ℕ)
-bash_variable text = option_map (λ before. without_blanks (last_line before)) (up_to variable_ends text)
+bash_variable text =
+    option_map (λ before. without_blanks (last_line before)) (up_to variable_ends text)
 
 -- the completer: the word after that line
 unfoldable pub bash_completer : List ℕ → Option (List ℕ)
@@ -113,8 +114,10 @@ bash_binary text = before_last (codes "fi") (words_from [] text)
 -- the registration is read as what it was made for
 pub record BashRegistrationReads (variable name bin completer : List ℕ) : Type 0 where
   pub variable_read : bash_variable (bash_registration variable name bin completer) ≡ Some variable
-  pub completer_read : bash_completer (bash_registration variable name bin completer) ≡ Some completer
-  pub name_read : bash_name (bash_registration variable name bin completer) ≡ Some (underscored name)
+  pub completer_read :
+      bash_completer (bash_registration variable name bin completer) ≡ Some completer
+  pub name_read :
+      bash_name (bash_registration variable name bin completer) ≡ Some (underscored name)
   pub binary_read : bash_binary (bash_registration variable name bin completer) ≡ Some bin
 
 -- the registration of a plain variable, name and binary is read so, whatever the completer

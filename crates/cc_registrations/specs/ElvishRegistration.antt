@@ -62,7 +62,8 @@ elvish_binary text = between (codes "arg-completer[") (codes "]") text
 -- the registration is read as what it was made for
 pub record ElvishRegistrationReads (variable bin completer : List ℕ) : Type 0 where
   pub variable_read : elvish_variable (elvish_registration variable bin completer) ≡ Some variable
-  pub completer_read : elvish_completer (elvish_registration variable bin completer) ≡ Some completer
+  pub completer_read :
+      elvish_completer (elvish_registration variable bin completer) ≡ Some completer
   pub binary_read : elvish_binary (elvish_registration variable bin completer) ≡ Some bin
 
 -- the registration of a plain variable and binary and a plain path is read so

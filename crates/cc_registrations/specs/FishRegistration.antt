@@ -48,7 +48,8 @@ fish_variable text = option_and_then (between (codes "(") (codes "=fish")) (fish
 
 -- the completer: there, the word after `=fish`
 unfoldable pub fish_completer : List ℕ → Option (List ℕ)
-fish_completer text = option_and_then (word_after fish_word_of (codes "=fish")) (fish_arguments text)
+fish_completer text =
+    option_and_then (word_after fish_word_of (codes "=fish")) (fish_arguments text)
 
 -- the registration is read as what it was made for
 pub record FishRegistrationReads (variable bin completer : List ℕ) : Type 0 where

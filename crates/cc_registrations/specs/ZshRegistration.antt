@@ -97,7 +97,8 @@ variable_ends = codes "=\"zsh\" \\\n"
 
 -- the variable: on the first line that ends so, up to that, without blanks before it
 unfoldable pub zsh_variable : List ℕ → Option (List ℕ)
-zsh_variable text = option_map (λ before. without_blanks (last_line before)) (up_to variable_ends text)
+zsh_variable text =
+    option_map (λ before. without_blanks (last_line before)) (up_to variable_ends text)
 
 -- the completer: the word after that line
 unfoldable pub zsh_completer : List ℕ → Option (List ℕ)

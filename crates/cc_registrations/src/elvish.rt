@@ -11,8 +11,8 @@ use crate::words::put_posix_quoted;
 use cc_base::{Error, Sink, put_all};
 use std::alloc::Global;
 
-/// Writes the registration for Elvish: of the variable that asks for completions, the binary and the
-/// completer that is run. Fails with `Write` where the sink fails, and with `Memory`.
+/// Writes the registration for Elvish: of the variable that asks for completions, the binary and
+/// the completer that is run. Fails with `Write` where the sink fails, and with `Memory`.
 pub fn write_elvish<W: Sink>(
     alloc: Global,
     variable: &str,
