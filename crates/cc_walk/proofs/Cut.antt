@@ -109,7 +109,7 @@ fresh_values arguments place escaped first more bs next are = elim (cases_Bool (
     fresh_full arguments place true words = fresh_moved arguments (place + 1) true words
     fresh_full arguments place false words = fresh_nothing arguments (place + 1) false words
 
--- THE MACHINE RUNS OVER BLOCKS AS THEY SAY
+-- the machine gives the state after the blocks
 pub run_blocks : (arguments : List Arg) (bs : List Block) (place : ℕ) (escaped : Bool) (pending : Pending) → AreBlocks arguments place escaped bs → Fresh arguments place escaped pending (join bs)
     → run arguments (record { place = place; escaped = escaped; pending = pending }) (join bs) ≡ state_after arguments (record { place = place; escaped = escaped; pending = pending }) bs
 run_blocks arguments [] place escaped pending are fresh = refl

@@ -74,7 +74,7 @@ walk_skipped tree (word ∷ words) rest state all =
     ap (λ s. walk s (words ++ rest)) (stands tree state word (All-head (NamesNoChild tree) word words all))
     ∙ walk_skipped tree words rest (step tree.node.arguments state.place state.escaped state.pending (sign_of tree.node.arguments word)) (All-tail (NamesNoChild tree) word words all)
 
--- THE WALK STANDS AT THE LAST NODE, AND RAN OVER THE TAIL
+-- the walk stands at the last node, in the state after the tail
 pub walk_reach : {tree last : Tree} {words tail : List (List ℕ)} {before : Bool} → Reach tree words last tail before → (escaped : Bool) → walk (record { tree = tree; state = start escaped }) words ≡ record { tree = last; state = run last.node.arguments (start (escaped || before)) tail }
 walk_reach {tree} {last} {words} (Stay all) escaped =
     ap (λ s. walk (record { tree = tree; state = start escaped }) s) (sym (append-nil words))
@@ -88,7 +88,7 @@ walk_reach {tree} {last} {words} {tail} (Descend {child = child} {before = befor
     ∙ walk_reach way (escaped || contains_name skipped (codes "--"))
     ∙ ap (λ e. record { tree = last; state = run last.node.arguments (start e) tail }) (or_assoc escaped (contains_name skipped (codes "--")) before)
 
--- THE THEOREM: the cut of the whole list tells the walk's state
+-- the theorem: the cut of the whole list tells the walk's state
 pub walk_is : (root tree : Tree) (words tail : List (List ℕ)) (before : Bool) (bs : List Block)
     → Reach root words tree tail before
     → AreBlocks tree.node.arguments 1 before bs

@@ -13,7 +13,7 @@ use Rattle.cc_walk.proofs.Exists.{blocks_exist}
 abbrev pub walked : Tree → List (List ℕ) → Stand
 walked root words = walk (record { tree = root; state = start false }) words
 
--- THE MACHINE STANDS AT A LINE OF THE WORDS
+-- the machine gives a line of the words
 pub walked_is : (root : Tree) (words : List (List ℕ)) → IsLine root words (walked root words).tree (walked root words).state
 walked_is root words =
     let (last, tail, before, reach) = reach_exists root words in
@@ -21,7 +21,7 @@ walked_is root words =
     let is = walk_is root last words tail before bs reach are joined in
     subst (λ (s : Stand). IsLine root words s.tree s.state) (sym is) (record { tail = tail; before = before; blocks = bs; reach = reach; are = are; joined = joined; ends = refl })
 
--- AND AT THE ONLY ONE
+-- which is the only one
 pub walked_only : (root : Tree) (words : List (List ℕ)) → IsOnlyLine root words (walked root words).tree (walked root words).state
 walked_only root words other elsewhere line =
     let here : Stand = record { tree = other; state = elsewhere } in

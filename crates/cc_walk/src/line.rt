@@ -56,7 +56,8 @@ impl<'a> Line<'a> {
         requires node { self.node < length index.now }
         requires place { self.state.place < usize.MAX }
         ensures within { result.node < length index.now }
-        ensures stands { stand_of index.now result ≡ stand_step (stand_of index.now self.entry) word.now }
+        ensures stands { stand_of index.now result
+            ≡ stand_step (stand_of index.now self.entry) word.now }
     {
         if let Some(found) = index.find(self.node, word) {
             return Line {

@@ -79,8 +79,8 @@ pub struct ValueCharacter<'a, 'w> {
 
 /// The first character of a short word, given without its hyphen, whose argument takes values.
 ///
-/// The first argument that has the character as a short decides: where it takes no values, the search
-/// goes on with the next character.
+/// The first argument that has the character as a short decides: where it takes no values, the
+/// search goes on with the next character.
 pub fn value_character<'a, 'w>(
     arguments: &'a [Arg],
     characters: &'w str,
