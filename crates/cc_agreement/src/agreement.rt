@@ -19,7 +19,7 @@ pub fn line_and_bash_label<'a>(index: &Index<'a>, words: &[String]) -> Line<'a>
     ensures label { BashReads (tree_at index.now 0) →
         HasNoHiddenAlias (tree_at index.now 0) (map string_bytes words.now) →
         BashLeadsTo (tree_at index.now 0) (map string_bytes words.now)
-            (tree_at index.now result.node) }
+        (tree_at index.now result.node) }
 {
     line_of(index, words)
 }

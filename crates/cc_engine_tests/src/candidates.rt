@@ -30,7 +30,12 @@ fn values_within_the_word_of_an_option(rt: HostRuntime) {
 #[test]
 fn values_of_an_open_option(rt: HostRuntime) {
     offers(&rt, COLORED, &["app", "--color", ""], "auto ");
-    offers(&rt, COLORED, &["app", "-c=", ""], "--color --verbose --help ");
+    offers(
+        &rt,
+        COLORED,
+        &["app", "-c=", ""],
+        "--color --verbose --help ",
+    );
 }
 
 #[test]
@@ -47,7 +52,12 @@ fn a_hidden_alias_leads_to_its_child(rt: HostRuntime) {
 
 #[test]
 fn a_positional_takes_a_word_with_a_hyphen(rt: HostRuntime) {
-    offers(&rt, HYPHENS, &["app", "--opt", "-z", ""], "x y --opt --help ");
+    offers(
+        &rt,
+        HYPHENS,
+        &["app", "--opt", "-z", ""],
+        "x y --opt --help ",
+    );
     offers(&rt, HYPHENS, &["app", "--opt", "-", ""], "--opt --help ");
 }
 

@@ -42,7 +42,15 @@ pub(crate) fn found_at<D: Folder>(
     };
     let words = owned(alloc, words)?;
     let lent = Completers::new(alloc, Vec::new(alloc), Vec::new(alloc));
-    let found = complete(alloc, &mut command, words, index, current_dir, folder, &lent);
+    let found = complete(
+        alloc,
+        &mut command,
+        words,
+        index,
+        current_dir,
+        folder,
+        &lent,
+    );
     drop(command);
     found
 }

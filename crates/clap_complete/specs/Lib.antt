@@ -103,3 +103,26 @@ pub use Rattle.cc_zsh.specs.ZshReader
 pub use Rattle.cc_zsh.specs.ZshReads
 pub use Rattle.cc_zsh.specs.ZshScript
 pub use Rattle.cc_zsh.specs.ZshTable
+-- live completion
+pub use Rattle.cc_candidates.specs.Beginning
+pub use Rattle.cc_candidates.specs.Candidate
+pub use Rattle.cc_candidates.specs.Lent
+pub use Rattle.cc_candidates.specs.declared.candidate.CompletionCandidate
+pub use Rattle.cc_paths.specs.PathCandidates
+pub use Rattle.cc_paths.specs.PathTexts
+pub use Rattle.cc_walk.specs.Blocks as WalkBlocks
+pub use Rattle.cc_walk.specs.Line as WalkLine
+pub use Rattle.cc_walk.specs.Lookup as WalkLookup
+pub use Rattle.cc_walk.specs.Reach as WalkReach
+pub use Rattle.cc_walk.specs.Signs as WalkSigns
+pub use Rattle.cc_walk.specs.Visible as WalkVisible
+pub use Rattle.cc_walk.specs.Words as WalkWords
+pub use Rattle.cc_gather.specs.Children as OfferedChildren
+pub use Rattle.cc_gather.specs.Finished
+pub use Rattle.cc_gather.specs.Options as OfferedOptions
+pub use Rattle.cc_gather.specs.Rows as OptionRows
+pub use Rattle.cc_values.specs.Parts as ValueParts
+pub use Rattle.cc_values.specs.Values as ArgumentValues
+pub use Rattle.cc_engine.specs.Completion
+pub use Rattle.cc_engine.specs.Offer as WordOffer
+pub use Rattle.cc_engine.specs.Paths as HintPaths

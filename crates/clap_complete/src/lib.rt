@@ -23,9 +23,12 @@
 
 pub mod aot;
 pub mod command;
+pub mod engine;
 pub mod quote;
 
 pub use cc_arg::ValueHint;
 pub use cc_base::Error;
+pub use cc_candidates::{ArgValueCandidates, ArgValueCompleter, CompletionCandidate};
 pub use cc_lists::{Generator, generate};
+pub use cc_paths::PathCompleter;
 pub use cc_shell::{Shell, generate_to};

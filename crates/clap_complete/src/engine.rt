@@ -1,0 +1,12 @@
+//! What a running program offers while its user types.
+
+pub use cc_candidates::{
+    ArgValueCandidates, ArgValueCompleter, Completers, CompletionCandidate, FnCandidates,
+    FnCompleter, SubcommandCandidates, ValueCandidates, ValueCompleter,
+};
+pub use cc_engine::complete;
+pub use cc_paths::{
+    EveryPath, FnTest, Folder, FolderError, IsDir, IsExecutable, IsFile, PathCompleter, PathTest,
+    RealFolder,
+};
+pub use cc_values::{complete_possible_values, possible_value_candidates};
