@@ -18,7 +18,7 @@ use Rattle.cc_quote.specs.Tokens.{is_word}
 use Rattle.cc_bash.specs.Arms.{Arm, details_at, tree_arms, words_at, values, files, typed, nothing, filenames, plusdirs, nospace}
 use Rattle.cc_bash.specs.CaseTable.{Case, run, tree_cases}
 use Rattle.cc_bash.specs.Labels.{shared_label}
-use Rattle.cc_bash.specs.Quiet.{is_quiet_value}
+use Rattle.cc_command.specs.Quiet.{is_quiet_value}
 use Rattle.cc_bash.specs.Reads.{arm_after, place_label}
 use Rattle.cc_bash.specs.Walk.{all_places}
 use Rattle.cc_bash.specs.Reader.{pattern_of, assigned, bare_text, double_text, is_root, is_empty_reply, is_typed_reply, is_compgen_reply, mode_named, case_by, next, closed_table, read, bash_table}

@@ -23,7 +23,7 @@ use Rattle.cc_command.proofs.PlainParts.{IsPlainName, IsPlainShort, IsPlainArgum
 use Rattle.cc_lists.specs.ArgumentNames.{aliases_then}
 use Rattle.cc_quote.proofs.PosixCutting.{IsWord}
 use Rattle.cc_bash.specs.Arms.{arm_of, detail_of, details_at, long_word, long_words, names_of_shown, names_of_values, offered_by, offered_for, option_details, option_words, short_word, short_words, sibling_names, value_names, words_at}
-use Rattle.cc_bash.specs.Quiet.{is_quiet_argument, is_quiet_node, is_quiet_value}
+use Rattle.cc_command.specs.Quiet.{are_quiet_values, is_quiet_argument, is_quiet_node, is_quiet_value}
 use Rattle.cc_bash.proofs.PlainBytes.{IsPlainText, alphanumeric_byte, bytes_of, decimal_word, joiner_byte, no_paren_of, plain_text, quiet_word, word_of}
 use Rattle.cc_bash.proofs.ReadsArms.{IsReadableArm}
 use Rattle.cc_bash.proofs.ReadsDetails.{IsReadableDetail, IsReadableOffer}
@@ -74,11 +74,19 @@ IsQuietArgument argument = AllByRecursion IsWord (value_names argument)
 abbrev pub IsQuietNode : Node → Type 0
 IsQuietNode node = AllByRecursion IsQuietArgument node.arguments
 
+quiet_words : (possible : Option (List PossibleValue)) → IsTrue (are_quiet_values possible) →
+    AllByRecursion IsWord (names_of_values (unwrap_or possible []))
+quiet_words None h = tt
+quiet_words (Some possible) h =
+    AllByRecursion-map IsWord (λ value. value.name) possible
+    (AllByRecursion-weaker (λ value. IsTrue (is_quiet_value value.name)) (λ value. IsWord value.name)
+    (λ value k. quiet_word value.name k) possible
+    (each_passes (λ value. is_quiet_value value.name) possible h))
+
 pub quiet_node : (node : Node) → IsTrue (is_quiet_node node) → IsQuietNode node
 quiet_node node h =
     AllByRecursion-weaker (λ argument. IsTrue (is_quiet_argument argument)) IsQuietArgument
-    (λ argument k. AllByRecursion-weaker (λ value. IsTrue (is_quiet_value value)) IsWord quiet_word
-    (value_names argument) (each_passes is_quiet_value (value_names argument) k))
+    (λ argument k. quiet_words (possible_values argument) k)
     node.arguments (each_passes is_quiet_argument node.arguments h)
 
 -- those that are shown are among them

@@ -17,7 +17,7 @@ use Rattle.cc_quote.specs.PosixTokens.{sign}
 use Rattle.cc_quote.specs.PosixTokens.Sign.{other}
 use Rattle.cc_quote.proofs.PosixCutting.{IsOther, IsWord}
 use Rattle.cc_bash.specs.Labels.{replaced, root_label, child_label}
-use Rattle.cc_bash.specs.Quiet.{is_quiet_byte, is_quiet_value}
+use Rattle.cc_command.specs.Quiet.{is_quiet_byte, is_quiet_value}
 use Rattle.cc_bash.proofs.WordsRead.{Lacks}
 
 -- what the reader asks of a byte

@@ -13,7 +13,7 @@ use Rattle.cc_quote.proofs.PosixCutting.{IsKept-IsOther}
 use Rattle.cc_bash.specs.Arms.{arm_below, node_arm, tree_arms}
 use Rattle.cc_bash.specs.CaseTable.{Case, node_cases, case_below, tree_cases}
 use Rattle.cc_bash.specs.Labels.{Labelled, child_label, labelled, labelled_under, labels, root_label, shared_label}
-use Rattle.cc_bash.specs.Quiet.{is_quiet_forest, is_quiet_node, is_quiet_tree}
+use Rattle.cc_command.specs.Quiet.{is_quiet_forest, is_quiet_node, is_quiet_tree}
 use Rattle.cc_bash.specs.Reader.{bash_cases, bash_table}
 use Rattle.cc_bash.specs.Reads.{BashReads, arm_after}
 use Rattle.cc_bash.specs.Script.{tree_script}

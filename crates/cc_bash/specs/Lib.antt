@@ -2,7 +2,6 @@ pub mod Arms
 pub mod CaseTable
 pub mod Labels
 pub mod Nodes
-pub mod Quiet
 pub mod Reader
 pub mod Reads
 pub mod Script

@@ -7,7 +7,7 @@ use Rattle.cc_command.specs.Tree.{Tree}
 use Rattle.cc_bash.specs.Labels.{labels, root_label}
 use Rattle.cc_bash.specs.CaseTable.{tree_cases, run, run_end}
 use Rattle.cc_bash.specs.Arms.{Arm, arm_of, tree_arms}
-use Rattle.cc_bash.specs.Quiet.{is_quiet_tree}
+use Rattle.cc_command.specs.Quiet.{is_quiet_tree}
 use Rattle.cc_bash.specs.Reader.{Table, bash_cases, bash_table}
 use Rattle.cc_bash.specs.Script.{tree_script}
 use Rattle.cc_bash.specs.Walk.{Place, all_places, label_at, level_of, places, root_place, walk}

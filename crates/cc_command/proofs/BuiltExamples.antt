@@ -3,6 +3,7 @@ use Rattle.std.proofs.Common.{◌≡◌, ℕ, List, [], ◌∷◌, ◌++◌, Som
 use Rattle.cc_arg.specs.declared.arg.Arg.{Arg}
 use Rattle.cc_arg.specs.declared.action.ArgAction.TheVariants.{SetTrue}
 use Rattle.cc_arg.specs.Arguments.{new_arg}
+use Rattle.cc_arg.specs.PossibleValues.{new_possible_value}
 use Rattle.cc_command.specs.ArgumentLists.{conflicting}
 use Rattle.cc_command.specs.Texts.{help_name, version_name}
 use Rattle.cc_command.specs.Tree.{Forest, none, more, Tree}
@@ -10,6 +11,7 @@ use Rattle.cc_command.specs.Names.{full_name}
 use Rattle.cc_command.specs.Made.{new_tree, with_argument, with_child}
 use Rattle.cc_command.specs.PlainName.{is_joined, is_plain_name, name_byte}
 use Rattle.cc_command.specs.Plain.{is_plain_tree, siblings_differ}
+use Rattle.cc_command.specs.Quiet.{is_quiet_tree}
 use Rattle.cc_command.specs.Generated.{help_argument, version_argument}
 use Rattle.cc_command.specs.Built.{built_tree, built_under}
 
@@ -48,7 +50,26 @@ plain_when_built : is_plain_tree (built_under (Some (codes "app")) app) ≡ true
 unfolding help_argument version_argument help_name version_name siblings_differ is_plain_name is_joined name_byte
 plain_when_built = refl
 
--- with a quote in an id it is not
+-- an option whose possible values have these names
+abbrev chooses : List (List ℕ) → Arg
+chooses names = record (new_arg (codes "format")) { long = Some (codes "format"); possible_values = Some (map new_possible_value names) }
+
+abbrev app_choosing : List (List ℕ) → Tree
+app_choosing names = record app { node = with_argument app.node (chooses names) }
+
+-- a built tree with such values is quiet
+quiet_when_built : is_quiet_tree (built_under (Some (codes "app")) (app_choosing (codes "x86_64" ∷ codes "a+b=c" ∷ []))) ≡ true
+unfolding help_argument version_argument help_name version_name
+quiet_when_built = refl
+
+-- with a blank in a value, or an empty one, it is not
+not_quiet_with_blank : is_quiet_tree (app_choosing (codes "x86_64" ∷ codes "a b" ∷ [])) ≡ false
+not_quiet_with_blank = refl
+
+not_quiet_when_empty : is_quiet_tree (app_choosing ([] ∷ [])) ≡ false
+not_quiet_when_empty = refl
+
+-- with a quote in an id it is not plain
 not_plain_with_quote : is_plain_tree (record app { node = with_argument app.node (new_arg (codes "it's")) }) ≡ false
 unfolding siblings_differ is_plain_name is_joined name_byte
 not_plain_with_quote = refl

@@ -1,4 +1,5 @@
 pub mod BuiltAgain
+pub mod BuiltArguments
 pub mod BuiltExamples
 pub mod DifferentNames
 pub mod Forests
@@ -6,4 +7,5 @@ pub mod NameBytes
 pub mod PlainBuilt
 pub mod PlainNames
 pub mod PlainParts
+pub mod QuietBuilt
 pub mod SiblingNames

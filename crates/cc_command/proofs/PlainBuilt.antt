@@ -1,28 +1,24 @@
 -- A plain tree under a plain bin name builds to a plain tree.
-use Rattle.std.proofs.Common.{◌≡◌, ℕ, suc, List, [], ◌∷◌, ◌++◌, Bool, true, false, cond, not, ◌&&◌, ◌||◌, IsTrue, Option, Some, is_some, map, refl, ap, sym, subst, ◌∙◌, append_assoc}
+use Rattle.std.proofs.Common.{◌≡◌, ℕ, suc, List, [], ◌∷◌, ◌++◌, Bool, true, false, cond, not, ◌&&◌, ◌||◌, IsTrue, Option, Some, refl, ap, sym, subst, ◌∙◌, append_assoc}
 use Rattle.std.specs.List.{list_all}
 use Rattle.std.specs.Str.{bytes_eq}
 use Rattle.std.proofs.lemmas.Bool.Decides.{Decides-like, same_from_decides}
 use Rattle.std.proofs.lemmas.Slice.Eq.{bytes_eq-Decides}
 use Rattle.cc_base.proofs.Booleans.{both_true}
 use Rattle.cc_arg.specs.declared.arg.Arg.{Arg}
-use Rattle.cc_arg.specs.Arguments.{filled}
 use Rattle.cc_command.specs.declared.node.Node.{Node}
 use Rattle.cc_command.specs.Tree.{Forest, none, more, join, Tree}
-use Rattle.cc_command.specs.Names.{contains_name, has_name, has_child, has_id, full_name, joined_name}
+use Rattle.cc_command.specs.Names.{contains_name, has_name, has_child, full_name, joined_name}
 use Rattle.cc_command.specs.PlainName.{name_byte, is_joined, is_plain_name}
 use Rattle.cc_command.specs.Plain.{is_plain_tree, is_plain_forest, is_plain_node, is_plain_argument, siblings_differ, passes_if_some, all_differ, names_of, names_of_all}
 use Rattle.cc_command.specs.Texts.{help_name, help_about, version_name, last_order}
-use Rattle.cc_command.specs.Generated.{help_argument, version_argument, generated_help, generated_version, generated_arguments, generated_node, copies, help_command, needs_help_child, help_child}
-use Rattle.cc_command.specs.Built.{with_missing, lacks_index, with_index, next_index, indexed, inherited_by, given_arguments, globals, propagated, built_arguments, built_node, built_forest, built_under}
+use Rattle.cc_command.specs.Generated.{help_argument, version_argument, generated_node, copies, help_command, needs_help_child, help_child}
+use Rattle.cc_command.specs.Built.{propagated, built_arguments, built_node, built_forest, built_under}
 use Rattle.cc_command.proofs.BuiltAgain.{helped, join-none, has_child-built}
+use Rattle.cc_command.proofs.BuiltArguments.{IsKept, all_built, all_propagated, both}
 use Rattle.cc_command.proofs.DifferentNames.{all_differ_append, contains_name-names_of_all}
 use Rattle.cc_command.proofs.PlainParts.{plain_more, plain_tree}
 use Rattle.cc_command.proofs.SiblingNames.{first_differs}
-
-both : (a b : Bool) → IsTrue a → IsTrue b → IsTrue (a && b)
-both true b h k = k
-both false b h k = cc
 
 neither : (a b : Bool) → IsTrue (not a) → IsTrue (not b) → IsTrue (not (a || b))
 neither true b h k = cc
@@ -34,77 +30,14 @@ each_not false b h = (refl, h)
 
 -- ---- arguments
 
-plain_filled : (xs : List Arg) → list_all is_plain_argument (map filled xs) ≡ list_all is_plain_argument xs
-plain_filled [] = refl
-plain_filled (x ∷ xs) = ap (λ b. is_plain_argument x && b) (plain_filled xs)
-
-plain_with_index : (place : ℕ) (x : Arg) → is_plain_argument (with_index place x) ≡ is_plain_argument x
-plain_with_index place x = elim (lacks_index x) as (λ b. is_plain_argument (cond b (record x { index = Some place }) x) ≡ is_plain_argument x) [ true ↦ refl | false ↦ refl ]
-
-plain_indexed : (place : ℕ) (xs : List Arg) → list_all is_plain_argument (indexed place xs) ≡ list_all is_plain_argument xs
-plain_indexed place [] = refl
-plain_indexed place (x ∷ xs) =
-    ap (λ b. b && list_all is_plain_argument (indexed (next_index place x) xs)) (plain_with_index place x) ∙
-    ap (λ b. is_plain_argument x && b) (plain_indexed (next_index place x) xs)
-
-all_append : (xs ys : List Arg) → IsTrue (list_all is_plain_argument xs) → IsTrue (list_all is_plain_argument ys) → IsTrue (list_all is_plain_argument (xs ++ ys))
-all_append [] ys h k = k
-all_append (x ∷ xs) ys h k =
-    let a = both_true (is_plain_argument x) (list_all is_plain_argument xs) h in
-    both (is_plain_argument x) (list_all is_plain_argument (xs ++ ys)) a.0 (all_append xs ys a.1 k)
-
-plain_with_missing : (xs others : List Arg) → IsTrue (list_all is_plain_argument xs) → IsTrue (list_all is_plain_argument others) →
-    IsTrue (list_all is_plain_argument (with_missing xs others))
-plain_with_missing xs [] h k = h
-plain_with_missing xs (other ∷ others) h k =
-    let a = both_true (is_plain_argument other) (list_all is_plain_argument others) k in
-    plain_with_missing (cond (has_id xs other.id) xs (xs ++ other ∷ [])) others (stepped (has_id xs other.id) a.0) a.1
-  where
-    stepped : (b : Bool) → IsTrue (is_plain_argument other) → IsTrue (list_all is_plain_argument (cond b xs (xs ++ other ∷ [])))
-    stepped true p = h
-    stepped false p = all_append xs (other ∷ []) h (both (is_plain_argument other) true p refl)
-
--- the flags that building adds are plain
-help_argument_plain : IsTrue (is_plain_argument help_argument)
-unfolding help_argument help_name is_plain_name is_joined name_byte
-help_argument_plain = refl
-
-version_argument_plain : IsTrue (is_plain_argument version_argument)
-unfolding version_argument version_name is_plain_name is_joined name_byte
-version_argument_plain = refl
-
-generated_plain : (node : Node) → IsTrue (list_all is_plain_argument (generated_arguments node))
-generated_plain node =
-    all_append (generated_help node) (generated_version node) (of_help node.disable_help_flag)
-    (of_version (is_some node.version && not node.disable_version_flag))
-  where
-    of_help : (b : Bool) → IsTrue (list_all is_plain_argument (cond b [] (help_argument ∷ [])))
-    of_help true = refl
-    of_help false = both (is_plain_argument help_argument) true help_argument_plain refl
-
-    of_version : (b : Bool) → IsTrue (list_all is_plain_argument (cond b (version_argument ∷ []) []))
-    of_version true = both (is_plain_argument version_argument) true version_argument_plain refl
-    of_version false = refl
-
--- what a node is given is plain, and so is what it propagates
-plain_given : (inherited : List Arg) (node : Node) → IsTrue (list_all is_plain_argument inherited) → IsTrue (list_all is_plain_argument node.arguments) →
-    IsTrue (list_all is_plain_argument (given_arguments inherited node))
-plain_given inherited node above own = plain_with_missing node.arguments (inherited_by node inherited) own (inherits node.generated)
-  where
-    inherits : (b : Bool) → IsTrue (list_all is_plain_argument (cond b [] inherited))
-    inherits true = refl
-    inherits false = above
-
-plain_globals : (xs : List Arg) → IsTrue (list_all is_plain_argument xs) → IsTrue (list_all is_plain_argument (globals xs))
-plain_globals [] h = h
-plain_globals (x ∷ xs) h =
-    let a = both_true (is_plain_argument x) (list_all is_plain_argument xs) h in
-    kept x.global a.0 (plain_globals xs a.1)
-  where
-    kept : (b : Bool) → IsTrue (is_plain_argument x) → IsTrue (list_all is_plain_argument (globals xs)) →
-        IsTrue (list_all is_plain_argument (cond b (x ∷ globals xs) (globals xs)))
-    kept true p q = both (is_plain_argument x) (list_all is_plain_argument (globals xs)) p q
-    kept false p q = q
+plain_kept : IsKept is_plain_argument
+unfolding help_argument version_argument help_name version_name is_plain_name is_joined name_byte
+plain_kept = record {
+  when_filled = λ x. refl;
+  when_indexed = λ place x. refl;
+  of_help = refl;
+  of_version = refl;
+}
 
 plain_propagated : (inherited : List Arg) (node : Node) → IsTrue (list_all is_plain_argument inherited) → IsTrue (is_plain_node node) →
     IsTrue (list_all is_plain_argument (propagated inherited node))
@@ -113,7 +46,7 @@ plain_propagated inherited node above h =
     let a = both_true (is_plain_name node.name) (list_all is_plain_name node.visible_aliases && (list_all is_plain_name node.aliases && arguments)) h in
     let b = both_true (list_all is_plain_name node.visible_aliases) (list_all is_plain_name node.aliases && arguments) a.1 in
     let c = both_true (list_all is_plain_name node.aliases) arguments b.1 in
-    plain_globals (given_arguments inherited node) (plain_given inherited node above c.1)
+    all_propagated is_plain_argument inherited node above c.1
 
 -- ---- nodes
 
@@ -128,11 +61,7 @@ plain_built_node : (inherited : List Arg) (bin_name : Option (List ℕ)) (node :
     IsTrue (is_plain_node node) → IsTrue (is_plain_node (built_node inherited bin_name node))
 plain_built_node inherited bin_name node above h =
     in_place_of_last (is_plain_name node.name) (list_all is_plain_name node.visible_aliases) (list_all is_plain_name node.aliases)
-    (list_all is_plain_argument node.arguments) (list_all is_plain_argument (built_arguments inherited node)) h (λ own.
-    let given : List Arg = given_arguments inherited node in
-    let all : List Arg = with_missing given (generated_arguments node) in
-    subst IsTrue (sym (plain_indexed 1 (map filled all) ∙ plain_filled all))
-    (plain_with_missing given (generated_arguments node) (plain_given inherited node above own) (generated_plain node)))
+    (list_all is_plain_argument node.arguments) (list_all is_plain_argument (built_arguments inherited node)) h (all_built is_plain_argument plain_kept inherited node above)
 
 -- a generated node has a name and no other
 plain_generated : (name bin_name : List ℕ) (about : Option (List ℕ)) (order : ℕ) (hide : Bool) → IsTrue (is_plain_name name) →

@@ -7,6 +7,7 @@ pub mod Marked
 pub mod Names
 pub mod Plain
 pub mod PlainName
+pub mod Quiet
 pub mod Texts
 pub mod Tree
 pub mod TreeCode

@@ -11,6 +11,7 @@ mod conflicts;
 mod getters;
 mod iterators;
 mod plain;
+mod quiet;
 
 pub use crate::command::build::build_as;
 pub use crate::command::conflicts::first_with;

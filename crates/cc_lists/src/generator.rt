@@ -4,6 +4,7 @@ ghost use Rattle.std.specs.Prelude.{◌≡◌, ℕ, List, Option, Some, IsTrue, 
 ghost use Rattle.std.specs.String.{string_bytes};
 ghost use Rattle.cc_command.specs.Plain.{is_plain_tree};
 ghost use Rattle.cc_command.specs.PlainName.{is_plain_name};
+ghost use Rattle.cc_command.specs.Quiet.{is_quiet_tree};
 ghost use Rattle.cc_command.specs.Tree.{Tree};
 ghost use Rattle.cc_command.specs.Built.{built_under};
 ghost use Rattle.cc_lists.specs.Generators.{Generates, IsReady, LeavesBuilt};
@@ -58,7 +59,8 @@ pub trait Generator {
 }
 
 /// Sets the bin name, builds the command and writes the generator's script, which reads back where
-/// the command and the bin name are plain.
+/// the command and the bin name are plain. What a bash script says at each command reads back where
+/// the possible values are quiet too (`Command::has_quiet_values`), which building leaves as it is.
 ///
 /// Fails as `build_as` and `Generator::generate` do. Where the build fails, the command stays as it
 /// was and nothing is written; where a later step fails, the command stays built.
@@ -78,6 +80,8 @@ pub fn generate<G: Generator + Drop, W: Sink>(
     ensures plain { OnOk result (IsTrue (is_plain_tree command.old) →
         IsTrue (is_plain_name (string_bytes bin_name)) →
         G.Reads generator (built_under (Some (string_bytes bin_name)) command.old)) }
+    ensures quiet { OnOk result (IsTrue (is_quiet_tree command.old) →
+        IsTrue (is_quiet_tree (built_under (Some (string_bytes bin_name)) command.old))) }
 {
     build_as(command, alloc, bin_name)?;
     generator.generate(alloc, command, sink)

@@ -48,6 +48,7 @@ pub use Rattle.cc_command.specs.Marked
 pub use Rattle.cc_command.specs.Names
 pub use Rattle.cc_command.specs.Plain
 pub use Rattle.cc_command.specs.PlainName
+pub use Rattle.cc_command.specs.Quiet
 pub use Rattle.cc_command.specs.Texts
 pub use Rattle.cc_command.specs.Tree
 pub use Rattle.cc_command.specs.declared.node.Node
@@ -73,7 +74,6 @@ pub use Rattle.cc_tables.specs.declared.offers.Offer
 pub use Rattle.cc_bash.specs.Arms as BashArms
 pub use Rattle.cc_bash.specs.CaseTable as BashCaseTable
 pub use Rattle.cc_bash.specs.Labels as BashLabels
-pub use Rattle.cc_bash.specs.Quiet as BashQuiet
 pub use Rattle.cc_bash.specs.Reader as BashReader
 pub use Rattle.cc_bash.specs.Reads as BashReads
 pub use Rattle.cc_bash.specs.Script as BashScript

@@ -9,6 +9,7 @@ ghost use Rattle.cc_command.specs.Names.{joined_name};
 ghost use Rattle.cc_command.specs.Built.{built_below, built_forest, built_tree, built_under};
 ghost use Rattle.cc_command.specs.PlainName.{is_plain_name};
 ghost use Rattle.cc_command.specs.Plain.{is_plain_tree};
+ghost use Rattle.cc_command.specs.Quiet.{is_quiet_tree};
 
 mod arguments;
 mod help;
@@ -26,7 +27,8 @@ impl Command {
     /// whose ids it lacks; adds the flag `help`, the flag `version` where there is a version, and
     /// the child `help` where there are children, each unless it is disabled or there already;
     /// fills in ranges, actions and indexes; and names every child in full. A plain command stays
-    /// plain. Building a built command changes nothing and never fails.
+    /// plain, and quiet possible values stay quiet. Building a built command changes nothing and
+    /// never fails.
     ///
     /// Fails with `Memory` alone; the command is then unchanged.
     pub fn build(&mut self, alloc: Global) -> Result<(), Error>
@@ -34,6 +36,8 @@ impl Command {
         ensures whole { OnOk result (built_tree self.new ≡ self.new) }
         ensures plain { OnOk result
             (IsTrue (is_plain_tree self.old) → IsTrue (is_plain_tree self.new)) }
+        ensures quiet { OnOk result
+            (IsTrue (is_quiet_tree self.old) → IsTrue (is_quiet_tree self.new)) }
         ensures built { IsTrue self.old.node.built → IsOk result }
         ensures err { OnErr result (self.new ≡ self.old) }
         ensures memory { IfErr result (λ error. error ≡ Error.Memory) }
@@ -92,7 +96,8 @@ impl Command {
 }
 
 /// Sets the bin name of a command and builds it, both or neither. A plain command stays plain under
-/// a plain bin name. A free function, so that `clap_complete` need not re-export it.
+/// a plain bin name, and quiet possible values stay quiet. A free function, so that `clap_complete`
+/// need not re-export it.
 ///
 /// Fails with `Memory` alone; the command is then unchanged.
 pub fn build_as(command: &mut Command, alloc: Global, bin_name: String) -> Result<(), Error>
@@ -101,6 +106,8 @@ pub fn build_as(command: &mut Command, alloc: Global, bin_name: String) -> Resul
     ensures whole { OnOk result (built_tree command.new ≡ command.new) }
     ensures plain { OnOk result (IsTrue (is_plain_tree command.old)
         → IsTrue (is_plain_name (string_bytes bin_name)) → IsTrue (is_plain_tree command.new)) }
+    ensures quiet { OnOk result
+        (IsTrue (is_quiet_tree command.old) → IsTrue (is_quiet_tree command.new)) }
     ensures err { OnErr result (command.new ≡ command.old) }
     ensures memory { IfErr result (λ error. error ≡ Error.Memory) }
 {

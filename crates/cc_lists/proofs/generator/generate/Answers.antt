@@ -1,5 +1,6 @@
-use Rattle.std.proofs.Common.{subst}
+use Rattle.std.proofs.Common.{IsTrue, subst}
 use Rattle.std.proofs.lemmas.Result.{on_ok_weaker}
+use Rattle.cc_command.specs.Quiet.{is_quiet_tree}
 use Rattle.cc_command.specs.Tree.{Tree}
 use Rattle.cc_lists.specs.Generators.{Generates}
 use Rattle.cc_lists.proofs.generator.generate.Goals as goal
@@ -16,4 +17,10 @@ returns-clause-plain g c =
     on_ok_weaker c.generate.result
     (λ reads tree_is_plain name_is_plain.
     subst (g.G.Generator.Reads c.args.generator) c.in_ok-build_as.ensures.ok (reads (c.in_ok-build_as.ensures.plain tree_is_plain name_is_plain)))
+    c.generate.ensures.reads
+
+pub returns-clause-quiet : goal.returns-clause-quiet
+returns-clause-quiet g c =
+    on_ok_weaker c.generate.result
+    (λ reads quiet. subst (λ (tree : Tree). IsTrue (is_quiet_tree tree)) c.in_ok-build_as.ensures.ok (c.in_ok-build_as.ensures.quiet quiet))
     c.generate.ensures.reads

@@ -1,11 +1,12 @@
--- Which possible values are quiet: those that stand in a script as they are.
-use Rattle.std.specs.Prelude.{ℕ, Bool, true, false, ◌&&◌, ◌||◌, ◌==◌, List, [], ◌∷◌, codes}
+-- Which possible values are quiet: those that stand in a bash script as they are.
+use Rattle.std.specs.Prelude.{ℕ, Bool, true, false, ◌&&◌, ◌||◌, ◌==◌, List, [], ◌∷◌, codes, Option, Some, None}
 use Rattle.std.specs.Char.{is_ascii_alphanumeric}
 use Rattle.std.specs.List.{list_all, list_any}
 use Rattle.cc_arg.specs.declared.arg.Arg.{Arg}
+use Rattle.cc_arg.specs.declared.possible_value.PossibleValue.{PossibleValue}
+use Rattle.cc_arg.specs.Arguments.{possible_values}
 use Rattle.cc_command.specs.declared.node.Node.{Node}
 use Rattle.cc_command.specs.Tree.{Forest, none, more, Tree}
-use Rattle.cc_bash.specs.Arms.{value_names}
 
 -- a letter, a digit or one of these signs
 abbrev pub is_quiet_byte : ℕ → Bool
@@ -17,9 +18,14 @@ abbrev pub is_quiet_value : List ℕ → Bool
 is_quiet_value [] = false
 is_quiet_value (byte ∷ value) = list_all is_quiet_byte (byte ∷ value)
 
+-- the names of some possible values are quiet, hidden ones too
+abbrev pub are_quiet_values : Option (List PossibleValue) → Bool
+are_quiet_values None = true
+are_quiet_values (Some possible) = list_all (λ value. is_quiet_value value.name) possible
+
 -- each possible value of an argument, of a node's arguments, and of all nodes is quiet
 abbrev pub is_quiet_argument : Arg → Bool
-is_quiet_argument argument = list_all is_quiet_value (value_names argument)
+is_quiet_argument argument = are_quiet_values (possible_values argument)
 
 abbrev pub is_quiet_node : Node → Bool
 is_quiet_node node = list_all is_quiet_argument node.arguments

@@ -1,0 +1,82 @@
+//! Whether the possible values of a tree are quiet: a bash script can then hold them as they are.
+
+ghost use Rattle.std.specs.Prelude.{◌≡◌};
+ghost use Rattle.std.specs.List.{list_all};
+ghost use Rattle.std.specs.Option.{option_copied};
+ghost use Rattle.cc_command.specs.Tree.{forest_of};
+ghost use Rattle.cc_command.specs.Quiet.{are_quiet_values, is_quiet_argument, is_quiet_byte};
+ghost use Rattle.cc_command.specs.Quiet.{is_quiet_forest, is_quiet_node, is_quiet_tree};
+ghost use Rattle.cc_command.specs.Quiet.{is_quiet_value};
+
+use crate::command::Command;
+use crate::node::Node;
+use cc_arg::{Arg, PossibleValue, possible_values};
+
+impl Command {
+    /// Whether each possible value in the tree is quiet, also a hidden one: not empty, and made of
+    /// ASCII letters, digits and `+-./:@_,=`. A bash script holds possible values as they are; that
+    /// of a plain tree reads back whole where they are quiet.
+    ///
+    /// A possible value counts where its argument takes values. Allocates nothing.
+    #[cycle(quiet)]
+    pub fn has_quiet_values(&self) -> bool
+        ensures { result ≡ is_quiet_tree self.now }
+    {
+        is_quiet_node(&self.node) && is_quiet_forest(&self.children)
+    }
+}
+
+#[cycle(quiet)]
+fn is_quiet_forest(siblings: &[Command]) -> bool
+    ensures { result ≡ is_quiet_forest (forest_of siblings.now) }
+{
+    for sibling in siblings {
+        if !sibling.has_quiet_values() {
+            return false;
+        }
+    }
+    true
+}
+
+fn is_quiet_node(node: &Node) -> bool
+    ensures { result ≡ is_quiet_node node.now }
+{
+    node.arguments.as_slice().iter().all(is_quiet_argument)
+}
+
+fn is_quiet_argument(argument: &Arg) -> bool
+    ensures { result ≡ is_quiet_argument argument.now }
+{
+    match possible_values(argument) {
+        Some(values) => are_quiet_values(values),
+        None => true,
+    }
+}
+
+fn are_quiet_values(values: &[PossibleValue]) -> bool
+    ensures { result ≡ list_all (λ value. is_quiet_value value.name) values.now }
+{
+    values.iter().all(|value| is_quiet_value(value.get_name()))
+}
+
+fn is_quiet_value(name: &str) -> bool
+    ensures { result ≡ is_quiet_value name.now }
+{
+    !name.is_empty() && are_quiet_bytes(name.as_bytes())
+}
+
+fn are_quiet_bytes(bytes: &[u8]) -> bool
+    ensures { result ≡ list_all is_quiet_byte bytes.now }
+{
+    bytes.iter().all(|byte| is_quiet_byte(*byte))
+}
+
+fn is_quiet_byte(byte: u8) -> bool
+    ensures { result ≡ is_quiet_byte byte }
+{
+    byte.is_ascii_alphanumeric()
+        || matches!(
+            byte,
+            b'+' | b'-' | b'.' | b'/' | b':' | b'@' | b'_' | b',' | b'='
+        )
+}
