@@ -1,5 +1,5 @@
 -- What the reader asks of plain names.
-use Rattle.std.proofs.Common.{◌≡◌, ◌≢◌, ◌==◌, ◌||◌, ℕ, ◌<◌, Bool, true, false, cond, IsTrue, List, [], ◌∷◌, ◌++◌, flat_map, map, Option, Some, None, codes, refl, sym, subst, arith}
+use Rattle.std.proofs.Common.{◌≡◌, ◌≢◌, ◌==◌, ◌||◌, ℕ, ◌<◌, Bool, true, false, cond, IsTrue, List, [], ◌∷◌, ◌++◌, flat_map, map, Option, Some, None, codes, refl, sym, ap, ◌∙◌, subst, arith}
 use Rattle.std.specs.Char.{is_ascii_alphanumeric}
 use Rattle.std.specs.List.{AllByRecursion}
 use Rattle.std.specs.Option.{option_to_list}
@@ -14,7 +14,7 @@ use Rattle.cc_arg.specs.declared.names.ShownName.TheVariants.{Short, Long}
 use Rattle.cc_arg.specs.ShownNames.{shown_names, shown_shorts, shown_longs}
 use Rattle.cc_command.specs.declared.node.Node.{Node}
 use Rattle.cc_command.specs.Plain.{passes_if_some}
-use Rattle.cc_command.specs.PlainName.{letter, joiner, foreign, name_byte, is_plain_name}
+use Rattle.cc_command.specs.PlainName.{letter, joiner, foreign, is_joined, name_byte, is_plain_name}
 use Rattle.cc_command.proofs.NameBytes.{plain_bytes}
 use Rattle.cc_command.proofs.PlainParts.{IsPlainName, IsPlainShort, IsPlainArgument, shown_plain}
 use Rattle.cc_quote.specs.PosixTokens.{sign}
@@ -23,9 +23,9 @@ use Rattle.cc_quote.proofs.PosixCutting.{IsOther}
 use Rattle.cc_command.specs.ArgumentLists.{first_with}
 use Rattle.cc_zsh.specs.Conflicts.{looked_up, excluded, short_word, long_word, short_words, long_words, own_words, conflict_words, conflicts_text}
 use Rattle.cc_zsh.specs.Options.{name_word}
-use Rattle.cc_zsh.specs.ZshReader.{is_name_byte}
+use Rattle.cc_zsh.specs.ZshReader.{is_name_byte, is_typed_name}
 use Rattle.cc_zsh.proofs.ZshCutting.{NoQuote}
-use Rattle.cc_zsh.proofs.ZshOptionWords.{AreNameBytes, IsDashed, IsFront, dashed_bytes, front_of}
+use Rattle.cc_zsh.proofs.ZshOptionWords.{AreNameBytes, IsDashed, StartsDashed, IsFront, dashed_bytes, front_of}
 
 -- ---- bytes
 
@@ -73,16 +73,30 @@ name_no_quote text h = AllByRecursion-weaker (λ byte. is_name_byte byte ≡ tru
 short_low : (short : ℕ) → is_ascii_alphanumeric short ≡ true → short < 128
 short_low short h = grind (arith, nat_tests)
 
+short_no_dash : (short : ℕ) → is_ascii_alphanumeric short ≡ true → short == 45 ≡ false
+short_no_dash short h = grind (arith, nat_tests)
+
+short_typed : (short : ℕ) → IsPlainShort short → IsTrue (is_typed_name (45 ∷ short ∷ []))
+unfolding is_typed_name is_plain_name is_joined name_byte
+short_typed short h =
+    ap (λ b. is_plain_name (cond b [] (short ∷ []))) (short_no_dash short h)
+    ∙ ap (λ b. is_joined (cond b letter (cond (short == 45 || short == 95) joiner foreign) ∷ [])) h
+
 short_dashed : (short : ℕ) → IsPlainShort short → IsDashed (short_word short)
 short_dashed short h = subst (λ t. IsDashed (45 ∷ t)) (sym (encode_ascii short (short_low short h)))
-    (refl, (letter_is short h, tt))
+    (record { starts = (refl, (letter_is short h, tt)); typed = short_typed short h })
 
-dash_bytes : (text : List ℕ) → AreNameBytes text → IsDashed (codes "--" ++ text)
+dash_bytes : (text : List ℕ) → AreNameBytes text → StartsDashed (codes "--" ++ text)
 unfolding is_name_byte
 dash_bytes text h = (refl, (refl, h))
 
+long_typed : (long : List ℕ) → IsPlainName long → IsTrue (is_typed_name (codes "--" ++ long))
+unfolding is_typed_name
+long_typed long h = h
+
 long_dashed : (long : List ℕ) → IsPlainName long → IsDashed (long_word long)
-long_dashed long h = dash_bytes long (plain_name_bytes long h)
+long_dashed long h =
+    record { starts = dash_bytes long (plain_name_bytes long h); typed = long_typed long h }
 
 -- a name that is typed with its dashes
 abbrev pub IsDashedName : ShownName → Type 0

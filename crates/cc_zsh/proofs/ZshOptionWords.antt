@@ -1,10 +1,10 @@
 -- The word of an option is read back to it, and the words that tell none.
-use Rattle.std.proofs.Common.{◌≡◌, ◌==◌, ℕ, Bool, true, false, cond, List, [], ◌∷◌, ◌++◌, Some, None, codes, refl, sym, ◌∙◌, ap, subst, arith, append_assoc, append-nil}
-use Rattle.std.specs.List.{AllByRecursion}
+use Rattle.std.proofs.Common.{◌≡◌, ◌==◌, ℕ, Bool, true, false, cond, ◌&&◌, IsTrue, List, [], ◌∷◌, ◌++◌, Some, None, codes, refl, sym, ◌∙◌, ap, subst, arith, append_assoc, append-nil}
+use Rattle.std.specs.List.{AllByRecursion, list_all}
 use Rattle.std.proofs.lemmas.Bool.Decides.{nat_tests}
 use Rattle.cc_base.specs.Joined.{joined, joined_after}
 use Rattle.cc_quote.specs.ZshQuote.{is_help_marked, is_value_marked, marked_byte, marked}
-use Rattle.cc_zsh.specs.ZshReader.{Bracket, ZshOption, OptionPlace, new_option, with_help, with_name, is_name_byte, after_name, next_place, place_after, read_option, option_of}
+use Rattle.cc_zsh.specs.ZshReader.{Bracket, ZshOption, OptionPlace, new_option, with_help, with_name, is_name_byte, after_name, next_place, place_after, is_typed_name, with_typed_names, read_option, option_of}
 use Rattle.cc_zsh.specs.ZshReader.Bracket.{alone, after_plus, after_equals}
 use Rattle.cc_zsh.specs.ZshReader.OptionPlace.{before_option, in_conflicts, after_conflicts, after_star, in_name, at_bracket, in_help, in_help_escaped, after_help, no_option}
 
@@ -14,9 +14,14 @@ abbrev pub AreNameBytes : List ℕ → Type 0
 AreNameBytes text = AllByRecursion (λ byte. is_name_byte byte ≡ true) text
 
 -- a dash and such bytes
-abbrev pub IsDashed : List ℕ → Type 0
-IsDashed [] = ⊥
-IsDashed (byte ∷ text) = (byte ≡ 45) × AreNameBytes text
+abbrev pub StartsDashed : List ℕ → Type 0
+StartsDashed [] = ⊥
+StartsDashed (byte ∷ text) = (byte ≡ 45) × AreNameBytes text
+
+-- such a text, of one or two dashes and a plain name
+pub record IsDashed (text : List ℕ) : Type 0 where
+  pub starts : StartsDashed text
+  pub typed : IsTrue (is_typed_name text)
 
 not_close : (byte : ℕ) → is_name_byte byte ≡ true → byte == 41 ≡ false
 unfolding is_name_byte
@@ -31,8 +36,11 @@ unfolding is_name_byte
 dash_is_name = refl
 
 pub dashed_bytes : (text : List ℕ) → IsDashed text → AreNameBytes text
-dashed_bytes [] h = absurd h
-dashed_bytes (byte ∷ text) (e, h) = (ap is_name_byte e ∙ dash_is_name, h)
+dashed_bytes text h = by_start text h.starts
+  where
+    by_start : (name : List ℕ) → StartsDashed name → AreNameBytes name
+    by_start [] k = absurd k
+    by_start (byte ∷ name) (e, k) = (ap is_name_byte e ∙ dash_is_name, k)
 
 name_read : (text rest name : List ℕ) (names : List (List ℕ)) (repeated : Bool) →
     AreNameBytes text → place_after (in_name names repeated name) (text ++ rest)
@@ -126,7 +134,7 @@ conflict_read (byte ∷ text) rest name names (h, hs) =
 
 with_dashed : (names : List (List ℕ)) (name : List ℕ) → IsDashed name →
     with_name names name ≡ names ++ name ∷ []
-with_dashed names [] h = absurd h
+with_dashed names [] h = absurd h.starts
 with_dashed names (byte ∷ name) h = refl
 
 -- the names after the first
@@ -200,7 +208,7 @@ rest_read words repeated name bracket help values h =
 
 -- after the names in conflict, and where there are none
 conflicted : (words : List (List ℕ)) (repeated : Bool) (name : List ℕ) (bracket : Bracket)
-    (help values : List ℕ) → IsDashed name →
+    (help values : List ℕ) → StartsDashed name →
     place_after (after_conflicts words) (star_of repeated ++ (name ++ (bracket_text bracket
     ++ (codes "[" ++ (marked is_help_marked help ++ (codes "]" ++ values))))))
     ≡ after_help (option_with words repeated name bracket help)
@@ -212,7 +220,7 @@ conflicted words false (byte ∷ name) bracket help values (e, h) =
     rw e (rest_read words false name bracket help values h)
 
 alone_read : (repeated : Bool) (name : List ℕ) (bracket : Bracket) (help values : List ℕ) →
-    IsDashed name → place_after before_option (star_of repeated ++ (name ++ (bracket_text bracket
+    StartsDashed name → place_after before_option (star_of repeated ++ (name ++ (bracket_text bracket
     ++ (codes "[" ++ (marked is_help_marked help ++ (codes "]" ++ values))))))
     ≡ after_help (option_with [] repeated name bracket help)
 unfolding place_after next_place
@@ -227,14 +235,32 @@ abbrev pub IsFront : Bool → List (List ℕ) → Type 0
 IsFront true words = AllByRecursion IsDashed words
 IsFront false words = words ≡ []
 
+all_typed : (words : List (List ℕ)) → AllByRecursion IsDashed words →
+    IsTrue (list_all is_typed_name words)
+all_typed [] h = refl
+all_typed (word ∷ words) (h, hs) =
+    ap (λ b. b && list_all is_typed_name words) h.typed ∙ all_typed words hs
+
+-- names that are typed so are no reason to pass an option over
+typed_kept : (words : List (List ℕ)) (repeated : Bool) (name : List ℕ) (bracket : Bracket)
+    (help : List ℕ) → AllByRecursion IsDashed words → IsDashed name →
+    read_option (after_help (option_with words repeated name bracket help))
+    ≡ Some (option_with words repeated name bracket help)
+unfolding read_option with_typed_names
+typed_kept words repeated name bracket help are h =
+    let option : ZshOption = option_with words repeated name bracket help in
+    ap (λ b. cond (b && list_all is_typed_name words) (Some option) None) h.typed
+    ∙ ap (λ b. cond b (Some option) None) (all_typed words are)
+
 -- an option's word tells the option
 pub option_read : (has_front : Bool) (words : List (List ℕ)) (repeated : Bool) (name : List ℕ)
     (bracket : Bracket) (help values : List ℕ) → IsFront has_front words → IsDashed name →
     option_of (option_word has_front words repeated name bracket help values)
     ≡ Some (option_with words repeated name bracket help)
-unfolding option_of read_option
+unfolding option_of
 option_read false words repeated name bracket help values none h =
-    ap read_option (alone_read repeated name bracket help values h)
+    ap read_option (alone_read repeated name bracket help values h.starts)
+    ∙ typed_kept [] repeated name bracket help tt h
     ∙ ap (λ ws. Some (option_with ws repeated name bracket help)) (sym none)
 option_read true words repeated name bracket help values are h =
     let rest : List ℕ = star_of repeated ++ (name ++ (bracket_text bracket
@@ -242,7 +268,8 @@ option_read true words repeated name bracket help values are h =
     ap (λ t. read_option (place_after before_option (codes "(" ++ t)))
     (append_assoc (joined (codes " ") words) (codes ")") rest)
     ∙ ap read_option (conflicts_read words rest are
-    ∙ conflicted words repeated name bracket help values h)
+    ∙ conflicted words repeated name bracket help values h.starts)
+    ∙ typed_kept words repeated name bracket help are h
 
 -- ---- words that tell none
 

@@ -1,10 +1,11 @@
 -- What a zsh script offers, by its tokens: blocks of options, each under its path, and the
 -- functions that describe children.
-use Rattle.std.specs.Prelude.{ℕ, Bool, true, false, List, [], ◌∷◌, ◌++◌, ◌==◌, ◌||◌, if◌then◌else◌, Option, Some, None, option_map, is_some, bytes_eq, codes}
+use Rattle.std.specs.Prelude.{ℕ, Bool, true, false, List, [], ◌∷◌, ◌++◌, ◌==◌, ◌||◌, ◌&&◌, if◌then◌else◌, Option, Some, None, option_map, is_some, bytes_eq, codes}
 use Rattle.std.specs.Char.{is_ascii_alphanumeric}
-use Rattle.std.specs.List.{flat_map}
+use Rattle.std.specs.List.{flat_map, list_all}
 use Rattle.std.specs.Option.{option_to_list}
 use Rattle.cc_base.specs.Bytes.{space, open_parenthesis, close_parenthesis, star, plus, dash, colon, equals, open_bracket, backslash, close_bracket, underscore}
+use Rattle.cc_command.specs.PlainName.{is_plain_name}
 use Rattle.cc_quote.specs.PosixTokens.{is_double_quote, posix_tokens}
 use Rattle.cc_quote.specs.Tokens.{Piece, Token, is_word}
 use Rattle.cc_quote.specs.Tokens.Piece.{bare, quoted, unclosed}
@@ -132,9 +133,25 @@ unfoldable pub place_after : OptionPlace → List ℕ → OptionPlace
 place_after place [] = place
 place_after place (byte ∷ word) = place_after (next_place place byte) word
 
+-- a text without the dash at its start, if one is there
+abbrev pub without_dash : List ℕ → List ℕ
+without_dash [] = []
+without_dash (byte ∷ text) = if byte == dash then text else byte ∷ text
+
+-- a name as it is typed: `-` or `--`, and then a plain name
+unfoldable pub is_typed_name : List ℕ → Bool
+is_typed_name [] = false
+is_typed_name (byte ∷ name) = byte == dash && is_plain_name (without_dash name)
+
+-- the option, if its name and those in conflict with it are names as they are typed
+unfoldable pub with_typed_names : ZshOption → Option ZshOption
+with_typed_names option =
+    if is_typed_name option.name && list_all is_typed_name option.conflicts then Some option
+    else None
+
 -- the option that was read up to there
 unfoldable pub read_option : OptionPlace → Option ZshOption
-read_option (after_help option) = Some option
+read_option (after_help option) = with_typed_names option
 read_option _ = None
 
 -- the option that a word tells, if it tells one
