@@ -24,6 +24,10 @@ use std::rt::Files;
 /// The file is made, or emptied if it is there, when the first part of the script leaves the
 /// buffer. So none is made where two commands share a label, and where memory runs out before.
 ///
+/// The clause `script_reads` is of the script's text alone, as `plain` of `generate` is: on `Ok` no
+/// two commands share a label, and the text of a plain command reads back. No clause says what the
+/// file holds, nor which kind the system fails with.
+///
 /// Fails as `generate` does; with `Write` and the system's kind where the file can't be made, as in
 /// a folder that isn't there, or can't be written. A later failure leaves the file as far as it was
 /// written.
@@ -41,7 +45,7 @@ pub fn generate_to<R: Files, G: Generator + Drop>(
         (built_under (Some (string_bytes bin_name)) command.old) }
     ensures ends { EndsFile result
         (G.clash generator (built_under (Some (string_bytes bin_name)) command.old)) }
-    ensures plain { OnOk result (IsTrue (is_plain_tree command.old) →
+    ensures script_reads { OnOk result (IsTrue (is_plain_tree command.old) →
         IsTrue (is_plain_name (string_bytes bin_name)) →
         G.Reads generator (built_under (Some (string_bytes bin_name)) command.old)) }
 {
@@ -64,7 +68,7 @@ fn write_file<R: Files, G: Generator + Drop>(
         (built_under (Some (string_bytes bin_name)) command.old) }
     ensures ends { EndsFile result
         (G.clash generator (built_under (Some (string_bytes bin_name)) command.old)) }
-    ensures plain { OnOk result (IsTrue (is_plain_tree command.old) →
+    ensures script_reads { OnOk result (IsTrue (is_plain_tree command.old) →
         IsTrue (is_plain_name (string_bytes bin_name)) →
         G.Reads generator (built_under (Some (string_bytes bin_name)) command.old)) }
 {
