@@ -8,7 +8,6 @@ use Rattle.cc_arg.specs.ShownNames.{shown_longs, shown_shorts}
 use Rattle.cc_candidates.specs.declared.candidate.CompletionCandidate.{CompletionCandidate}
 use Rattle.cc_candidates.specs.Beginning.{begins}
 use Rattle.cc_gather.specs.Numbers.{is_number}
-
 use Rattle.cc_gather.specs.Lookup.{has_long, value_argument}
 use Rattle.cc_gather.specs.Options.{longs, shorts}
 

@@ -63,4 +63,3 @@ fn contains_char(characters: &[char], character: char) -> bool
 {
     characters.iter().any(|c| *c == character)
 }
-

@@ -102,4 +102,3 @@ fn short_help(alloc: Global, argument: &Arg) -> Result<Option<String>, AllocErro
     help.push_str(long)?;
     Ok(Some(help))
 }
-
