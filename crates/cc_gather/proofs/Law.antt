@@ -70,7 +70,7 @@ any-in_order p by xs h = elim (cases_Bool (list_any p (in_order by xs))) [
       cc
 ]
 
--- GROUPED BEHIND A LIST
+-- GROUPED AFTER A LIST
 
 module _ (a v : Candidates) where
   abbrev sorted : Candidates
@@ -293,7 +293,7 @@ module _ (a b : Candidates) (apart : ShareNone a b) where
       ∙ filter-append is_shown a (finished b) ∙ ap (λ s. filter is_shown a ++ s) (dropped is_shown (finished b) (hidden e) ∙ sym (dropped is_shown b (any_none is_shown b e)))
       ∙ sym (filter-append is_shown a b) ∙ sym (shown_true (a ++ b) (any_both a b true false t e)))
 
-  -- FINISHING A LIST BEHIND ANOTHER ONE FIRST CHANGES NOTHING, WHERE THE TWO SHARE NO ID
+  -- FINISHING A LIST AFTER ANOTHER ONE FIRST CHANGES NOTHING, WHERE THE TWO SHARE NO ID
   pub finished_after : finished (a ++ finished b) ≡ finished (a ++ b)
   finished_after = elim (cases_Bool (list_any is_shown b)) [
     | inl e ↦ after_visible e

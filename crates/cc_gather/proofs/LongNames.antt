@@ -4,7 +4,6 @@ use Rattle.std.specs.Prelude.{codes}
 use Rattle.std.specs.List.{flat_map}
 use Rattle.std.proofs.lemmas.List.Elements.{filter-append}
 use Rattle.cc_arg.specs.declared.arg.Arg.{Arg}
-use Rattle.cc_candidates.specs.declared.candidate.CompletionCandidate.{CompletionCandidate}
 use Rattle.cc_candidates.specs.Beginning.{begins}
 use Rattle.cc_arg.specs.ShownNames.{shown_longs}
 use Rattle.cc_gather.specs.Options.{long_candidate, long_candidates, hidden_candidates, longs, longs_beginning, hidden_beginning}

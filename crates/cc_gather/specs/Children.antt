@@ -1,6 +1,6 @@
 -- The candidates that are children of a command.
-use Rattle.std.specs.Prelude.{ℕ, List, [], ◌++◌, map, filter, Bool, true, Some, unwrap_or, codes, nat_eq, if◌then◌else◌}
-use Rattle.std.specs.List.{dedup, starts_with}
+use Rattle.std.specs.Prelude.{ℕ, List, [], ◌++◌, map, filter, Bool, true, Some, unwrap_or, codes, if◌then◌else◌}
+use Rattle.std.specs.List.{dedup}
 use Rattle.std.specs.Ordering.{is_lt, eq_by_cmp}
 use Rattle.cc_base.specs.Sorting.{in_order}
 use Rattle.cc_candidates.specs.Beginning.{begins}

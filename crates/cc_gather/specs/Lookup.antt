@@ -1,13 +1,10 @@
 -- Which argument a long or a short names.
-use Rattle.std.specs.Prelude.{◌≡◌, ℕ, List, [], ◌∷◌, ◌++◌, ◌==◌, map, filter, find, Bool, true, Option, Some, None, unwrap_or, codes, bytes_eq, chars, encode_utf8, encode_utf8_all, if◌then◌else◌}
-use Rattle.std.specs.List.{flat_map, list_any}
-use Rattle.std.specs.Option.{option_map, option_or, option_eq}
+use Rattle.std.specs.Prelude.{ℕ, List, ◌==◌, find, Bool, Option, Some, None, bytes_eq, if◌then◌else◌}
+use Rattle.std.specs.List.{list_any}
+use Rattle.std.specs.Option.{option_eq}
 use Rattle.cc_arg.specs.declared.arg.Arg.{Arg}
 use Rattle.cc_arg.specs.Arguments.{takes_values}
-use Rattle.cc_arg.specs.ShownNames.{shown_longs, shown_shorts}
-use Rattle.cc_candidates.specs.declared.candidate.CompletionCandidate.{CompletionCandidate}
-use Rattle.cc_candidates.specs.Beginning.{begins}
-use Rattle.cc_gather.specs.Numbers.{is_number}
+use Rattle.cc_arg.specs.ShownNames.{shown_shorts}
 
 -- the argument's long, and no alias, is the flag
 abbrev pub has_long : List ℕ → Arg → Bool

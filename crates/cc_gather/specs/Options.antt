@@ -1,13 +1,11 @@
 -- The candidates that are options.
-use Rattle.std.specs.Prelude.{◌≡◌, ℕ, List, [], ◌∷◌, ◌++◌, ◌==◌, map, filter, find, Bool, true, Option, Some, None, unwrap_or, codes, bytes_eq, chars, encode_utf8, encode_utf8_all, if◌then◌else◌}
-use Rattle.std.specs.List.{flat_map, list_any}
-use Rattle.std.specs.Option.{option_map, option_or, option_eq}
+use Rattle.std.specs.Prelude.{ℕ, List, ◌++◌, map, filter, Bool, true, Option, Some, unwrap_or, codes, encode_utf8}
+use Rattle.std.specs.List.{flat_map}
+use Rattle.std.specs.Option.{option_map, option_or}
 use Rattle.cc_arg.specs.declared.arg.Arg.{Arg}
-use Rattle.cc_arg.specs.Arguments.{takes_values}
 use Rattle.cc_arg.specs.ShownNames.{shown_longs, shown_shorts}
 use Rattle.cc_candidates.specs.declared.candidate.CompletionCandidate.{CompletionCandidate}
 use Rattle.cc_candidates.specs.Beginning.{begins}
-use Rattle.cc_gather.specs.Numbers.{is_number}
 
 -- a candidate for an argument
 abbrev pub option_candidate : Arg → Option (List ℕ) → Bool → List ℕ → CompletionCandidate
