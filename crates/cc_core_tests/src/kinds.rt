@@ -1,9 +1,11 @@
-//! What a command lists of its arguments and names by kind, and which commands are plain.
+//! What a command lists of its arguments and names by kind, and which commands are plain or have
+//! quiet values.
 
 use crate::checks::same;
 use crate::fixtures::{APP_WITH_INPUT, NESTED, QUOTED, built_tree, tree};
 use cc_arg::Arg;
 use cc_command::{Command, is_plain_name};
+use std::alloc::Global;
 use std::process::Abort;
 
 // The id, and nothing where there is no argument.
@@ -67,4 +69,22 @@ fn a_built_command_is_plain_and_one_with_a_quote_is_not(rt: HostRuntime) {
     assert!(rt; !is_plain(tree(&rt, rt.alloc(), QUOTED)));
     assert!(rt; is_plain_name("sub-command_2"));
     assert!(rt; !is_plain_name("a--b"));
+}
+
+// Whether the command of a tree file has quiet values.
+fn has_quiet_values(rt: &impl Abort, alloc: Global, text: &str) -> bool {
+    let command = tree(rt, alloc, text);
+    let quiet = command.has_quiet_values();
+    drop(command);
+    quiet
+}
+
+#[test]
+fn values_of_letters_and_signs_are_quiet_and_one_with_a_blank_is_not(rt: HostRuntime) {
+    let quiet = r#"{"name": "app", "args": [
+        {"id": "to", "long": "to", "possible_values": [{"name": "x86_64"}, {"name": "a+b"}]}]}"#;
+    let blank = r#"{"name": "app", "args": [
+        {"id": "to", "long": "to", "possible_values": [{"name": "a b", "hide": true}]}]}"#;
+    assert!(rt; has_quiet_values(&rt, rt.alloc(), quiet));
+    assert!(rt; !has_quiet_values(&rt, rt.alloc(), blank));
 }

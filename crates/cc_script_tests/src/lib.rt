@@ -13,6 +13,8 @@ mod fish;
 #[cfg(test)]
 mod fixtures;
 #[cfg(test)]
+mod memory;
+#[cfg(test)]
 mod nushell;
 #[cfg(test)]
 mod powershell;
