@@ -44,7 +44,7 @@ fn script_of(alloc: Global, shell: &str, file: &[u8]) -> Result<String, Refusal>
 }
 
 // In the gate there is memory enough. With `rt try --test --fail-alloc 4` the first allocation of
-// `run` fails, which is in reading the tree. `cc_script_tests` has the same of a generator alone.
+// `run` fails, which is in reading the tree; nothing is written.
 #[test]
 fn writes_nothing_without_memory(rt: HostRuntime) {
     let plan = plan(rt.alloc(), "elvish").expect(&rt, "no plan");
