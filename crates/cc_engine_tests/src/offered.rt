@@ -23,7 +23,7 @@ pub(crate) fn offered_in<R: Abort + AllocGlobal, D: Folder>(
     current_dir: Option<&str>,
     folder: &D,
 ) -> String {
-    let index = words.len() - 1;
+    let index = words.len().saturating_sub(1);
     let found = found_at(rt.alloc(), tree, words, index, current_dir, folder);
     values(rt.alloc(), found.expect(rt, "no candidates")).expect(rt, "no text")
 }
