@@ -6,12 +6,12 @@ use Rattle.cc_arg.specs.declared.arg.Arg.{Arg}
 use Rattle.cc_arg.specs.Arguments.{range_of}
 use Rattle.cc_arg.specs.Printed.{further, is_optional, names_for, placeholder, printed_names}
 
-behind : (optional : Bool) (names : List (List ℕ)) → joined_after (codes " ") true (map (placeholder optional) names) ≡ flat_map (further optional) names
-behind optional [] = refl
-behind optional (name ∷ names) = ap (λ text. further optional name ++ text) (behind optional names)
+after_first : (optional : Bool) (names : List (List ℕ)) → joined_after (codes " ") true (map (placeholder optional) names) ≡ flat_map (further optional) names
+after_first optional [] = refl
+after_first optional (name ∷ names) = ap (λ text. further optional name ++ text) (after_first optional names)
 
 all : (optional : Bool) (name : List ℕ) (names : List (List ℕ)) → joined (codes " ") (map (placeholder optional) (name ∷ names)) ≡ placeholder optional name ++ flat_map (further optional) names
-all optional name names = ap (λ text. placeholder optional name ++ text) (behind optional names)
+all optional name names = ap (λ text. placeholder optional name ++ text) (after_first optional names)
 
 alone : (optional : Bool) (name : List ℕ) (times : ℕ) → 1 ≤ times → joined (codes " ") (map (placeholder optional) (replicate times name)) ≡ placeholder optional name ++ flat_map (further optional) (replicate (times - 1) name)
 alone optional name times some =

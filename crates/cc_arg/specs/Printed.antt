@@ -29,7 +29,7 @@ abbrev pub placeholder : Bool → List ℕ → List ℕ
 placeholder true name = in_brackets name
 placeholder false name = codes "<" ++ name ++ codes ">"
 
--- a further name, behind another
+-- a further name, after another
 abbrev pub further : Bool → List ℕ → List ℕ
 further optional name = codes " " ++ placeholder optional name
 

@@ -115,7 +115,7 @@ fn write_others<W: fmt::Write>(
     Ok(())
 }
 
-// A name behind another.
+// A name after another.
 fn write_further<W: fmt::Write>(
     name: &str,
     optional: bool,

@@ -8,8 +8,8 @@ ghost use Rattle.std.specs.Ordering.{nat_cmp};
 use std::cmp::Ordering;
 use std::marker::Model;
 
-/// A borrowed text, ordered by its bytes. A clause sees its bytes alone, so that a struct or an enum
-/// that holds it is the same type in code and in definitions.
+/// A borrowed text, ordered by its bytes. A clause sees its bytes alone, so that a struct or an
+/// enum that holds it is the same type in code and in definitions.
 #[derive(Drop)]
 pub struct TextRef<'a> {
     text: &'a str,
