@@ -15,6 +15,7 @@ pub mod FishReaders
 pub mod FishWords
 pub mod PosixCutting
 mod PosixExamples
+pub mod PosixTokenReading
 pub mod PosixWords
 pub mod PowershellCutting
 pub mod PowershellSearch

@@ -1,7 +1,8 @@
 -- Scripts for a posix shell that are cut as the definitions say.
-use Rattle.std.proofs.Common.{◌≡◌, ◌∷◌, [], refl, codes, Some, None}
+use Rattle.std.proofs.Common.{◌≡◌, ◌∷◌, [], true, false, refl, codes, map, Some, None}
 use Rattle.cc_quote.specs.PosixQuote.{next_place, word_after, ended, posix_word_from, posix_word_of}
 use Rattle.cc_quote.specs.PosixTokens.{sign, byte_of, cut, posix_tokens, single, double}
+use Rattle.cc_quote.specs.PosixTokenWords.{word_of_token, ends_token, begins_no_token}
 use Rattle.cc_quote.specs.Tokens.Piece.{bare, unclosed}
 
 -- quotes of both kinds, a backslash with a line feed and one before a quote, and no comment
@@ -40,3 +41,41 @@ open_word_row = refl
 last_backslash_row : posix_word_of (codes "a\\") ≡ None
 unfolding sign byte_of next_place word_after ended posix_word_from posix_word_of
 last_backslash_row = refl
+
+-- the words of tokens: those of its pieces in turn, and none where a quote or a backslash is open
+pieces_spelled : word_of_token (single (codes "b c") ∷ bare (codes "'") ∷ double (codes "d") ∷ [])
+    ≡ Some (codes "b c'd")
+unfolding word_of_token
+pieces_spelled = refl
+
+empty_spelled : word_of_token (single [] ∷ []) ≡ Some []
+unfolding word_of_token
+empty_spelled = refl
+
+open_spelled : word_of_token (bare (codes "a") ∷ unclosed (codes "\"") (codes "b c") ∷ []) ≡ None
+unfolding word_of_token
+open_spelled = refl
+
+-- a first token, what its word is read as, and the tokens of what follows it
+first_tokens : posix_tokens (codes "'b c'\\''d'\tx")
+    ≡ (single (codes "b c") ∷ bare (codes "'") ∷ single (codes "d") ∷ [])
+    ∷ posix_tokens (codes "\tx")
+unfolding sign byte_of cut posix_tokens
+first_tokens = refl
+
+first_word : posix_word_of (codes "'b c'\\''d'\tx") ≡ Some (codes "b c'd", codes "\tx")
+unfolding sign byte_of next_place word_after ended posix_word_from posix_word_of
+first_word = refl
+
+-- where no token begins: after backslashes with a line feed each, at a blank or the end
+none_row : begins_no_token (map sign (codes "\\\n\\\n b")) ≡ true
+unfolding sign begins_no_token ends_token
+none_row = refl
+
+none_word_row : posix_word_of (codes "\\\n\\\n b") ≡ None
+unfolding sign byte_of next_place word_after ended posix_word_from posix_word_of
+none_word_row = refl
+
+some_row : begins_no_token (map sign (codes "\\\n\\ b")) ≡ false
+unfolding sign begins_no_token ends_token
+some_row = refl

@@ -7,6 +7,7 @@ pub mod FishPlaces
 pub mod FishQuote
 pub mod FishTokens
 pub mod PosixQuote
+pub mod PosixTokenWords
 pub mod PosixTokens
 pub mod PowershellQuote
 pub mod PowershellTokens

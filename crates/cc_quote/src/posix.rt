@@ -26,6 +26,7 @@ ghost use Rattle.cc_quote.specs.PosixQuote.{
   posix_word_of,
   word_after,
 };
+ghost use Rattle.cc_quote.specs.PosixTokenWords.{ReadsFirstToken};
 ghost use Rattle.cc_quote.specs.PosixTokens.{sign};
 ghost use Rattle.cc_quote.specs.QuotedWord.{contents};
 
@@ -126,6 +127,9 @@ pub(crate) enum Place {
 /// or a backslash is open at its end. Fails with `Memory` alone.
 pub fn posix_word(alloc: Global, text: &str) -> Result<Option<(String, &str)>, Error>
     ensures word { IfOk result (λ read. contents read ≡ posix_word_of text.now) }
+
+    // It is the word that the first token of the text spells, where the text is cut as a script.
+    ensures token { IfOk result (λ read. ReadsFirstToken text.now (contents read)) }
     ensures memory { IfErr result (λ error. error ≡ Error.Memory) }
 {
     Ok(read_word(alloc, text)?)
