@@ -3,7 +3,9 @@ pub mod Collected
 pub mod Counted
 pub mod Differ
 pub mod ErrorText
+pub mod Held
 pub mod Joined
 pub mod Sink
 pub mod Sorting
+pub mod Told
 pub mod Writes

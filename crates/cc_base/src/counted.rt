@@ -17,7 +17,8 @@ use std::io::{self, ErrorKind};
 ///
 /// The list of the bytes taken is kept for proofs alone and has no size. That they are passed on
 /// to the writer is shown by the short body of `put` and by a test; the contract of `put` says it
-/// only of a writer whose own contract tells what it holds.
+/// only of a writer whose own contract tells what it holds. Over such a writer the bytes taken by a
+/// `Held` are those that the writer holds.
 #[derive(Drop)]
 pub struct Counted<W> {
     writer: W,
