@@ -7,9 +7,11 @@ pub use Rattle.cc_base.specs.Collected
 pub use Rattle.cc_base.specs.Counted
 pub use Rattle.cc_base.specs.Differ
 pub use Rattle.cc_base.specs.ErrorText
+pub use Rattle.cc_base.specs.Held
 pub use Rattle.cc_base.specs.Joined
 pub use Rattle.cc_base.specs.Sink
 pub use Rattle.cc_base.specs.Sorting
+pub use Rattle.cc_base.specs.Told
 pub use Rattle.cc_base.specs.Writes
 pub use Rattle.cc_base.specs.declared.error.Error
 pub use Rattle.cc_base.specs.declared.failures.Failures

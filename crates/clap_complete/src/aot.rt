@@ -1,7 +1,7 @@
 //! Completion scripts written ahead of time.
 
 pub use cc_arg::ValueHint;
-pub use cc_base::{Collected, Counted, Sink, put_all};
+pub use cc_base::{Collected, Counted, Held, Sink, put_all};
 pub use cc_bash::Bash;
 pub use cc_fish::Fish;
 pub use cc_lists::{Generator, generate, utils};
