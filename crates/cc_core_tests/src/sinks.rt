@@ -1,7 +1,9 @@
 //! Sinks: what they keep or pass on, and the failures that they count.
 
+ghost use Rattle.std.specs.Prelude.{◌≡◌, ◌++◌, IfOk};
+
 use crate::checks::same;
-use cc_base::{Collected, Counted, Error, Failures, Sink, put_all};
+use cc_base::{Collected, Counted, Error, Failures, Held, Sink, put_all};
 use std::alloc::Global;
 use std::io::{self, ErrorKind};
 use std::process::Abort;
@@ -77,6 +79,22 @@ fn a_counted_sink_passes_the_bytes_on(rt: HostRuntime) {
     same(&rt, sink.failures(), 0);
     same(&rt, sink.get_ref().as_slice(), b"abc".as_slice());
     same(&rt, sink.into_inner().as_slice(), b"abc".as_slice());
+}
+
+// The vector after the bytes are put over it.
+fn passed_on(held: Vec<u8>, bytes: &[u8]) -> Result<Vec<u8>, Error>
+    ensures { IfOk result (λ now. now.items ≡ held.items ++ bytes.now) }
+{
+    let mut sink = Held::new(held);
+    put_all(&mut sink, bytes)?;
+    Ok(sink.into_inner())
+}
+
+#[test]
+fn a_held_sink_has_what_its_writer_holds(rt: HostRuntime) {
+    let held = passed_on(Vec::new(rt.alloc()), b"ab").expect(&rt, "no memory");
+    let held = passed_on(held, b"c").expect(&rt, "no memory");
+    same(&rt, held.as_slice(), b"abc".as_slice());
 }
 
 #[test]
