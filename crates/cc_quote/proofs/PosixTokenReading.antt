@@ -1,14 +1,74 @@
 -- A posix shell reads the word that the first token of a text spells.
-use Rattle.std.proofs.Common.{◌≡◌, ℕ, Bool, true, false, List, [], ◌∷◌, ◌++◌, map, Option, Some, None, option_map, refl, sym, subst, ◌∙◌, ap, append_assoc, append-nil}
-use Rattle.cc_quote.specs.PosixQuote.{next_place, word_after, ended, posix_word_from, posix_word_of}
+use Rattle.std.proofs.Common.{
+  ◌≡◌,
+  ℕ,
+  true,
+  false,
+  List,
+  [],
+  ◌∷◌,
+  ◌++◌,
+  map,
+  Option,
+  Some,
+  None,
+  option_map,
+  refl,
+  sym,
+  subst,
+  ◌∙◌,
+  ap,
+  append_assoc,
+  append-nil,
+}
+use Rattle.cc_quote.specs.PosixQuote.{
+  next_place,
+  word_after,
+  ended,
+  posix_word_from,
+  posix_word_of,
+}
 use Rattle.cc_quote.specs.PosixTokens.{Sign, Place, sign, byte_of, cut, posix_tokens}
-use Rattle.cc_quote.specs.PosixTokens.Sign.{blank, line_feed, single_quote, double_quote, backslash, special, other}
-use Rattle.cc_quote.specs.PosixTokens.Place.{between, between_escaped, in_bare, in_bare_escaped, in_single, in_double, in_double_escaped, after_quotes, after_quotes_escaped}
-use Rattle.cc_quote.specs.PosixTokenWords.{word_of_token, ends_token, begins_no_token, IsFirstToken, IsTokenRead, ReadsFirstToken}
+use Rattle.cc_quote.specs.PosixTokens.Sign.{
+  blank,
+  line_feed,
+  single_quote,
+  double_quote,
+  backslash,
+  special,
+  other,
+}
+use Rattle.cc_quote.specs.PosixTokens.Place.{
+  between,
+  between_escaped,
+  in_bare,
+  in_bare_escaped,
+  in_single,
+  in_double,
+  in_double_escaped,
+  after_quotes,
+  after_quotes_escaped,
+}
+use Rattle.cc_quote.specs.PosixTokenWords.{
+  word_of_token,
+  ends_token,
+  begins_no_token,
+  IsFirstToken,
+  IsTokenRead,
+  ReadsFirstToken,
+}
 use Rattle.cc_quote.specs.Tokens.{Token}
 use Rattle.cc_quote.specs.Tokens.Piece.{bare, quoted, unclosed}
 use Rattle.cc_quote.specs.declared.posix.Place.{Place as WordPlace}
-use Rattle.cc_quote.specs.declared.posix.Place.TheVariants.{Before, BeforeEscaped, Bare, BareEscaped, InSingle, InDouble, InDoubleEscaped}
+use Rattle.cc_quote.specs.declared.posix.Place.TheVariants.{
+  Before,
+  BeforeEscaped,
+  Bare,
+  BareEscaped,
+  InSingle,
+  InDouble,
+  InDoubleEscaped,
+}
 use Rattle.cc_quote.proofs.PosixWords.{byte_of-sign, bytes-signs}
 
 -- ---- the pieces of a token
@@ -23,18 +83,22 @@ joined-nothing None = refl
 joined-nothing (Some word) = refl
 
 joined-before : (run : List ℕ) (word more : Option (List ℕ))
-    → option_map (λ w. run ++ w) (joined word more) ≡ joined (option_map (λ w. run ++ w) word) more
+    → option_map (λ w. run ++ w) (joined word more)
+    ≡ joined (option_map (λ w. run ++ w) word) more
 joined-before run None more = refl
 joined-before run (Some word) None = refl
 joined-before run (Some word) (Some more) = ap Some (sym (append_assoc run word more))
 
-word-append : (pieces more : Token) → word_of_token (pieces ++ more) ≡ joined (word_of_token pieces) (word_of_token more)
+word-append : (pieces more : Token)
+    → word_of_token (pieces ++ more) ≡ joined (word_of_token pieces) (word_of_token more)
 unfolding word_of_token
 word-append [] more = joined-nothing (word_of_token more)
 word-append (bare run ∷ pieces) more =
-    ap (option_map (λ w. run ++ w)) (word-append pieces more) ∙ joined-before run (word_of_token pieces) (word_of_token more)
+    ap (option_map (λ w. run ++ w)) (word-append pieces more)
+    ∙ joined-before run (word_of_token pieces) (word_of_token more)
 word-append (quoted opening text ∷ pieces) more =
-    ap (option_map (λ w. text ++ w)) (word-append pieces more) ∙ joined-before text (word_of_token pieces) (word_of_token more)
+    ap (option_map (λ w. text ++ w)) (word-append pieces more)
+    ∙ joined-before text (word_of_token pieces) (word_of_token more)
 word-append (unclosed opening text ∷ pieces) more = refl
 
 -- the word so far is that of the pieces so far, and then the text of the piece that is open
@@ -44,47 +108,55 @@ record Holds (pieces : Token) (run word : List ℕ) : Type 0 where
   whole : word ≡ before ++ run
 
 -- a piece is opened
-opened : (pieces : Token) (word : List ℕ) → word_of_token pieces ≡ Some word → Holds pieces [] word
+opened : (pieces : Token) (word : List ℕ)
+    → word_of_token pieces ≡ Some word → Holds pieces [] word
 opened pieces word h = record { before = word; spelled = h; whole = sym (append-nil word) }
 
-begun : (pieces : Token) (word run : List ℕ) → word_of_token pieces ≡ Some word → Holds pieces run (word ++ run)
+begun : (pieces : Token) (word run : List ℕ)
+    → word_of_token pieces ≡ Some word → Holds pieces run (word ++ run)
 begun pieces word run h = record { before = word; spelled = h; whole = refl }
 
--- bytes are added to it
-grown : (pieces : Token) (run word more : List ℕ) → Holds pieces run word → Holds pieces (run ++ more) (word ++ more)
-grown pieces run word more h =
-    record { before = h.before; spelled = h.spelled; whole = ap (λ w. w ++ more) h.whole ∙ append_assoc h.before run more }
+nothing_yet : (run : List ℕ) → Holds [] run run
+unfolding word_of_token
+nothing_yet run = record { before = []; spelled = refl; whole = refl }
 
-grown_twice : (pieces : Token) (run word : List ℕ) (first second : ℕ) → Holds pieces run word
-    → Holds pieces (run ++ first ∷ second ∷ []) (word ++ first ∷ [] ++ second ∷ [])
-grown_twice pieces run word first second h =
+-- bytes are added to it
+grown : (pieces : Token) (run word more : List ℕ)
+    → Holds pieces run word → Holds pieces (run ++ more) (word ++ more)
+grown pieces run word more h =
     record {
       before = h.before;
       spelled = h.spelled;
-      whole =
-          append_assoc word (first ∷ []) (second ∷ []) ∙ ap (λ w. w ++ first ∷ second ∷ []) h.whole
-          ∙ append_assoc h.before run (first ∷ second ∷ []);
+      whole = ap (λ w. w ++ more) h.whole ∙ append_assoc h.before run more;
     }
 
 -- it is closed
-closed_bare : (pieces : Token) (run word : List ℕ) → Holds pieces run word → word_of_token (pieces ++ bare run ∷ []) ≡ Some word
+closed_bare : (pieces : Token) (run word : List ℕ)
+    → Holds pieces run word → word_of_token (pieces ++ bare run ∷ []) ≡ Some word
 unfolding word_of_token
 closed_bare pieces run word h =
-    word-append pieces (bare run ∷ []) ∙ ap (λ w. joined w (Some (run ++ []))) h.spelled
-    ∙ ap (λ r. Some (h.before ++ r)) (append-nil run) ∙ ap Some (sym h.whole)
+    word-append pieces (bare run ∷ [])
+    ∙ ap (λ w. joined w (Some (run ++ []))) h.spelled
+    ∙ ap (λ r. Some (h.before ++ r)) (append-nil run)
+    ∙ ap Some (sym h.whole)
 
-closed_quoted : (pieces : Token) (opening text word : List ℕ) → Holds pieces text word
-    → word_of_token (pieces ++ quoted opening text ∷ []) ≡ Some word
+closed_quoted : (pieces : Token) (opening text word : List ℕ)
+    → Holds pieces text word → word_of_token (pieces ++ quoted opening text ∷ []) ≡ Some word
 unfolding word_of_token
 closed_quoted pieces opening text word h =
-    word-append pieces (quoted opening text ∷ []) ∙ ap (λ w. joined w (Some (text ++ []))) h.spelled
-    ∙ ap (λ r. Some (h.before ++ r)) (append-nil text) ∙ ap Some (sym h.whole)
+    word-append pieces (quoted opening text ∷ [])
+    ∙ ap (λ w. joined w (Some (text ++ []))) h.spelled
+    ∙ ap (λ r. Some (h.before ++ r)) (append-nil text)
+    ∙ ap Some (sym h.whole)
 
 -- or the text ends before that
-open_last : (pieces more : Token) (word : List ℕ) → word_of_token pieces ≡ Some word → word_of_token more ≡ None
+open_last : (pieces more : Token) (word : List ℕ)
+    → word_of_token pieces ≡ Some word → word_of_token more ≡ None
     → word_of_token (pieces ++ more) ≡ None
 open_last pieces more word h e =
-    word-append pieces more ∙ ap (λ w. joined w (word_of_token more)) h ∙ ap (joined (Some word)) e
+    word-append pieces more
+    ∙ ap (λ w. joined w (word_of_token more)) h
+    ∙ ap (joined (Some word)) e
 
 -- ---- from place to place
 
@@ -125,12 +197,18 @@ unfolding cut posix_word_from ended posix_tokens word_of_token ends_token
 at_end between word h = absurd h
 at_end between_escaped word h = absurd h
 at_end (in_bare pieces run) word h =
-    record { token = pieces ++ bare run ∷ []; whole = refl; spells = closed_bare pieces run word h; ends = refl }
+    record {
+      token = pieces ++ bare run ∷ [];
+      whole = refl;
+      spells = closed_bare pieces run word h;
+      ends = refl;
+    }
 at_end (in_bare_escaped pieces run) word h =
     record {
       token = pieces ++ bare run ∷ unclosed (92 ∷ []) [] ∷ [];
       whole = refl;
-      no_word = open_last pieces (bare run ∷ unclosed (92 ∷ []) [] ∷ []) h.before h.spelled refl;
+      no_word =
+          open_last pieces (bare run ∷ unclosed (92 ∷ []) [] ∷ []) h.before h.spelled refl;
     }
 at_end (in_single pieces text) word h =
     record {
@@ -150,7 +228,8 @@ at_end (in_double_escaped pieces text) word h =
       whole = refl;
       no_word = open_last pieces (unclosed (34 ∷ []) text ∷ []) h.before h.spelled refl;
     }
-at_end (after_quotes pieces) word h = record { token = pieces; whole = refl; spells = h; ends = refl }
+at_end (after_quotes pieces) word h =
+    record { token = pieces; whole = refl; spells = h; ends = refl }
 at_end (after_quotes_escaped pieces) word h =
     record {
       token = pieces ++ unclosed (92 ∷ []) [] ∷ [];
@@ -159,14 +238,19 @@ at_end (after_quotes_escaped pieces) word h =
     }
 
 -- a token that ends before a blank or a line feed
-ended_token : (s : Sign) (text : List ℕ) (token : Token) (word : List ℕ) → sign (byte_of s) ≡ s
-    → ends_token (s ∷ map sign text) ≡ true → cut between (s ∷ map sign text) ≡ cut between (map sign text)
+ended_token : (s : Sign) (text : List ℕ) (token : Token) (word : List ℕ)
+    → sign (byte_of s) ≡ s → ends_token (s ∷ map sign text) ≡ true
+    → cut between (s ∷ map sign text) ≡ cut between (map sign text)
     → word_of_token token ≡ Some word
-    → IsFirstToken (token ∷ cut between (map sign text)) word (byte_of s ∷ map byte_of (map sign text))
+    → IsFirstToken
+    (token ∷ cut between (map sign text))
+    word
+    (byte_of s ∷ map byte_of (map sign text))
 unfolding posix_tokens
 ended_token s text token word is ends skips spells =
     let same : sign (byte_of s) ∷ map sign (map byte_of (map sign text)) ≡ s ∷ map sign text =
-    ap (λ t. sign (byte_of s) ∷ map sign t) (bytes-signs text) ∙ ap (λ x. x ∷ map sign text) is in
+    ap (λ t. sign (byte_of s) ∷ map sign t) (bytes-signs text)
+    ∙ ap (λ x. x ∷ map sign text) is in
     record {
       token = token;
       whole = ap (λ tokens. token ∷ tokens) (sym (ap (cut between) same ∙ skips));
@@ -174,122 +258,209 @@ ended_token s text token word is ends skips spells =
       ends = ap ends_token same ∙ ends;
     }
 
+-- the open piece goes on, outside quotes or within them
+bare_on : (signs : List Sign) → AgreeOn signs
+    → (pieces : Token) (run word more : List ℕ) → Holds pieces run word
+    → Agree (in_bare pieces (run ++ more)) (word ++ more) signs
+bare_on signs goes pieces run word more h =
+    goes (in_bare pieces (run ++ more)) (word ++ more) (grown pieces run word more h)
+
+single_on : (signs : List Sign) → AgreeOn signs
+    → (pieces : Token) (run word more : List ℕ) → Holds pieces run word
+    → Agree (in_single pieces (run ++ more)) (word ++ more) signs
+single_on signs goes pieces run word more h =
+    goes (in_single pieces (run ++ more)) (word ++ more) (grown pieces run word more h)
+
+double_on : (signs : List Sign) → AgreeOn signs
+    → (pieces : Token) (run word more : List ℕ) → Holds pieces run word
+    → Agree (in_double pieces (run ++ more)) (word ++ more) signs
+double_on signs goes pieces run word more h =
+    goes (in_double pieces (run ++ more)) (word ++ more) (grown pieces run word more h)
+
+-- a byte is the first of a piece outside quotes
+bare_begins : (signs : List Sign) → AgreeOn signs
+    → (pieces : Token) (word : List ℕ) (byte : ℕ) → word_of_token pieces ≡ Some word
+    → Agree (in_bare pieces (byte ∷ [])) (word ++ byte ∷ []) signs
+bare_begins signs goes pieces word byte h =
+    goes (in_bare pieces (byte ∷ [])) (word ++ byte ∷ []) (begun pieces word (byte ∷ []) h)
+
+-- between `"` the backslash stays before a byte that it does not escape
+double_kept : (signs : List Sign) → AgreeOn signs
+    → (pieces : Token) (text word : List ℕ) (byte : ℕ) → Holds pieces text word
+    → Agree (in_double pieces (text ++ 92 ∷ byte ∷ [])) (word ++ 92 ∷ [] ++ byte ∷ []) signs
+double_kept signs goes pieces text word byte h =
+    goes
+    (in_double pieces (text ++ 92 ∷ byte ∷ []))
+    (word ++ 92 ∷ [] ++ byte ∷ [])
+    (subst
+    (Holds pieces (text ++ 92 ∷ byte ∷ []))
+    (sym (append_assoc word (92 ∷ []) (byte ∷ [])))
+    (grown pieces text word (92 ∷ byte ∷ []) h))
+
+-- quotes open after these pieces
+single_begins : (signs : List Sign) → AgreeOn signs
+    → (pieces : Token) (word : List ℕ) → word_of_token pieces ≡ Some word
+    → Agree (in_single pieces []) word signs
+single_begins signs goes pieces word h =
+    goes (in_single pieces []) word (opened pieces word h)
+
+double_begins : (signs : List Sign) → AgreeOn signs
+    → (pieces : Token) (word : List ℕ) → word_of_token pieces ≡ Some word
+    → Agree (in_double pieces []) word signs
+double_begins signs goes pieces word h =
+    goes (in_double pieces []) word (opened pieces word h)
+
 -- one sign in each place
 in_bare_goes : (s : Sign) (text : List ℕ) → sign (byte_of s) ≡ s → AgreeOn (map sign text)
-    → (pieces : Token) (run word : List ℕ) → Holds pieces run word → Agree (in_bare pieces run) word (s ∷ map sign text)
+    → (pieces : Token) (run word : List ℕ) → Holds pieces run word
+    → Agree (in_bare pieces run) word (s ∷ map sign text)
 unfolding cut posix_word_from next_place word_after ended ends_token byte_of
 in_bare_goes (blank b) text is goes pieces run word h =
-    ended_token (blank b) text (pieces ++ bare run ∷ []) word is refl refl (closed_bare pieces run word h)
+    ended_token
+    (blank b)
+    text
+    (pieces ++ bare run ∷ [])
+    word
+    is
+    refl
+    refl
+    (closed_bare pieces run word h)
 in_bare_goes line_feed text is goes pieces run word h =
-    ended_token line_feed text (pieces ++ bare run ∷ []) word is refl refl (closed_bare pieces run word h)
+    ended_token
+    line_feed
+    text
+    (pieces ++ bare run ∷ [])
+    word
+    is
+    refl
+    refl
+    (closed_bare pieces run word h)
 in_bare_goes single_quote text is goes pieces run word h =
-    goes (in_single (pieces ++ bare run ∷ []) []) word (opened (pieces ++ bare run ∷ []) word (closed_bare pieces run word h))
+    let closed = closed_bare pieces run word h in
+    single_begins (map sign text) goes (pieces ++ bare run ∷ []) word closed
 in_bare_goes double_quote text is goes pieces run word h =
-    goes (in_double (pieces ++ bare run ∷ []) []) word (opened (pieces ++ bare run ∷ []) word (closed_bare pieces run word h))
+    let closed = closed_bare pieces run word h in
+    double_begins (map sign text) goes (pieces ++ bare run ∷ []) word closed
 in_bare_goes backslash text is goes pieces run word h = goes (in_bare_escaped pieces run) word h
 in_bare_goes (special b) text is goes pieces run word h =
-    goes (in_bare pieces (run ++ b ∷ [])) (word ++ b ∷ []) (grown pieces run word (b ∷ []) h)
+    bare_on (map sign text) goes pieces run word (b ∷ []) h
 in_bare_goes (other b) text is goes pieces run word h =
-    goes (in_bare pieces (run ++ b ∷ [])) (word ++ b ∷ []) (grown pieces run word (b ∷ []) h)
+    bare_on (map sign text) goes pieces run word (b ∷ []) h
 
 in_bare_escaped_goes : (s : Sign) (signs : List Sign) → AgreeOn signs
-    → (pieces : Token) (run word : List ℕ) → Holds pieces run word → Agree (in_bare_escaped pieces run) word (s ∷ signs)
+    → (pieces : Token) (run word : List ℕ) → Holds pieces run word
+    → Agree (in_bare_escaped pieces run) word (s ∷ signs)
 unfolding cut posix_word_from next_place word_after byte_of
 in_bare_escaped_goes (blank b) signs goes pieces run word h =
-    goes (in_bare pieces (run ++ b ∷ [])) (word ++ b ∷ []) (grown pieces run word (b ∷ []) h)
+    bare_on signs goes pieces run word (b ∷ []) h
 in_bare_escaped_goes line_feed signs goes pieces run word h = goes (in_bare pieces run) word h
 in_bare_escaped_goes single_quote signs goes pieces run word h =
-    goes (in_bare pieces (run ++ 39 ∷ [])) (word ++ 39 ∷ []) (grown pieces run word (39 ∷ []) h)
+    bare_on signs goes pieces run word (39 ∷ []) h
 in_bare_escaped_goes double_quote signs goes pieces run word h =
-    goes (in_bare pieces (run ++ 34 ∷ [])) (word ++ 34 ∷ []) (grown pieces run word (34 ∷ []) h)
+    bare_on signs goes pieces run word (34 ∷ []) h
 in_bare_escaped_goes backslash signs goes pieces run word h =
-    goes (in_bare pieces (run ++ 92 ∷ [])) (word ++ 92 ∷ []) (grown pieces run word (92 ∷ []) h)
+    bare_on signs goes pieces run word (92 ∷ []) h
 in_bare_escaped_goes (special b) signs goes pieces run word h =
-    goes (in_bare pieces (run ++ b ∷ [])) (word ++ b ∷ []) (grown pieces run word (b ∷ []) h)
+    bare_on signs goes pieces run word (b ∷ []) h
 in_bare_escaped_goes (other b) signs goes pieces run word h =
-    goes (in_bare pieces (run ++ b ∷ [])) (word ++ b ∷ []) (grown pieces run word (b ∷ []) h)
+    bare_on signs goes pieces run word (b ∷ []) h
 
 in_single_goes : (s : Sign) (signs : List Sign) → AgreeOn signs
-    → (pieces : Token) (text word : List ℕ) → Holds pieces text word → Agree (in_single pieces text) word (s ∷ signs)
+    → (pieces : Token) (text word : List ℕ) → Holds pieces text word
+    → Agree (in_single pieces text) word (s ∷ signs)
 unfolding cut posix_word_from next_place word_after byte_of
-in_single_goes single_quote signs goes pieces text word h =
-    goes (after_quotes (pieces ++ quoted (39 ∷ []) text ∷ [])) word (closed_quoted pieces (39 ∷ []) text word h)
 in_single_goes (blank b) signs goes pieces text word h =
-    goes (in_single pieces (text ++ b ∷ [])) (word ++ b ∷ []) (grown pieces text word (b ∷ []) h)
+    single_on signs goes pieces text word (b ∷ []) h
 in_single_goes line_feed signs goes pieces text word h =
-    goes (in_single pieces (text ++ 10 ∷ [])) (word ++ 10 ∷ []) (grown pieces text word (10 ∷ []) h)
+    single_on signs goes pieces text word (10 ∷ []) h
+in_single_goes single_quote signs goes pieces text word h =
+    goes
+    (after_quotes (pieces ++ quoted (39 ∷ []) text ∷ []))
+    word
+    (closed_quoted pieces (39 ∷ []) text word h)
 in_single_goes double_quote signs goes pieces text word h =
-    goes (in_single pieces (text ++ 34 ∷ [])) (word ++ 34 ∷ []) (grown pieces text word (34 ∷ []) h)
+    single_on signs goes pieces text word (34 ∷ []) h
 in_single_goes backslash signs goes pieces text word h =
-    goes (in_single pieces (text ++ 92 ∷ [])) (word ++ 92 ∷ []) (grown pieces text word (92 ∷ []) h)
+    single_on signs goes pieces text word (92 ∷ []) h
 in_single_goes (special b) signs goes pieces text word h =
-    goes (in_single pieces (text ++ b ∷ [])) (word ++ b ∷ []) (grown pieces text word (b ∷ []) h)
+    single_on signs goes pieces text word (b ∷ []) h
 in_single_goes (other b) signs goes pieces text word h =
-    goes (in_single pieces (text ++ b ∷ [])) (word ++ b ∷ []) (grown pieces text word (b ∷ []) h)
+    single_on signs goes pieces text word (b ∷ []) h
 
 in_double_goes : (s : Sign) (signs : List Sign) → AgreeOn signs
-    → (pieces : Token) (text word : List ℕ) → Holds pieces text word → Agree (in_double pieces text) word (s ∷ signs)
+    → (pieces : Token) (text word : List ℕ) → Holds pieces text word
+    → Agree (in_double pieces text) word (s ∷ signs)
 unfolding cut posix_word_from next_place word_after byte_of
-in_double_goes double_quote signs goes pieces text word h =
-    goes (after_quotes (pieces ++ quoted (34 ∷ []) text ∷ [])) word (closed_quoted pieces (34 ∷ []) text word h)
-in_double_goes backslash signs goes pieces text word h = goes (in_double_escaped pieces text) word h
 in_double_goes (blank b) signs goes pieces text word h =
-    goes (in_double pieces (text ++ b ∷ [])) (word ++ b ∷ []) (grown pieces text word (b ∷ []) h)
+    double_on signs goes pieces text word (b ∷ []) h
 in_double_goes line_feed signs goes pieces text word h =
-    goes (in_double pieces (text ++ 10 ∷ [])) (word ++ 10 ∷ []) (grown pieces text word (10 ∷ []) h)
+    double_on signs goes pieces text word (10 ∷ []) h
 in_double_goes single_quote signs goes pieces text word h =
-    goes (in_double pieces (text ++ 39 ∷ [])) (word ++ 39 ∷ []) (grown pieces text word (39 ∷ []) h)
+    double_on signs goes pieces text word (39 ∷ []) h
+in_double_goes double_quote signs goes pieces text word h =
+    goes
+    (after_quotes (pieces ++ quoted (34 ∷ []) text ∷ []))
+    word
+    (closed_quoted pieces (34 ∷ []) text word h)
+in_double_goes backslash signs goes pieces text word h = goes (in_double_escaped pieces text) word h
 in_double_goes (special b) signs goes pieces text word h =
-    goes (in_double pieces (text ++ b ∷ [])) (word ++ b ∷ []) (grown pieces text word (b ∷ []) h)
+    double_on signs goes pieces text word (b ∷ []) h
 in_double_goes (other b) signs goes pieces text word h =
-    goes (in_double pieces (text ++ b ∷ [])) (word ++ b ∷ []) (grown pieces text word (b ∷ []) h)
+    double_on signs goes pieces text word (b ∷ []) h
 
 in_double_escaped_goes : (s : Sign) (signs : List Sign) → AgreeOn signs
-    → (pieces : Token) (text word : List ℕ) → Holds pieces text word → Agree (in_double_escaped pieces text) word (s ∷ signs)
+    → (pieces : Token) (text word : List ℕ) → Holds pieces text word
+    → Agree (in_double_escaped pieces text) word (s ∷ signs)
 unfolding cut posix_word_from next_place word_after byte_of
-in_double_escaped_goes line_feed signs goes pieces text word h = goes (in_double pieces text) word h
 in_double_escaped_goes (blank b) signs goes pieces text word h =
-    goes (in_double pieces (text ++ 92 ∷ b ∷ [])) (word ++ 92 ∷ [] ++ b ∷ []) (grown_twice pieces text word 92 b h)
+    double_kept signs goes pieces text word b h
+in_double_escaped_goes line_feed signs goes pieces text word h = goes (in_double pieces text) word h
 in_double_escaped_goes single_quote signs goes pieces text word h =
-    goes (in_double pieces (text ++ 92 ∷ 39 ∷ [])) (word ++ 92 ∷ [] ++ 39 ∷ []) (grown_twice pieces text word 92 39 h)
-in_double_escaped_goes (other b) signs goes pieces text word h =
-    goes (in_double pieces (text ++ 92 ∷ b ∷ [])) (word ++ 92 ∷ [] ++ b ∷ []) (grown_twice pieces text word 92 b h)
+    double_kept signs goes pieces text word 39 h
 in_double_escaped_goes double_quote signs goes pieces text word h =
-    goes (in_double pieces (text ++ 34 ∷ [])) (word ++ 34 ∷ []) (grown pieces text word (34 ∷ []) h)
+    double_on signs goes pieces text word (34 ∷ []) h
 in_double_escaped_goes backslash signs goes pieces text word h =
-    goes (in_double pieces (text ++ 92 ∷ [])) (word ++ 92 ∷ []) (grown pieces text word (92 ∷ []) h)
+    double_on signs goes pieces text word (92 ∷ []) h
 in_double_escaped_goes (special b) signs goes pieces text word h =
-    goes (in_double pieces (text ++ b ∷ [])) (word ++ b ∷ []) (grown pieces text word (b ∷ []) h)
+    double_on signs goes pieces text word (b ∷ []) h
+in_double_escaped_goes (other b) signs goes pieces text word h =
+    double_kept signs goes pieces text word b h
 
 after_quotes_goes : (s : Sign) (text : List ℕ) → sign (byte_of s) ≡ s → AgreeOn (map sign text)
-    → (pieces : Token) (word : List ℕ) → word_of_token pieces ≡ Some word → Agree (after_quotes pieces) word (s ∷ map sign text)
+    → (pieces : Token) (word : List ℕ) → word_of_token pieces ≡ Some word
+    → Agree (after_quotes pieces) word (s ∷ map sign text)
 unfolding cut posix_word_from next_place word_after ended ends_token byte_of
-after_quotes_goes (blank b) text is goes pieces word h = ended_token (blank b) text pieces word is refl refl h
-after_quotes_goes line_feed text is goes pieces word h = ended_token line_feed text pieces word is refl refl h
-after_quotes_goes single_quote text is goes pieces word h = goes (in_single pieces []) word (opened pieces word h)
-after_quotes_goes double_quote text is goes pieces word h = goes (in_double pieces []) word (opened pieces word h)
+after_quotes_goes (blank b) text is goes pieces word h =
+    ended_token (blank b) text pieces word is refl refl h
+after_quotes_goes line_feed text is goes pieces word h =
+    ended_token line_feed text pieces word is refl refl h
+after_quotes_goes single_quote text is goes pieces word h =
+    single_begins (map sign text) goes pieces word h
+after_quotes_goes double_quote text is goes pieces word h =
+    double_begins (map sign text) goes pieces word h
 after_quotes_goes backslash text is goes pieces word h = goes (after_quotes_escaped pieces) word h
 after_quotes_goes (special b) text is goes pieces word h =
-    goes (in_bare pieces (b ∷ [])) (word ++ b ∷ []) (begun pieces word (b ∷ []) h)
+    bare_begins (map sign text) goes pieces word b h
 after_quotes_goes (other b) text is goes pieces word h =
-    goes (in_bare pieces (b ∷ [])) (word ++ b ∷ []) (begun pieces word (b ∷ []) h)
+    bare_begins (map sign text) goes pieces word b h
 
 after_quotes_escaped_goes : (s : Sign) (signs : List Sign) → AgreeOn signs
-    → (pieces : Token) (word : List ℕ) → word_of_token pieces ≡ Some word → Agree (after_quotes_escaped pieces) word (s ∷ signs)
+    → (pieces : Token) (word : List ℕ) → word_of_token pieces ≡ Some word
+    → Agree (after_quotes_escaped pieces) word (s ∷ signs)
 unfolding cut posix_word_from next_place word_after byte_of
 after_quotes_escaped_goes (blank b) signs goes pieces word h =
-    goes (in_bare pieces (b ∷ [])) (word ++ b ∷ []) (begun pieces word (b ∷ []) h)
+    bare_begins signs goes pieces word b h
 after_quotes_escaped_goes line_feed signs goes pieces word h = goes (after_quotes pieces) word h
 after_quotes_escaped_goes single_quote signs goes pieces word h =
-    goes (in_bare pieces (39 ∷ [])) (word ++ 39 ∷ []) (begun pieces word (39 ∷ []) h)
+    bare_begins signs goes pieces word 39 h
 after_quotes_escaped_goes double_quote signs goes pieces word h =
-    goes (in_bare pieces (34 ∷ [])) (word ++ 34 ∷ []) (begun pieces word (34 ∷ []) h)
+    bare_begins signs goes pieces word 34 h
 after_quotes_escaped_goes backslash signs goes pieces word h =
-    goes (in_bare pieces (92 ∷ [])) (word ++ 92 ∷ []) (begun pieces word (92 ∷ []) h)
+    bare_begins signs goes pieces word 92 h
 after_quotes_escaped_goes (special b) signs goes pieces word h =
-    goes (in_bare pieces (b ∷ [])) (word ++ b ∷ []) (begun pieces word (b ∷ []) h)
+    bare_begins signs goes pieces word b h
 after_quotes_escaped_goes (other b) signs goes pieces word h =
-    goes (in_bare pieces (b ∷ [])) (word ++ b ∷ []) (begun pieces word (b ∷ []) h)
+    bare_begins signs goes pieces word b h
 
 -- a token that has begun
 in_token : (text : List ℕ) → AgreeOn (map sign text)
@@ -297,84 +468,126 @@ in_token [] p word h = at_end p word h
 in_token (byte ∷ text) between word h = absurd h
 in_token (byte ∷ text) between_escaped word h = absurd h
 in_token (byte ∷ text) (in_bare pieces run) word h =
-    in_bare_goes (sign byte) text (ap sign (byte_of-sign byte)) (in_token text) pieces run word h
+    let is = ap sign (byte_of-sign byte) in
+    in_bare_goes (sign byte) text is (in_token text) pieces run word h
 in_token (byte ∷ text) (in_bare_escaped pieces run) word h =
     in_bare_escaped_goes (sign byte) (map sign text) (in_token text) pieces run word h
-in_token (byte ∷ text) (in_single pieces run) word h = in_single_goes (sign byte) (map sign text) (in_token text) pieces run word h
-in_token (byte ∷ text) (in_double pieces run) word h = in_double_goes (sign byte) (map sign text) (in_token text) pieces run word h
+in_token (byte ∷ text) (in_single pieces run) word h =
+    in_single_goes (sign byte) (map sign text) (in_token text) pieces run word h
+in_token (byte ∷ text) (in_double pieces run) word h =
+    in_double_goes (sign byte) (map sign text) (in_token text) pieces run word h
 in_token (byte ∷ text) (in_double_escaped pieces run) word h =
     in_double_escaped_goes (sign byte) (map sign text) (in_token text) pieces run word h
 in_token (byte ∷ text) (after_quotes pieces) word h =
-    after_quotes_goes (sign byte) text (ap sign (byte_of-sign byte)) (in_token text) pieces word h
+    let is = ap sign (byte_of-sign byte) in
+    after_quotes_goes (sign byte) text is (in_token text) pieces word h
 in_token (byte ∷ text) (after_quotes_escaped pieces) word h =
     after_quotes_escaped_goes (sign byte) (map sign text) (in_token text) pieces word h
 
 -- ---- before a token
 
 -- what is read from there on, and the signs that tell whether a token begins
-record Begins (signs : List Sign) (tokens : List Token) (read : Option (List ℕ × List ℕ)) : Type 0 where
+record Begins
+    (signs : List Sign)
+    (tokens : List Token)
+    (read : Option (List ℕ × List ℕ))
+    : Type 0 where
   nothing : begins_no_token signs ≡ true → read ≡ None
   token : begins_no_token signs ≡ false → IsTokenRead tokens read
 
-begins_none : (signs : List Sign) (tokens : List Token) → begins_no_token signs ≡ true → Begins signs tokens None
+begins_none : (signs : List Sign) (tokens : List Token)
+    → begins_no_token signs ≡ true → Begins signs tokens None
 begins_none signs tokens e = record { nothing = λ _. refl; token = λ f. cc }
 
-begins_one : (signs : List Sign) (tokens : List Token) (read : Option (List ℕ × List ℕ)) → begins_no_token signs ≡ false
-    → IsTokenRead tokens read → Begins signs tokens read
+begins_one : (signs : List Sign) (tokens : List Token) (read : Option (List ℕ × List ℕ))
+    → begins_no_token signs ≡ false → IsTokenRead tokens read → Begins signs tokens read
 begins_one signs tokens read e h = record { nothing = λ t. cc; token = λ _. h }
 
--- a token of which nothing has been read but the byte that begins it
-first : (byte : ℕ) → Holds [] (byte ∷ []) (byte ∷ [])
-unfolding word_of_token
-first byte = record { before = []; spelled = refl; whole = refl }
+-- a token begins with a byte outside quotes, or with a quote
+bare_first : (signs rest : List Sign) (byte : ℕ)
+    → AgreeOn rest → begins_no_token signs ≡ false
+    → Begins
+    signs
+    (cut (in_bare [] (byte ∷ [])) rest)
+    (posix_word_from Bare (byte ∷ []) rest)
+bare_first signs rest byte goes e =
+    begins_one
+    signs
+    (cut (in_bare [] (byte ∷ [])) rest)
+    (posix_word_from Bare (byte ∷ []) rest)
+    e
+    (goes (in_bare [] (byte ∷ [])) (byte ∷ []) (nothing_yet (byte ∷ [])))
 
-nothing_yet : Holds [] [] []
-unfolding word_of_token
-nothing_yet = record { before = []; spelled = refl; whole = refl }
+single_first : (signs rest : List Sign) → AgreeOn rest → begins_no_token signs ≡ false
+    → Begins signs (cut (in_single [] []) rest) (posix_word_from InSingle [] rest)
+single_first signs rest goes e =
+    begins_one
+    signs
+    (cut (in_single [] []) rest)
+    (posix_word_from InSingle [] rest)
+    e
+    (goes (in_single [] []) [] (nothing_yet []))
+
+double_first : (signs rest : List Sign) → AgreeOn rest → begins_no_token signs ≡ false
+    → Begins signs (cut (in_double [] []) rest) (posix_word_from InDouble [] rest)
+double_first signs rest goes e =
+    begins_one
+    signs
+    (cut (in_double [] []) rest)
+    (posix_word_from InDouble [] rest)
+    e
+    (goes (in_double [] []) [] (nothing_yet []))
 
 abbrev BeginsOn : List Sign → Type 0
 BeginsOn signs = Begins signs (cut between signs) (posix_word_from Before [] signs)
 
+-- after a backslash
 abbrev BeginsEscapedOn : List Sign → Type 0
-BeginsEscapedOn signs = Begins (backslash ∷ signs) (cut between_escaped signs) (posix_word_from BeforeEscaped [] signs)
+BeginsEscapedOn signs =
+    Begins
+    (backslash ∷ signs)
+    (cut between_escaped signs)
+    (posix_word_from BeforeEscaped [] signs)
 
-escaped_goes : (s : Sign) (signs : List Sign) → AgreeOn signs → BeginsOn signs → BeginsEscapedOn (s ∷ signs)
+escaped_goes : (s : Sign) (signs : List Sign)
+    → AgreeOn signs → BeginsOn signs → BeginsEscapedOn (s ∷ signs)
 unfolding cut posix_word_from next_place word_after byte_of begins_no_token ends_token
-escaped_goes line_feed signs goes begins = record { nothing = begins.nothing; token = begins.token }
 escaped_goes (blank b) signs goes begins =
-    begins_one (backslash ∷ blank b ∷ signs) (cut (in_bare [] (b ∷ [])) signs) (posix_word_from Bare (b ∷ []) signs) refl (goes (in_bare [] (b ∷ [])) (b ∷ []) (first b))
+    bare_first (backslash ∷ blank b ∷ signs) signs b goes refl
+escaped_goes line_feed signs goes begins = record { nothing = begins.nothing; token = begins.token }
 escaped_goes single_quote signs goes begins =
-    begins_one (backslash ∷ single_quote ∷ signs) (cut (in_bare [] (39 ∷ [])) signs) (posix_word_from Bare (39 ∷ []) signs) refl (goes (in_bare [] (39 ∷ [])) (39 ∷ []) (first 39))
+    bare_first (backslash ∷ single_quote ∷ signs) signs 39 goes refl
 escaped_goes double_quote signs goes begins =
-    begins_one (backslash ∷ double_quote ∷ signs) (cut (in_bare [] (34 ∷ [])) signs) (posix_word_from Bare (34 ∷ []) signs) refl (goes (in_bare [] (34 ∷ [])) (34 ∷ []) (first 34))
+    bare_first (backslash ∷ double_quote ∷ signs) signs 34 goes refl
 escaped_goes backslash signs goes begins =
-    begins_one (backslash ∷ backslash ∷ signs) (cut (in_bare [] (92 ∷ [])) signs) (posix_word_from Bare (92 ∷ []) signs) refl (goes (in_bare [] (92 ∷ [])) (92 ∷ []) (first 92))
+    bare_first (backslash ∷ backslash ∷ signs) signs 92 goes refl
 escaped_goes (special b) signs goes begins =
-    begins_one (backslash ∷ special b ∷ signs) (cut (in_bare [] (b ∷ [])) signs) (posix_word_from Bare (b ∷ []) signs) refl (goes (in_bare [] (b ∷ [])) (b ∷ []) (first b))
+    bare_first (backslash ∷ special b ∷ signs) signs b goes refl
 escaped_goes (other b) signs goes begins =
-    begins_one (backslash ∷ other b ∷ signs) (cut (in_bare [] (b ∷ [])) signs) (posix_word_from Bare (b ∷ []) signs) refl (goes (in_bare [] (b ∷ [])) (b ∷ []) (first b))
+    bare_first (backslash ∷ other b ∷ signs) signs b goes refl
 
-between_goes : (s : Sign) (signs : List Sign) → AgreeOn signs → BeginsEscapedOn signs → BeginsOn (s ∷ signs)
+between_goes : (s : Sign) (signs : List Sign)
+    → AgreeOn signs → BeginsEscapedOn signs → BeginsOn (s ∷ signs)
 unfolding cut posix_word_from next_place word_after ended byte_of begins_no_token ends_token
 between_goes (blank b) signs goes begins = begins_none (blank b ∷ signs) (cut between signs) refl
 between_goes line_feed signs goes begins = begins_none (line_feed ∷ signs) (cut between signs) refl
+between_goes single_quote signs goes begins = single_first (single_quote ∷ signs) signs goes refl
+between_goes double_quote signs goes begins = double_first (double_quote ∷ signs) signs goes refl
 between_goes backslash signs goes begins = record { nothing = begins.nothing; token = begins.token }
-between_goes single_quote signs goes begins =
-    begins_one (single_quote ∷ signs) (cut (in_single [] []) signs) (posix_word_from InSingle [] signs) refl (goes (in_single [] []) [] nothing_yet)
-between_goes double_quote signs goes begins =
-    begins_one (double_quote ∷ signs) (cut (in_double [] []) signs) (posix_word_from InDouble [] signs) refl (goes (in_double [] []) [] nothing_yet)
-between_goes (special b) signs goes begins =
-    begins_one (special b ∷ signs) (cut (in_bare [] (b ∷ [])) signs) (posix_word_from Bare (b ∷ []) signs) refl (goes (in_bare [] (b ∷ [])) (b ∷ []) (first b))
-between_goes (other b) signs goes begins =
-    begins_one (other b ∷ signs) (cut (in_bare [] (b ∷ [])) signs) (posix_word_from Bare (b ∷ []) signs) refl (goes (in_bare [] (b ∷ [])) (b ∷ []) (first b))
+between_goes (special b) signs goes begins = bare_first (special b ∷ signs) signs b goes refl
+between_goes (other b) signs goes begins = bare_first (other b ∷ signs) signs b goes refl
 
 -- both, by one induction
 before_token : (text : List ℕ) → BeginsOn (map sign text) × BeginsEscapedOn (map sign text)
 unfolding cut posix_word_from ended begins_no_token ends_token word_of_token
 before_token [] = (
   begins_none [] [] refl,
-  begins_one (backslash ∷ []) ((unclosed (92 ∷ []) [] ∷ []) ∷ []) None
-      refl record { token = unclosed (92 ∷ []) [] ∷ []; whole = refl; no_word = refl },
+  begins_one
+      (backslash ∷ [])
+      ((unclosed (92 ∷ []) [] ∷ []) ∷ [])
+      None
+      refl
+      record { token = unclosed (92 ∷ []) [] ∷ []; whole = refl; no_word = refl },
 )
 before_token (byte ∷ text) =
     let parts = before_token text in (
@@ -383,7 +596,8 @@ before_token (byte ∷ text) =
     )
 
 -- what is read at the start of a text is what its tokens tell
-pub reads_first_token : (text : List ℕ) (read : Option (List ℕ × List ℕ)) → read ≡ posix_word_of text → ReadsFirstToken text read
+pub reads_first_token : (text : List ℕ) (read : Option (List ℕ × List ℕ))
+    → read ≡ posix_word_of text → ReadsFirstToken text read
 unfolding posix_word_of posix_tokens
 reads_first_token text read e =
     let begins = (before_token text).0 in
