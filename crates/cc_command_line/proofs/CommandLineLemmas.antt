@@ -145,9 +145,7 @@ enters_script words e =
       record {
         rows = rows_after script_shape.rules [] below.0;
         is_entered = below.1;
-        has_shell = shell.1;
-        has_bin = bin.1;
-        has_tree = tree.1;
+        is_such = record { has_shell = shell.1; has_bin = bin.1; has_tree = tree.1 };
       },
     )
 

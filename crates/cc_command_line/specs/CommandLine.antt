@@ -1,6 +1,8 @@
 -- The command lines that the program takes, and the plan that each describes.
-use Rattle.std.specs.Prelude.{◌≡◌, ◌⊎◌, ℕ, List, Option, Some, true, codes, string_bytes}
-use Rattle.clap.specs.Words.{App, Row, Rule, Text, first_of, new_app, new_rule}
+use Rattle.std.specs.Prelude.{◌≡◌, ◌<◌, ◌^◌, ◌⊎◌, ℕ, List, [], Option, Some, true, codes, map}
+use Rattle.std.specs.Prelude.{string_bytes, unwrap_or}
+use Rattle.std.specs.Str.Parse.{IsNumeral, digits_value, without_leading_plus}
+use Rattle.clap.specs.Words.{App, Row, Rule, Text, all_of, first_of, new_app, new_rule}
 use Rattle.clap.specs.Words.{with_rule, with_subcommand}
 use Rattle.clap.specs.Kinds.{IsAmong, Kinds}
 use Rattle.clap.specs.Simple.{on_top}
@@ -9,7 +11,7 @@ use Rattle.clap.specs.declared.error.kind.ErrorKind.TheVariants.{DisplayHelp, Di
 use Rattle.clap.specs.declared.error.kind.ErrorKind.TheVariants.{OutOfMemory}
 use Rattle.cc_command_line.specs.Refusals.{IsOutOfMemory}
 use Rattle.cc_command_line.specs.declared.types.Plan.{Plan}
-use Rattle.cc_command_line.specs.declared.types.Plan.TheVariants.{Script}
+use Rattle.cc_command_line.specs.declared.types.Plan.TheVariants.{Candidates, Register, Script}
 use Rattle.cc_command_line.specs.declared.types.Refusal.{Refusal}
 
 -- `--NAME VALUE`, which has to be there
@@ -33,30 +35,45 @@ program_line = with_subcommand (on_top (λ s. record s {
   disable_help_subcommand = true;
 }) (new_app (codes "complgen"))) script_line.top
 
--- the subcommand that was entered, with the values of its arguments, is `script` with these
-pub record EntersScript (entered : Option (Text × List Row)) (shell bin tree : Text) : Type 0 where
+-- the subcommand of this name was entered, and its rows are such
+pub record Enters (name : Text) (IsSuch : List Row → Type 0) (entered : Option (Text × List Row))
+    : Type 0 where
   pub rows : List Row
-  pub is_entered : entered ≡ Some (codes "script", rows)
+  pub is_entered : entered ≡ Some (name, rows)
+  pub is_such : IsSuch rows
+
+-- the values of `--shell`, `--bin` and `TREE`
+pub record HasNames (shell bin tree : Text) (rows : List Row) : Type 0 where
   pub has_shell : first_of (codes "shell") rows ≡ Some shell
   pub has_bin : first_of (codes "bin") rows ≡ Some bin
   pub has_tree : first_of (codes "tree") rows ≡ Some tree
 
--- the subcommand that was entered is `script`, with a value for each of its arguments
+-- the values of `--index`, `TREE` and `WORDS`, where no word is no value
+pub record HasWords (index tree : Text) (words : List Text) (rows : List Row) : Type 0 where
+  pub has_index : first_of (codes "index") rows ≡ Some index
+  pub has_tree : first_of (codes "tree") rows ≡ Some tree
+  pub has_words : unwrap_or (all_of (codes "words") rows) [] ≡ words
+
+-- digits, with one `+` before them at most, that write this `usize`
+pub record Writes (text : Text) (number : ℕ) : Type 0 where
+  pub is_numeral : IsNumeral 10 (without_leading_plus text)
+  pub has_value : digits_value 10 (without_leading_plus text) ≡ number
+  pub fits : number < 2 ^ 64
+
+-- `script` was entered, with a value for each of its arguments
 abbrev pub EntersSomeScript : Option (Text × List Row) → Type 0
-EntersSomeScript entered =
-    (shell : Text) × (bin : Text) × (tree : Text) × EntersScript entered shell bin tree
+EntersSomeScript entered = (shell : Text) × (bin : Text) × (tree : Text)
+    × Enters (codes "script") (HasNames shell bin tree) entered
 
 -- the subcommand that was entered asks for what the plan says
 abbrev pub AsksFor : Option (Text × List Row) → Plan → Type 0
-AsksFor entered (Script shell bin tree) =
-    EntersScript entered (string_bytes shell) (string_bytes bin) (string_bytes tree)
-
--- the values of `script`, as the plan has them
-abbrev pub HasScriptValues : List Row → Plan → Type 0
-HasScriptValues rows (Script shell bin tree) =
-    (first_of (codes "shell") rows ≡ Some (string_bytes shell))
-    × (first_of (codes "bin") rows ≡ Some (string_bytes bin))
-    × (first_of (codes "tree") rows ≡ Some (string_bytes tree))
+AsksFor entered (Script shell bin tree) = Enters (codes "script")
+    (HasNames (string_bytes shell) (string_bytes bin) (string_bytes tree)) entered
+AsksFor entered (Register shell bin tree) = Enters (codes "register")
+    (HasNames (string_bytes shell) (string_bytes bin) (string_bytes tree)) entered
+AsksFor entered (Candidates index tree words) = (text : Text) × Writes text index
+    × Enters (codes "candidates")
+    (HasWords text (string_bytes tree) (map string_bytes words.items)) entered
 
 -- the status that a parse's error ends the program with
 abbrev pub status_of : ErrorKind → ℕ

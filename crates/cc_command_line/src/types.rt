@@ -9,6 +9,10 @@ pub enum Plan {
     /// A completion script: the name of the shell, the bin name of the command and the file that
     /// holds its tree.
     Script(String, String, String),
+    /// A registration: likewise.
+    Register(String, String, String),
+    /// Candidates: the index of the word, the file that holds the tree, and the words.
+    Candidates(usize, String, Vec<String>),
 }
 
 impl Plan {
@@ -21,6 +25,8 @@ impl Plan {
     {
         match self {
             Plan::Script(_, _, tree) => tree.as_str(),
+            Plan::Register(_, _, tree) => tree.as_str(),
+            Plan::Candidates(_, tree, _) => tree.as_str(),
         }
     }
 }

@@ -4,7 +4,7 @@ ghost use Rattle.std.specs.Prelude.{◌≡◌, [], IfOk, IfErr, IsSome, Some, co
 ghost use Rattle.std.specs.Prelude.{true};
 ghost use Rattle.clap.specs.Words.{fault_of, first_of, found_of, kind_of, rows_of, subcommand_of};
 ghost use Rattle.clap.specs.Words.{subcommand_rows_of, takes};
-ghost use Rattle.cc_command_line.specs.CommandLine.{AsksFor, EntersSomeScript, HasScriptValues};
+ghost use Rattle.cc_command_line.specs.CommandLine.{AsksFor, EntersSomeScript, HasNames};
 ghost use Rattle.cc_command_line.specs.CommandLine.{ReportsKind, ReportsWords, program_line};
 ghost use Rattle.cc_command_line.specs.Refusals.{IsOutOfMemory};
 
@@ -42,21 +42,26 @@ fn planned(alloc: Global, matches: &ArgMatches<'_>) -> Result<Plan, AllocError>
     ensures { IfOk result (AsksFor (subcommand_rows_of matches.now)) }
 {
     match matches.subcommand() {
-        Some(("script", values)) => script(alloc, values),
+        Some(("script", values)) => {
+            let (shell, bin, tree) = names(alloc, values)?;
+            Ok(Plan::Script(shell, bin, tree))
+        }
         _ => unreachable!(),
     }
 }
 
-fn script(alloc: Global, values: &ArgMatches<'_>) -> Result<Plan, AllocError>
+// The values of `--shell`, `--bin` and `TREE`.
+fn names(alloc: Global, values: &ArgMatches<'_>) -> Result<(String, String, String), AllocError>
     requires shell { IsSome (first_of (codes "shell") (rows_of (found_of values.now))) }
     requires bin { IsSome (first_of (codes "bin") (rows_of (found_of values.now))) }
     requires tree { IsSome (first_of (codes "tree") (rows_of (found_of values.now))) }
-    ensures { IfOk result (HasScriptValues (rows_of (found_of values.now))) }
+    ensures { IfOk result (λ names. HasNames (string_bytes names.0) (string_bytes names.1)
+        (string_bytes names.2) (rows_of (found_of values.now))) }
 {
     let shell = value(alloc, values, "shell")?;
     let bin = value(alloc, values, "bin")?;
     let tree = value(alloc, values, "tree")?;
-    Ok(Plan::Script(shell, bin, tree))
+    Ok((shell, bin, tree))
 }
 
 // The value of an argument.
