@@ -3,7 +3,8 @@
 ghost use Rattle.std.specs.Prelude.{◌≡◌, IfOk, false};
 ghost use Rattle.clap.specs.Words.{app_of, rule_of};
 ghost use Rattle.clap.specs.declared.builder.command.Command.TheViews.{out-Command};
-ghost use Rattle.cc_command_line.specs.CommandLine.{option_rule, program_line, script_line, tree_rule};
+ghost use Rattle.cc_command_line.specs.CommandLine.{candidates_line, option_rule, program_line};
+ghost use Rattle.cc_command_line.specs.CommandLine.{shell_line, top_line, tree_rule, words_rule};
 
 use clap::{Arg, Command};
 use std::alloc::{AllocError, Global};
@@ -11,17 +12,34 @@ use std::alloc::{AllocError, Global};
 // The version of the crate that the scripts are those of.
 const VERSION: &str = "4.6.11";
 
-const SHELL_HELP: &str = "The shell: bash, elvish, fish, nushell, powershell or zsh";
+const SCRIPT_HELP: &str = "Writes a completion script to the standard output";
+
+const REGISTER_HELP: &str =
+    "Writes a script that has the shell ask the program itself for candidates";
+
+const CANDIDATES_HELP: &str = "Writes the candidates for a word to the standard output";
+
+const SCRIPT_SHELL_HELP: &str = "The shell: bash, elvish, fish, nushell, powershell or zsh";
+
+const REGISTER_SHELL_HELP: &str = "The shell: bash, elvish, fish, powershell or zsh";
 
 const BIN_HELP: &str = "The name by which the shell calls the program";
 
 const TREE_HELP: &str = "A JSON file that describes a command, with its arguments and subcommands";
 
+const INDEX_HELP: &str = "The index of the word to complete, from 0";
+
+const WORDS_HELP: &str =
+    "The words of a command line, the program's name first; after -- they may begin with -";
+
 const AFTER_HELP: &str = "\
-Shells: bash, elvish, fish, nushell, powershell, zsh
+Shells: bash, elvish, fish, nushell (not in register), powershell, zsh
 Tree file: a JSON object that describes a command, with its arguments and subcommands
 
-Example: complgen script --shell fish --bin app tree.json";
+Examples:
+  complgen script --shell fish --bin app tree.json
+  complgen register --shell bash --bin app tree.json
+  complgen candidates --index 1 tree.json -- app ''";
 
 // `--NAME VALUE`, which has to be there.
 fn option<'a>(
@@ -51,28 +69,70 @@ fn tree<'a>(alloc: Global) -> Arg<'a>
         .help(TREE_HELP)
 }
 
-// `script --shell S --bin N TREE`
-fn script<'a>(alloc: Global) -> Result<Command<'a>, AllocError>
-    ensures shape { IfOk result (λ command. app_of command ≡ script_line) }
+// `WORDS`, any number of them.
+fn words<'a>(alloc: Global) -> Arg<'a>
+    ensures rule { rule_of result ≡ words_rule }
+    ensures local { result.global ≡ false }
+{
+    Arg::new(alloc, "words")
+        .value_name("WORDS")
+        .num_args(0..)
+        .help(WORDS_HELP)
+}
+
+// `NAME --shell S --bin N TREE`
+fn for_shell<'a>(
+    alloc: Global,
+    name: &'static str,
+    about: &'static str,
+    shells: &'static str,
+) -> Result<Command<'a>, AllocError>
+    ensures shape { IfOk result (λ command. app_of command ≡ shell_line name.entry.now) }
     ensures local { IfOk result (λ command. (out-Command command).has_globals ≡ false) }
 {
-    Command::new(alloc, "script")
-        .about("Writes a completion script to the standard output")
-        .arg(option(alloc, "shell", "SHELL", SHELL_HELP))?
+    Command::new(alloc, name)
+        .about(about)
+        .arg(option(alloc, "shell", "SHELL", shells))?
         .arg(option(alloc, "bin", "NAME", BIN_HELP))?
         .arg(tree(alloc))
+}
+
+// `candidates --index I TREE WORDS..`
+fn candidates<'a>(alloc: Global) -> Result<Command<'a>, AllocError>
+    ensures shape { IfOk result (λ command. app_of command ≡ candidates_line) }
+    ensures local { IfOk result (λ command. (out-Command command).has_globals ≡ false) }
+{
+    Command::new(alloc, "candidates")
+        .about(CANDIDATES_HELP)
+        .arg(option(alloc, "index", "INDEX", INDEX_HELP))?
+        .arg(tree(alloc))?
+        .arg(words(alloc))
+}
+
+// The command line without its subcommands.
+fn top<'a>(alloc: Global) -> Result<Command<'a>, AllocError>
+    ensures { IfOk result (λ command. app_of command ≡ top_line) }
+{
+    Ok(
+        Command::new(alloc, "complgen")
+            .bin_name("complgen")?
+            .version(VERSION)
+            .about("Writes shell completions for a command that a JSON file describes")
+            .after_help(AFTER_HELP)
+            .subcommand_required(true)
+            .disable_help_subcommand(true),
+    )
 }
 
 /// The whole command line.
 pub fn command_line<'a>(alloc: Global) -> Result<Command<'a>, AllocError>
     ensures { IfOk result (λ command. app_of command ≡ program_line) }
 {
-    Command::new(alloc, "complgen")
-        .bin_name("complgen")?
-        .version(VERSION)
-        .about("Writes shell completions for a command that a JSON file describes")
-        .after_help(AFTER_HELP)
-        .subcommand_required(true)
-        .disable_help_subcommand(true)
-        .subcommand(script(alloc)?)
+    let script = for_shell(alloc, "script", SCRIPT_HELP, SCRIPT_SHELL_HELP)?;
+    let register = for_shell(alloc, "register", REGISTER_HELP, REGISTER_SHELL_HELP)?;
+    let candidates = candidates(alloc)?;
+    top(alloc)?
+        .subcommand(script)?
+        .subcommand(register)?
+        .subcommand(candidates)
 }
