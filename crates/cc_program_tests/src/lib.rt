@@ -2,8 +2,14 @@
 #![tactic(auto)]
 
 #[cfg(test)]
+mod candidates;
+#[cfg(test)]
 mod checks;
 #[cfg(test)]
-mod run;
+mod registrations;
+#[cfg(test)]
+mod runs;
+#[cfg(test)]
+mod scripts;
 #[cfg(test)]
 mod words;

@@ -29,8 +29,12 @@ fn failed(rt: &impl Abort, alloc: Global, words: &[&str]) -> Refusal {
 
 // Fails unless the plan is a script with these values.
 fn is_script(rt: &impl Abort, plan: Plan, wanted: (&str, &str, &str)) {
-    let Plan::Script(shell, bin, tree) = plan;
-    same(rt, (shell.as_str(), bin.as_str(), tree.as_str()), wanted);
+    match plan {
+        Plan::Script(shell, bin, tree) => {
+            same(rt, (shell.as_str(), bin.as_str(), tree.as_str()), wanted);
+        }
+        Plan::Register(..) | Plan::Candidates(..) => panic!(rt; "no script"),
+    }
 }
 
 #[test]

@@ -1,1 +1,4 @@
-pub mod EndsLemmas
+pub mod RegisterLemmas
+pub mod ReplyLemmas
+pub mod ScriptLemmas
+pub mod WritingLemmas

@@ -1,11 +1,13 @@
 -- What is printed of an error.
-use Rattle.std.specs.Prelude.{◌⊎◌, ◌++◌, ℕ, List, Result, Ok, Err}
+use Rattle.std.specs.Prelude.{◌≡◌, ◌⊎◌, ◌++◌, ℕ, List, Result, Ok, Err}
 use Rattle.std.specs.Prelude.{String, codes, string_bytes}
 use Rattle.std.specs.declared.alloc.AllocError.{AllocError}
 use Rattle.std.specs.declared.alloc.Global.{Global}
 use Rattle.clap_complete.specs.Error.{Error}
 use Rattle.clap_complete.specs.Error.TheVariants as error
 use Rattle.clap_complete.specs.ErrorText.{error_text}
+use Rattle.clap_complete.specs.Shell.{Shell}
+use Rattle.clap_complete.specs.Shells.{invalid_variant, shell_text}
 use Rattle.cc_command_line.specs.Refusals.{IsOutOfMemory, IsRefusal}
 use Rattle.cc_command_line.specs.declared.types.Refusal.{Refusal}
 use Rattle.cc_tree_file.specs.declared.error.TreeError.{TreeError}
@@ -39,7 +41,8 @@ IsMade text refusal = IsOutOfMemory refusal ⊎ IsRefusal text refusal
 abbrev pub Reports : Error → Refusal → Type 0
 Reports (error.LabelClash label) refusal = IsMade (error_line (error.LabelClash label)) refusal
 Reports (error.UnknownShell text) refusal = IsMade (error_line (error.UnknownShell text)) refusal
-Reports (error.InvalidVariant text) refusal = IsMade (error_line (error.InvalidVariant text)) refusal
+Reports (error.InvalidVariant text) refusal =
+    IsMade (error_line (error.InvalidVariant text)) refusal
 Reports error refusal = IsRefusal (error_line error) refusal
 
 -- what the error of a tree file prints
@@ -52,3 +55,9 @@ ReportsTree Memory refusal = IsOutOfMemory refusal
 abbrev pub HasText : Result (String Global) AllocError → Refusal → Type 0
 HasText (Ok text) refusal = IsRefusal (string_bytes text) refusal
 HasText (Err failed) refusal = IsOutOfMemory refusal
+
+-- finding the shell of a name: one that has it, or a report that none has
+abbrev pub FindsShell : List ℕ → Result Shell Refusal → Type 0
+FindsShell name (Ok shell) = name ≡ shell_text shell
+FindsShell name (Err refusal) = ((shell : Shell) → name ≡ shell_text shell → ⊥)
+    × IsMade (error_line (error.InvalidVariant (invalid_variant name))) refusal

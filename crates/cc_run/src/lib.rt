@@ -1,7 +1,13 @@
-//! Carrying out what the command line asks for: a tree file is read, and the script written.
+//! Carrying out what the command line asks for: a tree file is read, and a script, a registration
+//! or candidates are written.
 #![tactic(auto)]
 
+mod plans;
 mod refusals;
+mod registrations;
+mod replies;
 mod scripts;
+mod shells;
+mod tree_files;
 
-pub use crate::scripts::run;
+pub use crate::plans::run;

@@ -11,6 +11,10 @@ use std::borrow::CowStr;
 /// What is printed where the tree file can't be read.
 pub(crate) const UNREADABLE: &str = "tree: unreadable\n";
 
+/// What is printed where a registration for Nushell is asked for.
+pub(crate) const UNKNOWN_NUSHELL: &str = "unknown shell `nushell`, \
+    expected one of `bash`, `elvish`, `fish`, `powershell`, `zsh`\n";
+
 const NOT_JSON: &str = "tree: not JSON\n";
 
 const BAD_FORM: &str = "tree: bad form\n";

@@ -1,33 +1,20 @@
-//! Carries out a plan.
+//! Writes a script.
 
-ghost use Rattle.std.specs.Prelude.{option_copied};
-ghost use Rattle.cc_run.specs.Ends.{Ends, EndsScript, Finishes, ReadsFile};
+ghost use Rattle.std.specs.Option.{option_copied};
+ghost use Rattle.cc_run.specs.Ends.{EndsScript};
+ghost use Rattle.cc_run.specs.Scripts.{IsScript, SharesLabel};
+ghost use Rattle.cc_run.specs.Writing.{Finishes};
 
-use crate::refusals::{UNREADABLE, error_refusal, tree_refusal};
-use cc_command_line::{Plan, Refusal};
-use cc_tree_file::read_tree;
+use crate::refusals::error_refusal;
+use crate::shells::shell_of;
+use crate::tree_files::tree;
+use cc_command_line::Refusal;
 use clap_complete::aot::Sink;
-use clap_complete::command::Command;
 use clap_complete::{Shell, generate};
 use std::alloc::Global;
 
-/// Carries out the plan, over the bytes of its tree file, or `None` where that file can't be read.
-/// The script goes to `out`. The shell is looked up before the tree is read.
-pub fn run<W: Sink>(
-    alloc: Global,
-    plan: &Plan,
-    file: Option<&[u8]>,
-    out: &mut W,
-) -> Result<(), Refusal>
-    ensures { Ends W.taken W.failed plan.now (option_copied file.entry) out.old out.new result }
-{
-    match plan {
-        Plan::Script(shell, bin, _) => script(alloc, shell.as_str(), bin.as_str(), file, out),
-    }
-}
-
-// Writes the script for the shell of this name.
-fn script<W: Sink>(
+/// Writes the script for the shell of this name.
+pub(crate) fn script<W: Sink>(
     alloc: Global,
     shell: &str,
     bin: &str,
@@ -37,9 +24,9 @@ fn script<W: Sink>(
     ensures { EndsScript W.taken W.failed shell.now bin.now (option_copied file.entry)
         out.old out.new result }
 {
-    match Shell::parse(alloc, shell) {
+    match shell_of(alloc, shell) {
         Ok(shell) => script_by(alloc, shell, bin, file, out),
-        Err(unknown) => Err(error_refusal(alloc, &unknown)),
+        Err(unknown) => Err(unknown),
     }
 }
 
@@ -51,8 +38,8 @@ fn script_by<W: Sink>(
     file: Option<&[u8]>,
     out: &mut W,
 ) -> Result<(), Refusal>
-    ensures { Finishes W.taken W.failed shell bin.now out.old out.new
-        (option_copied file.entry) result }
+    ensures { Finishes W.taken W.failed (SharesLabel shell bin.now) (IsScript shell bin.now)
+        out.old out.new (option_copied file.entry) result }
 {
     let mut command = tree(alloc, file)?;
     let bin = String::from_str(alloc, bin)?;
@@ -60,14 +47,4 @@ fn script_by<W: Sink>(
         Ok(()) => Ok(()),
         Err(error) => Err(error_refusal(alloc, &error)),
     }
-}
-
-// The command that a file describes.
-fn tree(alloc: Global, file: Option<&[u8]>) -> Result<Command, Refusal>
-    ensures { ReadsFile (option_copied file.entry) result }
-{
-    let Some(bytes) = file else {
-        return Err(Refusal::fixed(1, UNREADABLE));
-    };
-    read_tree(alloc, bytes).map_err(tree_refusal)
 }

@@ -1,13 +1,16 @@
-//! `complgen`: completion scripts for a command that a JSON file describes.
+//! `complgen`: completion scripts, registrations and candidates for a command that a JSON file
+//! describes.
 #![tactic(auto)]
 
 use cc_command_line::{Refusal, WRITE_FAILED, plan};
 use cc_run::run;
 use clap_complete::aot::Counted;
+use clap_complete::engine::RealFolder;
 use std::alloc::AllocError;
 use std::convert::AsStr;
 use std::env::{self, Env};
 use std::io::BufWriter;
+use std::path::PathBuf;
 use std::process::ExitCode;
 use std::rt::Files;
 use std::{fs, io};
@@ -29,7 +32,8 @@ fn carry_out<R: Env + Files + Print + AllocGlobal>(rt: &R) -> Result<(), Refusal
     let out = BufWriter::new(rt.alloc(), io::writer(rt)).map_err(|_| AllocError)?;
     let mut out = Counted::new(out);
     let file = file.as_ref().map(Vec::as_slice);
-    run(rt.alloc(), &plan, file, &mut out)?;
+    let folder = RealFolder::new(rt, home(rt)?);
+    run(rt.alloc(), &plan, file, &folder, &mut out)?;
     out.flush().map_err(|_| Refusal::fixed(1, WRITE_FAILED))
 }
 
@@ -39,6 +43,15 @@ fn words<R: Env + AllocGlobal>(rt: &R) -> Result<Vec<String>, Refusal> {
         Ok(words) => Ok(words.collect(rt.alloc())?),
         Err(error) if error.kind() == io::ErrorKind::OutOfMemory => Err(Refusal::from(AllocError)),
         Err(_) => Err(Refusal::fixed(2, NOT_UTF8)),
+    }
+}
+
+// The home folder of the user, where the environment names one.
+fn home<R: Env + AllocGlobal>(rt: &R) -> Result<Option<String>, Refusal> {
+    match env::home_dir(rt) {
+        Ok(home) => Ok(home.map(PathBuf::into_string)),
+        Err(error) if error.kind() == io::ErrorKind::OutOfMemory => Err(Refusal::from(AllocError)),
+        Err(_) => Ok(None),
     }
 }
 

@@ -1,6 +1,7 @@
 use Rattle.std.proofs.Common.{sym}
 use Rattle.std.proofs.lemmas.Result.{err_from_is_err_and}
-use Rattle.cc_run.proofs.EndsLemmas.{ends_failed, ends_unread, ends_unwritten, ends_written}
+use Rattle.cc_run.proofs.ScriptLemmas.{script_failed, script_written}
+use Rattle.cc_run.proofs.WritingLemmas.{ends_unread, ends_unwritten}
 use Rattle.cc_run.proofs.scripts.script_by.Goals as goal
 
 pub returns-in_err-command : goal.returns-in_err-command
@@ -15,8 +16,8 @@ returns-in_err-bin g c =
 
 pub returns-in-Ok : goal.returns-in-Ok
 returns-in-Ok g c =
-    rw (sym c.in_ok-bin.ensures.ok) (ends_written _ _ _ _ _ _ _ _ _ c.in_ok-command.ensures c.in-Ok.ensures.written)
+    rw (sym c.in_ok-bin.ensures.ok) (script_written _ _ _ _ _ _ _ _ _ c.in_ok-command.ensures c.in-Ok.ensures.written)
 
 pub returns : goal.returns
 returns g c =
-    rw (sym c.in_ok-bin.ensures.ok) (ends_failed _ _ _ _ _ _ _ _ _ _ _ c.in_ok-command.ensures c.in-Err.ensures.written c.error_refusal.ensures)
+    rw (sym c.in_ok-bin.ensures.ok) (script_failed _ _ _ _ _ _ _ _ _ _ _ c.in_ok-command.ensures c.in-Err.ensures.written c.error_refusal.ensures)

@@ -1,34 +1,23 @@
-//! What carrying out a plan writes, and how it fails.
+//! What a script's plan writes, and how carrying it out fails.
 
 use crate::checks::{has, same};
-use cc_command_line::{Plan, Refusal};
+use crate::runs::{fails, script, written};
+use cc_command_line::Refusal;
+use cc_paths::MemoryFolder;
 use cc_run::run;
 use clap_complete::aot::Collected;
 use std::alloc::{AllocError, Global};
 use std::convert::AsStr;
-use std::process::Abort;
-
-fn plan(alloc: Global, shell: &str) -> Result<Plan, AllocError> {
-    let bin = String::from_str(alloc, "app")?;
-    let tree = String::from_str(alloc, "tree.json")?;
-    Ok(Plan::Script(String::from_str(alloc, shell)?, bin, tree))
-}
-
-// Fails unless a script for this shell, over this file, ends with this text at status 1, and
-// nothing is written.
-fn fails(rt: &impl Abort, alloc: Global, shell: &str, file: Option<&[u8]>, wanted: &str) {
-    let plan = plan(alloc, shell).expect(rt, "no plan");
-    let mut out = Collected::new(alloc);
-    match run(alloc, &plan, file, &mut out) {
-        Ok(()) => panic!(rt; "a script"),
-        Err(refusal) => same(rt, (refusal.status, refusal.text.as_str()), (1, wanted)),
-    }
-    assert!(rt; out.as_slice().is_empty());
-}
 
 #[test]
 fn reports_a_shell_before_the_tree(rt: HostRuntime) {
-    fails(&rt, rt.alloc(), "tcsh", None, "invalid variant: tcsh\n");
+    fails(
+        &rt,
+        rt.alloc(),
+        script(rt.alloc(), "tcsh"),
+        None,
+        "invalid variant: tcsh\n",
+    );
 }
 
 // A tree with a child.
@@ -37,19 +26,23 @@ const PARENT: &str = "{\"name\": \"app\", \"disable_help_flag\": true, \"subcomm
 
 // The script for this shell of the tree in a file.
 fn script_of(alloc: Global, shell: &str, file: &[u8]) -> Result<String, Refusal> {
-    let plan = plan(alloc, shell)?;
-    let mut out = Collected::new(alloc);
-    run(alloc, &plan, Some(file), &mut out)?;
-    Ok(String::from_utf8_lossy(alloc, out.as_slice())?)
+    written(alloc, &script(alloc, shell)?, file)
 }
 
 // In the gate there is memory enough. With `rt try --test --fail-alloc 4` the first allocation of
 // `run` fails, which is in reading the tree; nothing is written.
 #[test]
 fn writes_nothing_without_memory(rt: HostRuntime) {
-    let plan = plan(rt.alloc(), "elvish").expect(&rt, "no plan");
+    let plan = script(rt.alloc(), "elvish").expect(&rt, "no plan");
     let mut out = Collected::new(rt.alloc());
-    match run(rt.alloc(), &plan, Some(PARENT.as_bytes()), &mut out) {
+    let folder = MemoryFolder::new(&[], &[]);
+    match run(
+        rt.alloc(),
+        &plan,
+        Some(PARENT.as_bytes()),
+        &folder,
+        &mut out,
+    ) {
         Ok(()) => assert!(rt; !out.as_slice().is_empty()),
         Err(refusal) => {
             same(&rt, refusal.text.as_str(), "out of memory\n");
@@ -84,7 +77,13 @@ fn writes_for_powershell(rt: HostRuntime) {
 
 #[test]
 fn reports_a_file_that_is_not_there(rt: HostRuntime) {
-    fails(&rt, rt.alloc(), "elvish", None, "tree: unreadable\n");
+    fails(
+        &rt,
+        rt.alloc(),
+        script(rt.alloc(), "elvish"),
+        None,
+        "tree: unreadable\n",
+    );
 }
 
 // A brace left open, an empty file, bytes that are not UTF-8, and a number too large for a
@@ -94,7 +93,13 @@ const NOT_JSON: [&[u8]; 4] = [b"{", b"", b"{\"name\":\"\xff\"}", b"{\"name\":1e9
 #[test]
 fn reports_a_file_that_is_not_json(rt: HostRuntime) {
     for bytes in NOT_JSON {
-        fails(&rt, rt.alloc(), "elvish", Some(bytes), "tree: not JSON\n");
+        fails(
+            &rt,
+            rt.alloc(),
+            script(rt.alloc(), "elvish"),
+            Some(bytes),
+            "tree: not JSON\n",
+        );
     }
 }
 
@@ -113,7 +118,7 @@ fn reports_a_million_open_brackets(rt: HostRuntime) {
     fails(
         &rt,
         rt.alloc(),
-        "elvish",
+        script(rt.alloc(), "elvish"),
         Some(text.as_bytes()),
         "tree: not JSON\n",
     );
@@ -142,7 +147,13 @@ const CLASH: &str = "{\"name\": \"app\", \"subcommands\": [
 #[test]
 fn reports_two_commands_with_one_label(rt: HostRuntime) {
     let wanted = "two commands share the label app__subcmd__a__subcmd__b\n";
-    fails(&rt, rt.alloc(), "bash", Some(CLASH.as_bytes()), wanted);
+    fails(
+        &rt,
+        rt.alloc(),
+        script(rt.alloc(), "bash"),
+        Some(CLASH.as_bytes()),
+        wanted,
+    );
 }
 
 #[test]
@@ -150,7 +161,7 @@ fn reports_a_file_of_another_form(rt: HostRuntime) {
     fails(
         &rt,
         rt.alloc(),
-        "elvish",
+        script(rt.alloc(), "elvish"),
         Some(b"{\"name\":1.5}"),
         "tree: bad form\n",
     );

@@ -1,0 +1,101 @@
+-- How writing the candidates for a word ends.
+use Rattle.std.proofs.Common.{◌≡◌, ◌∙◌, ap, refl, subst, sym, ℕ, List, Option, Result, Ok, Err}
+use Rattle.std.proofs.Common.{Global, String, Vec, false, length, map}
+use Rattle.std.proofs.lemmas.List.{length-map}
+use Rattle.std.specs.String.{string_bytes}
+use Rattle.cc_command_line.specs.declared.types.Plan.{Plan}
+use Rattle.cc_command_line.specs.declared.types.Plan.TheVariants.{Candidates}
+use Rattle.cc_command_line.specs.declared.types.Refusal.{Refusal}
+use Rattle.clap_complete.specs.Built.{built_tree}
+use Rattle.clap_complete.specs.Completion.{Refuses, is_in_range}
+use Rattle.clap_complete.specs.CompletionCandidate.{CompletionCandidate}
+use Rattle.clap_complete.specs.Error.{Error}
+use Rattle.clap_complete.specs.Error.TheVariants as error
+use Rattle.clap_complete.specs.Failures.{Failures}
+use Rattle.clap_complete.specs.Tree.{Tree}
+use Rattle.clap_complete.specs.Writes.{Writes}
+use Rattle.cc_env.specs.Reply.{lines_reply}
+use Rattle.cc_run.specs.Ends.{Ends, EndsReply}
+use Rattle.cc_run.specs.Refusals.{Reports}
+use Rattle.cc_run.specs.Replies.{AreFound, FindsNone, IsOutOfRange, IsReply, Paths}
+use Rattle.cc_run.proofs.WritingLemmas.{ends_failed, ends_rejected, ends_unwritten}
+use Rattle.cc_run.proofs.WritingLemmas.{ends_written, same}
+use Rattle.cc_tree_file.specs.TreeFile.{HoldsTree}
+
+-- why a call that builds the command finds no candidates
+pub finds_none : (old new : Tree) (count index : ℕ) (e : Error) → Refuses old new count index e
+    → FindsNone count index old e
+finds_none old new count index error.Memory refused = tt
+finds_none old new count index error.NoCompletion refused =
+    subst (λ tree. is_in_range tree.node count index ≡ false) refused.0 refused.1
+finds_none old new count index _ refused = absurd refused
+
+-- how carrying out a plan of candidates ends, where these words are handed on
+pub ends_plan : {S : Type 0} (taken : S → List ℕ) (failed : S → Failures) (Finds : Paths)
+    (plan : Plan) (index : ℕ) (path : String Global) (words : Vec (String Global) Global)
+    (given : List (String Global)) (file : Option (List ℕ)) (old new : S)
+    (result : Result (Unit {0}) Refusal) → plan ≡ Candidates index path words → given ≡ words.items
+    → EndsReply taken failed Finds (map string_bytes given) index file old new result
+    → Ends taken failed Finds plan file old new result
+ends_plan taken failed Finds plan index path words given file old new result is all ends =
+    subst (λ p. Ends taken failed Finds p file old new result) (sym is)
+    (subst (λ ws. EndsReply taken failed Finds (map string_bytes ws) index file old new result)
+    all ends)
+
+module _ {S : Type 0} (taken : S → List ℕ) (failed : S → Failures) (Finds : Paths)
+    (words : List (List ℕ)) (index : ℕ) where
+  -- the candidates for copies of the words are those for the words
+  recount : (copies : List (String Global)) → map string_bytes copies ≡ words
+      → length copies ≡ length words
+  recount copies are = sym (length-map copies string_bytes) ∙ ap length are
+
+  -- no candidates are found
+  pub none_found : (state : S) (file : Option (List ℕ)) (tree : Tree) (e : Error)
+      (refusal : Refusal) (copies : List (String Global)) → map string_bytes copies ≡ words → HoldsTree file tree
+      → FindsNone (length copies) index tree e → Reports e refusal
+      → EndsReply taken failed Finds words index file state state (Err refusal)
+  none_found state file tree error.Memory refusal copies are held none reported =
+      ends_unwritten taken failed (IsOutOfRange (length words) index) (IsReply Finds words index)
+      state file tree refusal held reported
+  none_found state file tree error.NoCompletion refusal copies are held none reported =
+      ends_rejected taken failed (IsOutOfRange (length words) index) (IsReply Finds words index)
+      state state file tree refusal held
+      (record {
+        out_of_range = subst (λ count. is_in_range (built_tree tree).node count index ≡ false)
+            (recount copies are) none;
+        reported = reported;
+      }) (same taken failed state)
+  none_found state file tree _ refusal copies are held none reported = absurd none
+
+  -- they are found, and written
+  pub reply_written : (old new : S) (file : Option (List ℕ)) (tree : Tree)
+      (found shown : List CompletionCandidate) (copies : List (String Global))
+      → map string_bytes copies ≡ words → HoldsTree file tree
+      → AreFound Finds (map string_bytes copies) index tree found → shown ≡ found
+      → Writes taken failed (Ok tt) old new (lines_reply shown)
+      → EndsReply taken failed Finds words index file old new (Ok tt)
+  reply_written old new file tree found shown copies are held are_found all wrote =
+      ends_written taken failed (IsOutOfRange (length words) index) (IsReply Finds words index)
+      old new file tree (lines_reply shown) held
+      (record {
+        found = found;
+        are_found = subst (λ ws. AreFound Finds ws index tree found) are are_found;
+        is = ap lines_reply all;
+      }) wrote.ok wrote.failures
+
+  -- they are found, and writing them fails
+  pub reply_failed : (old new : S) (file : Option (List ℕ)) (tree : Tree)
+      (found shown : List CompletionCandidate) (e : Error) (refusal : Refusal)
+      (copies : List (String Global)) → map string_bytes copies ≡ words → HoldsTree file tree
+      → AreFound Finds (map string_bytes copies) index tree found → shown ≡ found
+      → Writes taken failed (Err e) old new (lines_reply shown) → Reports e refusal
+      → EndsReply taken failed Finds words index file old new (Err refusal)
+  reply_failed old new file tree found shown e refusal copies are held are_found all wrote
+      reported =
+      ends_failed taken failed (IsOutOfRange (length words) index) (IsReply Finds words index)
+      old new file tree (lines_reply shown) e refusal held
+      (record {
+        found = found;
+        are_found = subst (λ ws. AreFound Finds ws index tree found) are are_found;
+        is = ap lines_reply all;
+      }) wrote.failures wrote.kinds reported
