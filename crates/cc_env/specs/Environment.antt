@@ -1,14 +1,16 @@
 -- What the environment tells: values of variables, the index of a word, and the separator of a
 -- reply.
-use Rattle.std.specs.Prelude.{◌≡◌, ◌<◌, ◌^◌, ℕ, List, Option, Some, None, find, option_map, unwrap_or, codes}
+use Rattle.std.specs.Prelude.{◌≡◌, ◌<◌, ◌^◌, ℕ, List, Option, Some, None}
+use Rattle.std.specs.Prelude.{codes, find, option_map, unwrap_or}
+use Rattle.std.specs.String.{string_bytes}
 use Rattle.std.specs.Str.{bytes_eq}
 use Rattle.std.specs.Str.Parse.{IsNumeral, digits_value, without_leading_plus}
 pub use Rattle.cc_env.specs.declared.environment.EnvValues.{EnvValues}
-pub use Rattle.cc_env.specs.declared.environment.Variable.{Variable}
 
 -- the value of the first variable of a name
 abbrev pub value_of : List ℕ → EnvValues → Option (List ℕ)
-value_of name env = option_map (λ v. v.value) (find (λ v. bytes_eq v.name name) env.variables)
+value_of name env =
+    option_map (λ v. string_bytes v.1) (find (λ v. bytes_eq (string_bytes v.0) name) env.variables)
 
 -- ---- the index
 

@@ -8,43 +8,17 @@ ghost use Rattle.std.specs.String.{string_bytes};
 ghost use Rattle.cc_env.specs.Environment.{index_name, separator_of, value_of, IsIndex};
 ghost use Rattle.cc_env.specs.Environment.{IsNumberOf};
 
-use cc_base::{Items, Text};
-
-/// A variable and its value.
-#[derive(Drop, Debug)]
-pub struct Variable {
-    name: Text,
-    value: Text,
-}
-
-impl Variable {
-    /// A variable of this name and value.
-    pub fn new(name: String, value: String) -> Variable
-        ensures name { result.name ≡ string_bytes name }
-        ensures value { result.value ≡ string_bytes value }
-    {
-        Variable {
-            name: Text::from(name),
-            value: Text::from(value),
-        }
-    }
-
-    fn is_named(&self, name: &str) -> bool
-        ensures { result ≡ bytes_eq self.now.name name.now }
-    {
-        self.name.as_str() == name
-    }
-}
+use cc_base::Items;
 
 /// Values of environment variables.
 #[derive(Drop, Debug)]
 pub struct EnvValues {
-    variables: Items<Variable>,
+    variables: Items<(String, String)>,
 }
 
 impl EnvValues {
-    /// These variables.
-    pub fn new(variables: Vec<Variable>) -> EnvValues
+    /// These variables, each a name and a value.
+    pub fn new(variables: Vec<(String, String)>) -> EnvValues
         ensures { result.variables ≡ variables.items }
     {
         EnvValues {
@@ -56,18 +30,18 @@ impl EnvValues {
     pub fn get(&self, name: &str) -> Option<&str>
         ensures { option_copied result ≡ value_of name.now self.now }
     {
-        let found = self.find(name)?;
-        Some(found.value.as_str())
+        let (_, value) = self.find(name)?;
+        Some(value.as_str())
     }
 
-    fn find(&self, name: &str) -> Option<&Variable>
+    fn find(&self, name: &str) -> Option<&(String, String)>
         ensures { option_map (λ v. v.now) result
-            ≡ find (λ v. bytes_eq v.name name.now) self.now.variables }
+            ≡ find (λ v. bytes_eq (string_bytes v.0) name.now) self.now.variables }
     {
         self.variables
             .as_slice()
             .iter()
-            .find(|variable| variable.is_named(name))
+            .find(|variable| is_named(variable, name))
     }
 
     /// The index of the word to complete, as `_CLAP_COMPLETE_INDEX` tells it: digits, with one `+`
@@ -90,6 +64,12 @@ impl EnvValues {
             None => "\n",
         }
     }
+}
+
+fn is_named(variable: &(String, String), name: &str) -> bool
+    ensures { result ≡ bytes_eq (string_bytes variable.now.0) name.now }
+{
+    variable.0.as_str() == name
 }
 
 // The number that a text writes, and 0 where it writes none.

@@ -4,5 +4,5 @@
 mod environment;
 mod reply;
 
-pub use crate::environment::{EnvValues, Variable};
+pub use crate::environment::EnvValues;
 pub use crate::reply::{write_lines, write_values, write_zsh_items};
