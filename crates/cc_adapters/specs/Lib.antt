@@ -1,2 +1,5 @@
 pub mod Asks
+pub mod Builtins
 pub mod Replies
+pub mod ShellNames
+pub mod Shells

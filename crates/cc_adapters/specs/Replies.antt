@@ -31,10 +31,11 @@ abbrev pub IsReply : (List (List ℕ) → ℕ → Type 0)
     → (List (List ℕ) → ℕ → List CompletionCandidate → Type 0)
     → (List CompletionCandidate → List ℕ) → List ℕ → Type 0
 IsReply Asks Offers reply text = IsAsked Asks
-    (λ words index. (found : List CompletionCandidate) × Offers words index found × (text ≡ reply found))
+    (λ words index.
+    (found : List CompletionCandidate) × Offers words index found × (text ≡ reply found))
 
--- How the call fails: out of memory, with nothing taken and the tree as it was or built; with nothing
--- taken, as the index that is asked for is out of range; or a put failed.
+-- How the call fails: out of memory, with nothing taken and the tree as it was or built; with
+-- nothing taken, as the index that is asked for is out of range; or a put failed.
 abbrev pub FailsToReply : {S : Type 0} → S → S → Tree → Tree → (List (List ℕ) → ℕ → Type 0) → Error
     → Type 0
 FailsToReply old new before after Asks Memory =
@@ -45,8 +46,8 @@ FailsToReply old new before after Asks (Write _) =
     (after ≡ built_tree before) × AsksInRange after Asks
 FailsToReply old new before after Asks _ = ⊥
 
--- the reply is taken where the call returns `Ok`; then the tree is built and the index that is asked for
--- is in range; a failure is counted exactly where the call returns `Write`
+-- the reply is taken where the call returns `Ok`; then the tree is built and the index that is asked
+-- for is in range; a failure is counted exactly where the call returns `Write`
 pub record Replies {S : Type 0} (taken : S → List ℕ) (failed : S → Failures)
     (result : Result (Unit {0}) Error) (old new : S) (before after : Tree)
     (Asks : List (List ℕ) → ℕ → Type 0)

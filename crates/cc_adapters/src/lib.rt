@@ -1,6 +1,21 @@
 //! Live completion: what each shell is told to run, and how it is replied.
 #![tactic(auto)]
 
+mod bash;
+mod builtin;
+mod elvish;
 mod env_completer;
+mod fish;
+mod powershell;
+mod shells;
+mod words;
+mod zsh;
 
+pub use crate::bash::Bash;
+pub use crate::builtin::Builtin;
+pub use crate::elvish::Elvish;
 pub use crate::env_completer::EnvCompleter;
+pub use crate::fish::Fish;
+pub use crate::powershell::Powershell;
+pub use crate::shells::{Names, Shells};
+pub use crate::zsh::Zsh;

@@ -1,0 +1,84 @@
+//! The adapter for fish.
+
+ghost use Rattle.std.specs.Prelude.{codes};
+ghost use Rattle.std.specs.Str.{bytes_eq};
+ghost use Rattle.cc_adapters.specs.Asks.{AsksAtLast};
+ghost use Rattle.cc_env.specs.Reply.{LinesRead, lines_reply};
+ghost use Rattle.cc_registrations.specs.FishRegistration.{FishReads, fish_registration};
+
+use crate::env_completer::EnvCompleter;
+use crate::words::last_index;
+use cc_base::{Error, Sink};
+use cc_candidates::Completers;
+use cc_command::Command;
+use cc_engine::complete;
+use cc_env::{EnvValues, write_lines};
+use cc_paths::Folder;
+use cc_registrations::write_fish;
+use std::alloc::Global;
+
+/// The adapter for fish.
+#[derive(Clone, Copy, PartialEq, Eq, Debug)]
+pub struct Fish;
+
+impl EnvCompleter for Fish {
+    ghost own_name = { λ _. codes "fish" };
+
+    ghost named = { λ _ name. bytes_eq name (codes "fish") };
+
+    ghost registration = { λ _ variable _ bin completer.
+        fish_registration variable bin completer };
+
+    ghost Reads = { λ _ variable _ bin completer. FishReads variable bin completer };
+
+    ghost Asks = { λ _ _ words asked index. AsksAtLast words asked index };
+
+    ghost reply = { λ _ _ found. lines_reply found };
+
+    ghost ReplyReads = { λ _ _ found. LinesRead found };
+
+    fn name(&self) -> &'static str {
+        "fish"
+    }
+
+    fn is(&self, name: &str) -> bool {
+        name == "fish"
+    }
+
+    fn write_registration<W: Sink>(
+        &self,
+        alloc: Global,
+        variable: &str,
+        _name: &str,
+        bin: &str,
+        completer: &str,
+        sink: &mut W,
+    ) -> Result<(), Error> {
+        write_fish(alloc, variable, bin, completer, sink)
+    }
+
+    fn write_complete<D: Folder, W: Sink>(
+        &self,
+        alloc: Global,
+        command: &mut Command,
+        words: Vec<String>,
+        current_dir: Option<&str>,
+        _env: &EnvValues,
+        folder: &D,
+        completers: &Completers,
+        sink: &mut W,
+    ) -> Result<(), Error> {
+        let index = last_index(words.as_slice());
+        let found = complete(
+            alloc,
+            command,
+            words,
+            index,
+            current_dir,
+            folder,
+            completers,
+        )?;
+        let shown = found.as_slice();
+        write_lines(shown, sink)
+    }
+}
