@@ -1,0 +1,83 @@
+//! Replies of adapters.
+
+use cc_adapters::EnvCompleter;
+use cc_base::{Collected, Error};
+use cc_candidates::Completers;
+use cc_env::EnvValues;
+use cc_paths::MemoryFolder;
+use cc_tree_file::read_tree;
+use std::alloc::{AllocError, Global};
+use std::process::Abort;
+
+/// Fails unless the reply for the words is this text, where the index is told by its variable.
+pub(crate) fn replies<R: Abort + AllocGlobal, E: EnvCompleter>(
+    rt: &R,
+    shell: &E,
+    tree: &str,
+    index: &str,
+    words: &[&str],
+    wanted: &str,
+) {
+    let mut sink = Collected::new(rt.alloc());
+    let done = reply(rt.alloc(), shell, tree, index, words, &mut sink);
+    assert!(rt; done.is_ok());
+    assert_eq!(rt; sink.as_slice(), wanted.as_bytes());
+}
+
+/// Fails unless there is nothing to complete, and nothing is written.
+pub(crate) fn refuses<R: Abort + AllocGlobal, E: EnvCompleter>(
+    rt: &R,
+    shell: &E,
+    tree: &str,
+    index: &str,
+    words: &[&str],
+) {
+    let mut sink = Collected::new(rt.alloc());
+    let done = reply(rt.alloc(), shell, tree, index, words, &mut sink);
+    assert!(rt; matches!(done, Err(Error::NoCompletion)));
+    assert!(rt; sink.as_slice().is_empty());
+}
+
+fn reply<E: EnvCompleter>(
+    alloc: Global,
+    shell: &E,
+    tree: &str,
+    index: &str,
+    words: &[&str],
+    sink: &mut Collected,
+) -> Result<(), Error> {
+    let Ok(mut command) = read_tree(alloc, tree.as_bytes()) else {
+        return Err(Error::Memory);
+    };
+    let words = owned(alloc, words)?;
+    let values = environment(alloc, index)?;
+    let folder = MemoryFolder::new(&[], &[]);
+    let lent = Completers::new(alloc, Vec::new(alloc), Vec::new(alloc));
+    let done = shell.write_complete(
+        alloc,
+        &mut command,
+        words,
+        None,
+        &values,
+        &folder,
+        &lent,
+        sink,
+    );
+    drop(command);
+    done
+}
+
+fn environment(alloc: Global, index: &str) -> Result<EnvValues, AllocError> {
+    let mut variables = Vec::new(alloc);
+    let name = String::from_str(alloc, "_CLAP_COMPLETE_INDEX")?;
+    variables.push((name, String::from_str(alloc, index)?))?;
+    Ok(EnvValues::new(variables))
+}
+
+fn owned(alloc: Global, words: &[&str]) -> Result<Vec<String>, AllocError> {
+    let mut owned = Vec::new(alloc);
+    for word in words {
+        owned.push(String::from_str(alloc, word)?)?;
+    }
+    Ok(owned)
+}
