@@ -10,7 +10,7 @@ use Rattle.cc_candidates.specs.declared.numbers.SubcommandCandidates.{Subcommand
 use Rattle.cc_command.specs.declared.node.Node.{Node}
 use Rattle.cc_command.specs.Tree.{Tree}
 use Rattle.cc_gather.specs.Children.{subcommand_candidates}
-use Rattle.cc_gather.specs.Finished.{finished}
+use Rattle.cc_gather.specs.Finished.{finished, ShareNone}
 use Rattle.cc_gather.specs.Rows.{Row, Listed, ValuesOf, prefixed, row_of}
 use Rattle.cc_values.specs.Parts.{part}
 use Rattle.cc_values.specs.Values.{Allows, Lent, Question, nothing, candidates, question, values}
@@ -123,11 +123,14 @@ finished_with (OptionOpen option count) word given others =
     if nat_le (least option) count then finished (values option word given ++ finished others) else finished (values option word given)
 finished_with _ word given others = finished others
 
+-- what is offered besides the values of an open option
+abbrev pub besides : Tree → State → List ℕ → Given → List CompletionCandidate
+besides tree state word given =
+    offered tree state.place (offer_by tree.node.arguments state.place state.escaped state.pending) word given
+
 -- what is offered for the word, where these lists are given
 abbrev pub answer : Tree → State → List ℕ → Given → List CompletionCandidate
-answer tree state word given =
-    finished_with state.pending word given.opened
-    (offered tree state.place (offer_by tree.node.arguments state.place state.escaped state.pending) word given)
+answer tree state word given = finished_with state.pending word given.opened (besides tree state word given)
 
 -- the lists that may be offered for the word at a node
 abbrev pub Offers : Lent → Tree → State → List ℕ → List CompletionCandidate → Type 0
@@ -174,3 +177,19 @@ abbrev pub Refuses : Tree → Tree → ℕ → ℕ → Error → Type 0
 Refuses old new count index Memory = (new ≡ old) ⊎ (new ≡ built_tree old)
 Refuses old new count index NoCompletion = (new ≡ built_tree old) × (is_in_range new.node count index ≡ false)
 Refuses old new count index _ = ⊥
+
+-- ONE FINISHING
+
+-- the values of an open option; none where no option is open
+abbrev pub opened_values : Pending → List ℕ → List CompletionCandidate → List CompletionCandidate
+opened_values (OptionOpen option count) word given = values option word given
+opened_values _ word given = []
+
+-- Of any lists for which the result is the answer: where the values of an open option share no id with
+-- the others, it is one finishing of them all.
+abbrev pub FinishesOnce : List ℕ → List CompletionCandidate → Type 0
+FinishesOnce word result =
+    (tree : Tree) (state : State) (given : Given)
+    → result ≡ answer tree state word given
+    → ShareNone (opened_values state.pending word given.opened) (besides tree state word given)
+    → result ≡ finished (opened_values state.pending word given.opened ++ besides tree state word given)

@@ -3,7 +3,7 @@
 ghost use Rattle.std.specs.Prelude.{◌≡◌, ◌<◌, [], get_or, length, map, string_bytes, true, IfOk, IfErr, OnOk};
 ghost use Rattle.std.specs.Option.{option_copied};
 ghost use Rattle.cc_command.specs.Built.{built_tree};
-ghost use Rattle.cc_engine.specs.Completion.{Completes, Refuses, is_in_range, names_before, words_before};
+ghost use Rattle.cc_engine.specs.Completion.{Completes, FinishesOnce, Refuses, is_in_range, names_before, words_before};
 ghost use Rattle.cc_engine.specs.Paths.{PathsOf};
 ghost use Rattle.cc_values.specs.Values.{lent_by};
 
@@ -48,6 +48,8 @@ pub fn complete<D: Folder>(
         (D.tells_executable folder.now) (D.home_path folder.now)
         (option_copied current_dir.entry)))
         command.new (map string_bytes words.items) index found.items) }
+    ensures once { IfOk result (λ found.
+        FinishesOnce (get_or (map string_bytes words.items) index []) found.items) }
     ensures built { OnOk result (command.new ≡ built_tree command.old) }
     ensures in_range { OnOk result (is_in_range command.new.node (length words.items) index ≡ true) }
     ensures errors { IfErr result (Refuses command.old command.new (length words.items) index) }
