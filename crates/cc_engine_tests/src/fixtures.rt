@@ -32,3 +32,31 @@ pub(crate) const DELIMITED: &str = r#"{"name": "app", "disable_help_flag": true,
 /// `app` with a positional that is a file's path, and no flag.
 pub(crate) const FILE: &str = r#"{"name": "app", "disable_help_flag": true, "args": [
     {"id": "file", "value_hint": "FilePath"}]}"#;
+
+/// `app` with a positional that is a folder's path, and no flag.
+pub(crate) const DIR: &str = r#"{"name": "app", "disable_help_flag": true, "args": [
+    {"id": "dir", "value_hint": "DirPath"}]}"#;
+
+/// `app` with a positional that is the path of an executable file, and no flag.
+pub(crate) const EXECUTABLE: &str = r#"{"name": "app", "disable_help_flag": true, "args": [
+    {"id": "program", "value_hint": "ExecutablePath"}]}"#;
+
+/// `app` with a positional that is any path, and no flag.
+pub(crate) const ANY: &str = r#"{"name": "app", "disable_help_flag": true, "args": [
+    {"id": "path", "value_hint": "AnyPath"}]}"#;
+
+/// `app` with a positional whose hint names no paths, and no flag.
+pub(crate) const OTHER: &str = r#"{"name": "app", "disable_help_flag": true, "args": [
+    {"id": "user", "value_hint": "Username"}]}"#;
+
+/// `app` with an option `--o` of at most two values, a positional `p` of two values that must be
+/// there, and a flag `-v` that is counted.
+pub(crate) const PRINTED: &str = r#"{"name": "app", "args": [
+    {"id": "o", "long": "o", "value_names": ["N"], "num_args": [0, 2]},
+    {"id": "p", "required": true, "num_args": [2, 2]},
+    {"id": "v", "short": "v", "action": "Count"}]}"#;
+
+/// `n199` with a flag `--end`; nothing is generated.
+pub(crate) const DEEPEST: &str = r#"{"name": "n199", "disable_help_flag": true,
+    "disable_help_subcommand": true, "args": [
+        {"id": "end", "long": "end", "action": "SetTrue"}]}"#;

@@ -5,8 +5,18 @@
 #[cfg(test)]
 mod candidates;
 #[cfg(test)]
+mod completers;
+#[cfg(test)]
 mod fixtures;
+#[cfg(test)]
+mod lent;
+#[cfg(test)]
+mod numbered;
+#[cfg(test)]
+mod odd_words;
 #[cfg(test)]
 mod offered;
 #[cfg(test)]
 mod paths;
+#[cfg(test)]
+mod printed;

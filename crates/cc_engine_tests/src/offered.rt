@@ -2,6 +2,7 @@
 
 use cc_base::Error;
 use cc_candidates::{Completers, CompletionCandidate};
+use cc_command::Command;
 use cc_engine::complete;
 use cc_paths::{Folder, MemoryFolder};
 use cc_tree_file::read_tree;
@@ -25,7 +26,21 @@ pub(crate) fn offered_in<R: Abort + AllocGlobal, D: Folder>(
 ) -> String {
     let index = words.len().saturating_sub(1);
     let found = found_at(rt.alloc(), tree, words, index, current_dir, folder);
-    values(rt.alloc(), found.expect(rt, "no candidates")).expect(rt, "no text")
+    text_of(rt, found)
+}
+
+/// The same of a command, with what is lent.
+pub(crate) fn offered_with<R: Abort + AllocGlobal>(
+    rt: &R,
+    command: Result<Command, Error>,
+    words: &[&str],
+    lent: &Completers,
+) -> String {
+    let folder = MemoryFolder::new(&[], &[]);
+    let mut command = command.expect(rt, "no command");
+    let found = found_last(rt.alloc(), &mut command, words, None, &folder, lent);
+    drop(command);
+    text_of(rt, found)
 }
 
 /// What is found for the word at an index.
@@ -37,11 +52,9 @@ pub(crate) fn found_at<D: Folder>(
     current_dir: Option<&str>,
     folder: &D,
 ) -> Result<Vec<CompletionCandidate>, Error> {
-    let Ok(mut command) = read_tree(alloc, tree.as_bytes()) else {
-        return Err(Error::Memory);
-    };
+    let mut command = command_of(alloc, tree)?;
     let words = owned(alloc, words)?;
-    let lent = Completers::new(alloc, Vec::new(alloc), Vec::new(alloc));
+    let lent = nothing_lent(alloc);
     let found = complete(
         alloc,
         &mut command,
@@ -53,6 +66,41 @@ pub(crate) fn found_at<D: Folder>(
     );
     drop(command);
     found
+}
+
+/// What a command offers for the last of the words.
+pub(crate) fn found_last<D: Folder>(
+    alloc: Global,
+    command: &mut Command,
+    words: &[&str],
+    current_dir: Option<&str>,
+    folder: &D,
+    lent: &Completers,
+) -> Result<Vec<CompletionCandidate>, Error> {
+    let index = words.len().saturating_sub(1);
+    let words = owned(alloc, words)?;
+    complete(alloc, command, words, index, current_dir, folder, lent)
+}
+
+/// The command of a tree file that describes one.
+pub(crate) fn command_of(alloc: Global, tree: &str) -> Result<Command, Error> {
+    match read_tree(alloc, tree.as_bytes()) {
+        Ok(command) => Ok(command),
+        Err(_) => Err(Error::Memory),
+    }
+}
+
+/// No completers and no lists.
+pub(crate) fn nothing_lent(alloc: Global) -> Completers {
+    Completers::new(alloc, Vec::new(alloc), Vec::new(alloc))
+}
+
+/// The values of the candidates that were found, each with a space after it.
+pub(crate) fn text_of<R: Abort + AllocGlobal>(
+    rt: &R,
+    found: Result<Vec<CompletionCandidate>, Error>,
+) -> String {
+    values(rt.alloc(), found.expect(rt, "no candidates")).expect(rt, "no text")
 }
 
 fn owned(alloc: Global, words: &[&str]) -> Result<Vec<String>, AllocError> {

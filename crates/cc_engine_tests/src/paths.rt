@@ -1,19 +1,79 @@
 //! Paths of value hints.
 
-use crate::fixtures::FILE;
-use crate::offered::offered_in;
+use crate::fixtures::{ANY, DIR, EXECUTABLE, FILE, OTHER};
+use crate::offered::{command_of, found_last, nothing_lent, offered_in};
+use cc_base::Error;
 use cc_paths::MemoryFolder;
+use std::process::Abort;
 
-#[test]
-fn files_and_then_folders_that_are_not_hidden(rt: HostRuntime) {
-    let folder = MemoryFolder::new(
+// `/w` with a file and two folders, one of them hidden, and a home folder with a folder.
+fn work() -> MemoryFolder {
+    MemoryFolder::new(
         &[
-            ("/w", &[".git", "a.txt", "src"]),
+            ("/w", &["src", ".git", "a.txt"]),
             ("/w/.git", &[]),
             ("/w/src", &[]),
+            ("/home/u", &["src"]),
+            ("/home/u/src", &[]),
         ],
         &["/w/a.txt"],
+    )
+    .with_home("/home/u")
+}
+
+// `/o` with two files and a folder.
+fn other() -> MemoryFolder {
+    MemoryFolder::new(
+        &[("/o", &["foobar", "foo", "bar"]), ("/o/foo", &[])],
+        &["/o/foobar", "/o/bar"],
+    )
+}
+
+// Fails unless the tree offers these paths for the word in `/w`, each with a space after it.
+fn offers<R: Abort + AllocGlobal>(rt: &R, tree: &str, word: &str, wanted: &str) {
+    let shown = offered_in(rt, tree, &["app", word], Some("/w"), &work());
+    assert_eq!(rt; shown.as_str(), wanted);
+}
+
+#[test]
+fn paths_that_are_not_hidden_in_order(rt: HostRuntime) {
+    offers(&rt, FILE, "", "a.txt src/ ");
+    offers(&rt, EXECUTABLE, "", "a.txt src/ ");
+    offers(&rt, DIR, "", ". src/ ");
+    offers(&rt, ANY, "~/s", "~/src/ ");
+}
+
+#[test]
+fn another_hint_names_no_paths(rt: HostRuntime) {
+    offers(&rt, OTHER, "", "");
+}
+
+#[test]
+fn a_dot_after_a_slash_is_taken_off(rt: HostRuntime) {
+    let shown = offered_in(&rt, ANY, &["app", "foo/."], Some("/o"), &other());
+    assert_eq!(rt; shown.as_str(), "foo/ foobar ");
+}
+
+#[test]
+fn a_relative_word_needs_a_current_folder(rt: HostRuntime) {
+    let shown = offered_in(&rt, ANY, &["app", "s"], None, &work());
+    assert_eq!(rt; shown.as_str(), "");
+}
+
+#[test]
+fn a_folder_that_is_out_of_memory(rt: HostRuntime) {
+    let folder = work().out_of_memory();
+    let lent = nothing_lent(rt.alloc());
+    let mut command = command_of(rt.alloc(), FILE).expect(&rt, "no command");
+    let words = ["app", ""];
+    let found = found_last(
+        rt.alloc(),
+        &mut command,
+        words.as_slice(),
+        Some("/w"),
+        &folder,
+        &lent,
     );
-    let shown = offered_in(&rt, FILE, &["app", ""], Some("/w"), &folder);
-    assert_eq!(rt; shown.as_str(), "a.txt src/ ");
+    assert!(rt; matches!(found, Err(Error::Memory)) && command.is_built());
+    drop(command);
 }

@@ -1,0 +1,127 @@
+//! What the tests lend.
+
+ghost use Rattle.std.specs.Prelude.{⊤};
+
+use cc_candidates::{
+    Completers, CompletionCandidate, FnCandidates, FnCompleter, ValueCandidates, ValueCompleter,
+};
+use std::alloc::{AllocError, Global};
+
+/// Completes every text with `auto`, which has the id of the option `--col` and a tag of its own.
+#[derive(Drop)]
+struct Auto;
+
+impl ValueCompleter for Auto {
+    ghost answers = { λ _ _ _ _. ⊤ };
+
+    fn complete_at(
+        &self,
+        alloc: Global,
+        _number: usize,
+        _text: &str,
+    ) -> Result<Vec<CompletionCandidate>, AllocError> {
+        let id = String::from_str(alloc, "arg::col")?;
+        let tag = String::from_str(alloc, "Auto")?;
+        let auto = CompletionCandidate::new(String::from_str(alloc, "auto")?);
+        let mut found = Vec::new(alloc);
+        found.push(auto.id(Some(id)).tag(Some(tag)))?;
+        Ok(found)
+    }
+}
+
+/// Completes with the number of the value and the text that it is asked for, as `1:text`.
+#[derive(Drop)]
+struct Asked;
+
+impl ValueCompleter for Asked {
+    ghost answers = { λ _ _ _ _. ⊤ };
+
+    fn complete_at(
+        &self,
+        alloc: Global,
+        number: usize,
+        text: &str,
+    ) -> Result<Vec<CompletionCandidate>, AllocError> {
+        let value = format!(in alloc; "{number}:{text}")?;
+        let mut found = Vec::new(alloc);
+        found.push(CompletionCandidate::new(value))?;
+        Ok(found)
+    }
+}
+
+/// Names of programs, one of them twice.
+#[derive(Drop)]
+struct Programs;
+
+impl ValueCandidates for Programs {
+    ghost lists = { λ _ _. ⊤ };
+
+    fn candidates(&self, alloc: Global) -> Result<Vec<CompletionCandidate>, AllocError> {
+        named(alloc, &["tee", "tar", "cat", "tee"])
+    }
+}
+
+/// Is always out of memory.
+#[derive(Drop)]
+struct OutOfMemory;
+
+impl ValueCompleter for OutOfMemory {
+    ghost answers = { λ _ _ _ _. ⊤ };
+
+    fn complete_at(
+        &self,
+        _alloc: Global,
+        _number: usize,
+        _text: &str,
+    ) -> Result<Vec<CompletionCandidate>, AllocError> {
+        Err(AllocError)
+    }
+}
+
+impl ValueCandidates for OutOfMemory {
+    ghost lists = { λ _ _. ⊤ };
+
+    fn candidates(&self, _alloc: Global) -> Result<Vec<CompletionCandidate>, AllocError> {
+        Err(AllocError)
+    }
+}
+
+/// The completers `Auto` and `Asked`, and a closure that completes with the text twice; the list
+/// `Programs`, and a closure that lists `left` and `right`.
+pub(crate) fn lent(alloc: Global) -> Result<Completers, AllocError> {
+    let mut completers: Vec<Box<dyn ValueCompleter>> = Vec::new(alloc);
+    completers.push(Box::new(alloc, Auto)?)?;
+    completers.push(Box::new(alloc, Asked)?)?;
+    let mut lists: Vec<Box<dyn ValueCandidates>> = Vec::new(alloc);
+    lists.push(Box::new(alloc, Programs)?)?;
+    let lent = Completers::new(alloc, completers, lists);
+    let twice = Box::new(alloc, |alloc: Global, text: &str| twice(alloc, text))?;
+    let sides = Box::new(alloc, |alloc: Global| named(alloc, &["left", "right"]))?;
+    let mut completers = Vec::new(alloc);
+    completers.push(FnCompleter::new(twice))?;
+    let mut lists = Vec::new(alloc);
+    lists.push(FnCandidates::new(sides))?;
+    Ok(lent.with_closures(completers, lists))
+}
+
+/// A completer and a list that are out of memory.
+pub(crate) fn lent_without_memory(alloc: Global) -> Result<Completers, AllocError> {
+    let mut completers: Vec<Box<dyn ValueCompleter>> = Vec::new(alloc);
+    completers.push(Box::new(alloc, OutOfMemory)?)?;
+    let mut lists: Vec<Box<dyn ValueCandidates>> = Vec::new(alloc);
+    lists.push(Box::new(alloc, OutOfMemory)?)?;
+    Ok(Completers::new(alloc, completers, lists))
+}
+
+fn twice(alloc: Global, text: &str) -> Result<Vec<CompletionCandidate>, AllocError> {
+    let value = format!(in alloc; "{text}{text}")?;
+    named(alloc, &[value.as_str()])
+}
+
+fn named(alloc: Global, names: &[&str]) -> Result<Vec<CompletionCandidate>, AllocError> {
+    let mut found = Vec::new(alloc);
+    for name in names {
+        found.push(CompletionCandidate::new(String::from_str(alloc, name)?))?;
+    }
+    Ok(found)
+}

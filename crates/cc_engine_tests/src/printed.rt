@@ -1,0 +1,31 @@
+//! Printed forms of arguments.
+
+use crate::fixtures::PRINTED;
+use crate::offered::command_of;
+use cc_arg::Arg;
+use cc_base::Error;
+use cc_command::Command;
+use std::alloc::{AllocError, Global};
+use std::process::Abort;
+
+// The printed forms of the arguments, each with a line feed after it.
+fn forms(alloc: Global, arguments: &[Arg]) -> Result<String, AllocError> {
+    let mut text = String::new(alloc);
+    for argument in arguments {
+        writeln!(text, "{argument}")?;
+    }
+    Ok(text)
+}
+
+fn prints<R: Abort + AllocGlobal>(rt: &R, command: Result<Command, Error>, wanted: &str) {
+    let command = command.expect(rt, "no command");
+    let text = forms(rt.alloc(), command.get_arguments());
+    assert_eq!(rt; text.expect(rt, "no text").as_str(), wanted);
+    drop(command);
+}
+
+#[test]
+fn options_positionals_and_counted_flags(rt: HostRuntime) {
+    let command = command_of(rt.alloc(), PRINTED);
+    prints(&rt, command, "--o [<N>...]\n<p> <p>\n-v...\n");
+}
