@@ -22,6 +22,7 @@ pub use Rattle.cc_quote.specs.FishEscapes
 pub use Rattle.cc_quote.specs.FishQuote
 pub use Rattle.cc_quote.specs.FishTokens
 pub use Rattle.cc_quote.specs.PosixQuote
+pub use Rattle.cc_quote.specs.PosixTokenWords
 pub use Rattle.cc_quote.specs.PosixTokens
 pub use Rattle.cc_quote.specs.PowershellQuote
 pub use Rattle.cc_quote.specs.PowershellTokens
