@@ -1,18 +1,17 @@
 //! Values and names that are lent.
 
-use crate::lent::{lent, lent_without_memory};
+use crate::lent::{found_with_lent, found_without_memory};
 use crate::numbered::{
     with_completer_and_list, with_delimiter, with_list, with_pair, with_positional, with_programs,
     with_two_options,
 };
-use crate::offered::{found_last, offered_with};
+use crate::offered::text_of;
 use cc_arg::ValueRange;
 use cc_base::Error;
 use cc_candidates::{
-    ArgValueCandidates, ArgValueCompleter, CompletionCandidate, SubcommandCandidates,
+    ArgValueCandidates, ArgValueCompleter, Completers, CompletionCandidate, SubcommandCandidates,
 };
 use cc_command::Command;
-use cc_paths::MemoryFolder;
 use std::alloc::AllocError;
 use std::process::Abort;
 
@@ -24,8 +23,10 @@ fn offers<R: Abort + AllocGlobal>(
     words: &[&str],
     wanted: &str,
 ) {
-    let lent = lent(rt.alloc()).expect(rt, "nothing lent");
-    assert_eq!(rt; offered_with(rt, command, words, &lent).as_str(), wanted);
+    let mut command = command.expect(rt, "no command");
+    let found = found_with_lent(rt.alloc(), &mut command, words);
+    drop(command);
+    assert_eq!(rt; text_of(rt, found).as_str(), wanted);
 }
 
 #[test]
@@ -113,7 +114,7 @@ fn is_empty(rt: &impl Abort, found: Result<Vec<CompletionCandidate>, AllocError>
 #[test]
 fn a_number_past_what_is_lent_has_no_candidates(rt: HostRuntime) {
     let alloc = rt.alloc();
-    let lent = lent(alloc).expect(&rt, "nothing lent");
+    let lent = Completers::new(alloc, Vec::new(alloc), Vec::new(alloc));
     is_empty(&rt, ArgValueCompleter::new(7).complete(alloc, &lent, ""));
     is_empty(&rt, ArgValueCandidates::new(7).candidates(alloc, &lent));
     is_empty(&rt, SubcommandCandidates::new(7).candidates(alloc, &lent));
@@ -122,21 +123,11 @@ fn a_number_past_what_is_lent_has_no_candidates(rt: HostRuntime) {
 
 // Fails unless what is lent is out of memory, and the command is built all the same.
 fn runs_out<R: Abort + AllocGlobal>(rt: &R, command: Result<Command, Error>) {
-    let folder = MemoryFolder::new(&[], &[]);
-    let lent = lent_without_memory(rt.alloc()).expect(rt, "nothing lent");
     let mut command = command.expect(rt, "no command");
     let words = ["app", ""];
-    let found = found_last(
-        rt.alloc(),
-        &mut command,
-        words.as_slice(),
-        None,
-        &folder,
-        &lent,
-    );
+    let found = found_without_memory(rt.alloc(), &mut command, words.as_slice());
     assert!(rt; matches!(found, Err(Error::Memory)) && command.is_built());
     drop(command);
-    drop(lent);
 }
 
 #[test]

@@ -2,9 +2,13 @@
 
 ghost use Rattle.std.specs.Prelude.{⊤};
 
+use crate::offered::found_last;
+use cc_base::Error;
 use cc_candidates::{
     Completers, CompletionCandidate, FnCandidates, FnCompleter, ValueCandidates, ValueCompleter,
 };
+use cc_command::Command;
+use cc_paths::MemoryFolder;
 use std::alloc::{AllocError, Global};
 
 /// Completes every text with `auto`, which has the id of the option `--col` and a tag of its own.
@@ -86,9 +90,14 @@ impl ValueCandidates for OutOfMemory {
     }
 }
 
-/// The completers `Auto` and `Asked`, and a closure that completes with the text twice; the list
-/// `Programs`, and a closure that lists `left` and `right`.
-pub(crate) fn lent(alloc: Global) -> Result<Completers, AllocError> {
+/// What the command offers for the last of the words, with the completers `Auto` and `Asked` and a
+/// closure that completes with the text twice, and with the list `Programs` and a closure that lists
+/// `left` and `right`.
+pub(crate) fn found_with_lent(
+    alloc: Global,
+    command: &mut Command,
+    words: &[&str],
+) -> Result<Vec<CompletionCandidate>, Error> {
     let mut completers: Vec<Box<dyn ValueCompleter>> = Vec::new(alloc);
     completers.push(Box::new(alloc, Auto)?)?;
     completers.push(Box::new(alloc, Asked)?)?;
@@ -101,16 +110,24 @@ pub(crate) fn lent(alloc: Global) -> Result<Completers, AllocError> {
     completers.push(FnCompleter::new(twice))?;
     let mut lists = Vec::new(alloc);
     lists.push(FnCandidates::new(sides))?;
-    Ok(lent.with_closures(completers, lists))
+    let lent = lent.with_closures(completers, lists);
+    let folder = MemoryFolder::new(&[], &[]);
+    found_last(alloc, command, words, None, &folder, &lent)
 }
 
-/// A completer and a list that are out of memory.
-pub(crate) fn lent_without_memory(alloc: Global) -> Result<Completers, AllocError> {
+/// The same with a completer and a list that are out of memory.
+pub(crate) fn found_without_memory(
+    alloc: Global,
+    command: &mut Command,
+    words: &[&str],
+) -> Result<Vec<CompletionCandidate>, Error> {
     let mut completers: Vec<Box<dyn ValueCompleter>> = Vec::new(alloc);
     completers.push(Box::new(alloc, OutOfMemory)?)?;
     let mut lists: Vec<Box<dyn ValueCandidates>> = Vec::new(alloc);
     lists.push(Box::new(alloc, OutOfMemory)?)?;
-    Ok(Completers::new(alloc, completers, lists))
+    let lent = Completers::new(alloc, completers, lists);
+    let folder = MemoryFolder::new(&[], &[]);
+    found_last(alloc, command, words, None, &folder, &lent)
 }
 
 fn twice(alloc: Global, text: &str) -> Result<Vec<CompletionCandidate>, AllocError> {

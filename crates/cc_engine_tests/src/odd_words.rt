@@ -1,8 +1,9 @@
 //! Words that nobody types, many words, long words, and a deep tree.
 
 use crate::fixtures::{COLORED, DEEPEST};
-use crate::offered::{command_of, nothing_lent, offered, text_of};
+use crate::offered::{command_of, offered, text_of};
 use cc_base::Error;
+use cc_candidates::Completers;
 use cc_command::Command;
 use cc_engine::complete;
 use cc_paths::MemoryFolder;
@@ -28,7 +29,8 @@ fn offers_for<R: Abort + AllocGlobal>(
     let words = words.expect(rt, "no words");
     let index = words.len().saturating_sub(1);
     let folder = MemoryFolder::new(&[], &[]);
-    let lent = nothing_lent(rt.alloc());
+    let alloc = rt.alloc();
+    let lent = Completers::new(alloc, Vec::new(alloc), Vec::new(alloc));
     let mut command = command.expect(rt, "no command");
     let found = complete(rt.alloc(), &mut command, words, index, None, &folder, &lent);
     drop(command);

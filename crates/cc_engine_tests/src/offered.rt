@@ -29,20 +29,6 @@ pub(crate) fn offered_in<R: Abort + AllocGlobal, D: Folder>(
     text_of(rt, found)
 }
 
-/// The same of a command, with what is lent.
-pub(crate) fn offered_with<R: Abort + AllocGlobal>(
-    rt: &R,
-    command: Result<Command, Error>,
-    words: &[&str],
-    lent: &Completers,
-) -> String {
-    let folder = MemoryFolder::new(&[], &[]);
-    let mut command = command.expect(rt, "no command");
-    let found = found_last(rt.alloc(), &mut command, words, None, &folder, lent);
-    drop(command);
-    text_of(rt, found)
-}
-
 /// What is found for the word at an index.
 pub(crate) fn found_at<D: Folder>(
     alloc: Global,
@@ -54,7 +40,7 @@ pub(crate) fn found_at<D: Folder>(
 ) -> Result<Vec<CompletionCandidate>, Error> {
     let mut command = command_of(alloc, tree)?;
     let words = owned(alloc, words)?;
-    let lent = nothing_lent(alloc);
+    let lent = Completers::new(alloc, Vec::new(alloc), Vec::new(alloc));
     let found = complete(
         alloc,
         &mut command,
@@ -88,11 +74,6 @@ pub(crate) fn command_of(alloc: Global, tree: &str) -> Result<Command, Error> {
         Ok(command) => Ok(command),
         Err(_) => Err(Error::Memory),
     }
-}
-
-/// No completers and no lists.
-pub(crate) fn nothing_lent(alloc: Global) -> Completers {
-    Completers::new(alloc, Vec::new(alloc), Vec::new(alloc))
 }
 
 /// The values of the candidates that were found, each with a space after it.

@@ -1,8 +1,9 @@
 //! Paths of value hints.
 
 use crate::fixtures::{ANY, DIR, EXECUTABLE, FILE, OTHER};
-use crate::offered::{command_of, found_last, nothing_lent, offered_in};
+use crate::offered::{command_of, found_last, offered_in};
 use cc_base::Error;
+use cc_candidates::Completers;
 use cc_paths::MemoryFolder;
 use std::process::Abort;
 
@@ -63,7 +64,8 @@ fn a_relative_word_needs_a_current_folder(rt: HostRuntime) {
 #[test]
 fn a_folder_that_is_out_of_memory(rt: HostRuntime) {
     let folder = work().out_of_memory();
-    let lent = nothing_lent(rt.alloc());
+    let alloc = rt.alloc();
+    let lent = Completers::new(alloc, Vec::new(alloc), Vec::new(alloc));
     let mut command = command_of(rt.alloc(), FILE).expect(&rt, "no command");
     let words = ["app", ""];
     let found = found_last(
