@@ -1,13 +1,14 @@
 -- How writing the candidates for a word ends.
 use Rattle.std.proofs.Common.{◌≡◌, ◌∙◌, ap, refl, subst, sym, ℕ, List, Option, Result, Ok, Err}
-use Rattle.std.proofs.Common.{Global, String, Vec, false, length, map}
+use Rattle.std.proofs.Common.{Global, String, Vec, [], false, true, length, map, IfOk, OnOk}
 use Rattle.std.proofs.lemmas.List.{length-map}
 use Rattle.std.specs.String.{string_bytes}
 use Rattle.cc_command_line.specs.declared.types.Plan.{Plan}
 use Rattle.cc_command_line.specs.declared.types.Plan.TheVariants.{Candidates}
 use Rattle.cc_command_line.specs.declared.types.Refusal.{Refusal}
+use Rattle.clap_complete.specs.ArgumentValues.{Lent, lent_by}
 use Rattle.clap_complete.specs.Built.{built_tree}
-use Rattle.clap_complete.specs.Completion.{Refuses, is_in_range}
+use Rattle.clap_complete.specs.Completion.{Completes, Refuses, is_in_range}
 use Rattle.clap_complete.specs.CompletionCandidate.{CompletionCandidate}
 use Rattle.clap_complete.specs.Error.{Error}
 use Rattle.clap_complete.specs.Error.TheVariants as error
@@ -17,7 +18,7 @@ use Rattle.clap_complete.specs.Writes.{Writes}
 use Rattle.cc_env.specs.Reply.{lines_reply}
 use Rattle.cc_run.specs.Ends.{Ends, EndsReply}
 use Rattle.cc_run.specs.Refusals.{Reports}
-use Rattle.cc_run.specs.Replies.{AreFound, FindsNone, IsOutOfRange, IsReply, Paths}
+use Rattle.cc_run.specs.Replies.{AreFound, FindsNone, IsOutOfRange, IsReply, Paths, only_paths}
 use Rattle.cc_run.proofs.WritingLemmas.{ends_failed, ends_rejected, ends_unwritten}
 use Rattle.cc_run.proofs.WritingLemmas.{ends_written, same}
 use Rattle.cc_tree_file.specs.TreeFile.{HoldsTree}
@@ -29,6 +30,36 @@ finds_none old new count index error.Memory refused = tt
 finds_none old new count index error.NoCompletion refused =
     subst (λ tree. is_in_range tree.node count index ≡ false) refused.0 refused.1
 finds_none old new count index _ refused = absurd refused
+
+-- where no completer and no list is lent, only paths are found
+pub lent_none : {C F L G : Type 0} (Ones : C → ℕ → List ℕ → List CompletionCandidate → Type 0)
+    (completers : List C) (Others : F → ℕ → List ℕ → List CompletionCandidate → Type 0)
+    (closures : List F) (Lists : L → List CompletionCandidate → Type 0) (lists : List L)
+    (Gives : G → List CompletionCandidate → Type 0) (list_closures : List G) (Finds : Paths)
+    → completers ≡ [] → closures ≡ [] → lists ≡ [] → list_closures ≡ []
+    → lent_by Ones completers Others closures Lists lists Gives list_closures Finds
+    ≡ only_paths Finds
+lent_none Ones completers Others closures Lists lists Gives list_closures Finds a b c d =
+    rw (a, b, c, d) refl
+
+-- what a call that builds the command finds, where only paths are found
+pub are_found : {A : Type 0} (items : A → List CompletionCandidate) (Finds : Paths) (lent : Lent)
+    (words : List (String Global)) (index : ℕ) (old new : Tree) (result : Result A Error)
+    → lent ≡ only_paths Finds
+    → IfOk result (λ found. Completes lent new (map string_bytes words) index (items found))
+    → OnOk result (new ≡ built_tree old)
+    → OnOk result (is_in_range new.node (length words) index ≡ true)
+    → IfOk result (λ found. AreFound Finds (map string_bytes words) index old (items found))
+are_found items Finds lent words index old new (Ok found) is completes built ranges = record {
+  in_range = subst (λ tree.
+      is_in_range tree.node (length (map string_bytes words)) index ≡ true) built
+      (subst (λ count. is_in_range new.node count index ≡ true)
+      (sym (length-map words string_bytes)) ranges);
+  completes = subst (λ tree.
+      Completes (only_paths Finds) tree (map string_bytes words) index (items found)) built
+      (subst (λ l. Completes l new (map string_bytes words) index (items found)) is completes);
+}
+are_found items Finds lent words index old new (Err e) is completes built ranges = tt
 
 -- how carrying out a plan of candidates ends, where these words are handed on
 pub ends_plan : {S : Type 0} (taken : S → List ℕ) (failed : S → Failures) (Finds : Paths)

@@ -58,5 +58,5 @@ pub data Registers {S : Type 0} (taken : S → List ℕ) (failed : S → Failure
       → Registers taken failed bin file old new None (Err refusal)
   some_registration : (registration : List ℕ → List ℕ → List ℕ) (result : Result (Unit {0}) Refusal)
       → Finishes taken failed (λ tree refusal. ⊥) (IsRegistration registration bin) old new
-          file result
+      file result
       → Registers taken failed bin file old new (Some registration) result
