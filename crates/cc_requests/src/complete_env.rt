@@ -1,0 +1,155 @@
+//! A program that completes its own command line where the environment asks for it.
+
+ghost use Rattle.std.specs.Prelude.{◌≡◌, Some, None, codes, map, string_bytes};
+ghost use Rattle.std.specs.Option.{option_copied};
+ghost use Rattle.cc_adapters.specs.Builtins.{all_builtins};
+ghost use Rattle.cc_engine.specs.Completion.{Completes};
+ghost use Rattle.cc_engine.specs.Paths.{PathsOf};
+ghost use Rattle.cc_env.specs.Environment.{value_of};
+ghost use Rattle.cc_requests.specs.Asked.{asked_name, asked_of};
+ghost use Rattle.cc_requests.specs.Steps.{IsRegistration, MakesText, RepliesAs, Tries};
+ghost use Rattle.cc_requests.specs.Steps.{names_of};
+ghost use Rattle.cc_values.specs.Values.{lent_by};
+
+use crate::asked::{asked_name, known_shell};
+use cc_adapters::{Builtin, EnvCompleter, Shells};
+use cc_base::{Error, Sink, Text, put_all};
+use cc_candidates::{Completers, FnCandidates, FnCompleter, ValueCandidates, ValueCompleter};
+use cc_command::Command;
+use cc_env::EnvValues;
+use cc_paths::Folder;
+use std::alloc::Global;
+
+/// What a program does where its environment asks for a completion.
+///
+/// A shell that is told to do so runs the program with a variable set to the shell's name: without
+/// words for the registration, and with the words of a command line, after a `--`, for the
+/// candidates.
+#[derive(Drop)]
+pub struct CompleteEnv<'s, F, E> {
+    pub(crate) factory: F,
+    pub(crate) variable: &'static str,
+    pub(crate) bin: Option<Text>,
+    pub(crate) completer: Option<Text>,
+    shells: Shells<'s, E>,
+}
+
+impl<F> CompleteEnv<'static, F, Builtin> {
+    /// The command that the factory makes is completed, for the variable `COMPLETE` and the
+    /// built-in shells.
+    pub fn with_factory(factory: F) -> CompleteEnv<'static, F, Builtin>
+        ensures factory { result.factory ≡ factory }
+        ensures variable { result.variable.now ≡ codes "COMPLETE" }
+        ensures names { (result.bin ≡ None) × (result.completer ≡ None) }
+        ensures shells { result.shells.0.now ≡ all_builtins }
+    {
+        CompleteEnv {
+            factory,
+            variable: "COMPLETE",
+            bin: None,
+            completer: None,
+            shells: Shells::builtins(),
+        }
+    }
+}
+
+impl<'s, F, E> CompleteEnv<'s, F, E> {
+    /// Sets the name of the variable.
+    pub fn var(mut self, variable: &'static str) -> CompleteEnv<'s, F, E>
+        ensures { result ≡ record self.entry { variable = variable.entry } }
+    {
+        self.variable = variable;
+        self
+    }
+
+    /// Sets the name of the binary that a registration is for. Else it is the command's bin name,
+    /// or its name where it has none.
+    pub fn bin(mut self, bin: String) -> CompleteEnv<'s, F, E>
+        ensures { result ≡ record self.entry { bin = Some (string_bytes bin) } }
+    {
+        self.bin = Some(Text::from(bin));
+        self
+    }
+
+    /// Sets the path of the program that a shell runs for candidates. Else it is the first
+    /// argument.
+    pub fn completer(mut self, completer: String) -> CompleteEnv<'s, F, E>
+        ensures { result ≡ record self.entry { completer = Some (string_bytes completer) } }
+    {
+        self.completer = Some(Text::from(completer));
+        self
+    }
+
+    /// Sets the shells.
+    pub fn shells<'t, T>(self, shells: Shells<'t, T>) -> CompleteEnv<'t, F, T> {
+        CompleteEnv {
+            factory: self.factory,
+            variable: self.variable,
+            bin: self.bin,
+            completer: self.completer,
+            shells,
+        }
+    }
+}
+
+impl<'s, F: Fn(Global) -> Result<Command, Error> + Drop, E: EnvCompleter> CompleteEnv<'s, F, E> {
+    /// Writes a registration or a reply, where the environment asks for one, and returns whether it
+    /// does.
+    ///
+    /// 1. Where the variable is not set, empty or `0`, nothing is asked for: nothing is written, and
+    ///    `false` returned.
+    /// 2. The last piece of its value, as of a path and without its extension, names the shell.
+    /// 3. The factory makes the command, which is built.
+    /// 4. Where words follow the first `--` after the first argument, the reply to these words is
+    ///    written; else the registration. The text is made whole before any of it is written.
+    ///
+    /// A registration is made of the variable, the command's name, the binary and the completer, as
+    /// `bin` and `completer` say. A completer that was not set and leads through a folder, as
+    /// `./app` does, is joined to the current folder where that is given.
+    ///
+    /// Fails, in this order: with `UnknownShell` where no shell has the name; as the factory does;
+    /// with `NoArguments` where the list of arguments is empty; with `NoCompletion` where the shell
+    /// asks for a word that is not there, or for the program's name. Nothing is written then, nor
+    /// where the call fails with `Memory`. Fails with `Write` where the sink fails; how much it took
+    /// is left open.
+    pub fn try_complete<D: Folder, W: Sink>(
+        self,
+        alloc: Global,
+        args: Vec<String>,
+        current_dir: Option<&str>,
+        env: &EnvValues,
+        folder: &D,
+        completers: &Completers,
+        out: &mut W,
+    ) -> Result<bool, Error>
+        requires { F.IsAlwaysCallable self.factory }
+        ensures { Tries W.taken W.failed
+            (λ shell. MakesText (λ made. F.post self.entry.factory alloc made)
+            (λ program tree. IsRegistration (E.registration shell) (E.Reads shell)
+            (names_of self.entry.variable.now self.entry.bin self.entry.completer
+            (option_copied current_dir.entry) program tree))
+            (λ words tree. RepliesAs (E.Asks shell env.now words) (Completes (lent_by
+            (λ item. (⟦<dyn ValueCompleter as ValueCompleter>⟧ item.vtable).answers item.value)
+            completers.now.completers.items
+            ⟦<FnCompleter as ValueCompleter>⟧.answers completers.now.completer_closures.items
+            (λ item. (⟦<dyn ValueCandidates as ValueCandidates>⟧ item.vtable).lists item.value)
+            completers.now.lists.items
+            ⟦<FnCandidates as ValueCandidates>⟧.lists completers.now.list_closures.items
+            (PathsOf (D.lists folder.now) (D.tells_dir folder.now) (D.tells_file folder.now)
+            (D.tells_executable folder.now) (D.home_path folder.now)
+            (option_copied current_dir.entry)))
+            tree) (E.reply shell env.now) (E.ReplyReads shell env.now) tree)
+            (map string_bytes args.items))
+            (map E.own_name self.entry.shells.0.now) out.old out.new result
+            (asked_of E.named self.entry.shells.0.now
+            (asked_name (value_of self.entry.variable.now env.now))) }
+    {
+        let Some(name) = asked_name(env.get(self.variable)) else {
+            return Ok(false);
+        };
+        let shell = known_shell(alloc, &self.shells, name)?;
+        let text = self.made_text(alloc, shell, args, current_dir, env, folder, completers)?;
+        put_all(out, text.as_slice())?;
+        Ok(true)
+    }
+}
