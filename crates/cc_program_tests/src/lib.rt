@@ -6,6 +6,8 @@ mod candidates;
 #[cfg(test)]
 mod checks;
 #[cfg(test)]
+mod lines;
+#[cfg(test)]
 mod registrations;
 #[cfg(test)]
 mod runs;

@@ -7,7 +7,8 @@ use std::alloc::{AllocError, Global};
 use std::convert::AsStr;
 use std::process::Abort;
 
-fn texts(alloc: Global, words: &[&str]) -> Result<Vec<String>, AllocError> {
+/// Copies of these words.
+pub(crate) fn texts(alloc: Global, words: &[&str]) -> Result<Vec<String>, AllocError> {
     let mut all = Vec::new(alloc);
     for word in words {
         all.push(String::from_str(alloc, word)?)?;
@@ -15,12 +16,14 @@ fn texts(alloc: Global, words: &[&str]) -> Result<Vec<String>, AllocError> {
     Ok(all)
 }
 
-fn planned(rt: &impl Abort, alloc: Global, words: &[&str]) -> Result<Plan, Refusal> {
+/// What `plan` returns for these words.
+pub(crate) fn planned(rt: &impl Abort, alloc: Global, words: &[&str]) -> Result<Plan, Refusal> {
     let words = texts(alloc, words).expect(rt, "no words");
     plan(alloc, words.as_slice())
 }
 
-fn failed(rt: &impl Abort, alloc: Global, words: &[&str]) -> Refusal {
+/// The refusal of these words; fails where there is a plan.
+pub(crate) fn failed(rt: &impl Abort, alloc: Global, words: &[&str]) -> Refusal {
     match planned(rt, alloc, words) {
         Ok(_) => panic!(rt; "a plan"),
         Err(refusal) => refusal,
@@ -63,13 +66,13 @@ fn fails_on_missing_words(rt: HostRuntime) {
 
 #[test]
 fn fails_on_unknown_words(rt: HostRuntime) {
-    let words = ["complgen", "register", "--bin", "app", "tree.json"];
+    let words = ["complgen", "remove", "--bin", "app", "tree.json"];
     let refusal = failed(&rt, rt.alloc(), words.as_slice());
     same(&rt, refusal.status, 2);
 }
 
-// Fails unless these words end with status 0 and this text.
-fn shows(rt: &impl Abort, alloc: Global, words: &[&str], wanted: &str) {
+/// Fails unless these words end with status 0 and this text.
+pub(crate) fn shows(rt: &impl Abort, alloc: Global, words: &[&str], wanted: &str) {
     let refusal = failed(rt, alloc, words);
     same(rt, (refusal.status, refusal.text.as_str()), (0, wanted));
 }
@@ -78,11 +81,17 @@ fn shows(rt: &impl Abort, alloc: Global, words: &[&str], wanted: &str) {
 fn shows_help(rt: HostRuntime) {
     let text = "Writes shell completions for a command that a JSON file describes\n\n\
         Usage: complgen <COMMAND>\n\n\
-        Commands:\n  script  Writes a completion script to the standard output\n\n\
+        Commands:\n  \
+        script      Writes a completion script to the standard output\n  \
+        register    Writes a script that has the shell ask the program itself for candidates\n  \
+        candidates  Writes the candidates for a word to the standard output\n\n\
         Options:\n  -h, --help     Print help\n  -V, --version  Print version\n\n\
-        Shells: bash, elvish, fish, nushell, powershell, zsh\n\
+        Shells: bash, elvish, fish, nushell (not in register), powershell, zsh\n\
         Tree file: a JSON object that describes a command, with its arguments and subcommands\n\n\
-        Example: complgen script --shell fish --bin app tree.json\n";
+        Examples:\n  \
+        complgen script --shell fish --bin app tree.json\n  \
+        complgen register --shell bash --bin app tree.json\n  \
+        complgen candidates --index 1 tree.json -- app ''\n";
     shows(&rt, rt.alloc(), &["complgen", "--help"], text);
 }
 
