@@ -81,7 +81,13 @@ impl<'s, F, E> CompleteEnv<'s, F, E> {
     }
 
     /// Sets the shells.
-    pub fn shells<'t, T>(self, shells: Shells<'t, T>) -> CompleteEnv<'t, F, T> {
+    pub fn shells<'t, T>(self, shells: Shells<'t, T>) -> CompleteEnv<'t, F, T>
+        ensures factory { result.factory ≡ self.entry.factory }
+        ensures variable { result.variable.now ≡ self.entry.variable.now }
+        ensures bin { result.bin ≡ self.entry.bin }
+        ensures completer { result.completer ≡ self.entry.completer }
+        ensures shells { result.shells.0.now ≡ shells.entry.0.now }
+    {
         CompleteEnv {
             factory: self.factory,
             variable: self.variable,

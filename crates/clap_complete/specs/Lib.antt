@@ -129,3 +129,18 @@ pub use Rattle.cc_values.specs.Values as ArgumentValues
 pub use Rattle.cc_engine.specs.Completion
 pub use Rattle.cc_engine.specs.Offer as WordOffer
 pub use Rattle.cc_engine.specs.Paths as HintPaths
+-- requests of a shell
+pub use Rattle.cc_registrations.specs.BashRegistration
+pub use Rattle.cc_registrations.specs.ElvishRegistration
+pub use Rattle.cc_registrations.specs.FishRegistration
+pub use Rattle.cc_registrations.specs.PowershellRegistration
+pub use Rattle.cc_registrations.specs.ZshRegistration
+pub use Rattle.cc_env.specs.Environment as EnvironmentValues
+pub use Rattle.cc_env.specs.Reply as ShellReplies
+pub use Rattle.cc_adapters.specs.Asks as ShellAsks
+pub use Rattle.cc_adapters.specs.Builtins as BuiltinShells
+pub use Rattle.cc_adapters.specs.Replies as AdapterReplies
+pub use Rattle.cc_adapters.specs.Shells as OfferedShells
+pub use Rattle.cc_requests.specs.Arguments as RequestArguments
+pub use Rattle.cc_requests.specs.Asked as RequestedShell
+pub use Rattle.cc_requests.specs.Steps as RequestSteps

@@ -24,6 +24,7 @@
 pub mod aot;
 pub mod command;
 pub mod engine;
+pub mod env;
 pub mod quote;
 
 pub use cc_arg::ValueHint;
@@ -31,4 +32,5 @@ pub use cc_base::Error;
 pub use cc_candidates::{ArgValueCandidates, ArgValueCompleter, CompletionCandidate};
 pub use cc_lists::{Generator, generate};
 pub use cc_paths::PathCompleter;
+pub use cc_requests::CompleteEnv;
 pub use cc_shell::{Shell, generate_to};
