@@ -1,4 +1,5 @@
-//! The library as a program uses it. `elvish_script` and `write_scripts` stand in the README too.
+//! The library as a program uses it. `elvish_script` stands in the README too, and `write_scripts`
+//! in docs/CALLING.md.
 
 use crate::checks::has;
 use crate::fixtures::{APP, tree};
