@@ -1,9 +1,0 @@
-//! Tests of what a program writes where its environment asks for a completion.
-#![tactic(auto)]
-
-#[cfg(test)]
-mod refusals;
-#[cfg(test)]
-mod requests;
-#[cfg(test)]
-mod tried;
