@@ -3,7 +3,8 @@ use Rattle.std.proofs.Common.{◌≡◌, ◌∙◌, ap, sym, refl, ℕ, List, []
 use Rattle.std.specs.Prelude.{unwrap_or}
 use Rattle.cc_command.specs.Tree.{Tree}
 use Rattle.cc_command.specs.Names.{visible_child}
-use Rattle.cc_bash.specs.Reads.{BashReads}
+use Rattle.cc_bash.specs.Arms.{tree_arms}
+use Rattle.cc_bash.specs.Reads.{BashReads, arm_at}
 use Rattle.cc_bash.specs.Walk.{Place, next_place, root_place, walk}
 use Rattle.cc_walk.specs.Visible.{visible_end}
 use Rattle.cc_agreement.specs.Agreement.{BashLeadsTo}
@@ -24,7 +25,7 @@ walk_tree (word ∷ words) place =
 
 pub leads : (root tree : Tree) (words : List (List ℕ)) → BashReads root → tree ≡ visible_end root words → BashLeadsTo root words tree
 leads root tree words reads end = record {
-  place = walk (root_place root) words;
   label = reads.ends words;
   node = walk_tree words (root_place root) ∙ sym end;
+  arm = ap (arm_at (tree_arms root)) (reads.ends words) ∙ reads.arms words;
 }

@@ -1,1 +1,2 @@
 mod BashEnd
+mod Examples

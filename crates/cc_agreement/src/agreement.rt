@@ -11,7 +11,8 @@ use cc_flat::Index;
 use cc_walk::{Line, line_of};
 
 /// Where the words lead. Where the bash script of the tree reads back and no word is a hidden
-/// alias, its cases lead over the same words to the label of that very command.
+/// alias, its cases lead over the same words to the label of that very command, and the arm at that
+/// label is that command's.
 pub fn line_and_bash_label<'a>(index: &Index<'a>, words: &[String]) -> Line<'a>
     requires { IsFlat index.now }
     ensures line { IsLine (tree_at index.now 0) (map string_bytes words.now)

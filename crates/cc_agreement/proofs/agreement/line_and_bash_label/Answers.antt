@@ -1,5 +1,3 @@
-use Rattle.std.proofs.Common.{map, string_bytes}
-use Rattle.cc_flat.specs.Flat.{tree_at}
 use Rattle.cc_agreement.proofs.BashEnd.{leads}
 use Rattle.cc_agreement.proofs.agreement.line_and_bash_label.Goals as goal
 
