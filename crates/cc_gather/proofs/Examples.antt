@@ -1,5 +1,5 @@
 -- Worked values of the definitions.
-use Rattle.std.specs.Prelude.{◌≡◌, ℕ, List, [], ◌∷◌, map, Some, codes, refl}
+use Rattle.std.specs.Prelude.{◌≡◌, ℕ, true, false, List, [], ◌∷◌, map, Some, codes, refl}
 use Rattle.cc_arg.specs.declared.arg.Arg.{Arg}
 use Rattle.cc_arg.specs.Arguments.{new_arg, exactly}
 use Rattle.cc_candidates.specs.declared.candidate.CompletionCandidate.{CompletionCandidate}
@@ -88,3 +88,60 @@ plain = refl
 value_character : shape (row_of arguments (codes "-vc=a")) ≡ codes "color" ∷ codes "-vc=" ∷ codes "a" ∷ []
 unfolding row_of longs shorts shape arguments color verbose is_number chars lib.Utf8.encode
 value_character = refl
+
+-- which texts are numbers
+whole_number : is_number (codes "1") ≡ true
+unfolding is_number
+whole_number = refl
+
+point_at_the_end : is_number (codes "1.") ≡ true
+unfolding is_number
+point_at_the_end = refl
+
+with_fraction : is_number (codes "1.5") ≡ true
+unfolding is_number
+with_fraction = refl
+
+with_exponent : is_number (codes "1e5") ≡ true
+unfolding is_number
+with_exponent = refl
+
+e_behind_the_point : is_number (codes "1.e5") ≡ true
+unfolding is_number
+e_behind_the_point = refl
+
+both_parts : is_number (codes "12.34e56") ≡ true
+unfolding is_number
+both_parts = refl
+
+no_byte : is_number [] ≡ false
+unfolding is_number
+no_byte = refl
+
+point_first : is_number (codes ".5") ≡ false
+unfolding is_number
+point_first = refl
+
+e_first : is_number (codes "e1") ≡ false
+unfolding is_number
+e_first = refl
+
+e_last : is_number (codes "1e") ≡ false
+unfolding is_number
+e_last = refl
+
+point_behind_the_e : is_number (codes "1e5.") ≡ false
+unfolding is_number
+point_behind_the_e = refl
+
+e_twice : is_number (codes "1e1e1") ≡ false
+unfolding is_number
+e_twice = refl
+
+point_twice : is_number (codes "1.2.3") ≡ false
+unfolding is_number
+point_twice = refl
+
+sign : is_number (codes "1e-5") ≡ false
+unfolding is_number
+sign = refl

@@ -7,6 +7,7 @@ pub mod InOrder
 pub mod InTurn
 pub mod Law
 pub mod LongNames
+pub mod NumberParts
 pub mod Places
 pub mod WordKinds
 pub mod Zips

@@ -1,40 +1,38 @@
--- Which texts are numbers: digits, at most one `.`, at most one `e`, neither first, no `.` after the
--- `e`, and the `e` not last.
-use Rattle.std.specs.Prelude.{ℕ, List, [], ◌∷◌, ◌==◌, ◌&&◌, nat_le, Bool, true, false, if◌then◌else◌}
-use Rattle.cc_gather.specs.declared.numbers.Part.{Part}
-use Rattle.cc_gather.specs.declared.numbers.Part.TheVariants.{Start, Whole, Fraction, AfterE, Exponent, Wrong}
+-- Which texts are numbers.
+use Rattle.std.specs.Prelude.{ℕ, List, [], ◌∷◌, Option, Some, None, ◌==◌, ◌&&◌, ◌||◌, nat_le, Bool, false, not}
+use Rattle.std.specs.List.{after_first, count_by, last_or, list_all, list_any}
 
 abbrev pub is_digit : ℕ → Bool
 is_digit b = nat_le 48 b && nat_le b 57
 
--- where a number is after a byte that is no digit
-abbrev pub after_other : Part → ℕ → Part
-after_other Whole b = if b == 46 then Fraction else (if b == 101 then AfterE else Wrong)
-after_other Fraction b = if b == 101 then AfterE else Wrong
-after_other _ b = Wrong
+-- `.`
+abbrev pub is_point : ℕ → Bool
+is_point b = b == 46
 
--- and after a digit
-abbrev pub after_digit : Part → Part
-after_digit Start = Whole
-after_digit Whole = Whole
-after_digit Fraction = Fraction
-after_digit AfterE = Exponent
-after_digit Exponent = Exponent
-after_digit Wrong = Wrong
+-- `e`
+abbrev pub is_e : ℕ → Bool
+is_e b = b == 101
 
-abbrev pub next_part : Part → ℕ → Part
-next_part part b = if is_digit b then after_digit part else after_other part b
+-- what numbers are written with
+abbrev pub is_of_numbers : ℕ → Bool
+is_of_numbers b = is_digit b || is_point b || is_e b
 
--- a number may end here
-abbrev pub is_whole : Part → Bool
-is_whole Whole = true
-is_whole Fraction = true
-is_whole Exponent = true
-is_whole _ = false
+-- whether the first byte is a digit
+abbrev pub begins_with_digit : List ℕ → Bool
+begins_with_digit [] = false
+begins_with_digit (b ∷ _) = is_digit b
 
-abbrev pub is_number_from : Part → List ℕ → Bool
-is_number_from part [] = is_whole part
-is_number_from part (b ∷ bs) = is_number_from (next_part part b) bs
+-- whether there is a byte, and it is `e`
+abbrev pub is_some_e : Option ℕ → Bool
+is_some_e None = false
+is_some_e (Some b) = is_e b
 
+-- digits, at most one `.`, at most one `e`, neither first, no `.` after the `e`, and the `e` not last
 unfoldable pub is_number : List ℕ → Bool
-is_number bytes = is_number_from Start bytes
+is_number bytes =
+    begins_with_digit bytes
+    && list_all is_of_numbers bytes
+    && nat_le (count_by is_point bytes) 1
+    && nat_le (count_by is_e bytes) 1
+    && not (list_any is_point (after_first is_e bytes))
+    && not (is_some_e (last_or None bytes))

@@ -1,5 +1,5 @@
 -- What a word asks of the options.
-use Rattle.std.specs.Prelude.{◌≡◌, ℕ, List, [], ◌∷◌, ◌++◌, ◌==◌, map, filter, find, Option, Some, None, codes, chars, encode_utf8, encode_utf8_all, if◌then◌else◌}
+use Rattle.std.specs.Prelude.{ℕ, List, [], ◌∷◌, ◌++◌, ◌==◌, filter, find, Option, Some, None, codes, chars, encode_utf8, encode_utf8_all, if◌then◌else◌}
 use Rattle.cc_arg.specs.declared.arg.Arg.{Arg}
 use Rattle.cc_candidates.specs.declared.candidate.CompletionCandidate.{CompletionCandidate}
 use Rattle.cc_candidates.specs.Beginning.{begins}
@@ -88,9 +88,3 @@ row_of arguments (c ∷ s) = if c == 45 then after_one_dash arguments s else Lis
 -- the candidate with a text before its value
 abbrev pub prefixed : List ℕ → CompletionCandidate → CompletionCandidate
 prefixed before c = record c { value = before ++ c.value }
-
--- what is answered of a row, where a relation says which values there are
-abbrev pub IsRow : (Arg → List ℕ → List CompletionCandidate → Type 0) → Row → List CompletionCandidate → Type 0
-IsRow gives (Listed candidates) found = found ≡ candidates
-IsRow gives (ValuesOf asked) found =
-    (values : List CompletionCandidate) × (gives asked.argument asked.text values × (found ≡ map (prefixed asked.before) values))

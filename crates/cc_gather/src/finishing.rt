@@ -18,7 +18,7 @@ use std::alloc::{AllocError, Global};
 use std::cmp::Ordering;
 use std::collections::{BTreeMap, BTreeSet};
 
-/// The list as it is answered: hidden candidates go where one is visible; the first of each id
+/// The list as it is returned: hidden candidates go where one is visible; the first of each id
 /// stays; then by the place of the tag's first member and the display order. To have no tag counts
 /// as a tag.
 pub fn finished(
@@ -27,11 +27,11 @@ pub fn finished(
 ) -> Result<Vec<CompletionCandidate>, AllocError>
     ensures value { IfOk result (λ answer. answer.items ≡ finished candidates.items) }
 
-    // Where a visible candidate was gathered, no hidden one is answered.
+    // Where a visible candidate was gathered, no hidden one is returned.
     ensures visible { IfOk result
         (λ answer. list_any is_shown candidates.items ≡ true → AreShown answer.items) }
 
-    // Two candidates that are answered never share an id.
+    // Two candidates that are returned never share an id.
     ensures differ { IfOk result (λ answer. Differ answer.items) }
 {
     let answer = grouped_first_of_ids(alloc, candidates)?;

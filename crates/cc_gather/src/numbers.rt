@@ -1,7 +1,8 @@
 //! Which words are negative numbers.
 
 ghost use Rattle.std.specs.Prelude.{◌≡◌};
-ghost use Rattle.cc_gather.specs.Numbers.{after_digit, after_other, is_number, is_whole, next_part};
+ghost use Rattle.cc_gather.specs.NumberParts.{after_digit, after_other, is_whole, next_part};
+ghost use Rattle.cc_gather.specs.Numbers.{is_number};
 
 // Where in a number a text has come.
 #[derive(Clone, Copy)]
@@ -57,7 +58,6 @@ impl Part {
 
 /// Whether the text is a number: digits, at most one `.`, at most one `e`, neither first, no `.`
 /// after the `e`, and the `e` not last.
-#[tactic(auto, unfolding(crate::specs::Numbers::is_number))]
 pub(crate) fn is_number(text: &str) -> bool
     ensures { result ≡ is_number text.now }
 {
