@@ -1,3 +1,5 @@
+mod Begins
+mod Laws
 mod Lines
 mod Offering
 mod OneFinishing

@@ -21,7 +21,7 @@ no_values None word given = refl
 no_values (Some argument) word given = refl
 
 -- an empty offer is empty
-nothing_offered : (tree : Tree) (place : ℕ) (word : List ℕ) (given : Given) → offered tree place no_offer word given ≡ []
+pub nothing_offered : (tree : Tree) (place : ℕ) (word : List ℕ) (given : Given) → offered tree place no_offer word given ≡ []
 nothing_offered tree place word given =
     append-nil (positional_values (positional_at tree.node.arguments place) None word given.positional)
     ∙ no_values (positional_at tree.node.arguments place) word given.positional

@@ -1,23 +1,25 @@
 -- What is offered for the word at an index: what it asks of those who lend candidates, and the list that
 -- is made of their answers.
-use Rattle.std.specs.Prelude.{ℕ, List, [], ◌++◌, map, take, drop, get_or, ◌≡◌, ◌⊎◌, ◌&&◌, nat_le, nat_lt, Bool, false, Option, Some, None, if◌then◌else◌}
+use Rattle.std.specs.Prelude.{ℕ, List, [], ◌++◌, map, take, drop, get_or, ◌≡◌, ◌⊎◌, ◌&&◌, nat_le, nat_lt, Bool, false, true, Contains, Option, Some, None, if◌then◌else◌}
+use Rattle.std.specs.List.{list_any, AllByRecursion}
 use Rattle.cc_arg.specs.declared.arg.Arg.{Arg}
 use Rattle.cc_base.specs.declared.error.Error.{Error}
 use Rattle.cc_base.specs.declared.error.Error.TheVariants.{Memory, NoCompletion}
 use Rattle.cc_command.specs.Built.{built_tree}
+use Rattle.cc_candidates.specs.Beginning.{begins}
 use Rattle.cc_candidates.specs.declared.candidate.CompletionCandidate.{CompletionCandidate}
 use Rattle.cc_candidates.specs.declared.numbers.SubcommandCandidates.{SubcommandCandidates}
 use Rattle.cc_command.specs.declared.node.Node.{Node}
 use Rattle.cc_command.specs.Tree.{Tree}
 use Rattle.cc_gather.specs.Children.{subcommand_candidates}
-use Rattle.cc_gather.specs.Finished.{finished, ShareNone}
+use Rattle.cc_gather.specs.Finished.{finished, is_shown, AreShown, ShareNone}
 use Rattle.cc_gather.specs.Rows.{Row, Listed, ValuesOf, prefixed, row_of}
 use Rattle.cc_values.specs.Parts.{part}
-use Rattle.cc_values.specs.Values.{Allows, Lent, Question, nothing, candidates, question, values}
+use Rattle.cc_values.specs.Values.{Allows, Lent, Question, nothing, candidates, completer, paths, question, values}
 use Rattle.cc_walk.specs.declared.state.Pending.{Pending}
 use Rattle.cc_walk.specs.declared.state.Pending.TheVariants.{OptionOpen}
 use Rattle.cc_walk.specs.declared.state.State.{State}
-use Rattle.cc_walk.specs.Line.{IsLine}
+use Rattle.cc_walk.specs.Line.{IsLine, IsOnlyLine}
 use Rattle.cc_walk.specs.Lookup.{positional_at}
 use Rattle.cc_engine.specs.declared.offer.Offer.{Offer}
 use Rattle.cc_engine.specs.Offer.{least, offer_by}
@@ -163,13 +165,14 @@ is_in_range node count index = nat_le (names_before node) index && nat_lt index 
 abbrev pub words_before : Node → List (List ℕ) → ℕ → List (List ℕ)
 words_before node words index = drop (names_before node) (take index words)
 
--- What may be offered for the word at the index: the words before it lead to one node and one state, and
--- the list is one that may be offered there.
-abbrev pub Completes : Lent → Tree → List (List ℕ) → ℕ → List CompletionCandidate → Type 0
-Completes lent root words index result =
-    (tree : Tree) × (state : State)
-    × IsLine root (words_before root.node words index) tree state
-    × Offers lent tree state (get_or words index []) result
+-- What may be offered for the word at the index: the words before it lead to one node and one state, to
+-- no others, and the list is one that may be offered there.
+pub record Completes (lent : Lent) (root : Tree) (words : List (List ℕ)) (index : ℕ) (result : List CompletionCandidate) : Type 0 where
+  pub tree : Tree
+  pub state : State
+  pub line : IsLine root (words_before root.node words index) tree state
+  pub only : IsOnlyLine root (words_before root.node words index) tree state
+  pub offers : Offers lent tree state (get_or words index []) result
 
 -- How a call that builds the tree and finds no candidates ends: out of memory, with the tree as it was or
 -- built; or with the tree built and the index out of range.
@@ -193,3 +196,49 @@ FinishesOnce word result =
     → result ≡ answer tree state word given
     → ShareNone (opened_values state.pending word given.opened) (besides tree state word given)
     → result ≡ finished (opened_values state.pending word given.opened ++ besides tree state word given)
+
+-- NO HIDDEN ONES
+
+-- all that is gathered for the word: the values of an open option, and what is offered besides
+abbrev pub all_gathered : Tree → State → List ℕ → Given → List CompletionCandidate
+all_gathered tree state word given = opened_values state.pending word given.opened ++ besides tree state word given
+
+-- Of any lists for which the result is the answer: where one of the candidates that are gathered is
+-- visible, no hidden one is in the result.
+abbrev pub ShowsVisible : List ℕ → List CompletionCandidate → Type 0
+ShowsVisible word result =
+    (tree : Tree) (state : State) (given : Given)
+    → result ≡ answer tree state word given
+    → list_any is_shown (all_gathered tree state word given) ≡ true
+    → AreShown result
+
+-- WHAT BEGINS WITH THE WORD
+
+-- what is made of the answer of a completer or a folder; nothing of any other answer
+abbrev pub told : Question → List CompletionCandidate → List CompletionCandidate
+told (completer which number text) found = found
+told (paths hint text) found = found
+told _ found = []
+
+-- all that is made of the answers of completers and of the folder, where these lists are offered
+abbrev pub told_by_offer : Tree → ℕ → Offer → Pending → List ℕ → Given → List CompletionCandidate
+told_by_offer tree place offer pending word given =
+    told (positional_question (positional_at tree.node.arguments place) offer.value word)
+    (positional_values (positional_at tree.node.arguments place) offer.value word given.positional)
+    ++ (told (row_question (offered_row offer.options tree.node.arguments word))
+    (row_candidates (offered_row offer.options tree.node.arguments word) given.within)
+    ++ told (open_question pending word) (opened_values pending word given.opened))
+
+-- the same for the word at a node, where the words before it lead to this state
+abbrev pub told_candidates : Tree → State → List ℕ → Given → List CompletionCandidate
+told_candidates tree state word given =
+    told_by_offer tree state.place (offer_by tree.node.arguments state.place state.escaped state.pending) state.pending word given
+
+-- Of any lists that may be answered and for which the result is the answer: each candidate of the
+-- result begins with the word, or is made of the answer of a completer or of the folder.
+abbrev pub BeginsOrIsTold : Lent → List ℕ → List CompletionCandidate → Type 0
+BeginsOrIsTold lent word result =
+    (tree : Tree) (state : State) (given : Given)
+    → AreAllowed lent (questions tree state word) given
+    → result ≡ answer tree state word given
+    → AllByRecursion (λ c. (begins word c ≡ true) ⊎ Contains (told_candidates tree state word given) c) result

@@ -3,8 +3,9 @@
 ghost use Rattle.std.specs.Prelude.{◌≡◌, ◌<◌, [], get_or, length, map, string_bytes, true, IfOk, IfErr, OnOk};
 ghost use Rattle.std.specs.Option.{option_copied};
 ghost use Rattle.cc_command.specs.Built.{built_tree};
-ghost use Rattle.cc_engine.specs.Completion.{Completes, FinishesOnce, Refuses, is_in_range, names_before, words_before};
+ghost use Rattle.cc_engine.specs.Completion.{BeginsOrIsTold, Completes, FinishesOnce, Refuses, ShowsVisible, is_in_range, names_before, words_before};
 ghost use Rattle.cc_engine.specs.Paths.{PathsOf};
+ghost use Rattle.cc_gather.specs.Finished.{Differ};
 ghost use Rattle.cc_values.specs.Values.{lent_by};
 
 use crate::answering::offered;
@@ -20,11 +21,15 @@ use cc_values::PathSource;
 use cc_walk::line_of;
 use std::alloc::{AllocError, Global};
 
-/// The candidates for the word at the index, of a command that is built first.
+/// The candidates for the word at the index, counted from 0, of a command that is built first.
 ///
 /// The words are those of a command line, the program's name first unless `no_binary_name` is set.
-/// Value hints are completed from the folder and the current folder; values and names of other
-/// programs from the completers and lists that are lent, by their numbers.
+/// The values of an argument come from its completer, else its list, else its possible values, else
+/// its value hint, which is completed from the folder and the current folder. Completers and lists
+/// are told by their numbers, as are those of the names of other programs.
+///
+/// Where a candidate is visible, hidden ones are left out; of several with one id the first stays;
+/// they are in the order of the first of their tag, and by display order within a tag.
 ///
 /// Fails with `NoCompletion` where no word stands at the index, or the program's name does; the
 /// command is built all the same. Fails with `Memory`, and the command is then as it was or built.
@@ -50,6 +55,26 @@ pub fn complete<D: Folder>(
         command.new (map string_bytes words.items) index found.items) }
     ensures once { IfOk result (λ found.
         FinishesOnce (get_or (map string_bytes words.items) index []) found.items) }
+
+    // Where a visible candidate was gathered, no hidden one is answered.
+    ensures visible { IfOk result (λ found.
+        ShowsVisible (get_or (map string_bytes words.items) index []) found.items) }
+
+    // Two candidates that are answered never share an id.
+    ensures differ { IfOk result (λ found. Differ found.items) }
+
+    // What comes neither from a completer nor from the folder begins with the word.
+    ensures begins { IfOk result (λ found. BeginsOrIsTold (lent_by
+        (λ item. (⟦<dyn ValueCompleter as ValueCompleter>⟧ item.vtable).answers item.value)
+        completers.now.completers.items
+        ⟦<FnCompleter as ValueCompleter>⟧.answers completers.now.completer_closures.items
+        (λ item. (⟦<dyn ValueCandidates as ValueCandidates>⟧ item.vtable).lists item.value)
+        completers.now.lists.items
+        ⟦<FnCandidates as ValueCandidates>⟧.lists completers.now.list_closures.items
+        (PathsOf (D.lists folder.now) (D.tells_dir folder.now) (D.tells_file folder.now)
+        (D.tells_executable folder.now) (D.home_path folder.now)
+        (option_copied current_dir.entry)))
+        (get_or (map string_bytes words.items) index []) found.items) }
     ensures built { OnOk result (command.new ≡ built_tree command.old) }
     ensures in_range { OnOk result (is_in_range command.new.node (length words.items) index ≡ true) }
     ensures errors { IfErr result (Refuses command.old command.new (length words.items) index) }

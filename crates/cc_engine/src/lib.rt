@@ -1,4 +1,4 @@
-//! What a shell is offered while its user types: the candidates for a word of a command line.
+//! The candidates for a word of a command line.
 #![tactic(auto)]
 
 mod answering;
