@@ -277,7 +277,8 @@ impl Arg {
         self
     }
 
-    /// Sets the completer that is asked for values, by its number.
+    /// Sets the completer of the values, by its number. It goes before a list, possible values and
+    /// the value hint.
     pub fn add(mut self, completer: ArgValueCompleter) -> Arg
         ensures { result ≡ record self { completer = Some completer } }
     {
@@ -285,7 +286,8 @@ impl Arg {
         self
     }
 
-    /// Sets the number of the list that values are taken from.
+    /// Sets the list of the values, by its number in `Completers`. It goes before possible values
+    /// and the value hint.
     pub fn add_candidates(mut self, candidates: ArgValueCandidates) -> Arg
         ensures { result ≡ record self { candidates = Some candidates } }
     {

@@ -53,7 +53,7 @@ impl CompletionCandidate {
         self
     }
 
-    /// Sets the id.
+    /// Sets the id. Of several candidates with one id the first is offered.
     pub fn id(mut self, id: Option<String>) -> CompletionCandidate
         ensures { result ≡ record self { id = option_map string_bytes id } }
     {
@@ -61,7 +61,7 @@ impl CompletionCandidate {
         self
     }
 
-    /// Sets the tag.
+    /// Sets the tag. Candidates of one tag are offered together.
     pub fn tag(mut self, tag: Option<String>) -> CompletionCandidate
         ensures { result ≡ record self { tag = option_map string_bytes tag } }
     {
@@ -69,7 +69,7 @@ impl CompletionCandidate {
         self
     }
 
-    /// Sets the display order.
+    /// Sets the display order among the candidates of one tag; those without one come first.
     pub fn display_order(mut self, order: Option<usize>) -> CompletionCandidate
         ensures { result ≡ record self { display_order = order } }
     {
@@ -77,7 +77,7 @@ impl CompletionCandidate {
         self
     }
 
-    /// Says whether the candidate is hidden.
+    /// Says whether the candidate is hidden: it is offered only where no visible one is.
     pub fn hide(mut self, hidden: bool) -> CompletionCandidate
         ensures { result ≡ record self { hidden = hidden } }
     {

@@ -6,8 +6,8 @@ ghost use Rattle.cc_candidates.specs.declared.candidate.CompletionCandidate.{Com
 use crate::candidate::CompletionCandidate;
 use std::alloc::{AllocError, Global};
 
-/// Something that is asked for the candidates of a value. It fails where an allocation fails, and
-/// nowhere else.
+/// A completer of values. The candidates that it returns are offered as they are: it leaves out
+/// those that do not fit the text. It fails only where an allocation fails.
 pub trait ValueCompleter: Drop {
     // the lists that it may answer, for the number of the value and the text to complete
     ghost answers: { Self → ℕ → List ℕ → List CompletionCandidate → Type 0 };
@@ -30,8 +30,8 @@ pub trait ValueCompleter: Drop {
     }
 }
 
-/// A list of candidates that doesn't depend on a text. It fails where an allocation fails, and
-/// nowhere else.
+/// A list of candidates that doesn't depend on a text; those that begin with the text are offered.
+/// It fails only where an allocation fails.
 pub trait ValueCandidates: Drop {
     // the lists that it may answer
     ghost lists: { Self → List CompletionCandidate → Type 0 };

@@ -15,8 +15,8 @@ use cc_candidates::{
 };
 use std::alloc::{AllocError, Global};
 
-/// Something that is asked for paths: a folder, read from where a program runs. Only a failed
-/// allocation keeps it from an answer.
+/// A source of paths: a folder, read from where a program runs. It fails only where an allocation
+/// fails.
 pub trait PathSource {
     // the lists that it may answer, for a kind of paths and the text to complete
     ghost finds: { Self → ValueHint → List ℕ → List CompletionCandidate → Type 0 };
