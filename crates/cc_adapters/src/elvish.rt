@@ -18,6 +18,9 @@ use cc_registrations::write_elvish;
 use std::alloc::Global;
 
 /// The adapter for Elvish.
+///
+/// Completes the word at `_CLAP_COMPLETE_INDEX`, and replies with the values, joined by
+/// `_CLAP_IFS`.
 #[derive(Clone, Copy, PartialEq, Eq, Debug)]
 pub struct Elvish;
 

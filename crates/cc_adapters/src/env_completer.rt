@@ -52,7 +52,8 @@ pub trait EnvCompleter {
         ensures { result ≡ named self.now name.now };
 
     /// Writes the registration: the text that tells the shell to run the completer, with the
-    /// variable set to the shell's name, for the words of the binary.
+    /// variable set to the shell's name, for the words of the binary. The name makes the names of
+    /// functions in the text, with `_` for `-` (bash and zsh).
     ///
     /// Fails with `Write` where the sink fails, and with `Memory`. How much the sink took before
     /// is left open.

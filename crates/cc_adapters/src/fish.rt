@@ -18,6 +18,8 @@ use cc_registrations::write_fish;
 use std::alloc::Global;
 
 /// The adapter for fish.
+///
+/// Completes the last word, and replies with a line for each value, its help after a tab.
 #[derive(Clone, Copy, PartialEq, Eq, Debug)]
 pub struct Fish;
 

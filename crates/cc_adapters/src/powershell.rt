@@ -19,6 +19,8 @@ use cc_registrations::write_powershell;
 use std::alloc::Global;
 
 /// The adapter for PowerShell.
+///
+/// Completes the last word, and replies with a line for each value, its help after a tab.
 #[derive(Clone, Copy, PartialEq, Eq, Debug)]
 pub struct Powershell;
 

@@ -18,6 +18,9 @@ use cc_registrations::write_zsh;
 use std::alloc::{AllocError, Global};
 
 /// The adapter for zsh.
+///
+/// Completes the word at `_CLAP_COMPLETE_INDEX`, an empty one where that is one past the last, and
+/// replies with the values and their helps, joined by `_CLAP_IFS`.
 #[derive(Clone, Copy, PartialEq, Eq, Debug)]
 pub struct Zsh;
 

@@ -1,4 +1,4 @@
-//! Live completion: what the environment tells, and the replies to shells.
+//! Live completion: values of environment variables, and the replies to shells.
 #![tactic(auto)]
 
 mod environment;

@@ -1,7 +1,7 @@
 //! The registration for bash.
 
-ghost use Rattle.std.specs.Prelude.{◌≡◌};
-ghost use Rattle.cc_base.specs.Writes.{Writes};
+ghost use Rattle.std.specs.Prelude.{◌≡◌, IfErr};
+ghost use Rattle.cc_base.specs.Writes.{IsWrite, Writes};
 ghost use Rattle.cc_registrations.specs.BashRegistration.{BashReads};
 ghost use Rattle.cc_registrations.specs.BashRegistration.{bash_registration, call_begins, call_ends};
 ghost use Rattle.cc_registrations.specs.BashRegistration.{function_begins, function_head, name_ends, otherwise};
@@ -13,7 +13,7 @@ use cc_base::{Error, Sink, put_all};
 use cc_quote::{BashDouble, put_escaped};
 
 /// Writes the registration for bash: of the variable that asks for completions, the name,
-/// the binary and the completer that is run. Fails with `Write` where the sink fails.
+/// the binary and the completer that is run. Fails with `Write` alone, where the sink fails.
 pub fn write_bash<W: Sink>(
     variable: &str,
     name: &str,
@@ -23,6 +23,7 @@ pub fn write_bash<W: Sink>(
 ) -> Result<(), Error>
     ensures written { Writes W.taken W.failed result sink.old sink.new
         (bash_registration variable.now name.now bin.now completer.now) }
+    ensures write_only { IfErr result IsWrite }
     ensures read_back { BashReads variable.now name.now bin.now completer.now }
 {
     write_text(variable, name, bin, completer, sink)
@@ -37,8 +38,9 @@ fn write_text<W: Sink>(
     completer: &str,
     sink: &mut W,
 ) -> Result<(), Error>
-    ensures { Writes W.taken W.failed result sink.old sink.new
+    ensures written { Writes W.taken W.failed result sink.old sink.new
         (bash_registration variable.now name.now bin.now completer.now) }
+    ensures write_only { IfErr result IsWrite }
 {
     write_front(variable, name, sink)?;
     put_escaped(&BashDouble, completer, sink)?;
@@ -48,8 +50,9 @@ fn write_text<W: Sink>(
 // What stands up to the completer.
 #[tactic(auto, unfolding(crate::specs::BashRegistration::registration_front))]
 fn write_front<W: Sink>(variable: &str, name: &str, sink: &mut W) -> Result<(), Error>
-    ensures { Writes W.taken W.failed result sink.old sink.new
+    ensures written { Writes W.taken W.failed result sink.old sink.new
         (registration_front variable.now name.now) }
+    ensures write_only { IfErr result IsWrite }
 {
     put_all(sink, function_begins().as_bytes())?;
     put_escaped(&Underscores, name, sink)?;
@@ -61,8 +64,9 @@ fn write_front<W: Sink>(variable: &str, name: &str, sink: &mut W) -> Result<(), 
 // What stands from the completer on.
 #[tactic(auto, unfolding(crate::specs::BashRegistration::registration_tail))]
 fn write_tail<W: Sink>(name: &str, bin: &str, sink: &mut W) -> Result<(), Error>
-    ensures { Writes W.taken W.failed result sink.old sink.new
+    ensures written { Writes W.taken W.failed result sink.old sink.new
         (registration_tail name.now bin.now) }
+    ensures write_only { IfErr result IsWrite }
 {
     write_sorted_call(name, bin, sink)?;
     write_plain_call(name, bin, sink)
@@ -71,7 +75,8 @@ fn write_tail<W: Sink>(name: &str, bin: &str, sink: &mut W) -> Result<(), Error>
 // What stands from there up to the third place of the name.
 #[tactic(auto, unfolding(crate::specs::BashRegistration::sorted_call))]
 fn write_sorted_call<W: Sink>(name: &str, bin: &str, sink: &mut W) -> Result<(), Error>
-    ensures { Writes W.taken W.failed result sink.old sink.new (sorted_call name.now bin.now) }
+    ensures written { Writes W.taken W.failed result sink.old sink.new (sorted_call name.now bin.now) }
+    ensures write_only { IfErr result IsWrite }
 {
     put_all(sink, call_ends().as_bytes())?;
     put_escaped(&Underscores, name, sink)?;
@@ -83,7 +88,8 @@ fn write_sorted_call<W: Sink>(name: &str, bin: &str, sink: &mut W) -> Result<(),
 // What stands from that name on.
 #[tactic(auto, unfolding(crate::specs::BashRegistration::plain_call))]
 fn write_plain_call<W: Sink>(name: &str, bin: &str, sink: &mut W) -> Result<(), Error>
-    ensures { Writes W.taken W.failed result sink.old sink.new (plain_call name.now bin.now) }
+    ensures written { Writes W.taken W.failed result sink.old sink.new (plain_call name.now bin.now) }
+    ensures write_only { IfErr result IsWrite }
 {
     put_escaped(&Underscores, name, sink)?;
     put_all(sink, name_ends().as_bytes())?;

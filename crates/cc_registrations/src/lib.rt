@@ -1,4 +1,4 @@
-//! Registrations: the texts that tell a shell to ask a program for its completions. Each is filled
+//! Registrations: the texts by which a shell calls a program for its candidates. Each is filled
 //! in by one pass, so that what is filled in is never filled in again.
 #![tactic(auto)]
 
