@@ -120,7 +120,7 @@ module _ (s : Shape) (words : List Text)
   abbrev rows : List Row
   rows = rows_after s.rules [] words
 
-  -- the checks behind the words pass
+  -- the checks after the words pass
   checks_pass : check_fault s rows false ≡ []
   checks_pass =
       let end = (walk s.rules [] nothing_held words).held in

@@ -1,2 +1,3 @@
 pub mod CommandLineLemmas
+mod Examples
 pub mod GivenValues

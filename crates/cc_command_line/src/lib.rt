@@ -1,5 +1,5 @@
 //! The command line of the program: the words that it takes, what they ask for, and what is
-//! printed in place of a script.
+//! printed in place of the output.
 #![tactic(auto)]
 
 mod command_line;

@@ -31,7 +31,7 @@ impl Plan {
     }
 }
 
-/// What the program prints in place of a script: why it fails, or a help text.
+/// What the program prints in place of its output: why it fails, or a help text.
 #[derive(Debug, Drop)]
 pub struct Refusal {
     /// The exit status: 0 for a help text that was asked for, 1 for a failure and 2 for words that

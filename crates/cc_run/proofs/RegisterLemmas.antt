@@ -1,6 +1,6 @@
 -- How writing a registration ends.
 use Rattle.std.proofs.Common.{◌≡◌, ap, refl, subst, sym, ℕ, List, Option, None, Some}
-use Rattle.std.proofs.Common.{Result, Ok, Err}
+use Rattle.std.proofs.Common.{true, Result, Ok, Err}
 use Rattle.std.specs.Prelude.{IsSome}
 use Rattle.cc_command_line.specs.Refusals.{IsRefusal}
 use Rattle.cc_command_line.specs.declared.types.Refusal.{Refusal}
@@ -30,47 +30,60 @@ has_registration Nushell other = absurd (other refl)
 none_is_none : IsSome {T = List ℕ → List ℕ → List ℕ} None → ⊥
 none_is_none some = cc
 
-module _ {S : Type 0} (taken : S → List ℕ) (failed : S → Failures) (bin : List ℕ) where
+module _ {S : Type 0} (taken : S → List ℕ) (failed : S → Failures)
+    (Reads : List ℕ → List ℕ → Type 0) (bin : List ℕ) where
+  -- the text is the registration, and is read so
+  is_registration : (tree : Tree) (name : List ℕ) (registration : List ℕ → List ℕ → List ℕ)
+      → name ≡ tree.node.name → Reads name bin
+      → IsRegistration registration Reads bin tree (registration name bin)
+  is_registration tree name registration named read = record {
+    is = ap (λ n. registration n bin) named;
+    read_back = subst (λ n. Reads n bin) named read;
+  }
+
   -- there is no registration for the shell
   pub without_registration : (state : S) (file : Option (List ℕ)) (shell : Shell)
       (refusal : Refusal) → shell ≡ Nushell → IsRefusal (error_line (error.UnknownShell unknown_nushell)) refusal
-      → Registers taken failed bin file state state (registration_for shell) (Err refusal)
+      → Registers taken failed Reads bin file state state (registration_for shell) (Err refusal)
   without_registration state file shell refusal is reported =
-      subst (λ s. Registers taken failed bin file state state (registration_for s) (Err refusal))
+      subst (λ s. Registers taken failed Reads bin file state state (registration_for s) (Err refusal))
       (sym is) (no_registration refusal reported (same taken failed state))
 
   -- no command is read
   pub unregistered : (state : S) (file : Option (List ℕ)) (refusal : Refusal)
       (registration : Option (List ℕ → List ℕ → List ℕ)) → IsSome registration
       → ReportsFile file refusal
-      → Registers taken failed bin file state state registration (Err refusal)
+      → Registers taken failed Reads bin file state state registration (Err refusal)
   unregistered state file refusal None some reported = absurd (none_is_none some)
   unregistered state file refusal (Some registration) some reported =
       some_registration registration (Err refusal)
-      (ends_unread taken failed (λ tree refusal. ⊥) (IsRegistration registration bin)
+      (ends_unread taken failed true (λ tree refusal. ⊥) (IsRegistration registration Reads bin)
       state file refusal reported)
 
   -- the registration is written
   pub registered : (old new : S) (file : Option (List ℕ)) (tree : Tree) (name : List ℕ)
       (registration : Option (List ℕ → List ℕ → List ℕ)) → HoldsTree file tree
       → name ≡ tree.node.name
-      → WritesRegistration taken failed registration name bin old new (Ok tt)
-      → Registers taken failed bin file old new registration (Ok tt)
-  registered old new file tree name None held named wrote = absurd wrote
-  registered old new file tree name (Some registration) held named wrote =
+      → WritesRegistration taken failed registration name bin old new (Ok tt) → Reads name bin
+      → Registers taken failed Reads bin file old new registration (Ok tt)
+  registered old new file tree name None held named wrote read = absurd wrote
+  registered old new file tree name (Some registration) held named wrote read =
       some_registration registration (Ok tt)
-      (ends_written taken failed (λ tree refusal. ⊥) (IsRegistration registration bin) old new file
-      tree (registration name bin) held (ap (λ n. registration n bin) named) wrote.ok wrote.failures)
+      (ends_written taken failed true (λ tree refusal. ⊥) (IsRegistration registration Reads bin) old new file
+      tree (registration name bin) held (is_registration tree name registration named read) wrote.ok wrote.failures)
 
   -- writing it fails
   pub register_failed : (old new : S) (file : Option (List ℕ)) (tree : Tree) (name : List ℕ)
       (e : Error) (refusal : Refusal) (registration : Option (List ℕ → List ℕ → List ℕ))
       → HoldsTree file tree → name ≡ tree.node.name
-      → WritesRegistration taken failed registration name bin old new (Err e) → Reports e refusal
-      → Registers taken failed bin file old new registration (Err refusal)
-  register_failed old new file tree name e refusal None held named wrote reported = absurd wrote
-  register_failed old new file tree name e refusal (Some registration) held named wrote reported =
+      → WritesRegistration taken failed registration name bin old new (Err e) → Reads name bin
+      → Reports e refusal
+      → Registers taken failed Reads bin file old new registration (Err refusal)
+  register_failed old new file tree name e refusal None held named wrote read reported = absurd wrote
+  register_failed old new file tree name e refusal (Some registration) held named wrote read
+      reported =
       some_registration registration (Err refusal)
-      (ends_failed taken failed (λ tree refusal. ⊥) (IsRegistration registration bin) old new file
-      tree (registration name bin) e refusal held (ap (λ n. registration n bin) named) wrote.failures
+      (ends_failed taken failed true (λ tree refusal. ⊥) (IsRegistration registration Reads bin) old new file
+      tree (registration name bin) e refusal refl held
+      (is_registration tree name registration named read) wrote.failures
       wrote.kinds reported)

@@ -14,12 +14,12 @@ use Rattle.clap_complete.specs.Error.{Error}
 use Rattle.clap_complete.specs.Error.TheVariants as error
 use Rattle.clap_complete.specs.Failures.{Failures}
 use Rattle.clap_complete.specs.Tree.{Tree}
-use Rattle.clap_complete.specs.Writes.{Writes}
-use Rattle.cc_env.specs.Reply.{lines_reply}
+use Rattle.clap_complete.specs.Writes.{IsWrite, Writes}
+use Rattle.cc_env.specs.Reply.{LinesRead, lines_reply}
 use Rattle.cc_run.specs.Ends.{Ends, EndsReply}
 use Rattle.cc_run.specs.Refusals.{Reports}
 use Rattle.cc_run.specs.Replies.{AreFound, FindsNone, IsOutOfRange, IsReply, Paths, only_paths}
-use Rattle.cc_run.proofs.WritingLemmas.{ends_failed, ends_rejected, ends_unwritten}
+use Rattle.cc_run.proofs.WritingLemmas.{ends_cut_off, ends_rejected, ends_unwritten}
 use Rattle.cc_run.proofs.WritingLemmas.{ends_written, same}
 use Rattle.cc_tree_file.specs.TreeFile.{HoldsTree}
 
@@ -86,10 +86,10 @@ module _ {S : Type 0} (taken : S → List ℕ) (failed : S → Failures) (Finds 
       → FindsNone (length copies) index tree e → Reports e refusal
       → EndsReply taken failed Finds words index file state state (Err refusal)
   none_found state file tree error.Memory refusal copies are held none reported =
-      ends_unwritten taken failed (IsOutOfRange (length words) index) (IsReply Finds words index)
+      ends_unwritten taken failed false (IsOutOfRange (length words) index) (IsReply Finds words index)
       state file tree refusal held reported
   none_found state file tree error.NoCompletion refusal copies are held none reported =
-      ends_rejected taken failed (IsOutOfRange (length words) index) (IsReply Finds words index)
+      ends_rejected taken failed false (IsOutOfRange (length words) index) (IsReply Finds words index)
       state state file tree refusal held
       (record {
         out_of_range = subst (λ count. is_in_range (built_tree tree).node count index ≡ false)
@@ -103,15 +103,16 @@ module _ {S : Type 0} (taken : S → List ℕ) (failed : S → Failures) (Finds 
       (found shown : List CompletionCandidate) (copies : List (String Global))
       → map string_bytes copies ≡ words → HoldsTree file tree
       → AreFound Finds (map string_bytes copies) index tree found → shown ≡ found
-      → Writes taken failed (Ok tt) old new (lines_reply shown)
+      → Writes taken failed (Ok tt) old new (lines_reply shown) → LinesRead shown
       → EndsReply taken failed Finds words index file old new (Ok tt)
-  reply_written old new file tree found shown copies are held are_found all wrote =
-      ends_written taken failed (IsOutOfRange (length words) index) (IsReply Finds words index)
+  reply_written old new file tree found shown copies are held are_found all wrote read =
+      ends_written taken failed false (IsOutOfRange (length words) index) (IsReply Finds words index)
       old new file tree (lines_reply shown) held
       (record {
         found = found;
         are_found = subst (λ ws. AreFound Finds ws index tree found) are are_found;
         is = ap lines_reply all;
+        read_back = subst LinesRead all read;
       }) wrote.ok wrote.failures
 
   -- they are found, and writing them fails
@@ -119,14 +120,16 @@ module _ {S : Type 0} (taken : S → List ℕ) (failed : S → Failures) (Finds 
       (found shown : List CompletionCandidate) (e : Error) (refusal : Refusal)
       (copies : List (String Global)) → map string_bytes copies ≡ words → HoldsTree file tree
       → AreFound Finds (map string_bytes copies) index tree found → shown ≡ found
-      → Writes taken failed (Err e) old new (lines_reply shown) → Reports e refusal
+      → Writes taken failed (Err e) old new (lines_reply shown) → IsWrite e → LinesRead shown
+      → Reports e refusal
       → EndsReply taken failed Finds words index file old new (Err refusal)
-  reply_failed old new file tree found shown e refusal copies are held are_found all wrote
-      reported =
-      ends_failed taken failed (IsOutOfRange (length words) index) (IsReply Finds words index)
+  reply_failed old new file tree found shown e refusal copies are held are_found all wrote kind
+      read reported =
+      ends_cut_off taken failed false (IsOutOfRange (length words) index) (IsReply Finds words index)
       old new file tree (lines_reply shown) e refusal held
       (record {
         found = found;
         are_found = subst (λ ws. AreFound Finds ws index tree found) are are_found;
         is = ap lines_reply all;
-      }) wrote.failures wrote.kinds reported
+        read_back = subst LinesRead all read;
+      }) wrote.failures kind reported

@@ -1,6 +1,6 @@
 -- How writing the script of a tree file ends.
 use Rattle.std.proofs.Common.{◌≡◌, ◌⊎◌, inl, inr, refl, subst, ℕ, List, Option, None, Some, Result}
-use Rattle.std.proofs.Common.{Ok, Err}
+use Rattle.std.proofs.Common.{true, Ok, Err}
 use Rattle.cc_command_line.specs.declared.types.Refusal.{Refusal}
 use Rattle.clap_complete.specs.Built.{built_under}
 use Rattle.clap_complete.specs.Error.{Error}
@@ -22,7 +22,7 @@ module _ {S : Type 0} (taken : S → List ℕ) (failed : S → Failures) (shell 
   -- how it ends
   abbrev Ends : S → S → Option (List ℕ) → Result (Unit {0}) Refusal → Type 0
   Ends old new file result =
-      Finishes taken failed (SharesLabel shell bin) (IsScript shell bin) old new file result
+      Finishes taken failed true (SharesLabel shell bin) (IsScript shell bin) old new file result
 
   -- what the sink counts for an error
   abbrev Counts : Error → S → S → Type 0
@@ -48,7 +48,7 @@ module _ {S : Type 0} (taken : S → List ℕ) (failed : S → Failures) (shell 
   pub script_written : (Reads : Tree → Type 0) (old new : S) (file : Option (List ℕ)) (tree : Tree)
       → HoldsTree file tree → Wrote Reads tree (Ok tt) old new → Ends old new file (Ok tt)
   script_written Reads old new file tree held wrote =
-      ends_written taken failed (SharesLabel shell bin) (IsScript shell bin) old new file tree
+      ends_written taken failed true (SharesLabel shell bin) (IsScript shell bin) old new file tree
       (shell_script shell (built_under (Some bin) tree)) held
       (record { unshared = none_shared _ _ _ wrote.clashes; is = refl }) wrote.ok wrote.failures
 
@@ -63,12 +63,12 @@ module _ {S : Type 0} (taken : S → List ℕ) (failed : S → Failures) (shell 
       → HoldsTree file tree → Counts e old new → ReportsClash clash (Err e) (taken old) (taken new)
       → Reports e refusal → Ends old new file (Err refusal)
   failed_with old new file tree e refusal None is held counts clashes reported =
-      ends_failed taken failed (SharesLabel shell bin) (IsScript shell bin) old new file tree
-      (shell_script shell (built_under (Some bin) tree)) e refusal held
+      ends_failed taken failed true (SharesLabel shell bin) (IsScript shell bin) old new file tree
+      (shell_script shell (built_under (Some bin) tree)) e refusal refl held
       (record { unshared = is; is = refl }) counts clashes reported
   failed_with old new file tree e refusal (Some label) is held counts (inl clash, unwritten)
       reported =
-      ends_rejected taken failed (SharesLabel shell bin) (IsScript shell bin) old new file tree
+      ends_rejected taken failed true (SharesLabel shell bin) (IsScript shell bin) old new file tree
       refusal held
       (record {
         label = label;
@@ -78,7 +78,7 @@ module _ {S : Type 0} (taken : S → List ℕ) (failed : S → Failures) (shell 
       (record { taken_same = unwritten; failed_same = as_counted old new e _ clash counts })
   failed_with old new file tree e refusal (Some label) is held counts (inr out, unwritten)
       reported =
-      ends_without_memory taken failed (SharesLabel shell bin) (IsScript shell bin) old new file
+      ends_without_memory taken failed true (SharesLabel shell bin) (IsScript shell bin) old new file
       tree refusal held
       (subst (λ e. Reports e refusal) (same_error e _ out) reported)
       (record { taken_same = unwritten; failed_same = as_counted old new e _ out counts })

@@ -1,12 +1,12 @@
 -- How carrying out a plan ends.
-use Rattle.std.specs.Prelude.{◌≡◌, ℕ, List, Option, Result, Ok, Err, length, map, string_bytes}
+use Rattle.std.specs.Prelude.{◌≡◌, ℕ, true, false, List, Option, Result, Ok, Err, length, map, string_bytes}
 use Rattle.clap_complete.specs.Failures.{Failures}
 use Rattle.clap_complete.specs.Shell.{Shell}
 use Rattle.cc_command_line.specs.declared.types.Plan.{Plan}
 use Rattle.cc_command_line.specs.declared.types.Plan.TheVariants.{Candidates, Register, Script}
 use Rattle.cc_command_line.specs.declared.types.Refusal.{Refusal}
 use Rattle.cc_run.specs.Refusals.{FindsShell}
-use Rattle.cc_run.specs.Registrations.{Registers, registration_for}
+use Rattle.cc_run.specs.Registrations.{Registers, RegistrationReads, registration_for}
 use Rattle.cc_run.specs.Replies.{IsOutOfRange, IsReply, Paths}
 use Rattle.cc_run.specs.Scripts.{IsScript, SharesLabel}
 use Rattle.cc_run.specs.Writing.{Finishes, Untouched}
@@ -25,19 +25,20 @@ pub data EndsFor {S : Type 0} (taken : S → List ℕ) (failed : S → Failures)
 abbrev pub EndsScript : {S : Type 0} → (S → List ℕ) → (S → Failures) → List ℕ → List ℕ
     → Option (List ℕ) → S → S → Result (Unit {0}) Refusal → Type 0
 EndsScript taken failed name bin file old new result = EndsFor taken failed name old new
-    (λ shell. Finishes taken failed (SharesLabel shell bin) (IsScript shell bin) old new file)
+    (λ shell. Finishes taken failed true (SharesLabel shell bin) (IsScript shell bin) old new file)
     result
 
 -- how writing a registration for the shell of this name ends
 abbrev pub EndsRegistration : {S : Type 0} → (S → List ℕ) → (S → Failures) → List ℕ → List ℕ
     → Option (List ℕ) → S → S → Result (Unit {0}) Refusal → Type 0
 EndsRegistration taken failed name bin file old new result = EndsFor taken failed name old new
-    (λ shell. Registers taken failed bin file old new (registration_for shell)) result
+    (λ shell. Registers taken failed (RegistrationReads shell) bin file old new
+    (registration_for shell)) result
 
 -- how writing the candidates for the word at an index ends
 abbrev pub EndsReply : {S : Type 0} → (S → List ℕ) → (S → Failures) → Paths → List (List ℕ) → ℕ
     → Option (List ℕ) → S → S → Result (Unit {0}) Refusal → Type 0
-EndsReply taken failed Finds words index file old new result = Finishes taken failed
+EndsReply taken failed Finds words index file old new result = Finishes taken failed false
     (IsOutOfRange (length words) index) (IsReply Finds words index) old new file result
 
 -- how carrying out a plan ends, where these paths may be found

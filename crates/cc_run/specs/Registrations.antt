@@ -1,5 +1,5 @@
 -- The registration for the command of a tree file, by which a shell asks a program for candidates.
-use Rattle.std.specs.Prelude.{◌≡◌, ◌++◌, ℕ, List, Option, Some, None, Result, Err, codes}
+use Rattle.std.specs.Prelude.{◌≡◌, ◌++◌, ℕ, true, List, Option, Some, None, Result, Err, codes}
 use Rattle.clap_complete.specs.Error.{Error}
 use Rattle.clap_complete.specs.Error.TheVariants.{UnknownShell}
 use Rattle.clap_complete.specs.Failures.{Failures}
@@ -9,11 +9,11 @@ use Rattle.clap_complete.specs.Tree.{Tree}
 use Rattle.clap_complete.specs.Writes.{Writes}
 use Rattle.cc_command_line.specs.Refusals.{IsRefusal}
 use Rattle.cc_command_line.specs.declared.types.Refusal.{Refusal}
-use Rattle.cc_registrations.specs.BashRegistration.{bash_registration}
-use Rattle.cc_registrations.specs.ElvishRegistration.{elvish_registration}
-use Rattle.cc_registrations.specs.FishRegistration.{fish_registration}
-use Rattle.cc_registrations.specs.PowershellRegistration.{powershell_registration}
-use Rattle.cc_registrations.specs.ZshRegistration.{zsh_registration}
+use Rattle.cc_registrations.specs.BashRegistration.{BashReads, bash_registration}
+use Rattle.cc_registrations.specs.ElvishRegistration.{ElvishReads, elvish_registration}
+use Rattle.cc_registrations.specs.FishRegistration.{FishReads, fish_registration}
+use Rattle.cc_registrations.specs.PowershellRegistration.{PowershellReads, powershell_registration}
+use Rattle.cc_registrations.specs.ZshRegistration.{ZshReads, zsh_registration}
 use Rattle.cc_run.specs.Refusals.{error_line}
 use Rattle.cc_run.specs.Writing.{Finishes, Untouched}
 
@@ -31,6 +31,15 @@ registration_for PowerShell = Some (λ name bin. powershell_registration variabl
 registration_for Zsh = Some (λ name bin. zsh_registration variable name bin bin)
 registration_for Nushell = None
 
+-- what the registration for a shell is read as, of the same names; none is read for Nushell
+abbrev pub RegistrationReads : Shell → List ℕ → List ℕ → Type 0
+RegistrationReads Bash name bin = BashReads variable name bin bin
+RegistrationReads Elvish name bin = ElvishReads variable bin bin
+RegistrationReads Fish name bin = FishReads variable bin bin
+RegistrationReads PowerShell name bin = PowershellReads variable bin bin
+RegistrationReads Zsh name bin = ZshReads variable name bin bin
+RegistrationReads Nushell name bin = ⊥
+
 -- the message that there is none for Nushell
 abbrev pub unknown_nushell : List ℕ
 unknown_nushell = codes "unknown shell `nushell`, "
@@ -43,20 +52,22 @@ WritesRegistration taken failed None name bin old new result = ⊥
 WritesRegistration taken failed (Some registration) name bin old new result =
     Writes taken failed result old new (registration name bin)
 
--- the registration of a command
-abbrev pub IsRegistration : (List ℕ → List ℕ → List ℕ) → List ℕ → Tree → List ℕ → Type 0
-IsRegistration registration bin tree text = text ≡ registration tree.node.name bin
+-- the registration of a command, and what it is read as holds
+pub record IsRegistration (registration : List ℕ → List ℕ → List ℕ)
+    (Reads : List ℕ → List ℕ → Type 0) (bin : List ℕ) (tree : Tree) (text : List ℕ) : Type 0 where
+  pub is : text ≡ registration tree.node.name bin
+  pub read_back : Reads tree.node.name bin
 
--- How writing the registration for a shell ends, where it has this one or none. That there is none
--- is reported before the file is looked at.
-pub data Registers {S : Type 0} (taken : S → List ℕ) (failed : S → Failures) (bin : List ℕ)
-    (file : Option (List ℕ)) (old new : S)
+-- How writing the registration for a shell ends, where it has this one or none, and one that it has
+-- is read so. That there is none is reported before the file is looked at.
+pub data Registers {S : Type 0} (taken : S → List ℕ) (failed : S → Failures)
+    (Reads : List ℕ → List ℕ → Type 0) (bin : List ℕ) (file : Option (List ℕ)) (old new : S)
     : Option (List ℕ → List ℕ → List ℕ) → Result (Unit {0}) Refusal → Type 0 where
   no_registration : (refusal : Refusal)
       → IsRefusal (error_line (UnknownShell unknown_nushell)) refusal
       → Untouched taken failed old new
-      → Registers taken failed bin file old new None (Err refusal)
+      → Registers taken failed Reads bin file old new None (Err refusal)
   some_registration : (registration : List ℕ → List ℕ → List ℕ) (result : Result (Unit {0}) Refusal)
-      → Finishes taken failed (λ tree refusal. ⊥) (IsRegistration registration bin) old new
-      file result
-      → Registers taken failed bin file old new (Some registration) result
+      → Finishes taken failed true (λ tree refusal. ⊥) (IsRegistration registration Reads bin) old
+      new file result
+      → Registers taken failed Reads bin file old new (Some registration) result

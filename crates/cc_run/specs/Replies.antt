@@ -10,7 +10,7 @@ use Rattle.clap_complete.specs.Tree.{Tree}
 use Rattle.clap_complete.specs.ValueHint.{ValueHint}
 use Rattle.cc_command_line.specs.Refusals.{IsRefusal}
 use Rattle.cc_command_line.specs.declared.types.Refusal.{Refusal}
-use Rattle.cc_env.specs.Reply.{lines_reply}
+use Rattle.cc_env.specs.Reply.{LinesRead, lines_reply}
 use Rattle.cc_run.specs.Refusals.{error_line}
 
 -- the paths that may be found for a value hint and a text
@@ -42,9 +42,10 @@ pub record IsOutOfRange (count index : ℕ) (tree : Tree) (refusal : Refusal) : 
   pub out_of_range : is_in_range (built_tree tree).node count index ≡ false
   pub reported : IsRefusal (error_line NoCompletion) refusal
 
--- the reply to fish of such candidates
+-- the reply to fish of such candidates, and what it is read as holds
 pub record IsReply (Finds : Paths) (words : List (List ℕ)) (index : ℕ) (tree : Tree) (text : List ℕ)
     : Type 0 where
   pub found : List CompletionCandidate
   pub are_found : AreFound Finds words index tree found
   pub is : text ≡ lines_reply found
+  pub read_back : LinesRead found

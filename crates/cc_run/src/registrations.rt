@@ -4,7 +4,8 @@ ghost use Rattle.std.specs.Prelude.{◌≡◌, IsSome, Some};
 ghost use Rattle.std.specs.Option.{option_copied};
 ghost use Rattle.clap_complete.specs.Writes.{Writes};
 ghost use Rattle.cc_run.specs.Ends.{EndsRegistration};
-ghost use Rattle.cc_run.specs.Registrations.{Registers, registration_for, WritesRegistration};
+ghost use Rattle.cc_run.specs.Registrations.{Registers, RegistrationReads, WritesRegistration};
+ghost use Rattle.cc_run.specs.Registrations.{registration_for};
 
 use crate::refusals::{UNKNOWN_NUSHELL, error_refusal};
 use crate::shells::shell_of;
@@ -43,8 +44,8 @@ fn register_by<W: Sink>(
     file: Option<&[u8]>,
     out: &mut W,
 ) -> Result<(), Refusal>
-    ensures { Registers W.taken W.failed bin.now (option_copied file.entry) out.old out.new
-        (registration_for shell) result }
+    ensures { Registers W.taken W.failed (RegistrationReads shell) bin.now
+        (option_copied file.entry) out.old out.new (registration_for shell) result }
 {
     match shell {
         Shell::Nushell => Err(Refusal::fixed(1, UNKNOWN_NUSHELL)),
@@ -61,8 +62,8 @@ fn register_known<W: Sink>(
     out: &mut W,
 ) -> Result<(), Refusal>
     requires { IsSome (registration_for shell) }
-    ensures { Registers W.taken W.failed bin.now (option_copied file.entry) out.old out.new
-        (registration_for shell) result }
+    ensures { Registers W.taken W.failed (RegistrationReads shell) bin.now
+        (option_copied file.entry) out.old out.new (registration_for shell) result }
 {
     let command = tree(alloc, file)?;
     match write_registration(alloc, shell, command.get_name(), bin, out) {
@@ -80,8 +81,9 @@ fn write_registration<W: Sink>(
     out: &mut W,
 ) -> Result<(), Error>
     requires { IsSome (registration_for shell) }
-    ensures { WritesRegistration W.taken W.failed (registration_for shell) name.now bin.now
+    ensures written { WritesRegistration W.taken W.failed (registration_for shell) name.now bin.now
         out.old out.new result }
+    ensures read_back { RegistrationReads shell name.now bin.now }
 {
     match shell {
         Shell::Bash => write_bash(VARIABLE, name, bin, bin, out),

@@ -1,5 +1,6 @@
 //! Writes a script.
 
+ghost use Rattle.std.specs.Prelude.{true};
 ghost use Rattle.std.specs.Option.{option_copied};
 ghost use Rattle.cc_run.specs.Ends.{EndsScript};
 ghost use Rattle.cc_run.specs.Scripts.{IsScript, SharesLabel};
@@ -38,7 +39,7 @@ fn script_by<W: Sink>(
     file: Option<&[u8]>,
     out: &mut W,
 ) -> Result<(), Refusal>
-    ensures { Finishes W.taken W.failed (SharesLabel shell bin.now) (IsScript shell bin.now)
+    ensures { Finishes W.taken W.failed true (SharesLabel shell bin.now) (IsScript shell bin.now)
         out.old out.new (option_copied file.entry) result }
 {
     let mut command = tree(alloc, file)?;

@@ -3,7 +3,7 @@ use Rattle.cc_run.proofs.registrations.register_by.Goals as goal
 
 pub returns-in-Nushell : goal.returns-in-Nushell
 returns-in-Nushell g c =
-    without_registration _ _ _ _ _ _ _ c.in-Nushell.is
+    without_registration _ _ _ _ _ _ _ _ c.in-Nushell.is
     (record { status = c.fixed.ensures.status; text_is = c.fixed.ensures.text })
 
 pub register_known-requires : goal.register_known-requires

@@ -7,12 +7,12 @@ use Rattle.cc_run.proofs.scripts.script_by.Goals as goal
 pub returns-in_err-command : goal.returns-in_err-command
 returns-in_err-command g c =
     let p = err_from_is_err_and c.from_residual.result c.from_residual.ensures.1 in
-    rw (p.1, p.2) (ends_unread _ _ _ _ _ _ _ c.in_err-command.ensures)
+    rw (p.1, p.2) (ends_unread _ _ _ _ _ _ _ _ c.in_err-command.ensures)
 
 pub returns-in_err-bin : goal.returns-in_err-bin
 returns-in_err-bin g c =
     let p = err_from_is_err_and c.from_residual-in_err-bin.result c.from_residual-in_err-bin.ensures.1 in
-    rw p.1 (ends_unwritten _ _ _ _ _ _ _ _ c.in_ok-command.ensures p.2)
+    rw p.1 (ends_unwritten _ _ _ _ _ _ _ _ _ c.in_ok-command.ensures p.2)
 
 pub returns-in-Ok : goal.returns-in-Ok
 returns-in-Ok g c =
