@@ -54,7 +54,7 @@ impl<F> CompleteEnv<'static, F, Builtin> {
 }
 
 impl<'s, F, E> CompleteEnv<'s, F, E> {
-    /// Sets the name of the variable.
+    /// Sets the name of the variable, which is `COMPLETE` otherwise.
     pub fn var(mut self, variable: &'static str) -> CompleteEnv<'s, F, E>
         ensures { result ≡ record self.entry { variable = variable.entry } }
     {
@@ -80,7 +80,7 @@ impl<'s, F, E> CompleteEnv<'s, F, E> {
         self
     }
 
-    /// Sets the shells.
+    /// Sets the shells, of which the first that has the name is taken.
     pub fn shells<'t, T>(self, shells: Shells<'t, T>) -> CompleteEnv<'t, F, T>
         ensures factory { result.factory ≡ self.entry.factory }
         ensures variable { result.variable.now ≡ self.entry.variable.now }
@@ -108,6 +108,11 @@ impl<'s, F: Fn(Global) -> Result<Command, Error> + Drop, E: EnvCompleter> Comple
     /// 3. The factory makes the command, which is built.
     /// 4. Where words follow the first `--` after the first argument, the reply to these words is
     ///    written; else the registration. The text is made whole before any of it is written.
+    ///
+    /// `args` are the arguments of the program, its name first. `current_dir` is where relative
+    /// paths begin; without it they have no candidates. `env` has the value of the variable, and
+    /// those of `_CLAP_COMPLETE_INDEX` and `_CLAP_IFS`, which registrations set. `folder` is asked
+    /// for paths, `completers` for values. Nothing else may be written to `out`.
     ///
     /// A registration is made of the variable, the command's name, the binary and the completer, as
     /// `bin` and `completer` say. A completer that was not set and leads through a folder, as

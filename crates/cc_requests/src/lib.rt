@@ -1,4 +1,5 @@
-//! Live completion: a program that answers the requests of shells.
+//! Live completion: what a program writes where its shell asks it for a registration or for
+//! candidates.
 #![tactic(auto)]
 
 mod arguments;

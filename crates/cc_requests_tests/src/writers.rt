@@ -1,0 +1,85 @@
+//! Writers that fail.
+
+use crate::tried::{ends, tested, tried};
+use cc_base::{Counted, Error};
+use cc_requests::CompleteEnv;
+use std::alloc::Global;
+use std::io::{self, ErrorKind, Write};
+use std::process::Abort;
+
+// A writer that takes one byte a call, and fails once it holds `room` bytes; with no kind it then
+// takes nothing.
+#[derive(Drop)]
+struct Narrow {
+    held: Vec<u8>,
+    room: usize,
+    kind: Option<ErrorKind>,
+}
+
+impl Write for Narrow {
+    fn write(&mut self, bytes: &[u8]) -> io::Result<usize> {
+        if self.held.len() >= self.room {
+            return match self.kind {
+                Some(kind) => Err(io::Error::from(kind)),
+                None => Ok(0),
+            };
+        }
+        match bytes.first() {
+            None => Ok(0),
+            Some(byte) => {
+                self.held.push(*byte)?;
+                Ok(1)
+            }
+        }
+    }
+
+    fn flush(&mut self) -> io::Result<()> {
+        Ok(())
+    }
+}
+
+const FISH: [(&str, &str); 1] = [("COMPLETE", "fish")];
+
+// The registration of `app` for fish.
+const REGISTERED: &str = "complete --keep-order --exclusive --command app --arguments \
+    \"(COMPLETE=fish app -- (commandline --current-process --tokenize --cut-at-cursor) \
+    (commandline --current-token))\"\n";
+
+#[test]
+fn a_reply_that_is_not_taken(rt: HostRuntime) {
+    fails_at_each(&rt, &["app", "--", "app", "t"], "t\n");
+}
+
+#[test]
+fn a_registration_that_is_not_taken(rt: HostRuntime) {
+    fails_at_each(&rt, &["app"], REGISTERED);
+}
+
+// Fails unless a writer with too little room for this text takes its beginning, and the call then
+// fails with the writer's kind; and a later call writes the whole text.
+fn fails_at_each<R: Abort + AllocGlobal>(rt: &R, arguments: &[&str], whole: &str) {
+    for room in 0..whole.len() {
+        fails(rt, arguments, whole, room, Some(ErrorKind::BrokenPipe));
+        fails(rt, arguments, whole, room, Some(ErrorKind::Interrupted));
+        fails(rt, arguments, whole, room, None);
+    }
+    ends(rt, &FISH, arguments, None, whole);
+}
+
+fn fails<R: Abort + AllocGlobal>(
+    rt: &R,
+    arguments: &[&str],
+    whole: &str,
+    room: usize,
+    kind: Option<ErrorKind>,
+) {
+    let held = Vec::new(rt.alloc());
+    let mut sink = Counted::new(Narrow { held, room, kind });
+    let program = CompleteEnv::with_factory(|alloc: Global| tested(alloc));
+    let done = tried(rt.alloc(), program, &FISH, arguments, None, &mut sink);
+    let wanted = kind.unwrap_or(ErrorKind::WriteZero);
+    assert!(rt; matches!(done, Err(Error::Write(failed)) if failed == wanted));
+    let held = sink.get_ref().held.as_slice();
+    assert!(rt; held.len() == room && whole.as_bytes().starts_with(held));
+    drop(sink);
+}
