@@ -1,0 +1,2 @@
+mod Finishing
+mod Offering

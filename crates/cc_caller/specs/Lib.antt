@@ -1,1 +1,2 @@
+pub mod KnownNames
 pub mod PlainScript

@@ -1,4 +1,5 @@
-//! A caller of the library whose contract says what the script that it writes reads to.
+//! Callers of the library: one whose contract says what the script that it writes reads to, and one
+//! whose contract says which names it completes a word with.
 #![tactic(auto)]
 
 ghost use Rattle.std.specs.Prelude.{Some};
@@ -6,6 +7,9 @@ ghost use Rattle.std.specs.String.{string_bytes};
 ghost use Rattle.clap_complete.specs.Built.{built_under};
 ghost use Rattle.cc_caller.specs.PlainScript.{TakesPlain};
 
+mod known_names;
+
+pub use crate::known_names::{KnownNames, tools};
 use clap_complete::aot::{Elvish, Sink};
 use clap_complete::command::{Command, is_plain_name};
 use clap_complete::{Error, generate};

@@ -1,5 +1,5 @@
 //! Tests of the library as programs use it: sinks that take little or fail, files, the shells as
-//! values, and the caller of `cc_caller`. The tests of what each script holds stand in
+//! values, and the callers of `cc_caller`. The tests of what each script holds stand in
 //! `cc_script_tests`, and those that know no shell in `cc_core_tests`.
 #![tactic(auto)]
 
@@ -13,6 +13,8 @@ mod debug;
 mod example;
 #[cfg(test)]
 mod fixtures;
+#[cfg(test)]
+mod known_names;
 #[cfg(test)]
 mod shell;
 #[cfg(test)]

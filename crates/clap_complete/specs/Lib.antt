@@ -35,6 +35,7 @@ pub use Rattle.cc_arg.specs.Action
 pub use Rattle.cc_arg.specs.Aliases
 pub use Rattle.cc_arg.specs.Arguments
 pub use Rattle.cc_arg.specs.PossibleValues
+pub use Rattle.cc_arg.specs.Printed
 pub use Rattle.cc_arg.specs.ShownNames
 pub use Rattle.cc_arg.specs.declared.action.ArgAction
 pub use Rattle.cc_arg.specs.declared.arg.Arg
@@ -111,6 +112,7 @@ pub use Rattle.cc_candidates.specs.Beginning
 pub use Rattle.cc_candidates.specs.Candidate
 pub use Rattle.cc_candidates.specs.Lent
 pub use Rattle.cc_candidates.specs.declared.candidate.CompletionCandidate
+pub use Rattle.cc_paths.specs.InMemory
 pub use Rattle.cc_paths.specs.PathCandidates
 pub use Rattle.cc_paths.specs.PathTexts
 pub use Rattle.cc_walk.specs.Blocks as WalkBlocks
@@ -120,6 +122,8 @@ pub use Rattle.cc_walk.specs.Reach as WalkReach
 pub use Rattle.cc_walk.specs.Signs as WalkSigns
 pub use Rattle.cc_walk.specs.Visible as WalkVisible
 pub use Rattle.cc_walk.specs.Words as WalkWords
+pub use Rattle.cc_walk.specs.declared.state.Pending as WalkPending
+pub use Rattle.cc_walk.specs.declared.state.State as WalkState
 pub use Rattle.cc_gather.specs.Children as OfferedChildren
 pub use Rattle.cc_gather.specs.Finished
 pub use Rattle.cc_gather.specs.Options as OfferedOptions

@@ -1,4 +1,4 @@
-//! What a running program offers while its user types.
+//! Candidates for a word of a command line, and the completers that a program lends.
 
 pub use cc_candidates::{
     ArgValueCandidates, ArgValueCompleter, Completers, CompletionCandidate, FnCandidates,
@@ -6,7 +6,7 @@ pub use cc_candidates::{
 };
 pub use cc_engine::complete;
 pub use cc_paths::{
-    EveryPath, FnTest, Folder, FolderError, IsDir, IsExecutable, IsFile, PathCompleter, PathTest,
-    RealFolder,
+    EveryPath, FnTest, Folder, FolderError, IsDir, IsExecutable, IsFile, MemoryFolder,
+    PathCompleter, PathTest, RealFolder,
 };
 pub use cc_values::{complete_possible_values, possible_value_candidates};

@@ -1,0 +1,115 @@
+-- What is offered where the name of a tool is typed.
+use Rattle.std.proofs.Common.{◌≡◌, ◌∙◌, ap, inl, inr, refl, subst, sym, ℕ, List, [], ◌∷◌, ◌++◌, Bool, true, false, Result, Ok, Err, IfErr, IfOk, OnOk, codes, map}
+use Rattle.std.proofs.lemmas.Bool.{cases_Bool}
+use Rattle.std.proofs.lemmas.List.{append-nil}
+use Rattle.std.specs.Prelude.{not, ◌==◌}
+use Rattle.clap_complete.specs.Arg.{Arg}
+use Rattle.clap_complete.specs.Printed.{printed, printed_names, printed_values}
+use Rattle.clap_complete.specs.Sorting.{in_order}
+use Rattle.clap_complete.specs.Error.{Error}
+use Rattle.clap_complete.specs.Error.TheVariants as error
+use Rattle.clap_complete.specs.Candidate.{new_candidate}
+use Rattle.clap_complete.specs.CompletionCandidate.{CompletionCandidate}
+use Rattle.clap_complete.specs.Built.{built_tree}
+use Rattle.clap_complete.specs.Generated.{help_argument}
+use Rattle.clap_complete.specs.Texts.{help_name}
+use Rattle.clap_complete.specs.Tree.{Tree}
+use Rattle.clap_complete.specs.Completion.{Completes, Offers, Refuses, is_in_range, row_candidates}
+use Rattle.clap_complete.specs.OfferedChildren.{in_candidates_order, subcommand_candidates}
+use Rattle.clap_complete.specs.Finished.{finished}
+use Rattle.clap_complete.specs.OptionRows.{Listed, row_of}
+use Rattle.clap_complete.specs.ValueParts.{front_length}
+use Rattle.clap_complete.specs.ArgumentValues.{Lent, as_value, gathered, lent_by, question, values}
+use Rattle.clap_complete.specs.ValueHint.{ValueHint}
+use Rattle.clap_complete.specs.WalkBlocks.{Block, Dashes, Flag, Opened, Values, join, start, state_after}
+use Rattle.clap_complete.specs.WalkState.{State}
+use Rattle.clap_complete.specs.WalkLine.{IsLine}
+use Rattle.clap_complete.specs.WalkLookup.{positional_at}
+use Rattle.clap_complete.specs.WalkReach.{Descend, Reach, Stay}
+use Rattle.cc_caller.specs.KnownNames.{OffersTools, is_bare, names_beginning, runner, tool_candidate}
+use Rattle.cc_caller.proofs.Finishing.{finished_same}
+
+-- NO WORDS BEFORE
+
+not_empty : {A : Type 0} (before : List A) (word : A) (after : List A) → [] ≡ before ++ word ∷ after → ⊥
+not_empty [] word after e = cc
+not_empty (other ∷ before) word after e = cc
+
+no_descent : {root tree : Tree} {words tail : List (List ℕ)} {before : Bool} → Reach root words tree tail before → words ≡ []
+    → (tree ≡ root) × (tail ≡ []) × (before ≡ false)
+no_descent (Stay all) e = (refl, e, refl)
+no_descent (Descend skipped name after cut all found reach) e = absurd (not_empty skipped name after (sym e ∙ cut))
+
+no_blocks : (blocks : List Block) → join blocks ≡ [] → blocks ≡ []
+no_blocks [] e = refl
+no_blocks (Dashes word ∷ blocks) e = cc
+no_blocks (Opened opener option values ∷ blocks) e = cc
+no_blocks (Values first more ∷ blocks) e = cc
+no_blocks (Flag word ∷ blocks) e = cc
+
+-- they lead nowhere but to the root, where nothing is pending
+no_words : (root tree : Tree) (state : State) → IsLine root [] tree state → (tree ≡ root) × (state ≡ start false)
+no_words root tree state line =
+    let at : (tree ≡ root) × (line.tail ≡ []) × (line.before ≡ false) = no_descent line.reach refl in
+    (at.0, line.ends ∙ ap (state_after tree.node.arguments (start line.before)) (no_blocks line.blocks (line.joined ∙ at.1)) ∙ ap start at.2)
+
+-- THE WORD
+
+-- such a word asks nothing of the options
+bare_row : (arguments : List Arg) (word : List ℕ) → is_bare word ≡ true → row_of arguments word ≡ Listed []
+unfolding row_of
+bare_row arguments [] bare = cc
+bare_row arguments (byte ∷ bytes) bare =
+    elim (cases_Bool (byte == 45)) [ inl t ↦ (let apart : false ≡ true = ap not (sym t) ∙ bare in cc) | inr f ↦ rw f refl ]
+
+-- a candidate of a name as a value
+as_tools : (names : List (List ℕ)) → map (as_value [] (codes "[tool]")) (map new_candidate names) ≡ map tool_candidate names
+as_tools [] = refl
+as_tools (name ∷ names) = ap (λ cs. tool_candidate name ∷ cs) (as_tools names)
+
+-- what is offered for the word at the root, where the completer answers these names
+at_root : (lent : Lent) (names : List (List ℕ)) (word : List ℕ) (found : List CompletionCandidate)
+    → ((list : List CompletionCandidate) → lent.completes 0 0 word list → list ≡ map new_candidate names)
+    → Offers lent (built_tree runner) (start false) word found → is_bare word ≡ true → found ≡ map tool_candidate names
+unfolding positional_at help_argument help_name question front_length values gathered printed printed_names printed_values subcommand_candidates in_candidates_order in_order
+at_root lent names word found gives (given, allowed, is) bare =
+    is
+    ∙ ap (λ row. finished (map (as_value [] (codes "[tool]")) given.positional ++ row_candidates row given.within)) (bare_row (built_tree runner).node.arguments word bare)
+    ∙ ap finished (append-nil (map (as_value [] (codes "[tool]")) given.positional))
+    ∙ ap (λ list. finished (map (as_value [] (codes "[tool]")) list)) (gives given.positional allowed.positional)
+    ∙ ap finished (as_tools names)
+    ∙ finished_same names
+
+-- THE CALL
+
+-- what a call finds that lends one completer
+pub offers_tools : {A C F L G : Type 0} (items : A → List CompletionCandidate)
+    (Ones : C → ℕ → List ℕ → List CompletionCandidate → Type 0) (completers : List C) (Others : F → ℕ → List ℕ → List CompletionCandidate → Type 0) (closures : List F)
+    (Lists : L → List CompletionCandidate → Type 0) (lists : List L) (Gives : G → List CompletionCandidate → Type 0) (list_closures : List G)
+    (Finds : ValueHint → List ℕ → List CompletionCandidate → Type 0)
+    (names : List (List ℕ)) (word : List ℕ) (words : List (List ℕ)) (old new : Tree) (result : Result A Error) (one : C)
+    → completers ≡ one ∷ [] → old ≡ runner → words ≡ codes "run" ∷ word ∷ []
+    → OnOk result (new ≡ built_tree old)
+    → IfOk result (λ found. Completes (lent_by Ones completers Others closures Lists lists Gives list_closures Finds) new words 1 (items found))
+    → ((list : List CompletionCandidate) → Ones one 0 word list → list ≡ map new_candidate (names_beginning names word))
+    → IfOk result (λ found. OffersTools names word (items found))
+offers_tools items Ones completers Others closures Lists lists Gives list_closures Finds names word words old new (Ok found) one lent_is old_is words_are built completes gives =
+    let at : Completes (lent_by Ones (one ∷ []) Others closures Lists lists Gives list_closures Finds) (built_tree runner) (codes "run" ∷ word ∷ []) 1 (items found) =
+    subst (λ cs. Completes (lent_by Ones cs Others closures Lists lists Gives list_closures Finds) (built_tree runner) (codes "run" ∷ word ∷ []) 1 (items found)) lent_is
+    (subst (λ t. Completes (lent_by Ones completers Others closures Lists lists Gives list_closures Finds) t (codes "run" ∷ word ∷ []) 1 (items found)) (built ∙ ap built_tree old_is)
+    (subst (λ ws. Completes (lent_by Ones completers Others closures Lists lists Gives list_closures Finds) new ws 1 (items found)) words_are completes)) in
+    let stays : (at.tree ≡ built_tree runner) × (at.state ≡ start false) = no_words (built_tree runner) at.tree at.state at.line in
+    at_root (lent_by Ones (one ∷ []) Others closures Lists lists Gives list_closures Finds) (names_beginning names word) word (items found) gives
+    (subst (λ state. Offers (lent_by Ones (one ∷ []) Others closures Lists lists Gives list_closures Finds) (built_tree runner) state word (items found)) stays.1
+    (subst (λ tree. Offers (lent_by Ones (one ∷ []) Others closures Lists lists Gives list_closures Finds) tree at.state word (items found)) stays.0 at.offers))
+offers_tools items Ones completers Others closures Lists lists Gives list_closures Finds names word words old new (Err e) one lent_is old_is words_are built completes gives = tt
+
+-- the word is there, so it fails with `Memory` alone
+pub memory_alone : {A : Type 0} (old new : Tree) (count : ℕ) (result : Result A Error) → old ≡ runner → count ≡ 2
+    → IfErr result (Refuses old new count 1) → IfErr result (λ e. e ≡ error.Memory)
+memory_alone old new count (Ok found) old_is count_is refuses = tt
+memory_alone old new count (Err error.Memory) old_is count_is refuses = refl
+memory_alone old new count (Err error.NoCompletion) old_is count_is refuses =
+    let out = subst (λ n. is_in_range new.node n 1 ≡ false) count_is refuses.1 in
+    let apart : true ≡ false = subst (λ t. is_in_range t.node 2 1 ≡ false) (refuses.0 ∙ ap built_tree old_is) out in cc
+memory_alone old new count (Err _) old_is count_is refuses = absurd refuses

@@ -1,0 +1,70 @@
+//! A completer of names that a program knows, and what is offered where it is lent.
+
+ghost use Rattle.std.specs.Prelude.{◌≡◌, IfErr, IfOk, map, string_bytes};
+ghost use Rattle.clap_complete.specs.Candidate.{new_candidate};
+ghost use Rattle.cc_caller.specs.KnownNames.{OffersTools, names_beginning, runner};
+
+use clap_complete::Error;
+use clap_complete::command::{Arg, Command};
+use clap_complete::engine::{
+    ArgValueCompleter, Completers, CompletionCandidate, Folder, ValueCompleter, complete,
+};
+use std::alloc::{AllocError, Global};
+
+/// Completes with the names that begin with what is typed, in their order.
+#[derive(Drop)]
+pub struct KnownNames {
+    pub names: Vec<String>,
+}
+
+impl ValueCompleter for KnownNames {
+    ghost answers = { λ known _ text found.
+        found ≡ map new_candidate (names_beginning (map string_bytes known.names.items) text) };
+
+    fn complete_at(
+        &self,
+        alloc: Global,
+        _number: usize,
+        text: &str,
+    ) -> Result<Vec<CompletionCandidate>, AllocError> {
+        let mut found = Vec::new(alloc);
+        for name in &self.names {
+            if name.as_bytes().starts_with(text.as_bytes()) {
+                let name = String::from_str(alloc, name.as_str())?;
+                found.push(CompletionCandidate::new(name))?;
+            }
+        }
+        Ok(found)
+    }
+}
+
+// `run` with an argument `tool`, whose values the completer of number 0 gives.
+fn runner(alloc: Global) -> Result<Command, Error>
+    ensures ok { IfOk result (λ command. command ≡ runner) }
+    ensures memory { IfErr result (λ error. error ≡ Error.Memory) }
+{
+    let tool = Arg::new(alloc, String::from_str(alloc, "tool")?).add(ArgValueCompleter::new(0));
+    let command = Command::new(alloc, String::from_str(alloc, "run")?);
+    command.arg(tool)
+}
+
+/// What `run` offers for the word where the tool is typed. Fails with `Memory` alone.
+pub fn tools<D: Folder>(
+    alloc: Global,
+    names: Vec<String>,
+    word: String,
+    folder: &D,
+) -> Result<Vec<CompletionCandidate>, Error>
+    ensures ok { IfOk result (λ found.
+        OffersTools (map string_bytes names.items) (string_bytes word) found.items) }
+    ensures memory { IfErr result (λ error. error ≡ Error.Memory) }
+{
+    let mut completers: Vec<Box<dyn ValueCompleter>> = Vec::new(alloc);
+    completers.push(Box::new(alloc, KnownNames { names })?)?;
+    let lent = Completers::new(alloc, completers, Vec::new(alloc));
+    let mut command = runner(alloc)?;
+    let mut words = Vec::new(alloc);
+    words.push(String::from_str(alloc, "run")?)?;
+    words.push(word)?;
+    complete(alloc, &mut command, words, 1, None, folder, &lent)
+}

@@ -1,0 +1,30 @@
+//! What the completer of `cc_caller` offers.
+
+use crate::checks::is;
+use cc_caller::tools;
+use clap_complete::Error;
+use clap_complete::engine::MemoryFolder;
+use std::alloc::Global;
+
+// The values that are offered for the word where a program knows these names, each with a space
+// after it.
+fn offered(alloc: Global, known: &[&str], word: &str) -> Result<String, Error> {
+    let mut names = Vec::new(alloc);
+    for name in known {
+        names.push(String::from_str(alloc, name)?)?;
+    }
+    let word = String::from_str(alloc, word)?;
+    let folder = MemoryFolder::new(&[], &[]);
+    let mut text = String::new(alloc);
+    for candidate in tools(alloc, names, word, &folder)? {
+        text.push_str(candidate.get_value())?;
+        text.push(' ')?;
+    }
+    Ok(text)
+}
+
+#[test]
+fn names_that_begin_with_the_word_are_offered(rt: HostRuntime) {
+    let known = ["ripgrep", "rsync", "jq"];
+    is(&rt, offered(rt.alloc(), &known, "r"), "ripgrep rsync ");
+}
