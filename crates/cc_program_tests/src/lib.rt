@@ -15,3 +15,5 @@ mod runs;
 mod scripts;
 #[cfg(test)]
 mod words;
+#[cfg(test)]
+mod writers;

@@ -103,6 +103,20 @@ fn reports_a_file_that_is_not_json(rt: HostRuntime) {
     }
 }
 
+// The first bytes of a file that ends with its last brace, but never all of them.
+#[test]
+fn reports_each_beginning_of_a_file(rt: HostRuntime) {
+    for length in 0..PARENT.len() {
+        fails(
+            &rt,
+            rt.alloc(),
+            script(rt.alloc(), "elvish"),
+            PARENT.as_bytes().get(..length),
+            "tree: not JSON\n",
+        );
+    }
+}
+
 // Adds a text so many times.
 fn push_times(text: &mut String, part: &str, times: usize) -> Result<(), AllocError> {
     for _ in 0..times {
@@ -156,13 +170,24 @@ fn reports_two_commands_with_one_label(rt: HostRuntime) {
     );
 }
 
+// A name that is no text, a mark that is no truth value, a key that there is not, and a range whose
+// bounds are exchanged.
+const BAD_FORMS: [&str; 4] = [
+    r#"{"name": 1.5}"#,
+    r#"{"name": "app", "args": [{"id": "a", "hide": 1}]}"#,
+    r#"{"name": "app", "colour": true}"#,
+    r#"{"name": "app", "args": [{"id": "a", "num_args": [2, 1]}]}"#,
+];
+
 #[test]
 fn reports_a_file_of_another_form(rt: HostRuntime) {
-    fails(
-        &rt,
-        rt.alloc(),
-        script(rt.alloc(), "elvish"),
-        Some(b"{\"name\":1.5}"),
-        "tree: bad form\n",
-    );
+    for text in BAD_FORMS {
+        fails(
+            &rt,
+            rt.alloc(),
+            script(rt.alloc(), "elvish"),
+            Some(text.as_bytes()),
+            "tree: bad form\n",
+        );
+    }
 }
