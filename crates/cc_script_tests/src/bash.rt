@@ -178,6 +178,18 @@ fn words_lead_through_the_table(rt: HostRuntime) {
     is(&rt, labels(rt.alloc(), table(script.as_str())), LABELS);
 }
 
+// `app` with a child `test` that is called `tst` too, which no shell shows.
+const HIDDEN: &str = r#"{"name": "app", "subcommands": [{"name": "test", "aliases": ["tst"]}]}"#;
+
+#[test]
+fn a_hidden_alias_leads_nowhere(rt: HostRuntime) {
+    let script = script(&rt, Bash, HIDDEN).expect(&rt, "no script");
+    let table = table(script.as_str());
+    let after_alias = label_after(rt.alloc(), table, "app", "tst").expect(&rt, "no label");
+    let after_name = label_after(rt.alloc(), table, "app", "test").expect(&rt, "no label");
+    same(&rt, (after_alias, after_name), ("app", "app__subcmd__test"));
+}
+
 // Whether the call failed with a clash of this label.
 fn is_clash(outcome: &Result<(), Error>, label: &str) -> bool {
     match outcome {

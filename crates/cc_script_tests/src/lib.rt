@@ -17,6 +17,8 @@ mod memory;
 #[cfg(test)]
 mod nushell;
 #[cfg(test)]
+mod odd_texts;
+#[cfg(test)]
 mod powershell;
 #[cfg(test)]
 mod written;
