@@ -45,6 +45,12 @@ fn paths_that_are_not_hidden_in_order(rt: HostRuntime) {
 }
 
 #[test]
+fn files_and_folders_are_sorted_as_one_list(rt: HostRuntime) {
+    let shown = offered_in(&rt, FILE, &["app", ""], Some("/o"), &other());
+    assert_eq!(rt; shown.as_str(), "bar foo/ foobar ");
+}
+
+#[test]
 fn another_hint_names_no_paths(rt: HostRuntime) {
     offers(&rt, OTHER, "", "");
 }

@@ -1,12 +1,12 @@
 -- The candidates of a folder that functions describe.
-use Rattle.std.proofs.Common.{◌≡◌, ℕ, List, [], ◌∷◌, Bool, true, Option, Some, None, codes, refl}
+use Rattle.std.proofs.Common.{◌≡◌, ◌++◌, ℕ, List, [], ◌∷◌, Bool, true, Option, Some, None, codes, refl}
 use Rattle.std.specs.Prelude.{◌||◌, if◌then◌else◌}
 use Rattle.std.specs.List.{list_any}
 use Rattle.std.specs.Path.{path_file_name, path_join, path_parent, rsplit_once, split_last_component, trim_trailing}
 use Rattle.std.specs.Str.{bytes_eq}
 use Rattle.cc_base.specs.Sorting.{in_order, placed}
 use Rattle.cc_candidates.specs.Candidate.{new_candidate}
-use Rattle.cc_paths.specs.PathCandidates.{grouped_candidates}
+use Rattle.cc_paths.specs.PathCandidates.{groups, stdio_candidate}
 use Rattle.cc_paths.proofs.ToldByFunctions.{candidates_by}
 use Rattle.cc_paths.specs.PathTexts.{search_root, word_name, word_prefix}
 use Rattle.cc_candidates.specs.declared.candidate.CompletionCandidate.{CompletionCandidate}
@@ -40,23 +40,33 @@ shown value = new_candidate value
 abbrev hidden : List ℕ → CompletionCandidate
 hidden value = record (new_candidate value) { hidden = true }
 
+abbrev stdio : CompletionCandidate
+stdio = record (new_candidate (codes "-")) { help = Some (codes "stdio") }
+
 files_of_the_empty_word : candidates_by names is_dir is_file home current []
     ≡ shown (codes "a.txt") ∷ hidden (codes ".git/") ∷ shown (codes "src/") ∷ []
-unfolding grouped_candidates in_order placed search_root word_name word_prefix path_file_name path_join path_parent rsplit_once split_last_component trim_trailing
+unfolding groups in_order placed search_root word_name word_prefix path_file_name path_join path_parent rsplit_once split_last_component trim_trailing
 files_of_the_empty_word = refl
+
+-- the same with `-`, which a completer with `stdio` offers last
+files_and_stdio_of_the_empty_word :
+    candidates_by names is_dir is_file home current [] ++ stdio_candidate [] true
+    ≡ shown (codes "a.txt") ∷ hidden (codes ".git/") ∷ shown (codes "src/") ∷ stdio ∷ []
+unfolding groups in_order placed search_root word_name word_prefix path_file_name path_join path_parent rsplit_once split_last_component trim_trailing
+files_and_stdio_of_the_empty_word = refl
 
 folders_of_the_empty_word : candidates_by names is_dir is_dir home current []
     ≡ shown (codes ".") ∷ hidden (codes ".git/") ∷ shown (codes "src/") ∷ []
-unfolding grouped_candidates in_order placed search_root word_name word_prefix path_file_name path_join path_parent rsplit_once split_last_component trim_trailing
+unfolding groups in_order placed search_root word_name word_prefix path_file_name path_join path_parent rsplit_once split_last_component trim_trailing
 folders_of_the_empty_word = refl
 
 below_the_home_folder : candidates_by names is_dir (λ _. true) home current (codes "~/s")
     ≡ shown (codes "~/src/") ∷ []
-unfolding grouped_candidates in_order placed search_root word_name word_prefix path_file_name path_join path_parent rsplit_once split_last_component trim_trailing
+unfolding groups in_order placed search_root word_name word_prefix path_file_name path_join path_parent rsplit_once split_last_component trim_trailing
 below_the_home_folder = refl
 
 no_current_folder : candidates_by names is_dir (λ _. true) home None (codes "s") ≡ []
-unfolding grouped_candidates in_order placed search_root word_name word_prefix path_file_name path_join path_parent rsplit_once split_last_component trim_trailing
+unfolding groups in_order placed search_root word_name word_prefix path_file_name path_join path_parent rsplit_once split_last_component trim_trailing
 no_current_folder = refl
 
 -- a folder that holds the folder `foo` and the files `foobar` and `bar`
@@ -67,7 +77,7 @@ other_names path =
 a_word_that_ends_in_a_dot :
     candidates_by other_names (bytes_eq (codes "/o/foo")) (λ _. true) home (Some (codes "/o")) (codes "foo/.")
     ≡ shown (codes "foo/") ∷ shown (codes "foobar") ∷ []
-unfolding grouped_candidates in_order placed search_root word_name word_prefix path_file_name path_join path_parent rsplit_once split_last_component trim_trailing
+unfolding groups in_order placed search_root word_name word_prefix path_file_name path_join path_parent rsplit_once split_last_component trim_trailing
 a_word_that_ends_in_a_dot = refl
 
 -- the parts of a word

@@ -52,7 +52,6 @@ module _ (names : List ℕ → List (List ℕ)) (is_dir passes : List ℕ → Bo
   root_counts : (word root : List ℕ) (told : Bool) (entries : List Entry)
       → (word ≡ [] → told ≡ passes root)
       → grouped_candidates word told entries ≡ grouped_candidates word (passes root) entries
-  unfolding grouped_candidates
   root_counts [] root told entries h = ap (λ b. grouped_candidates [] b entries) (h refl)
   root_counts (byte ∷ word) root told entries h =
       let some : (length (byte ∷ word) == 0) ≡ false =

@@ -37,12 +37,17 @@ is_unwanted_folder entry = not entry.passes && entry.is_folder
 abbrev pub stands_before : CompletionCandidate → CompletionCandidate → Bool
 stands_before one other = is_lt (candidate_cmp one other)
 
--- the wanted candidates in order, then the unwanted folders in order
-unfoldable pub grouped_candidates : List ℕ → Bool → List Entry → List CompletionCandidate
+-- these wanted candidates and those of the wanted entries in order, then the unwanted folders in
+-- order
+unfoldable pub groups : List CompletionCandidate → List ℕ → List Entry → List CompletionCandidate
+groups wanted prefix entries =
+    in_order stands_before (wanted ++ map (path_candidate prefix) (filter is_wanted entries))
+    ++ in_order stands_before (map (path_candidate prefix) (filter is_unwanted_folder entries))
+
+-- the candidates for a word, of these entries
+abbrev pub grouped_candidates : List ℕ → Bool → List Entry → List CompletionCandidate
 grouped_candidates word root_passes entries =
-    in_order stands_before (dot_candidate word root_passes
-    ++ map (path_candidate (word_prefix word)) (filter is_wanted entries))
-    ++ in_order stands_before (map (path_candidate (word_prefix word)) (filter is_unwanted_folder entries))
+    groups (dot_candidate word root_passes) (word_prefix word) entries
 
 -- the name begins with this text
 abbrev pub begins : List ℕ → List ℕ → Bool
@@ -82,15 +87,6 @@ abbrev pub ArePathCandidates : (List ℕ → Option (List (List ℕ)) → Type 0
 ArePathCandidates lists tells_dir passes home current word candidates =
     MatchOption (search_root home current (word_prefix word)) (candidates ≡ [])
     (λ root. AreCandidatesAt lists tells_dir passes word root candidates)
-
--- the same candidates, in order as one list
-abbrev pub ArePathCandidatesInOrder : (List ℕ → Option (List (List ℕ)) → Type 0)
-    → (List ℕ → Bool → Type 0) → (List ℕ → Bool → Type 0) → Option (List ℕ) → Option (List ℕ)
-    → List ℕ → List CompletionCandidate → Type 0
-ArePathCandidatesInOrder lists tells_dir passes home current word candidates =
-    (grouped : List CompletionCandidate)
-    × ArePathCandidates lists tells_dir passes home current word grouped
-    × (candidates ≡ in_order stands_before grouped)
 
 -- the candidate `-`, standard input or output, for an empty word
 abbrev pub stdio_candidate : List ℕ → Bool → List CompletionCandidate

@@ -12,7 +12,7 @@ mod real_folder;
 
 pub use crate::completer::PathCompleter;
 pub use crate::folder::{Folder, FolderError};
-pub use crate::listing::{path_candidates, path_candidates_in_order};
+pub use crate::listing::path_candidates;
 pub use crate::memory_folder::MemoryFolder;
 pub use crate::path_test::{EveryPath, FnTest, IsDir, IsExecutable, IsFile, PathTest, TextTest};
 pub use crate::path_texts::{join, trimmed};

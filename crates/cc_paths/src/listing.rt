@@ -1,12 +1,12 @@
 //! The candidates that lead to the names in a folder.
 
-ghost use Rattle.std.specs.Prelude.{◌≡◌, ◌==◌, ◌++◌, map, filter, slice_index, nat_eq, string_bytes, IfOk, OnOk};
+ghost use Rattle.std.specs.Prelude.{◌≡◌, ◌==◌, ◌++◌, [], Bool, map, filter, slice_index, nat_eq, string_bytes, IfOk, OnOk};
 ghost use Rattle.std.specs.List.{AllByRecursion, starts_with};
 ghost use Rattle.std.specs.Option.{option_copied};
 ghost use Rattle.std.specs.Path.{dot};
 ghost use Rattle.cc_base.specs.Sorting.{in_order};
-ghost use Rattle.cc_paths.specs.PathCandidates.{ArePathCandidates, ArePathCandidatesInOrder, AreCandidatesAt, IsTold, MayList, begins};
-ghost use Rattle.cc_paths.specs.PathCandidates.{dot_candidate, entry_name, folder_mark, grouped_candidates, is_unwanted_folder, is_wanted};
+ghost use Rattle.cc_paths.specs.PathCandidates.{ArePathCandidates, AreCandidatesAt, IsTold, MayList, begins};
+ghost use Rattle.cc_paths.specs.PathCandidates.{dot_candidate, entry_name, folder_mark, groups, is_unwanted_folder, is_wanted};
 ghost use Rattle.cc_paths.specs.PathCandidates.{path_candidate, stands_before};
 
 use crate::entry::Entry;
@@ -22,9 +22,9 @@ use std::alloc::{AllocError, Global};
 ///
 /// The word is a folder, as it was written, and the start of a name in it. A word that begins with
 /// `~/` leads into the home folder, any other relative word into the current folder; without the
-/// one that it needs there are no candidates. The value of a folder ends in a slash; a name that begins
-/// with a dot is hidden. For an empty word `.` is a candidate where the current folder passes. A
-/// folder that can't be read has no names.
+/// one that it needs there are no candidates. The value of a folder ends in a slash; a name that
+/// begins with a dot is hidden. For an empty word `.` is a candidate where the current folder
+/// passes. A folder that can't be read has no names.
 ///
 /// Fails when memory runs out.
 pub fn path_candidates<D: Folder, T: PathTest<D>>(
@@ -44,23 +44,6 @@ pub fn path_candidates<D: Folder, T: PathTest<D>>(
     }
 }
 
-/// The same candidates, sorted as one list. Fails when memory runs out.
-pub fn path_candidates_in_order<D: Folder, T: PathTest<D>>(
-    alloc: Global,
-    folder: &D,
-    test: &T,
-    current_dir: Option<&str>,
-    word: &str,
-) -> Result<Vec<CompletionCandidate>, AllocError>
-    ensures { IfOk result (λ candidates. ArePathCandidatesInOrder (D.lists folder.now)
-        (D.tells_dir folder.now) (T.tells test.now folder.now) (D.home_path folder.now)
-        (option_copied current_dir.entry) word.now candidates.items) }
-{
-    let mut candidates = path_candidates(alloc, folder, test, current_dir, word)?;
-    sort(&mut candidates)?;
-    Ok(candidates)
-}
-
 // The candidates for a word from the names at the root.
 fn candidates_at<D: Folder, T: PathTest<D>>(
     alloc: Global,
@@ -73,10 +56,10 @@ fn candidates_at<D: Folder, T: PathTest<D>>(
         (D.tells_dir folder.now) (T.tells test.now folder.now) word.now root.now
         candidates.items) }
 {
-    let root_passes = word.is_empty() && test.passes(folder, root);
+    let dot = dot_candidate(alloc, folder, test, root, word)?;
     let names = names_at(alloc, folder, root)?;
     let entries = ask_all(alloc, folder, test, root, word_name(word), names)?;
-    let candidates = in_groups(alloc, word, root_passes, entries.as_slice())?;
+    let candidates = in_groups(alloc, dot, word_prefix(word), entries.as_slice())?;
     Ok(candidates)
 }
 
@@ -146,41 +129,45 @@ fn begins_with(text: &str, start: &str) -> bool
     text.as_bytes().starts_with(start.as_bytes())
 }
 
-// The candidates of the entries: those that pass, sorted, then the other folders, sorted.
-#[tactic(auto, unfolding(crate::specs::PathCandidates::grouped_candidates))]
+// The candidate `.`, where the word is empty and the root passes. For another word the test isn't
+// asked.
+fn dot_candidate<D: Folder, T: PathTest<D>>(
+    alloc: Global,
+    folder: &D,
+    test: &T,
+    root: &str,
+    word: &str,
+) -> Result<Vec<CompletionCandidate>, AllocError>
+    ensures { IfOk result (λ found. (root_passes : Bool)
+        × (word.now ≡ [] → T.tells test.now folder.now root.now root_passes)
+        × (found.items ≡ dot_candidate word.now root_passes)) }
+{
+    let mut found = Vec::new(alloc);
+    if word.is_empty() && test.passes(folder, root) {
+        found.push(CompletionCandidate::new(String::from_str(alloc, ".")?))?;
+        return Ok(found);
+    }
+    Ok(found)
+}
+
+// These wanted candidates and those of the entries that pass, sorted, then those of the other
+// folders, sorted.
+#[tactic(auto, unfolding(crate::specs::PathCandidates::groups))]
 fn in_groups(
     alloc: Global,
-    word: &str,
-    root_passes: bool,
+    mut wanted: Vec<CompletionCandidate>,
+    prefix: &str,
     entries: &[Entry],
 ) -> Result<Vec<CompletionCandidate>, AllocError>
-    ensures { IfOk result (λ candidates. candidates.items
-        ≡ grouped_candidates word.now root_passes entries.now) }
+    ensures { IfOk result (λ candidates.
+        candidates.items ≡ groups wanted.items prefix.now entries.now) }
 {
-    let prefix = word_prefix(word);
-    let mut wanted = dot_candidate(alloc, word, root_passes)?;
     push_wanted(alloc, &mut wanted, prefix, entries)?;
     sort(&mut wanted)?;
     let mut unwanted = unwanted_folders(alloc, prefix, entries)?;
     sort(&mut unwanted)?;
     wanted.append(&mut unwanted)?;
     Ok(wanted)
-}
-
-// The candidate `.`, where the word is empty and the root passes.
-fn dot_candidate(
-    alloc: Global,
-    word: &str,
-    root_passes: bool,
-) -> Result<Vec<CompletionCandidate>, AllocError>
-    ensures { IfOk result (λ found. found.items ≡ dot_candidate word.now root_passes) }
-{
-    let mut found = Vec::new(alloc);
-    if word.is_empty() && root_passes {
-        found.push(CompletionCandidate::new(String::from_str(alloc, ".")?))?;
-        return Ok(found);
-    }
-    Ok(found)
 }
 
 // Adds the candidates of the entries that pass.

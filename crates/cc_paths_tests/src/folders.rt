@@ -1,7 +1,7 @@
-//! Folders and their errors, and the list for a hint.
+//! Folders and their errors.
 
-use crate::shown::{are, text, work};
-use cc_paths::{Folder, FolderError, IsFile, RealFolder, path_candidates_in_order};
+use crate::shown::text;
+use cc_paths::{Folder, FolderError, RealFolder};
 use std::alloc::{AllocError, Global};
 use std::process::Abort;
 
@@ -41,12 +41,6 @@ impl Folder for Unlisted {
     fn home(&self) -> Option<&str> {
         None
     }
-}
-
-#[test]
-fn a_hint_lists_in_order(rt: HostRuntime) {
-    let found = path_candidates_in_order(rt.alloc(), &work(), &IsFile, Some("/w"), "");
-    are(&rt, found, "?.git/\na.txt\nsrc/\n");
 }
 
 fn message(alloc: Global, error: FolderError) -> Result<String, AllocError> {

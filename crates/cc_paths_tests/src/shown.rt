@@ -28,8 +28,8 @@ fn shown(alloc: Global, candidates: &[CompletionCandidate]) -> Result<String, Al
     Ok(text)
 }
 
-/// Fails unless these are the candidates.
-pub(crate) fn are(
+// Fails unless these are the candidates.
+fn are(
     rt: &(impl Abort + AllocGlobal),
     candidates: Result<Vec<CompletionCandidate>, AllocError>,
     wanted: &str,
