@@ -1,6 +1,6 @@
 //! The values of an argument for a word.
 
-ghost use Rattle.std.specs.Prelude.{◌≡◌, ℕ, List, map, IfOk, OnOk};
+ghost use Rattle.std.specs.Prelude.{◌≡◌, ◌++◌, ℕ, List, map, IfOk, OnOk};
 ghost use Rattle.cc_arg.specs.declared.value_hint.ValueHint.{ValueHint};
 ghost use Rattle.cc_candidates.specs.declared.candidate.CompletionCandidate.{CompletionCandidate};
 ghost use Rattle.cc_values.specs.Values.{Gathers, ArgumentValues, as_value, is_path, lent_by, sorted};
@@ -151,10 +151,26 @@ fn as_value(
 ) -> Result<CompletionCandidate, AllocError>
     ensures { IfOk result (λ value. value ≡ as_value before.now form.now candidate) }
 {
-    let candidate = candidate.prefixed(alloc, before)?;
+    let candidate = after(alloc, before, candidate)?;
     if candidate.get_tag().is_some() {
         return Ok(candidate);
     }
     let tag = String::from_str(alloc, form)?;
     Ok(candidate.tag(Some(tag)))
+}
+
+// The candidate after the earlier values of its word. Mostly there are none, and then its value
+// isn't copied.
+fn after(
+    alloc: Global,
+    before: &str,
+    candidate: CompletionCandidate,
+) -> Result<CompletionCandidate, AllocError>
+    ensures { IfOk result (λ value.
+        value ≡ record candidate { value = before.now ++ candidate.value }) }
+{
+    if before.is_empty() {
+        return Ok(candidate);
+    }
+    candidate.prefixed(alloc, before)
 }
