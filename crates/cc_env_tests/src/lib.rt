@@ -2,6 +2,8 @@
 #![tactic(auto)]
 
 #[cfg(test)]
+mod completers;
+#[cfg(test)]
 mod fixtures;
 #[cfg(test)]
 mod names;

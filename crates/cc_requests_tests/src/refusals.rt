@@ -1,6 +1,7 @@
 //! Requests that fail, with nothing written.
 
-use crate::tried::{end, ends, is};
+use crate::tried::{end, ends, is, tested};
+use cc_adapters::{Builtin, Shells};
 use cc_base::Error;
 use cc_command::Command;
 use cc_requests::CompleteEnv;
@@ -58,6 +59,18 @@ fn a_shell_that_there_is_not(rt: HostRuntime) {
         None,
         "fails: unknown shell `tcsh`, \
         expected one of `bash`, `elvish`, `fish`, `powershell`, `zsh`",
+    );
+}
+
+#[test]
+fn a_shell_that_is_not_offered(rt: HostRuntime) {
+    let program = CompleteEnv::with_factory(|alloc: Global| tested(alloc)).shells(Shells(&[
+        Builtin::Fish,
+    ]));
+    is(
+        &rt,
+        end(rt.alloc(), program, &[("COMPLETE", "bash")], &["app"], None),
+        "fails: unknown shell `bash`, expected one of `fish`",
     );
 }
 

@@ -1,0 +1,77 @@
+//! Completers that hold any character, as the shells read them in their registrations.
+
+use cc_adapters::{Builtin, EnvCompleter};
+use cc_base::{Collected, Error};
+use cc_quote::{bash_double_word, fish_double, fish_word, posix_word};
+use std::alloc::{AllocError, Global};
+use std::process::Abort;
+
+#[test]
+fn bash_reads_any_character_of_a_completer(rt: HostRuntime) {
+    reads_each(&rt, Builtin::Bash);
+}
+
+#[test]
+fn zsh_reads_any_character_of_a_completer(rt: HostRuntime) {
+    reads_each(&rt, Builtin::Zsh);
+}
+
+#[test]
+fn fish_reads_any_character_of_a_completer(rt: HostRuntime) {
+    reads_each(&rt, Builtin::Fish);
+}
+
+// Fails unless the shell reads each ASCII character but NUL, a line feed among them, and a
+// backslash before a line feed.
+fn reads_each<R: Abort + AllocGlobal>(rt: &R, shell: Builtin) {
+    for byte in 1..=127_u8 {
+        let mut text = String::new(rt.alloc());
+        text.push(char::from(byte)).expect(rt, "no text");
+        reads(rt, shell, text.as_str());
+    }
+    reads(rt, shell, "\\\n");
+}
+
+// Fails unless the shell reads this completer in its registration.
+fn reads<R: Abort + AllocGlobal>(rt: &R, shell: Builtin, completer: &str) {
+    let text = registration(rt.alloc(), shell, completer).expect(rt, "no registration");
+    let read = read_completer(rt.alloc(), shell, text.as_str()).expect(rt, "out of memory");
+    let read = read.expect(rt, "no completer");
+    assert_eq!(rt; read.as_str(), completer);
+}
+
+fn registration(alloc: Global, shell: Builtin, completer: &str) -> Result<String, Error> {
+    let mut sink = Collected::new(alloc);
+    shell.write_registration(alloc, "V", "app", "app", completer, &mut sink)?;
+    Ok(String::from_utf8_lossy(alloc, sink.as_slice())?)
+}
+
+// The word after the variable.
+fn read_completer(alloc: Global, shell: Builtin, text: &str) -> Result<Option<String>, Error> {
+    match shell {
+        Builtin::Bash => Ok(word(bash_double_word(alloc, after(text, "V=\"bash\" \\\n        "))?)),
+        Builtin::Zsh => Ok(word(posix_word(alloc, after(text, "V=\"zsh\" \\\n        "))?)),
+        _ => read_twice(alloc, after(text, " --arguments ")),
+    }
+}
+
+// fish reads what stands between two `"`, and then a word of that.
+fn read_twice(alloc: Global, text: &str) -> Result<Option<String>, Error> {
+    let Some(arguments) = word(fish_double(alloc, text)?) else {
+        return Ok(None);
+    };
+    Ok(word(fish_word(alloc, after(arguments.as_str(), "V=fish "))?))
+}
+
+// What follows the first place of a mark; nothing where it stands nowhere.
+fn after<'t>(text: &'t str, mark: &str) -> &'t str {
+    match text.split_once(mark) {
+        Some((_, rest)) => rest,
+        None => "",
+    }
+}
+
+fn word(read: Option<(String, &str)>) -> Option<String> {
+    let (word, _) = read?;
+    Some(word)
+}
