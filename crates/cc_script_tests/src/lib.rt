@@ -5,6 +5,8 @@
 #[cfg(test)]
 mod bash;
 #[cfg(test)]
+mod characters;
+#[cfg(test)]
 mod checks;
 #[cfg(test)]
 mod elvish;
