@@ -137,6 +137,8 @@ pub use Rattle.cc_engine.specs.Paths as HintPaths
 pub use Rattle.cc_registrations.specs.BashRegistration
 pub use Rattle.cc_registrations.specs.ElvishRegistration
 pub use Rattle.cc_registrations.specs.FishRegistration
+pub use Rattle.cc_registrations.specs.Found as FoundTexts
+pub use Rattle.cc_registrations.specs.Names as RegistrationNames
 pub use Rattle.cc_registrations.specs.PowershellRegistration
 pub use Rattle.cc_registrations.specs.ZshRegistration
 pub use Rattle.cc_env.specs.Environment as EnvironmentValues
@@ -144,6 +146,7 @@ pub use Rattle.cc_env.specs.Reply as ShellReplies
 pub use Rattle.cc_adapters.specs.Asks as ShellAsks
 pub use Rattle.cc_adapters.specs.Builtins as BuiltinShells
 pub use Rattle.cc_adapters.specs.Replies as AdapterReplies
+pub use Rattle.cc_adapters.specs.ShellNames
 pub use Rattle.cc_adapters.specs.Shells as OfferedShells
 pub use Rattle.cc_requests.specs.Arguments as RequestArguments
 pub use Rattle.cc_requests.specs.Asked as RequestedShell
