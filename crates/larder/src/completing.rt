@@ -1,4 +1,5 @@
-//! Live completion: all that a program adds to complete its own command line.
+//! Live completion: what a program adds to complete its own command line, beside completers of its
+//! own, as those of `packages`.
 
 use crate::command::larder;
 use crate::packages::Installed;

@@ -12,8 +12,8 @@ use std::{fs, io};
 /// The file in the current folder that names the installed packages, each on a line.
 const LIST: &str = "larder.list";
 
-/// A completer of the names of installed packages. What the file holds is not known beforehand; each
-/// candidate begins with the text that is completed.
+/// A completer of the names of installed packages. What the file holds is not known beforehand;
+/// each candidate begins with the text that is completed.
 #[derive(Drop)]
 pub(crate) struct Installed<R> {
     files: R,
@@ -40,14 +40,14 @@ impl<R: Files + Drop> ValueCompleter for Installed<R> {
     }
 }
 
-// The lines of a list that begin with the text.
+// The lines of a list that begin with the text. A line without a name is passed over.
 fn beginning(alloc: Global, list: &str, text: &str) -> Result<Vec<CompletionCandidate>, AllocError>
     ensures { IfOk result (λ found.
         AllByRecursion (λ candidate. IsTrue (begins text.now candidate)) found.items) }
 {
     let mut found = Vec::new(alloc);
     for name in list.lines() {
-        if begins_with(name, text) {
+        if !name.trim().is_empty() && begins_with(name, text) {
             found.push(CompletionCandidate::new(String::from_str(alloc, name)?))?;
         }
     }
