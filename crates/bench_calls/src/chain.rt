@@ -32,9 +32,11 @@ fn chain(alloc: Global, depth: usize) -> Result<Command, Error> {
 }
 
 fn link(alloc: Global) -> Result<Command, Error> {
-    Ok(Command::new(alloc, String::from_str(alloc, "c")?)
-        .disable_help_flag(true)
-        .disable_help_subcommand(true))
+    Ok(
+        Command::new(alloc, String::from_str(alloc, "c")?)
+            .disable_help_flag(true)
+            .disable_help_subcommand(true),
+    )
 }
 
 fn call(alloc: Global, name: &str, command: &mut Command) -> Result<(), Error> {
@@ -62,7 +64,13 @@ fn listed(alloc: Global, command: &mut Command) -> Result<(), Error> {
 
 fn generated(alloc: Global, command: &mut Command) -> Result<(), Error> {
     let mut sink = Collected::new(alloc);
-    generate(alloc, Elvish, command, String::from_str(alloc, "c")?, &mut sink)
+    generate(
+        alloc,
+        Elvish,
+        command,
+        String::from_str(alloc, "c")?,
+        &mut sink,
+    )
 }
 
 fn completed(alloc: Global, command: &mut Command) -> Result<(), Error> {

@@ -7,14 +7,29 @@ use std::alloc::{AllocError, Global};
 pub(crate) fn shown(alloc: Global, command: &Command) -> Result<String, AllocError> {
     let mut text = String::new(alloc);
     push_command(alloc, &mut text, command)?;
+    push_commands(alloc, &mut text, command.get_subcommands())?;
     Ok(text)
 }
 
+// The lines of commands and of all below them.
+fn push_commands(alloc: Global, text: &mut String, siblings: &[Command]) -> Result<(), AllocError> {
+    for command in siblings {
+        push_command(alloc, text, command)?;
+        push_commands(alloc, text, command.get_subcommands())?;
+    }
+    Ok(())
+}
+
 fn push_command(alloc: Global, text: &mut String, command: &Command) -> Result<(), AllocError> {
+    let built = if command.is_built() {
+        "built"
+    } else {
+        "not built"
+    };
     push_words(
         text,
         &[
-            if command.is_built() { "built" } else { "not built" },
+            built,
             command.get_name(),
             command.get_bin_name().unwrap_or("no bin name"),
             command.get_about().unwrap_or("no about"),
@@ -22,9 +37,6 @@ fn push_command(alloc: Global, text: &mut String, command: &Command) -> Result<(
     )?;
     for argument in command.get_arguments() {
         push_argument(alloc, text, argument)?;
-    }
-    for child in command.get_subcommands() {
-        push_command(alloc, text, child)?;
     }
     Ok(())
 }
