@@ -25,17 +25,21 @@ use Rattle.cc_candidates.specs.declared.numbers.ArgValueCompleter.{ArgValueCompl
 use Rattle.cc_command.specs.Tree.{Tree}
 use Rattle.cc_gather.specs.Children.{children_candidates, external, in_candidates_order, subcommand_candidates}
 use Rattle.cc_gather.specs.Finished.{comes_before, finished, first_of_ids, grouped, shown}
-use Rattle.cc_gather.specs.Lookup.{has_long, value_argument}
+use Rattle.cc_gather.specs.Lookup.{has_own_long}
 use Rattle.cc_gather.specs.Numbers.{is_number}
 use Rattle.cc_gather.specs.Options.{hidden_candidates, long_candidate, long_candidates, longs, short_candidate, short_candidates, shorts}
-use Rattle.cc_gather.specs.Rows.{Asked, Listed, Row, ValuesOf, after_equals, after_one_dash, after_two_dashes, asked_after, at_character, before_equals, cluster, cluster_row, flag_row, long_row, prefixed, row_of, short_row}
+use Rattle.cc_gather.specs.Rows.{Listed, Row, ValuesOf, after_equals, after_one_dash, after_two_dashes, asked_after, cluster_row, flag_row, long_row, prefixed, row_of, short_row, without_end}
 use Rattle.cc_gather.proofs.FirstOfIds.{all-first_of_ids}
 use Rattle.cc_gather.proofs.Law.{all-shown}
+use Rattle.cc_gather.proofs.WordKinds.{ends_past_dash, with_end}
 use Rattle.cc_values.specs.Parts.{front, front_length, part}
 use Rattle.cc_values.specs.Values.{Allows, Lent, Question, as_value, candidates, completer, gathered, gathered_by, is_path, nothing, paths, question, question_by, question_of_hint, sorted, value_candidate, values}
+use Rattle.cc_walk.specs.declared.sign.ValueCharacter.{ValueCharacter}
 use Rattle.cc_walk.specs.declared.state.Pending.{Pending}
 use Rattle.cc_walk.specs.declared.state.Pending.TheVariants.{Nothing, OptionOpen, PositionalRun, PlaceMoved}
 use Rattle.cc_walk.specs.Lookup.{positional_at}
+use Rattle.cc_walk.specs.Signs.{character_value, value_argument, value_character}
+use Rattle.cc_walk.specs.Words.{EndsWith, before_equals}
 use Rattle.cc_engine.specs.declared.offer.Offer.{Offer}
 use Rattle.cc_engine.specs.Completion.{AreAllowed, BeginsOrIsTold, Given, finished_with, offer_questions, offered, offered_children, offered_row, open_question, opened_values, positional_question, positional_values, row_candidates, row_question, told}
 use Rattle.cc_engine.specs.Offer.{least, offer_by}
@@ -209,7 +213,7 @@ long_fits : (P : CompletionCandidate → Type 0) (arguments : List Arg) (long : 
     → IsOfBeginning P (codes "--" ++ long) → Fits P (codes "--" ++ long) (long_row arguments long o)
 long_fits P arguments long None e ok = all_passed P (begins (codes "--" ++ long)) ok (longs arguments)
 long_fits P arguments long (Some text) e ok =
-    flag_fits P (find (has_long (before_equals long)) arguments) (before_equals long) text long (equals_split long text e)
+    flag_fits P (find (has_own_long (before_equals long)) arguments) (before_equals long) text long (equals_split long text e)
 
 two_fits : (P : CompletionCandidate → Type 0) (arguments : List Arg) (t : List ℕ) → IsOfBeginning P (45 ∷ 45 ∷ t) → Fits P (45 ∷ 45 ∷ t) (after_two_dashes arguments t)
 two_fits P arguments [] ok =
@@ -223,31 +227,35 @@ asked_whole argument before (c ∷ s) = elim (cases_Bool (c == 61)) [
   | inr f ↦ rw f refl
 ]
 
-cluster_whole : (arguments : List Arg) (before cs : List ℕ) (asked : Asked) → cluster arguments before cs ≡ Some asked
-    → asked.before ++ asked.text ≡ before ++ encode_utf8_all cs
-cluster_whole arguments before [] asked e = cc
-cluster_whole arguments before (c ∷ cs) asked e =
-    by (value_argument arguments c) e (cluster_whole arguments (before ++ encode_utf8 c) cs asked) ∙ append_assoc before (encode_utf8 c) (encode_utf8_all cs)
+value_ends : (arguments : List Arg) (cs : List ℕ) (found : ValueCharacter) → value_character arguments cs ≡ Some found
+    → EndsWith (encode_utf8_all cs) found.after
+value_ends arguments [] found e = cc
+value_ends arguments (c ∷ cs) found e = by (value_argument arguments c) e (value_ends arguments cs found)
   where
-    by : (o : Option Arg) → at_character o (before ++ encode_utf8 c) cs (cluster arguments (before ++ encode_utf8 c) cs) ≡ Some asked
-        → (cluster arguments (before ++ encode_utf8 c) cs ≡ Some asked → asked.before ++ asked.text ≡ (before ++ encode_utf8 c) ++ encode_utf8_all cs)
-        → asked.before ++ asked.text ≡ (before ++ encode_utf8 c) ++ encode_utf8_all cs
-    by None h more = more h
+    by : (o : Option Arg) → character_value o cs (value_character arguments cs) ≡ Some found
+        → (value_character arguments cs ≡ Some found → EndsWith (encode_utf8_all cs) found.after)
+        → EndsWith (encode_utf8 c ++ encode_utf8_all cs) found.after
+    by None h more =
+        let (leading, is) = more h in
+        (encode_utf8 c ++ leading, ap (λ s. encode_utf8 c ++ s) is ∙ sym (append_assoc (encode_utf8 c) leading found.after))
     by (Some a) h more =
-        let is : asked_after a (before ++ encode_utf8 c) (encode_utf8_all cs) ≡ asked = cc in
-        ap (λ (x : Asked). x.before ++ x.text) (sym is) ∙ asked_whole a (before ++ encode_utf8 c) (encode_utf8_all cs)
+        let is : encode_utf8_all cs ≡ found.after = cc in
+        (encode_utf8 c, ap (λ s. encode_utf8 c ++ s) is)
 
 short_fits : (P : CompletionCandidate → Type 0) (arguments : List Arg) (after : List ℕ) → IsUtf8 after → IsOfBeginning P (codes "-" ++ after)
     → Fits P (codes "-" ++ after) (short_row arguments after)
 short_fits P arguments after valid ok = by (is_number after)
   where
-    listed : (o : Option Asked) → cluster arguments (codes "-") (chars after) ≡ o → Fits P (codes "-" ++ after) (cluster_row arguments (codes "-" ++ after) o)
+    listed : (o : Option ValueCharacter) → value_character arguments (chars after) ≡ o → Fits P (codes "-" ++ after) (cluster_row arguments (codes "-" ++ after) o)
     listed None e = all_shorts P (codes "-" ++ after) ok arguments
-    listed (Some asked) e = cluster_whole arguments (codes "-") (chars after) asked e ∙ ap (λ r. codes "-" ++ r) (encodes-chars after valid)
+    listed (Some found) e =
+        let word : List ℕ = codes "-" ++ after in
+        let ends : EndsWith after found.after = subst (λ s. EndsWith s found.after) (encodes-chars after valid) (value_ends arguments (chars after) found e) in
+        asked_whole found.argument (without_end word found.after) found.after ∙ with_end word found.after (ends_past_dash word after found.after refl ends)
 
-    by : (b : Bool) → Fits P (codes "-" ++ after) (if b then Listed [] else cluster_row arguments (codes "-" ++ after) (cluster arguments (codes "-") (chars after)))
+    by : (b : Bool) → Fits P (codes "-" ++ after) (if b then Listed [] else cluster_row arguments (codes "-" ++ after) (value_character arguments (chars after)))
     by true = tt
-    by false = listed (cluster arguments (codes "-") (chars after)) refl
+    by false = listed (value_character arguments (chars after)) refl
 
 past_dash : (after : List ℕ) → IsUtf8 (45 ∷ after) → IsUtf8 after
 unfolding lib.Utf8.encode

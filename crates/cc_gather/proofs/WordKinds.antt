@@ -1,13 +1,17 @@
 -- What a word asks of the options, from what the code's calls find.
-use Rattle.std.proofs.Common.{◌≡◌, ◌<◌, ◌==◌, ◌++◌, ℕ, suc, List, [], ◌∷◌, length, get_or, true, false, eqb, Some, None, refl, ap, sym, ◌∙◌, arith}
-use Rattle.std.specs.Prelude.{chars, codes, filter, find, IsUtf8, encode_utf8, if◌then◌else◌}
+use Rattle.std.proofs.Common.{◌≡◌, ◌<◌, ◌-◌, ◌==◌, ◌++◌, ℕ, suc, List, [], ◌∷◌, length, take, get_or, true, false, eqb, Some, None, refl, ap, sym, subst, ◌∙◌, arith}
+use Rattle.std.specs.Prelude.{codes, filter, find, IsUtf8, if◌then◌else◌}
+use Rattle.std.specs.Str.{IsCharBoundary}
 use Rattle.std.proofs.lemmas.Bool.{eqb-true, ne_eqb}
-use Rattle.std.proofs.lemmas.Str.{chars_past_char, encodes-chars, chars-nil}
+use Rattle.std.proofs.lemmas.List.{length-append}
+use Rattle.std.proofs.lemmas.Str.{IsCharBoundary-at_seam}
+use Rattle.std.proofs.Math.Seq.{take-append_seam}
 use Rattle.cc_arg.specs.declared.arg.Arg.{Arg}
 use Rattle.cc_candidates.specs.Beginning.{begins}
-use Rattle.cc_gather.specs.Lookup.{has_long, value_argument}
+use Rattle.cc_gather.specs.Lookup.{has_own_long}
 use Rattle.cc_gather.specs.Options.{longs, shorts}
-use Rattle.cc_gather.specs.Rows.{Listed, flag_row, long_row, short_row, before_equals, after_equals, asked_after, at_character, cluster, after_one_dash, after_two_dashes, row_of}
+use Rattle.cc_gather.specs.Rows.{Listed, flag_row, long_row, short_row, after_equals, asked_after, without_end, after_one_dash, after_two_dashes, row_of}
+use Rattle.cc_walk.specs.Words.{EndsWith, before_equals}
 
 empty : (s : List ℕ) → (length s == 0) ≡ true → s ≡ []
 empty [] e = refl
@@ -82,12 +86,12 @@ pub long_none : (arguments : List Arg) (long : List ℕ) → ((i : ℕ) → i < 
 long_none arguments long h = ap (long_row arguments long) (after_none long h)
 
 pub long_some : (arguments : List Arg) (long flag text : List ℕ) → long ≡ flag ++ 61 ∷ text → ((i : ℕ) → i < length flag → get_or flag i 0 ≡ 61 → ⊥) →
-    long_row arguments long (after_equals long) ≡ flag_row (find (has_long flag) arguments) flag text
+    long_row arguments long (after_equals long) ≡ flag_row (find (has_own_long flag) arguments) flag text
 long_some arguments long flag text is h =
     ap (long_row arguments long) (ap after_equals is ∙ after_some flag text h)
-    ∙ ap (λ f. flag_row (find (has_long f) arguments) f text) (ap before_equals is ∙ before_some flag text h)
+    ∙ ap (λ f. flag_row (find (has_own_long f) arguments) f text) (ap before_equals is ∙ before_some flag text h)
 
--- THE VALUE CHARACTER
+-- A `=` IN FRONT OF A VALUE
 
 pub asked_plain : (argument : Arg) (before rest : List ℕ) → ((s : List ℕ) → rest ≡ 61 ∷ s → ⊥) →
     asked_after argument before rest ≡ record { argument = argument; before = before; text = rest }
@@ -98,31 +102,21 @@ pub asked_equals : (argument : Arg) (before rest s : List ℕ) → rest ≡ 61 �
     asked_after argument before rest ≡ record { argument = argument; before = before ++ codes "="; text = s }
 asked_equals argument before rest s e = ap (asked_after argument before) e
 
-past : (arguments : List Arg) (before bs rest : List ℕ) (c : ℕ) → IsUtf8 bs → bs ≡ encode_utf8 c ++ rest →
-    cluster arguments before (chars bs)
-    ≡ at_character (value_argument arguments c) (before ++ encode_utf8 c) (chars rest) (cluster arguments (before ++ encode_utf8 c) (chars rest))
-past arguments before bs rest c u e = ap (cluster arguments before) (chars_past_char bs rest c u e)
+-- THE END OF A WORD
 
-pub past_none : (arguments : List Arg) (before more bs rest : List ℕ) (c : ℕ) → IsUtf8 bs → bs ≡ encode_utf8 c ++ rest →
-    more ≡ before ++ encode_utf8 c → value_argument arguments c ≡ None →
-    cluster arguments before (chars bs) ≡ cluster arguments more (chars rest)
-past_none arguments before more bs rest c u e push none =
-    past arguments before bs rest c u e
-    ∙ ap (λ o. at_character o (before ++ encode_utf8 c) (chars rest) (cluster arguments (before ++ encode_utf8 c) (chars rest))) none
-    ∙ ap (λ b. cluster arguments b (chars rest)) (sym push)
+seam : (text leading end : List ℕ) → text ≡ leading ++ end → length text - length end ≡ length leading
+seam text leading end is = let total = ap length is in omega (arith, total, length-append leading end)
 
-pub past_some : (arguments : List Arg) (before more bs rest : List ℕ) (c : ℕ) (argument : Arg) → IsUtf8 bs → IsUtf8 rest → bs ≡ encode_utf8 c ++ rest →
-    more ≡ before ++ encode_utf8 c → Some argument ≡ value_argument arguments c →
-    cluster arguments before (chars bs) ≡ Some (asked_after argument more rest)
-past_some arguments before more bs rest c argument u v e push some =
-    past arguments before bs rest c u e
-    ∙ ap (λ o. at_character o (before ++ encode_utf8 c) (chars rest) (cluster arguments (before ++ encode_utf8 c) (chars rest))) (sym some)
-    ∙ ap (λ r. Some (asked_after argument (before ++ encode_utf8 c) r)) (encodes-chars rest v)
-    ∙ ap (λ b. Some (asked_after argument b rest)) (sym push)
+pub ends_past_dash : (word rest end : List ℕ) → word ≡ codes "-" ++ rest → EndsWith rest end → EndsWith word end
+ends_past_dash word rest end e (leading, is) = (codes "-" ++ leading, e ∙ ap (λ s. codes "-" ++ s) is)
 
-pub past_end : (arguments : List Arg) (before rest : List ℕ) → length rest ≡ 0 → cluster arguments before (chars rest) ≡ None
-past_end arguments before rest e = ap (λ s. cluster arguments before (chars s)) (none rest e) ∙ ap (cluster arguments before) chars-nil
-  where
-    none : (rest : List ℕ) → length rest ≡ 0 → rest ≡ []
-    none [] e = refl
-    none (x ∷ xs) e = absurd (omega (arith, e))
+pub end_begins : (text end : List ℕ) → EndsWith text end → IsUtf8 end → IsCharBoundary text (length text - length end)
+end_begins text end (leading, is) valid =
+    subst (IsCharBoundary text) (sym (seam text leading end is)) (IsCharBoundary-at_seam text leading end is valid)
+
+pub end_off : (text leading end : List ℕ) → text ≡ leading ++ end → without_end text end ≡ leading
+end_off text leading end is =
+    ap (λ n. take n text) (seam text leading end is) ∙ ap (take (length leading)) is ∙ take-append_seam leading end
+
+pub with_end : (text end : List ℕ) → EndsWith text end → without_end text end ++ end ≡ text
+with_end text end (leading, is) = ap (λ s. s ++ end) (end_off text leading end is) ∙ sym is

@@ -1,11 +1,14 @@
 -- What a word asks of the options.
-use Rattle.std.specs.Prelude.{ℕ, List, [], ◌∷◌, ◌++◌, ◌==◌, filter, find, Option, Some, None, codes, chars, encode_utf8, encode_utf8_all, if◌then◌else◌}
+use Rattle.std.specs.Prelude.{ℕ, List, [], ◌∷◌, ◌++◌, ◌-◌, ◌==◌, filter, find, length, take, Option, Some, None, codes, chars, if◌then◌else◌}
 use Rattle.cc_arg.specs.declared.arg.Arg.{Arg}
 use Rattle.cc_candidates.specs.declared.candidate.CompletionCandidate.{CompletionCandidate}
 use Rattle.cc_candidates.specs.Beginning.{begins}
 use Rattle.cc_gather.specs.Numbers.{is_number}
-use Rattle.cc_gather.specs.Lookup.{has_long, value_argument}
+use Rattle.cc_gather.specs.Lookup.{has_own_long}
 use Rattle.cc_gather.specs.Options.{longs, shorts}
+use Rattle.cc_walk.specs.Signs.{value_character}
+use Rattle.cc_walk.specs.Words.{before_equals}
+use Rattle.cc_walk.specs.declared.sign.ValueCharacter.{ValueCharacter}
 
 -- what is asked for: values of an argument for a text, with a text before each
 pub record Asked : Type 0 where
@@ -20,11 +23,6 @@ pub data Row : Type 0 where
 
 -- THE LONG OF A WORD
 
--- what stands before the first `=`
-abbrev pub before_equals : List ℕ → List ℕ
-before_equals [] = []
-before_equals (c ∷ s) = if c == 61 then [] else c ∷ before_equals s
-
 -- what stands after the first `=`, if there is one
 abbrev pub after_equals : List ℕ → Option (List ℕ)
 after_equals [] = None
@@ -38,7 +36,7 @@ flag_row (Some argument) flag text = ValuesOf (record { argument = argument; bef
 -- after `--`: the longs that begin so; with a `=` the values of the first argument with that long
 abbrev pub long_row : List Arg → List ℕ → Option (List ℕ) → Row
 long_row arguments long None = Listed (filter (begins (codes "--" ++ long)) (longs arguments))
-long_row arguments long (Some text) = flag_row (find (has_long (before_equals long)) arguments) (before_equals long) text
+long_row arguments long (Some text) = flag_row (find (has_own_long (before_equals long)) arguments) (before_equals long) text
 
 -- THE SHORTS OF A WORD
 
@@ -49,27 +47,21 @@ asked_after argument before (c ∷ s) =
     if c == 61 then record { argument = argument; before = before ++ codes "="; text = s }
     else record { argument = argument; before = before; text = c ∷ s }
 
--- a character whose argument takes values asks for them; any other leaves it to the characters after it
-abbrev pub at_character : Option Arg → List ℕ → List ℕ → Option Asked → Option Asked
-at_character None before after others = others
-at_character (Some argument) before after others = Some (asked_after argument before (encode_utf8_all after))
+-- what stands in a text before an end of it
+abbrev pub without_end : List ℕ → List ℕ → List ℕ
+without_end text end = take (length text - length end) text
 
--- what the first value character of a short word asks for
-abbrev pub cluster : List Arg → List ℕ → List ℕ → Option Asked
-cluster arguments before [] = None
-cluster arguments before (c ∷ cs) =
-    at_character (value_argument arguments c) (before ++ encode_utf8 c) cs (cluster arguments (before ++ encode_utf8 c) cs)
-
--- without a value character the shorts after the word
-abbrev pub cluster_row : List Arg → List ℕ → Option Asked → Row
+-- the first character whose argument takes values asks for them, for what follows it in the word;
+-- without one the shorts after the word
+abbrev pub cluster_row : List Arg → List ℕ → Option ValueCharacter → Row
 cluster_row arguments word None = Listed (shorts word arguments)
-cluster_row arguments word (Some asked) = ValuesOf asked
+cluster_row arguments word (Some found) = ValuesOf (asked_after found.argument (without_end word found.after) found.after)
 
 -- after `-`: none for a negative number
 abbrev pub short_row : List Arg → List ℕ → Row
 short_row arguments after =
     if is_number after then Listed []
-    else cluster_row arguments (codes "-" ++ after) (cluster arguments (codes "-") (chars after))
+    else cluster_row arguments (codes "-" ++ after) (value_character arguments (chars after))
 
 -- THE ROWS
 

@@ -1,20 +1,21 @@
 //! What a word asks of the options.
 
-ghost use Rattle.std.specs.Prelude.{◌≡◌, ◌++◌, [], ◌==◌, map, codes, find, chars, length, IfOk, if◌then◌else◌};
-ghost use Rattle.std.specs.Option.{option_map};
+ghost use Rattle.std.specs.Prelude.{◌≡◌, ◌++◌, [], ◌==◌, map, codes, find, length, IfOk, if◌then◌else◌};
 ghost use Rattle.std.specs.String.{string_bytes};
-ghost use Rattle.cc_gather.specs.Lookup.{has_long};
+ghost use Rattle.cc_gather.specs.Lookup.{has_own_long};
 ghost use Rattle.cc_gather.specs.OptionRows.{asked_of, row_given};
 ghost use Rattle.cc_gather.specs.Options.{longs, shorts};
-ghost use Rattle.cc_gather.specs.Rows.{after_equals, asked_after, cluster, flag_row, long_row, prefixed, row_of, short_row};
+ghost use Rattle.cc_gather.specs.Rows.{after_equals, asked_after, flag_row, long_row, prefixed, row_of, short_row, without_end};
+ghost use Rattle.cc_walk.specs.Words.{EndsWith};
 
 use crate::longs::{longs, longs_beginning};
-use crate::lookup::{value_argument, with_long};
+use crate::lookup::with_own_long;
 use crate::numbers::is_number;
 use crate::shorts::shorts;
 use cc_arg::Arg;
 use cc_base::{Text, TextRef};
 use cc_candidates::CompletionCandidate;
+use cc_walk::{ValueCharacter, value_character};
 use std::alloc::{AllocError, Global};
 
 /// What a word asks of the options of a command.
@@ -144,9 +145,9 @@ fn flag_values<'a>(
     text: &'a str,
 ) -> Result<OptionRow<'a>, AllocError>
     ensures { IfOk result (λ row. row_given row
-        ≡ flag_row (find (has_long flag.now) arguments.now) flag.now text.now) }
+        ≡ flag_row (find (has_own_long flag.now) arguments.now) flag.now text.now) }
 {
-    let Some(argument) = with_long(arguments, flag) else {
+    let Some(argument) = with_own_long(arguments, flag) else {
         return Ok(OptionRow::Listed(Vec::new(alloc)));
     };
     let before = flag_before(alloc, flag)?;
@@ -179,8 +180,11 @@ fn short_options<'a>(
     if is_number(rest) {
         return Ok(OptionRow::Listed(Vec::new(alloc)));
     }
-    match cluster(alloc, arguments, rest)? {
-        Some(asked) => Ok(OptionRow::ValuesOf(asked)),
+    match value_character(arguments, rest) {
+        Some(found) => {
+            let asked = character_values(alloc, word, found)?;
+            Ok(OptionRow::ValuesOf(asked))
+        }
         None => {
             let found = shorts(alloc, arguments, word)?;
             Ok(OptionRow::Listed(found))
@@ -188,25 +192,29 @@ fn short_options<'a>(
     }
 }
 
-// What the first value character asks for.
-fn cluster<'a>(
+// What a value character of a word asks for.
+fn character_values<'a>(
     alloc: Global,
-    arguments: &'a [Arg],
-    characters: &'a str,
-) -> Result<Option<ValuesAsked<'a>>, AllocError>
-    ensures { IfOk result (λ asked. option_map asked_of asked
-        ≡ cluster arguments.now (codes "-") (chars characters.now)) }
+    word: &str,
+    found: ValueCharacter<'a, 'a>,
+) -> Result<ValuesAsked<'a>, AllocError>
+    requires { EndsWith word.now found.after }
+    ensures { IfOk result (λ asked. asked_of asked
+        ≡ asked_after found.entry.argument (without_end word.now found.entry.after)
+        found.entry.after) }
 {
-    let mut before = String::from_str(alloc, "-")?;
-    let mut rest = characters.chars();
-    while let Some(character) = rest.next() {
-        before.push(character)?;
-        if let Some(argument) = value_argument(arguments, character) {
-            let asked = asked_after(argument, before, rest.as_str())?;
-            return Ok(Some(asked));
-        }
-    }
-    Ok(None)
+    let after = found.after.as_str();
+    let before = String::from_str(alloc, without_end(word, after))?;
+    let asked = asked_after(found.argument.get(), before, after)?;
+    Ok(asked)
+}
+
+// What stands in a text before an end of it.
+fn without_end<'a>(text: &'a str, end: &str) -> &'a str
+    requires { EndsWith text.now end.now }
+    ensures { result.now ≡ without_end text.now end.now }
+{
+    &text[..text.len() - end.len()]
 }
 
 // A `=` in front of a value belongs to what stands before it.
