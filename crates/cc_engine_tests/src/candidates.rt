@@ -1,6 +1,6 @@
 //! Candidates for the words of a command line.
 
-use crate::fixtures::{COLORED, DELIMITED, HIDDEN, HYPHENS, TESTED};
+use crate::fixtures::{COLORED, DELIMITED, HIDDEN, HYPHENS, NAMELESS, TESTED};
 use crate::offered::{found_at, offered};
 use cc_base::Error;
 use cc_paths::MemoryFolder;
@@ -64,6 +64,12 @@ fn a_positional_takes_a_word_with_a_hyphen(rt: HostRuntime) {
 #[test]
 fn values_after_a_delimiter(rt: HostRuntime) {
     offers(&rt, DELIMITED, &["app", "a,b,c"], "a,b,ca a,b,cb ");
+}
+
+#[test]
+fn without_a_name_of_a_program_the_first_word_counts(rt: HostRuntime) {
+    offers(&rt, NAMELESS, &[""], "test help --help ");
+    offers(&rt, NAMELESS, &["test", ""], "--deep --help ");
 }
 
 #[test]

@@ -1,6 +1,6 @@
 //! Values and names that are lent.
 
-use crate::lent::{found_with_lent, found_without_memory};
+use crate::lent::{found_with_lent, found_without_memory, two_completers};
 use crate::numbered::{
     with_completer_and_list, with_delimiter, with_list, with_pair, with_positional, with_programs,
     with_two_options,
@@ -9,7 +9,7 @@ use crate::offered::text_of;
 use cc_arg::ValueRange;
 use cc_base::Error;
 use cc_candidates::{
-    ArgValueCandidates, ArgValueCompleter, Completers, CompletionCandidate, SubcommandCandidates,
+    ArgValueCandidates, ArgValueCompleter, CompletionCandidate, SubcommandCandidates,
 };
 use cc_command::Command;
 use std::alloc::AllocError;
@@ -106,18 +106,45 @@ fn a_number_past_what_is_lent_offers_nothing(rt: HostRuntime) {
     offers(&rt, with_programs(rt.alloc(), 7), &["app", ""], "t ");
 }
 
-// Fails unless nothing was found.
-fn is_empty(rt: &impl Abort, found: Result<Vec<CompletionCandidate>, AllocError>) {
-    assert!(rt; found.expect(rt, "no candidates").is_empty());
+// Fails unless these values were found, each with a space after it.
+fn gives<R: Abort + AllocGlobal>(
+    rt: &R,
+    found: Result<Vec<CompletionCandidate>, AllocError>,
+    wanted: &str,
+) {
+    let found = found.map_err(|failed| Error::from(failed));
+    assert_eq!(rt; text_of(rt, found).as_str(), wanted);
 }
 
 #[test]
-fn a_number_past_what_is_lent_has_no_candidates(rt: HostRuntime) {
+fn a_number_of_what_is_lent(rt: HostRuntime) {
     let alloc = rt.alloc();
-    let lent = Completers::new(alloc, Vec::new(alloc), Vec::new(alloc));
-    is_empty(&rt, ArgValueCompleter::new(7).complete(alloc, &lent, ""));
-    is_empty(&rt, ArgValueCandidates::new(7).candidates(alloc, &lent));
-    is_empty(&rt, SubcommandCandidates::new(7).candidates(alloc, &lent));
+    let lent = two_completers(alloc).expect(&rt, "nothing is lent");
+    let asked = ArgValueCompleter::new(1);
+    gives(&rt, asked.complete(alloc, &lent, "a"), "0:a ");
+    gives(&rt, asked.complete_at(alloc, &lent, 3, "a"), "3:a ");
+    let list = ArgValueCandidates::new(0).candidates(alloc, &lent);
+    gives(&rt, list, "tee tar cat tee ");
+    let programs = SubcommandCandidates::new(0).candidates(alloc, &lent);
+    gives(&rt, programs, "tee tar cat tee ");
+    drop(lent);
+}
+
+#[test]
+fn a_number_past_two_completers_has_no_candidates(rt: HostRuntime) {
+    let alloc = rt.alloc();
+    let lent = two_completers(alloc).expect(&rt, "nothing is lent");
+    gives(
+        &rt,
+        ArgValueCompleter::new(7).complete(alloc, &lent, ""),
+        "",
+    );
+    gives(&rt, ArgValueCandidates::new(7).candidates(alloc, &lent), "");
+    gives(
+        &rt,
+        SubcommandCandidates::new(7).candidates(alloc, &lent),
+        "",
+    );
     drop(lent);
 }
 

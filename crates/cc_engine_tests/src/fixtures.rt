@@ -17,6 +17,12 @@ pub(crate) const HIDDEN: &str = r#"{"name": "app", "subcommands": [
     {"name": "test", "aliases": ["tst"], "args": [
         {"id": "deep", "long": "deep", "action": "SetTrue"}]}]}"#;
 
+/// `app`, before whose words no name of a program stands, with a child `test` that has a flag
+/// `--deep`.
+pub(crate) const NAMELESS: &str = r#"{"name": "app", "no_binary_name": true, "subcommands": [
+    {"name": "test", "args": [
+        {"id": "deep", "long": "deep", "action": "SetTrue"}]}]}"#;
+
 /// `app` with an option `--opt`, a positional `first` that takes words with hyphens, and a
 /// positional `second` that is `x` or `y`.
 pub(crate) const HYPHENS: &str = r#"{"name": "app", "args": [

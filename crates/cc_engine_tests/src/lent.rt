@@ -90,6 +90,16 @@ impl ValueCandidates for OutOfMemory {
     }
 }
 
+/// The completers `Auto` and `Asked`, and the list `Programs`.
+pub(crate) fn two_completers(alloc: Global) -> Result<Completers, AllocError> {
+    let mut completers: Vec<Box<dyn ValueCompleter>> = Vec::new(alloc);
+    completers.push(Box::new(alloc, Auto)?)?;
+    completers.push(Box::new(alloc, Asked)?)?;
+    let mut lists: Vec<Box<dyn ValueCandidates>> = Vec::new(alloc);
+    lists.push(Box::new(alloc, Programs)?)?;
+    Ok(Completers::new(alloc, completers, lists))
+}
+
 /// What the command offers for the last of the words, with the completers `Auto` and `Asked` and a
 /// closure that completes with the text twice, and with the list `Programs` and a closure that lists
 /// `left` and `right`.
@@ -98,19 +108,13 @@ pub(crate) fn found_with_lent(
     command: &mut Command,
     words: &[&str],
 ) -> Result<Vec<CompletionCandidate>, Error> {
-    let mut completers: Vec<Box<dyn ValueCompleter>> = Vec::new(alloc);
-    completers.push(Box::new(alloc, Auto)?)?;
-    completers.push(Box::new(alloc, Asked)?)?;
-    let mut lists: Vec<Box<dyn ValueCandidates>> = Vec::new(alloc);
-    lists.push(Box::new(alloc, Programs)?)?;
-    let lent = Completers::new(alloc, completers, lists);
     let twice = Box::new(alloc, |alloc: Global, text: &str| twice(alloc, text))?;
     let sides = Box::new(alloc, |alloc: Global| named(alloc, &["left", "right"]))?;
     let mut completers = Vec::new(alloc);
     completers.push(FnCompleter::new(twice))?;
     let mut lists = Vec::new(alloc);
     lists.push(FnCandidates::new(sides))?;
-    let lent = lent.with_closures(completers, lists);
+    let lent = two_completers(alloc)?.with_closures(completers, lists);
     let folder = MemoryFolder::new(&[], &[]);
     found_last(alloc, command, words, None, &folder, &lent)
 }

@@ -17,6 +17,10 @@ mod odd_words;
 #[cfg(test)]
 mod offered;
 #[cfg(test)]
+mod order;
+#[cfg(test)]
 mod paths;
+#[cfg(test)]
+mod possible;
 #[cfg(test)]
 mod printed;

@@ -1,0 +1,59 @@
+//! What a candidate holds, and the order of candidates.
+
+use cc_candidates::CompletionCandidate;
+use std::alloc::{AllocError, Global};
+use std::process::Abort;
+
+fn plain(alloc: Global) -> Result<CompletionCandidate, AllocError> {
+    Ok(CompletionCandidate::from(String::from_str(alloc, "a")?))
+}
+
+fn some(alloc: Global, text: &str) -> Result<Option<String>, AllocError> {
+    Ok(Some(String::from_str(alloc, text)?))
+}
+
+// Candidates in order, each with one field more than the first: the value counts first, then the
+// help, the id, the tag, the display order, and whether the candidate is hidden.
+fn rising(alloc: Global) -> Result<Vec<CompletionCandidate>, AllocError> {
+    let mut rising = Vec::new(alloc);
+    rising.push(plain(alloc)?)?;
+    rising.push(plain(alloc)?.hide(true))?;
+    rising.push(plain(alloc)?.display_order(Some(0)))?;
+    rising.push(plain(alloc)?.tag(some(alloc, "t")?))?;
+    rising.push(plain(alloc)?.id(some(alloc, "i")?))?;
+    rising.push(plain(alloc)?.help(some(alloc, "h")?))?;
+    rising.push(CompletionCandidate::new(String::from_str(alloc, "b")?))?;
+    Ok(rising)
+}
+
+#[test]
+fn each_field_counts_in_turn(rt: HostRuntime) {
+    let rising = rising(rt.alloc()).expect(&rt, "no candidates");
+    let first = plain(rt.alloc()).expect(&rt, "no candidate");
+    assert!(rt; rising[0] == first);
+    for index in 1..rising.len() {
+        assert!(rt; rising[index - 1] < rising[index] && rising[index] != first);
+    }
+}
+
+#[test]
+fn a_prefix_goes_before_the_value(rt: HostRuntime) {
+    let candidate = plain(rt.alloc()).expect(&rt, "no candidate").hide(true);
+    let prefixed = candidate
+        .add_prefix(rt.alloc(), "--o=")
+        .expect(&rt, "no candidate");
+    assert_eq!(rt; prefixed.get_value(), "--o=a");
+    assert!(rt; prefixed.is_hide_set());
+}
+
+#[test]
+fn debug_shows_every_field(rt: HostRuntime) {
+    let candidate = plain(rt.alloc()).expect(&rt, "no candidate");
+    let candidate = candidate.tag(some(rt.alloc(), "t").expect(&rt, "no tag"));
+    let text = format!(in rt.alloc(); "{candidate:?}").expect(&rt, "no text");
+    assert_eq!(rt;
+        text.as_str(),
+        "CompletionCandidate { value: Text { inner: \"a\" }, help: None, id: None, \
+         tag: Some(Text { inner: \"t\" }), display_order: None, hidden: false }"
+    );
+}
