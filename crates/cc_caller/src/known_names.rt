@@ -14,6 +14,7 @@ use std::alloc::{AllocError, Global};
 /// Completes with the names that begin with what is typed, in their order.
 #[derive(Drop)]
 pub struct KnownNames {
+    /// The names, in the order in which they are offered.
     pub names: Vec<String>,
 }
 
