@@ -1,4 +1,5 @@
 mod Begins
+mod Examples
 mod Laws
 mod Lines
 mod Offering

@@ -21,6 +21,7 @@ use Rattle.cc_walk.specs.declared.state.Pending.TheVariants.{OptionOpen}
 use Rattle.cc_walk.specs.declared.state.State.{State}
 use Rattle.cc_walk.specs.Line.{IsLine, IsOnlyLine}
 use Rattle.cc_walk.specs.Lookup.{positional_at}
+use Rattle.cc_walk.specs.Visible.{HasNoHiddenAlias, visible_end}
 use Rattle.cc_engine.specs.declared.offer.Offer.{Offer}
 use Rattle.cc_engine.specs.Offer.{least, offer_by}
 
@@ -166,12 +167,15 @@ abbrev pub words_before : Node → List (List ℕ) → ℕ → List (List ℕ)
 words_before node words index = drop (names_before node) (take index words)
 
 -- What may be offered for the word at the index: the words before it lead to one node and one state, to
--- no others, and the list is one that may be offered there.
+-- no others, and the list is one that may be offered there. Where none of those words is a hidden alias,
+-- the node is that of the walk by visible names.
 pub record Completes (lent : Lent) (root : Tree) (words : List (List ℕ)) (index : ℕ) (result : List CompletionCandidate) : Type 0 where
   pub tree : Tree
   pub state : State
   pub line : IsLine root (words_before root.node words index) tree state
   pub only : IsOnlyLine root (words_before root.node words index) tree state
+  pub visible : HasNoHiddenAlias root (words_before root.node words index)
+      → tree ≡ visible_end root (words_before root.node words index)
   pub offers : Offers lent tree state (get_or words index []) result
 
 -- How a call that builds the tree and finds no candidates ends: out of memory, with the tree as it was or

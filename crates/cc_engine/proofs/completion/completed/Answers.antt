@@ -9,4 +9,4 @@ returns g c =
     (map string_bytes c.args.words.now) (map string_bytes c.words_before.result.now) c.args.index c.word_at-word.result.now c.in_ok-found.found.items
     (ap (λ flat. tree_at flat 0) c.in_ok-tree.ensures ∙ c.in_ok-flat.ensures.root)
     (c.command-node.ensures ∙ ap (λ flat. tree_at flat c.line_of-line.result.node) c.flat.ensures)
-    c.words_before.ensures c.word_at-word.ensures c.line_of-line.ensures.line c.line_of-line.ensures.only c.in_ok-found.ensures
+    c.words_before.ensures c.word_at-word.ensures c.line_of-line.ensures.line c.line_of-line.ensures.only c.line_of-line.ensures.visible c.in_ok-found.ensures
