@@ -5,11 +5,7 @@
 mod arguments;
 mod command;
 mod completing;
-mod package_commands;
 mod packages;
-mod project_commands;
-mod setting_commands;
-mod source_commands;
 
 use crate::completing::completes;
 use std::env::{self, Env};
