@@ -24,7 +24,7 @@ fn fish_reads_any_character_of_a_completer(rt: HostRuntime) {
 // Fails unless the shell reads each ASCII character but NUL, a line feed among them, and a
 // backslash before a line feed.
 fn reads_each<R: Abort + AllocGlobal>(rt: &R, shell: Builtin) {
-    for byte in 1..=127_u8 {
+    for byte in 1..128_u8 {
         let mut text = String::new(rt.alloc());
         text.push(char::from(byte)).expect(rt, "no text");
         reads(rt, shell, text.as_str());

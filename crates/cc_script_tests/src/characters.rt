@@ -1,5 +1,5 @@
 //! Descriptions that hold any character, as the shells read them in their scripts. bash's scripts
-//! hold no description.
+//! hold no description, and Nushell's hold them without quotes.
 
 use crate::written::script;
 use cc_base::Error;
@@ -105,13 +105,14 @@ fn bracketed(
     }
 }
 
-// The text from the first line that begins so; nothing where none does.
+// The first line that begins so; nothing where none does.
 fn line_that_begins<'t>(text: &'t str, begins: &str) -> &'t str {
-    let mut rest = text;
-    while !rest.starts_with(begins) && !rest.is_empty() {
-        rest = after(rest, "\n");
+    for line in text.lines() {
+        if line.starts_with(begins) {
+            return line;
+        }
     }
-    rest
+    ""
 }
 
 // What follows the first place of a mark; nothing where it stands nowhere.
@@ -151,7 +152,7 @@ fn zsh_reads_any_character_of_a_description(rt: HostRuntime) {
 // backslash before a line feed; a line feed is read as a space. `values` says whether its script
 // has the helps of possible values.
 fn reads_each<R: Abort + AllocGlobal, S: Described + Copy + Drop>(rt: &R, shell: S, values: bool) {
-    for byte in 1..=127_u8 {
+    for byte in 1..128_u8 {
         reads(rt, shell, values, &[char::from(byte)]);
     }
     reads(rt, shell, values, &['\\', '\n']);
