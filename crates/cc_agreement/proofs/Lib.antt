@@ -1,2 +1,4 @@
 mod BashEnd
 mod Examples
+mod HiddenBuilt
+mod Together

@@ -1,11 +1,18 @@
--- Where the cases of a bash script lead.
-use Rattle.std.specs.Prelude.{◌≡◌, ℕ, List, Some}
-use Rattle.cc_command.specs.Tree.{Tree}
+-- Where the cases of a bash script lead, and the candidates there.
+use Rattle.std.specs.Prelude.{◌≡◌, ◌⊎◌, ℕ, List, [], false, get_or, Some}
+use Rattle.cc_base.specs.declared.error.Error.{Error}
+use Rattle.cc_base.specs.declared.error.Error.TheVariants.{LabelClash, Memory, NoCompletion, Write}
 use Rattle.cc_bash.specs.Arms.{tree_arms}
 use Rattle.cc_bash.specs.CaseTable.{tree_cases, run_end}
-use Rattle.cc_bash.specs.Labels.{root_label}
-use Rattle.cc_bash.specs.Reads.{arm_at, place_arm, place_label}
+use Rattle.cc_bash.specs.Labels.{root_label, shared_label}
+use Rattle.cc_bash.specs.Reads.{BashReads, arm_at, place_arm, place_label}
 use Rattle.cc_bash.specs.Walk.{root_place, walk}
+use Rattle.cc_candidates.specs.declared.candidate.CompletionCandidate.{CompletionCandidate}
+use Rattle.cc_command.specs.Tree.{Tree}
+use Rattle.cc_engine.specs.Completion.{Offers, is_in_range, words_before}
+use Rattle.cc_values.specs.Values.{Lent}
+use Rattle.cc_walk.specs.declared.state.State.{State}
+use Rattle.cc_walk.specs.Line.{IsLine, IsOnlyLine}
 
 -- Over the words the cases of the root's script lead to the label of the place at which the walk by
 -- visible names ends. This node stands at that place, and the arm at that label is its arm.
@@ -15,3 +22,28 @@ pub record BashLeadsTo (root : Tree) (words : List (List ℕ)) (tree : Tree) : T
   pub node : (walk (root_place root) words).tree ≡ tree
   pub arm : arm_at (tree_arms root) (run_end (tree_cases root) (root_label root) words)
       ≡ Some (place_arm root (walk (root_place root) words))
+
+-- The words before the index lead to one node and one state, and to no others. The candidates are
+-- some that may be offered there for the word at the index. The bash script of the root reads back,
+-- and over the same words its cases lead to the label of this node.
+pub record AgreesWithBash (lent : Lent) (root : Tree) (words : List (List ℕ)) (index : ℕ)
+    (found : List CompletionCandidate) : Type 0 where
+  pub tree : Tree
+  pub state : State
+  pub line : IsLine root (words_before root.node words index) tree state
+  pub only : IsOnlyLine root (words_before root.node words index) tree state
+  pub offers : Offers lent tree state (get_or words index []) found
+  pub reads : BashReads root
+  pub leads : BashLeadsTo root (words_before root.node words index) tree
+
+-- How a call that writes a script and then finds no candidates ends: out of memory, with the tree
+-- as it was or built; else with the tree built, and a put that failed, a label that two nodes share,
+-- or an index that is out of range.
+abbrev pub FailsBefore : Tree → Tree → Tree → ℕ → ℕ → Error → Type 0
+FailsBefore old new built count index Memory = (new ≡ old) ⊎ (new ≡ built)
+FailsBefore old new built count index (Write kind) = new ≡ built
+FailsBefore old new built count index (LabelClash label) =
+    (new ≡ built) × (shared_label built ≡ Some label)
+FailsBefore old new built count index NoCompletion =
+    (new ≡ built) × (is_in_range new.node count index ≡ false)
+FailsBefore old new built count index _ = ⊥

@@ -1,26 +1,79 @@
-//! Where words lead, in live completion and in the cases of a bash script.
+//! The bash script of a command, and the candidates for a word of a command line.
 
-ghost use Rattle.std.specs.Prelude.{length, map, string_bytes};
-ghost use Rattle.cc_agreement.specs.Agreement.{BashLeadsTo};
-ghost use Rattle.cc_bash.specs.Reads.{BashReads};
-ghost use Rattle.cc_flat.specs.Flat.{IsFlat, tree_at};
-ghost use Rattle.cc_walk.specs.Line.{IsLine};
+ghost use Rattle.std.specs.Prelude.{◌≡◌, ◌++◌, Some, length, map, string_bytes};
+ghost use Rattle.std.specs.Prelude.{IfErr, IfOk, IsTrue, OnOk};
+ghost use Rattle.std.specs.Option.{option_copied};
+ghost use Rattle.cc_agreement.specs.Agreement.{AgreesWithBash, FailsBefore};
+ghost use Rattle.cc_bash.specs.Script.{tree_script};
+ghost use Rattle.cc_command.specs.Built.{built_under};
+ghost use Rattle.cc_command.specs.Plain.{is_plain_tree};
+ghost use Rattle.cc_command.specs.PlainName.{is_plain_name};
+ghost use Rattle.cc_engine.specs.Completion.{words_before};
+ghost use Rattle.cc_engine.specs.Paths.{PathsOf};
+ghost use Rattle.cc_values.specs.Values.{lent_by};
 ghost use Rattle.cc_walk.specs.Visible.{HasNoHiddenAlias};
 
-use cc_flat::Index;
-use cc_walk::{Line, line_of};
+use cc_base::{Error, Sink};
+use cc_bash::Bash;
+use cc_candidates::{
+    Completers, CompletionCandidate, FnCandidates, FnCompleter, ValueCandidates, ValueCompleter,
+};
+use cc_command::Command;
+use cc_engine::complete;
+use cc_lists::generate;
+use cc_paths::Folder;
+use std::alloc::Global;
 
-/// Where the words lead. Where the bash script of the tree reads back and no word is a hidden
-/// alias, its cases lead over the same words to the label of that very command, and the arm at that
-/// label is that command's.
-pub fn line_and_bash_label<'a>(index: &Index<'a>, words: &[String]) -> Line<'a>
-    requires { IsFlat index.now }
-    ensures line { IsLine (tree_at index.now 0) (map string_bytes words.now)
-        (tree_at index.now result.node) result.state }
-    ensures label { BashReads (tree_at index.now 0) →
-        HasNoHiddenAlias (tree_at index.now 0) (map string_bytes words.now) →
-        BashLeadsTo (tree_at index.now 0) (map string_bytes words.now)
-        (tree_at index.now result.node) }
+/// Writes the bash script of a command under a bin name, as `generate` does, and returns the
+/// candidates for the word at the index, as `complete` does.
+///
+/// Where the command and the bin name are plain, and none of the words before the index is a hidden
+/// alias, the two agree: over these words the cases that are read from the script lead to the label
+/// of the very command whose candidates are returned, and the arm at that label is that command's.
+/// `Command::is_plain`, `is_plain_name` and `has_no_hidden_alias` test this before the call.
+///
+/// Fails as `generate` and `complete` do; where `generate` fails, no candidates are looked for.
+pub fn bash_script_and_candidates<W: Sink, D: Folder>(
+    alloc: Global,
+    command: &mut Command,
+    bin_name: String,
+    sink: &mut W,
+    words: Vec<String>,
+    index: usize,
+    current_dir: Option<&str>,
+    folder: &D,
+    completers: &Completers,
+) -> Result<Vec<CompletionCandidate>, Error>
+    ensures built { OnOk result
+        (command.new ≡ built_under (Some (string_bytes bin_name)) command.old) }
+    ensures written { OnOk result
+        (W.taken sink.new ≡ W.taken sink.old ++ tree_script command.new) }
+    ensures agree { IfOk result (λ found. IsTrue (is_plain_tree command.old) →
+        IsTrue (is_plain_name (string_bytes bin_name)) →
+        HasNoHiddenAlias command.old
+        (words_before command.old.node (map string_bytes words.items) index) →
+        AgreesWithBash (lent_by
+        (λ item. (⟦<dyn ValueCompleter as ValueCompleter>⟧ item.vtable).answers item.value)
+        completers.now.completers.items
+        ⟦<FnCompleter as ValueCompleter>⟧.answers completers.now.completer_closures.items
+        (λ item. (⟦<dyn ValueCandidates as ValueCandidates>⟧ item.vtable).lists item.value)
+        completers.now.lists.items
+        ⟦<FnCandidates as ValueCandidates>⟧.lists completers.now.list_closures.items
+        (PathsOf (D.lists folder.now) (D.tells_dir folder.now) (D.tells_file folder.now)
+        (D.tells_executable folder.now) (D.home_path folder.now)
+        (option_copied current_dir.entry)))
+        command.new (map string_bytes words.items) index found.items) }
+    ensures errors { IfErr result (FailsBefore command.old command.new
+        (built_under (Some (string_bytes bin_name)) command.old) (length words.items) index) }
 {
-    line_of(index, words)
+    generate(alloc, Bash, command, bin_name, sink)?;
+    complete(
+        alloc,
+        command,
+        words,
+        index,
+        current_dir,
+        folder,
+        completers,
+    )
 }

@@ -12,11 +12,11 @@ fn some(alloc: Global, text: &str) -> Result<Option<String>, AllocError> {
     Ok(Some(String::from_str(alloc, text)?))
 }
 
-// Candidates in order, each with one field more than the first: the value counts first, then the
-// help, the id, the tag, the display order, and whether the candidate is hidden.
+// Candidates in order, all after the plain one, from which each differs in one field: the value
+// counts first, then the help, the id, the tag, the display order, and whether the candidate is
+// hidden.
 fn rising(alloc: Global) -> Result<Vec<CompletionCandidate>, AllocError> {
     let mut rising = Vec::new(alloc);
-    rising.push(plain(alloc)?)?;
     rising.push(plain(alloc)?.hide(true))?;
     rising.push(plain(alloc)?.display_order(Some(0)))?;
     rising.push(plain(alloc)?.tag(some(alloc, "t")?))?;
@@ -29,11 +29,18 @@ fn rising(alloc: Global) -> Result<Vec<CompletionCandidate>, AllocError> {
 #[test]
 fn each_field_counts_in_turn(rt: HostRuntime) {
     let rising = rising(rt.alloc()).expect(&rt, "no candidates");
-    let first = plain(rt.alloc()).expect(&rt, "no candidate");
-    assert!(rt; rising[0] == first);
-    for index in 1..rising.len() {
-        assert!(rt; rising[index - 1] < rising[index] && rising[index] != first);
+    let mut last = plain(rt.alloc()).expect(&rt, "no candidate");
+    for candidate in rising {
+        assert!(rt; last < candidate && last != candidate);
+        last = candidate;
     }
+}
+
+#[test]
+fn candidates_of_equal_fields_are_equal(rt: HostRuntime) {
+    let one = plain(rt.alloc()).expect(&rt, "no candidate");
+    let other = plain(rt.alloc()).expect(&rt, "no candidate");
+    assert!(rt; one == other && !(one < other));
 }
 
 #[test]

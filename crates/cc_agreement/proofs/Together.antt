@@ -1,0 +1,88 @@
+-- What a call that writes the bash script and then completes a word does.
+use Rattle.std.proofs.Common.{◌≡◌, ◌∙◌, ap, sym, subst, inl, inr, ℕ, List, ◌++◌, Some}
+use Rattle.std.proofs.Common.{Result, Ok, Err, IfErr, IfOk, IsTrue, OnOk}
+use Rattle.cc_base.specs.declared.error.Error.{Error}
+use Rattle.cc_base.specs.declared.error.Error.TheVariants as error
+use Rattle.cc_agreement.specs.Agreement.{AgreesWithBash, FailsBefore}
+use Rattle.cc_agreement.proofs.BashEnd.{leads}
+use Rattle.cc_agreement.proofs.HiddenBuilt.{none_when_built}
+use Rattle.cc_bash.specs.Reads.{BashReads}
+use Rattle.cc_bash.specs.Script.{tree_script}
+use Rattle.cc_candidates.specs.declared.candidate.CompletionCandidate.{CompletionCandidate}
+use Rattle.cc_command.specs.Built.{built_tree, built_under}
+use Rattle.cc_command.specs.Plain.{is_plain_tree}
+use Rattle.cc_command.specs.PlainName.{is_plain_name}
+use Rattle.cc_command.specs.Tree.{Tree}
+use Rattle.cc_command.proofs.BuiltAgain.{built_tree-again}
+use Rattle.cc_engine.specs.Completion.{Completes, Refuses, words_before}
+use Rattle.cc_values.specs.Values.{Lent}
+use Rattle.cc_walk.specs.Visible.{HasNoHiddenAlias}
+
+-- one tree, of which the script reads back
+agrees : (lent : Lent) (root : Tree) (words : List (List ℕ)) (index : ℕ)
+    (found : List CompletionCandidate) → BashReads root
+    → HasNoHiddenAlias root (words_before root.node words index)
+    → Completes lent root words index found → AgreesWithBash lent root words index found
+agrees lent root words index found reads none completes = record {
+  tree = completes.tree;
+  state = completes.state;
+  line = completes.line;
+  only = completes.only;
+  offers = completes.offers;
+  reads = reads;
+  leads = leads root completes.tree (words_before root.node words index) reads
+      (completes.visible none);
+}
+
+-- the tree after both calls is the one after the first
+pub stays_built : (bin_name : List ℕ) (old mid new : Tree) → mid ≡ built_under (Some bin_name) old
+    → new ≡ built_tree mid → new ≡ built_under (Some bin_name) old
+stays_built bin_name old mid new made again =
+    again ∙ ap built_tree made ∙ built_tree-again (Some bin_name) old
+
+pub all_built : {A : Type 0} (bin_name : List ℕ) (old mid new : Tree) (result : Result A Error)
+    → mid ≡ built_under (Some bin_name) old → OnOk result (new ≡ built_tree mid)
+    → OnOk result (new ≡ built_under (Some bin_name) old)
+all_built bin_name old mid new (Ok found) made again = stays_built bin_name old mid new made again
+all_built bin_name old mid new (Err e) made again = tt
+
+-- the sink has the script of that tree
+pub all_written : {A : Type 0} (bin_name taken_old taken_new : List ℕ) (old mid new : Tree)
+    (result : Result A Error) → mid ≡ built_under (Some bin_name) old
+    → OnOk result (new ≡ built_tree mid)
+    → taken_new ≡ taken_old ++ tree_script (built_under (Some bin_name) old)
+    → OnOk result (taken_new ≡ taken_old ++ tree_script new)
+all_written bin_name taken_old taken_new old mid new (Ok found) made again written =
+    written
+    ∙ ap (λ tree. taken_old ++ tree_script tree) (sym (stays_built bin_name old mid new made again))
+all_written bin_name taken_old taken_new old mid new (Err e) made again written = tt
+
+pub all_agree : {A : Type 0} (items : A → List CompletionCandidate) (lent : Lent) (bin_name : List ℕ)
+    (old mid new : Tree) (words : List (List ℕ)) (index : ℕ) (result : Result A Error)
+    → mid ≡ built_under (Some bin_name) old → OnOk result (new ≡ built_tree mid)
+    → (IsTrue (is_plain_tree old) → IsTrue (is_plain_name bin_name)
+    → BashReads (built_under (Some bin_name) old))
+    → IfOk result (λ found. Completes lent new words index (items found))
+    → IfOk result (λ found. IsTrue (is_plain_tree old) → IsTrue (is_plain_name bin_name)
+    → HasNoHiddenAlias old (words_before old.node words index)
+    → AgreesWithBash lent new words index (items found))
+all_agree items lent bin_name old mid new words index (Ok found) made again reads completes =
+    let is : built_under (Some bin_name) old ≡ new = sym (stays_built bin_name old mid new made again) in
+    λ plain name none. agrees lent new words index (items found) (subst BashReads is (reads plain name))
+    (subst (λ (tree : Tree). HasNoHiddenAlias tree (words_before tree.node words index)) is
+    (none_when_built (Some bin_name) old (words_before old.node words index) none))
+    completes
+all_agree items lent bin_name old mid new words index (Err e) made again reads completes = tt
+
+-- how a second call ends that finds no candidates
+pub second_fails : {A : Type 0} (bin_name : List ℕ) (old mid new : Tree) (count index : ℕ)
+    (result : Result A Error) → mid ≡ built_under (Some bin_name) old
+    → IfErr result (Refuses mid new count index)
+    → IfErr result (FailsBefore old new (built_under (Some bin_name) old) count index)
+second_fails bin_name old mid new count index (Ok found) made refuses = tt
+second_fails bin_name old mid new count index (Err error.Memory) made (inl same) = inr (same ∙ made)
+second_fails bin_name old mid new count index (Err error.Memory) made (inr again) =
+    inr (stays_built bin_name old mid new made again)
+second_fails bin_name old mid new count index (Err error.NoCompletion) made refuses =
+    (stays_built bin_name old mid new made refuses.0, refuses.1)
+second_fails bin_name old mid new count index (Err _) made refuses = absurd refuses
