@@ -14,6 +14,8 @@ use std::rt::Files;
 pub(crate) const CALLS: &[&str] = &[
     "build",
     "complete",
+    "complete names",
+    "complete values",
     "generate bash",
     "generate elvish",
     "generate fish",
@@ -59,7 +61,7 @@ pub(crate) fn call<R: Files + AllocGlobal>(
     let (done, shell) = name.split_once(' ').unwrap_or((name, ""));
     match done {
         "build" => command.build(alloc),
-        "complete" => completed(alloc, command, sink),
+        "complete" => completed(alloc, shell, command, sink),
         "generate" => {
             let shell = Shell::parse(alloc, shell)?;
             generate(alloc, shell, command, String::from_str(alloc, "app")?, sink)
@@ -76,16 +78,24 @@ pub(crate) fn call<R: Files + AllocGlobal>(
     }
 }
 
-// Puts the value of each candidate.
+// Puts the value of each candidate: the names of children and options, the possible values of an
+// option, or paths.
 fn completed(
     alloc: Global,
+    asked: &str,
     command: &mut Command,
     sink: &mut Counted<Narrow>,
 ) -> Result<(), Error> {
-    let words = texts(alloc, &["app", "--root", "k"])?;
+    let words: &[&str] = match asked {
+        "names" => &["app", ""],
+        "values" => &["app", "--color", ""],
+        _ => &["app", "--root", "k"],
+    };
+    let last = words.len().saturating_sub(1);
+    let words = texts(alloc, words)?;
     let folder = folder();
     let lent = nothing(alloc);
-    let found = complete(alloc, command, words, 2, Some("/w"), &folder, &lent)?;
+    let found = complete(alloc, command, words, last, Some("/w"), &folder, &lent)?;
     for candidate in &found {
         put_all(sink, candidate.get_value().as_bytes())?;
         put_all(sink, b"\n")?;

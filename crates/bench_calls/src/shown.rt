@@ -1,4 +1,5 @@
-//! What the getters say of a command and of all below it.
+//! What some getters say of a command and of all below it: texts, places and numbers, and whether
+//! it is built.
 
 use clap_complete::command::{Arg, Command};
 use std::alloc::{AllocError, Global};
