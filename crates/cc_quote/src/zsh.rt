@@ -51,6 +51,10 @@ fn find_in_help(bytes: &[u8]) -> Option<usize>
     ensures { IsFirstByte is_help_escaped bytes.now result }
 {
     for at in 0..bytes.len() {
+        // All that are escaped come before the lower-case letters, of which most texts are made.
+        if bytes[at] > b'`' {
+            continue;
+        }
         if matches!(
             bytes[at],
             b'\\' | b'[' | b']' | b':' | b'$' | b'`' | b'\'' | b'\n'
@@ -66,6 +70,10 @@ fn find_in_value(bytes: &[u8]) -> Option<usize>
     ensures { IsFirstByte is_value_escaped bytes.now result }
 {
     for at in 0..bytes.len() {
+        // All that are escaped come before the lower-case letters, of which most texts are made.
+        if bytes[at] > b'`' {
+            continue;
+        }
         if matches!(
             bytes[at],
             b'\\' | b'[' | b']' | b':' | b'$' | b'`' | b'(' | b')' | b' ' | b'\''
