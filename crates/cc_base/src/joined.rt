@@ -10,7 +10,8 @@ use crate::sink::{Sink, put_all};
 /// Puts the separator where a text was put before, as `begun` says. A text is put next, so `begun`
 /// is true afterwards.
 ///
-/// Fails with `Write` and the kind of the put that failed.
+/// Fails with `Write` and the kind of the put that failed. How much of the separator was taken is
+/// then open, and the contract says nothing of `begun`.
 pub fn put_separator<S: Sink>(between: &str, begun: &mut bool, sink: &mut S) -> Result<(), Error>
     ensures written { Writes S.taken S.failed result sink.old sink.new
         (separator between.now begun.old) }

@@ -37,11 +37,12 @@ use Rattle.cc_values.specs.Values.{Allows, Lent, Question, as_value, candidates,
 use Rattle.cc_walk.specs.declared.sign.ValueCharacter.{ValueCharacter}
 use Rattle.cc_walk.specs.declared.state.Pending.{Pending}
 use Rattle.cc_walk.specs.declared.state.Pending.TheVariants.{Nothing, OptionOpen, PositionalRun, PlaceMoved}
+use Rattle.cc_walk.specs.declared.state.State.{State}
 use Rattle.cc_walk.specs.Lookup.{positional_at}
 use Rattle.cc_walk.specs.Signs.{character_value, value_argument, value_character}
 use Rattle.cc_walk.specs.Words.{EndsWith, before_equals}
 use Rattle.cc_engine.specs.declared.offer.Offer.{Offer}
-use Rattle.cc_engine.specs.Completion.{AreAllowed, BeginsOrIsTold, Given, finished_with, offer_questions, offered, offered_children, offered_row, open_question, opened_values, positional_question, positional_values, row_candidates, row_question, told}
+use Rattle.cc_engine.specs.Completion.{AreAllowed, BeginsOrIsTold, Given, answer, finished_with, offer_questions, offered, offered_children, offered_row, open_question, opened_values, positional_question, positional_values, questions, row_candidates, row_question, told}
 use Rattle.cc_engine.specs.Offer.{least, offer_by}
 
 abbrev Candidates : Type 0
@@ -341,9 +342,10 @@ all_offered lent P word valid ok tree place offer pending given allowed values w
     (all_positional lent P word ok (positional_at tree.node.arguments place) offer.value given.positional allowed.positional values))
     (all_row lent P word ok (offered_row offer.options tree.node.arguments word) (offered_fits P offer.options tree.node.arguments word valid ok) given.within allowed.within within)
 
--- whatever is found, where it is an answer
-pub begins_or_is_told : (lent : Lent) (word : List ℕ) → IsUtf8 word → (found : Candidates) → BeginsOrIsTold lent word found
-begins_or_is_told lent word valid found tree state given allowed is =
+pub begins_or_is_told : (lent : Lent) (tree : Tree) (state : State) (word : List ℕ) (given : Given) (found : Candidates) → IsUtf8 word
+    → AreAllowed lent (questions tree state word) given → found ≡ answer tree state word given
+    → BeginsOrIsTold tree state word given found
+begins_or_is_told lent tree state word given found valid allowed is =
     let offer = offer_by tree.node.arguments state.place state.escaped state.pending in
     let positional = told (positional_question (positional_at tree.node.arguments state.place) offer.value word)
     (positional_values (positional_at tree.node.arguments state.place) offer.value word given.positional) in

@@ -1,6 +1,8 @@
 -- What is offered for a word, on small trees.
 use Rattle.std.proofs.Common.{◌≡◌, ℕ, List, [], ◌∷◌, Some, codes, map, true, false, refl}
+use Rattle.std.specs.Path.{path_file_name, path_join, split_last_component, trim_trailing}
 use Rattle.std.specs.Str.{chars}
+use Rattle.cc_arg.specs.declared.action.ArgAction.TheVariants.{SetTrue}
 use Rattle.cc_arg.specs.declared.arg.Arg.{Arg}
 use Rattle.cc_arg.specs.declared.value_hint.ValueHint.{ValueHint}
 use Rattle.cc_arg.specs.declared.value_hint.ValueHint.TheVariants.{FilePath}
@@ -21,8 +23,10 @@ use Rattle.cc_gather.specs.Finished.{finished, grouped, shown}
 use Rattle.cc_gather.specs.Numbers.{is_number}
 use Rattle.cc_gather.specs.Options.{longs, shorts}
 use Rattle.cc_gather.specs.Rows.{row_of}
+use Rattle.cc_paths.specs.PathCandidates.{grouped_candidates, groups}
+use Rattle.cc_paths.specs.PathTexts.{word_prefix}
 use Rattle.cc_values.specs.Parts.{front_length}
-use Rattle.cc_values.specs.Values.{Allows, completer, gathered, lent_by, nothing, paths, question, values}
+use Rattle.cc_values.specs.Values.{Allows, completer, gathered, lent_by, nothing, paths, question, sorted, values}
 use Rattle.cc_walk.specs.Blocks.{start}
 use Rattle.cc_walk.specs.Lookup.{allows_hyphens_at, limit, positional_at}
 use Rattle.cc_walk.specs.Machine.{Stand, walk}
@@ -175,6 +179,29 @@ file_path : (asked_after files [] (codes "sr")).positional ≡ paths FilePath (c
 unfolding positional_at question front_length
 file_path = refl
 
+-- the folder holds `.git` and `src`, which are folders, and `a.txt`
+abbrev folder_paths : List CompletionCandidate
+folder_paths = grouped_candidates [] false
+    (record { name = codes ".git"; is_folder = true; passes = false }
+    ∷ record { name = codes "a.txt"; is_folder = false; passes = true }
+    ∷ record { name = codes "src"; is_folder = true; passes = false } ∷ [])
+
+-- what is found there: a file, then the folders, of which one is hidden
+found_paths : map (λ c. c.value) folder_paths
+    ≡ codes "a.txt" ∷ codes ".git/" ∷ codes "src/" ∷ []
+unfolding groups in_order placed path_join path_file_name split_last_component trim_trailing
+    word_prefix
+found_paths = refl
+
+-- of these paths the visible ones
+visible_paths : offered_after files [] [] (record no_lists { positional = folder_paths })
+    ≡ codes "a.txt" ∷ codes "src/" ∷ []
+unfolding groups path_join path_file_name split_last_component trim_trailing word_prefix row_of
+    positional_at subcommand_candidates in_candidates_order in_order placed
+    finished shown grouped longs shorts values gathered sorted front_length printed printed_names
+    printed_values printed_behind
+visible_paths = refl
+
 -- AN OPEN OPTION
 
 auto : CompletionCandidate
@@ -236,6 +263,126 @@ number_of_no_option = refl
 number_of_a_positional : (asked_after colors [] (codes "-15")).positional ≡ completer 0 0 (codes "-15")
 unfolding positional_at question front_length
 number_of_a_positional = refl
+
+-- OPTIONS
+
+-- `app` with a flag `-v`, `--verbose` that is `--loud` too and, hidden, `--noisy`, and with an
+-- option `-c`, `--color` of one value, which is `auto` or, hidden, `never`
+abbrev colored : Tree
+colored = built_tree (with (with (new_tree (codes "app"))
+    (record (option (codes "color")) {
+      short = Some 99;
+      num_args = Some (exactly 1);
+      possible_values = Some (new_possible_value (codes "auto")
+          ∷ record (new_possible_value (codes "never")) { hide = true } ∷ []);
+    }))
+    (record (option (codes "verbose")) {
+      short = Some 118;
+      visible_aliases = codes "loud" ∷ [];
+      aliases = codes "noisy" ∷ [];
+      action = Some SetTrue;
+    }))
+
+-- of an argument's names the first
+first_names : offered_after colored [] [] no_lists
+    ≡ codes "--color" ∷ codes "--verbose" ∷ codes "--help" ∷ []
+unfolding help_argument help_name help_about help_help subcommand_candidates in_candidates_order
+    in_order placed finished shown grouped positional_at row_of longs shorts lib.Utf8.encode
+first_names = refl
+
+-- the shorts come first after a dash
+after_a_dash : offered_after colored [] (codes "-") no_lists
+    ≡ codes "-c" ∷ codes "-v" ∷ codes "-h" ∷ []
+unfolding help_argument help_name help_about help_help subcommand_candidates in_candidates_order
+    in_order placed finished shown grouped positional_at row_of longs shorts lib.Utf8.encode
+after_a_dash = refl
+
+-- a hidden alias where nothing else begins so
+hidden_alias : offered_after colored [] (codes "--no") no_lists ≡ codes "--noisy" ∷ []
+unfolding help_argument help_name help_about help_help subcommand_candidates in_candidates_order
+    in_order placed finished shown grouped positional_at row_of longs lib.Utf8.encode
+hidden_alias = refl
+
+-- of the values of a long the visible one
+values_of_a_long : offered_after colored [] (codes "--color=") no_lists
+    ≡ codes "--color=auto" ∷ []
+unfolding help_argument help_name help_about help_help subcommand_candidates in_candidates_order
+    in_order placed finished shown grouped positional_at row_of longs values gathered front_length
+    printed printed_names printed_values printed_behind lib.Utf8.encode
+values_of_a_long = refl
+
+-- the hidden one where no visible one begins so
+hidden_value : offered_after colored [] (codes "--color=n") no_lists ≡ codes "--color=never" ∷ []
+unfolding help_argument help_name help_about help_help subcommand_candidates in_candidates_order
+    in_order placed finished shown grouped positional_at row_of longs values gathered front_length
+    printed printed_names printed_values printed_behind lib.Utf8.encode
+hidden_value = refl
+
+-- the values of a short after another
+values_of_a_short : offered_after colored [] (codes "-vc=a") no_lists ≡ codes "-vc=auto" ∷ []
+unfolding help_argument help_name help_about help_help subcommand_candidates in_candidates_order
+    in_order placed finished shown grouped positional_at row_of shorts is_number chars values
+    gathered front_length printed printed_names printed_values printed_behind lib.Utf8.encode
+values_of_a_short = refl
+
+-- an option that needs a value leaves nothing but its values
+values_alone : offered_after colored (codes "--color" ∷ []) [] no_lists ≡ codes "auto" ∷ []
+unfolding help_argument help_name help_about help_help subcommand_candidates in_candidates_order
+    in_order placed finished shown grouped positional_at row_of sign_of chars values gathered
+    front_length printed printed_names printed_values printed_behind lib.Utf8.encode
+values_alone = refl
+
+-- a `=` closes the option
+closed_option : offered_after colored (codes "-c=" ∷ []) [] no_lists
+    ≡ codes "--color" ∷ codes "--verbose" ∷ codes "--help" ∷ []
+unfolding help_argument help_name help_about help_help subcommand_candidates in_candidates_order
+    in_order placed finished shown grouped positional_at row_of longs shorts sign_of chars
+    lib.Utf8.encode
+closed_option = refl
+
+-- nothing begins with a number
+negative_number : offered_after colored [] (codes "-1") no_lists ≡ []
+unfolding help_argument help_name help_about help_help subcommand_candidates in_candidates_order
+    in_order placed finished shown grouped positional_at row_of shorts is_number chars
+    lib.Utf8.encode
+negative_number = refl
+
+with_exponent : offered_after colored [] (codes "-5e3") no_lists ≡ []
+unfolding help_argument help_name help_about help_help subcommand_candidates in_candidates_order
+    in_order placed finished shown grouped positional_at row_of shorts is_number chars
+    lib.Utf8.encode
+with_exponent = refl
+
+-- ODD WORDS
+
+-- `app` with a child `test` that has a hidden alias `tst` and a flag `--deep`
+abbrev deep : Tree
+deep =
+    let given = with (new_tree (codes "test")) (record (option (codes "deep")) { action = Some SetTrue }) in
+    built_tree (with_child (new_tree (codes "app"))
+    (record given { node = record given.node { aliases = codes "tst" ∷ [] } }))
+
+-- a hidden alias leads down
+below_a_hidden_alias : offered_after deep (codes "tst" ∷ []) [] no_lists
+    ≡ codes "--deep" ∷ codes "--help" ∷ []
+unfolding help_argument help_name help_about help_help subcommand_candidates in_candidates_order
+    in_order placed finished shown grouped positional_at row_of longs shorts lib.Utf8.encode
+below_a_hidden_alias = refl
+
+-- so does a name after `--`, where no option is left
+below_a_name : offered_after deep (codes "--" ∷ codes "test" ∷ []) [] no_lists ≡ []
+unfolding help_argument help_name help_about help_help subcommand_candidates in_candidates_order
+    in_order placed finished shown grouped positional_at sign_of
+below_a_name = refl
+
+-- `-` is the option's value, so the first positional is next, which has no values to offer
+dash_as_a_value : offered_after hyphens (codes "--opt" ∷ codes "-" ∷ []) [] no_lists
+    ≡ codes "--opt" ∷ codes "--help" ∷ []
+unfolding help_argument help_name help_about help_help subcommand_candidates in_candidates_order
+    in_order placed finished shown grouped positional_at row_of longs shorts sign_of limit
+    allows_hyphens_at chars values gathered sorted front_length printed printed_names printed_values
+    printed_behind lib.Utf8.encode
+dash_as_a_value = refl
 
 -- WHAT IS LENT
 

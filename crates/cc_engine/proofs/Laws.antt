@@ -14,7 +14,7 @@ use Rattle.cc_values.specs.Values.{Lent, values}
 use Rattle.cc_walk.specs.declared.state.Pending.{Pending}
 use Rattle.cc_walk.specs.declared.state.Pending.TheVariants.{Nothing, OptionOpen, PositionalRun, PlaceMoved}
 use Rattle.cc_walk.specs.declared.state.State.{State}
-use Rattle.cc_engine.specs.Completion.{Completes, Given, ShowsVisible, besides, finished_with, offered, opened_values}
+use Rattle.cc_engine.specs.Completion.{Completes, Given, ShowsVisible, answer, besides, finished_with, offered, opened_values}
 use Rattle.cc_engine.specs.Offer.{full_offer, least, no_offer, offer_by}
 use Rattle.cc_engine.proofs.OneFinishing.{nothing_offered}
 
@@ -114,6 +114,6 @@ by_pending tree state word given PlaceMoved e =
 by_pending tree state word given (OptionOpen option count) e =
     beside_option tree state.place state.escaped word given (values option word given.opened) (nat_le (least option) count) e
 
--- whatever is found, where it is an answer
-pub shows_visible : (word : List ℕ) (found : Candidates) → ShowsVisible word found
-shows_visible word found tree state given is any = subst AreShown (sym is) (by_pending tree state word given state.pending any)
+pub shows_visible : (tree : Tree) (state : State) (word : List ℕ) (given : Given) (found : Candidates)
+    → found ≡ answer tree state word given → ShowsVisible tree state word given found
+shows_visible tree state word given found is any = subst AreShown (sym is) (by_pending tree state word given state.pending any)

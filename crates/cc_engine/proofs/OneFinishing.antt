@@ -11,7 +11,7 @@ use Rattle.cc_walk.specs.declared.state.Pending.{Pending}
 use Rattle.cc_walk.specs.declared.state.Pending.TheVariants.{Nothing, OptionOpen, PositionalRun, PlaceMoved}
 use Rattle.cc_walk.specs.declared.state.State.{State}
 use Rattle.cc_walk.specs.Lookup.{positional_at}
-use Rattle.cc_engine.specs.Completion.{FinishesOnce, Given, finished_with, offered, opened_values, positional_values}
+use Rattle.cc_engine.specs.Completion.{FinishesOnce, Given, answer, finished_with, offered, opened_values, positional_values}
 use Rattle.cc_engine.specs.Offer.{full_offer, least, no_offer, offer_by}
 use Rattle.cc_values.specs.Values.{values}
 
@@ -46,6 +46,6 @@ by_pending tree state word given PlaceMoved apart = refl
 by_pending tree state word given (OptionOpen option count) apart =
     beside_option tree state.place state.escaped word given (values option word given.opened) (nat_le (least option) count) apart
 
--- whatever is found, where it is an answer
-pub finishes_once : (word : List ℕ) (found : List CompletionCandidate) → FinishesOnce word found
-finishes_once word found tree state given is apart = is ∙ by_pending tree state word given state.pending apart
+pub finishes_once : (tree : Tree) (state : State) (word : List ℕ) (given : Given) (found : List CompletionCandidate)
+    → found ≡ answer tree state word given → FinishesOnce tree state word given found
+finishes_once tree state word given found is apart = is ∙ by_pending tree state word given state.pending apart

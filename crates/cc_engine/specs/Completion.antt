@@ -152,71 +152,27 @@ pub record AreOffered (lent : Lent) (tree : Tree) (place : ℕ) (offer : Offer) 
       ++ positional_values (positional_at tree.node.arguments place) offer.value word positional)
       ++ row_candidates (offered_row offer.options tree.node.arguments word) within
 
--- THE WORDS
-
--- how many words stand before those of the command: the program's name
-abbrev pub names_before : Node → ℕ
-names_before node = if node.no_binary_name then 0 else 1
-
--- there is a word at the index, and it isn't the program's name
-abbrev pub is_in_range : Node → ℕ → ℕ → Bool
-is_in_range node count index = nat_le (names_before node) index && nat_lt index count
-
--- the words before the index, without the program's name
-abbrev pub words_before : Node → List (List ℕ) → ℕ → List (List ℕ)
-words_before node words index = drop (names_before node) (take index words)
-
--- What may be offered for the word at the index: the words before it lead to one node and one state, to
--- no others, and the list is one that may be offered there. Where none of those words is a hidden alias,
--- the node is that of the walk by visible names.
-pub record Completes (lent : Lent) (root : Tree) (words : List (List ℕ)) (index : ℕ) (result : List CompletionCandidate) : Type 0 where
-  pub tree : Tree
-  pub state : State
-  pub line : IsLine root (words_before root.node words index) tree state
-  pub only : IsOnlyLine root (words_before root.node words index) tree state
-  pub visible : HasNoHiddenAlias root (words_before root.node words index)
-      → tree ≡ visible_end root (words_before root.node words index)
-  pub offers : Offers lent tree state (get_or words index []) result
-
--- How a call that builds the tree and finds no candidates ends: out of memory, with the tree as it was or
--- built; or with the tree built and the index out of range.
-abbrev pub Refuses : Tree → Tree → ℕ → ℕ → Error → Type 0
-Refuses old new count index Memory = (new ≡ old) ⊎ (new ≡ built_tree old)
-Refuses old new count index NoCompletion = (new ≡ built_tree old) × (is_in_range new.node count index ≡ false)
-Refuses old new count index _ = ⊥
-
--- ONE FINISHING
+-- WHAT IS SO OF AN ANSWER
 
 -- the values of an open option; none where no option is open
 abbrev pub opened_values : Pending → List ℕ → List CompletionCandidate → List CompletionCandidate
 opened_values (OptionOpen option count) word given = values option word given
 opened_values _ word given = []
 
--- Of any lists for which the result is the answer: where the values of an open option share no id with
--- the others, it is one finishing of them all.
-abbrev pub FinishesOnce : List ℕ → List CompletionCandidate → Type 0
-FinishesOnce word result =
-    (tree : Tree) (state : State) (given : Given)
-    → result ≡ answer tree state word given
-    → ShareNone (opened_values state.pending word given.opened) (besides tree state word given)
-    → result ≡ finished (opened_values state.pending word given.opened ++ besides tree state word given)
-
--- NO HIDDEN ONES
-
 -- all that is gathered for the word: the values of an open option, and what is offered besides
 abbrev pub all_gathered : Tree → State → List ℕ → Given → List CompletionCandidate
 all_gathered tree state word given = opened_values state.pending word given.opened ++ besides tree state word given
 
--- Of any lists for which the result is the answer: where one of the candidates that are gathered is
--- visible, no hidden one is in the result.
-abbrev pub ShowsVisible : List ℕ → List CompletionCandidate → Type 0
-ShowsVisible word result =
-    (tree : Tree) (state : State) (given : Given)
-    → result ≡ answer tree state word given
-    → list_any is_shown (all_gathered tree state word given) ≡ true
-    → AreShown result
+-- where the values of an open option share no id with the others, all is finished once
+abbrev pub FinishesOnce : Tree → State → List ℕ → Given → List CompletionCandidate → Type 0
+FinishesOnce tree state word given result =
+    ShareNone (opened_values state.pending word given.opened) (besides tree state word given)
+    → result ≡ finished (all_gathered tree state word given)
 
--- WHAT BEGINS WITH THE WORD
+-- where a visible candidate is gathered, no hidden one is in the result
+abbrev pub ShowsVisible : Tree → State → List ℕ → Given → List CompletionCandidate → Type 0
+ShowsVisible tree state word given result =
+    list_any is_shown (all_gathered tree state word given) ≡ true → AreShown result
 
 -- what is made of the answer of a completer or a folder; nothing of any other answer
 abbrev pub told : Question → List CompletionCandidate → List CompletionCandidate
@@ -238,11 +194,45 @@ abbrev pub told_candidates : Tree → State → List ℕ → Given → List Comp
 told_candidates tree state word given =
     told_by_offer tree state.place (offer_by tree.node.arguments state.place state.escaped state.pending) state.pending word given
 
--- Of any lists that may be answered and for which the result is the answer: each candidate of the
--- result begins with the word, or is made of the answer of a completer or of the folder.
-abbrev pub BeginsOrIsTold : Lent → List ℕ → List CompletionCandidate → Type 0
-BeginsOrIsTold lent word result =
-    (tree : Tree) (state : State) (given : Given)
-    → AreAllowed lent (questions tree state word) given
-    → result ≡ answer tree state word given
-    → AllByRecursion (λ c. (begins word c ≡ true) ⊎ Contains (told_candidates tree state word given) c) result
+-- each candidate of the result begins with the word, or is made of the answer of a completer or of the
+-- folder
+abbrev pub BeginsOrIsTold : Tree → State → List ℕ → Given → List CompletionCandidate → Type 0
+BeginsOrIsTold tree state word given result =
+    AllByRecursion (λ c. (begins word c ≡ true) ⊎ Contains (told_candidates tree state word given) c) result
+
+-- THE WORDS
+
+-- how many words stand before those of the command: the program's name
+abbrev pub names_before : Node → ℕ
+names_before node = if node.no_binary_name then 0 else 1
+
+-- there is a word at the index, and it isn't the program's name
+abbrev pub is_in_range : Node → ℕ → ℕ → Bool
+is_in_range node count index = nat_le (names_before node) index && nat_lt index count
+
+-- the words before the index, without the program's name
+abbrev pub words_before : Node → List (List ℕ) → ℕ → List (List ℕ)
+words_before node words index = drop (names_before node) (take index words)
+
+-- What may be offered for the word at the index: the words before it lead to one node and one state, to
+-- no others, and the list is one that may be offered there. Where none of those words is a hidden alias,
+-- the node is that of the walk by visible names. The laws speak of this node and state, and of the very
+-- lists of which the result is made.
+pub record Completes (lent : Lent) (root : Tree) (words : List (List ℕ)) (index : ℕ) (result : List CompletionCandidate) : Type 0 where
+  pub tree : Tree
+  pub state : State
+  pub line : IsLine root (words_before root.node words index) tree state
+  pub only : IsOnlyLine root (words_before root.node words index) tree state
+  pub visible : HasNoHiddenAlias root (words_before root.node words index)
+      → tree ≡ visible_end root (words_before root.node words index)
+  pub offers : Offers lent tree state (get_or words index []) result
+  pub once : FinishesOnce tree state (get_or words index []) offers.0 result
+  pub shows_visible : ShowsVisible tree state (get_or words index []) offers.0 result
+  pub begins_or_told : BeginsOrIsTold tree state (get_or words index []) offers.0 result
+
+-- How a call that builds the tree and finds no candidates ends: out of memory, with the tree as it was or
+-- built; or with the tree built and the index out of range.
+abbrev pub Refuses : Tree → Tree → ℕ → ℕ → Error → Type 0
+Refuses old new count index Memory = (new ≡ old) ⊎ (new ≡ built_tree old)
+Refuses old new count index NoCompletion = (new ≡ built_tree old) × (is_in_range new.node count index ≡ false)
+Refuses old new count index _ = ⊥

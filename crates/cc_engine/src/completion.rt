@@ -3,7 +3,7 @@
 ghost use Rattle.std.specs.Prelude.{◌≡◌, ◌<◌, [], get_or, length, map, string_bytes, true, IfOk, IfErr, OnOk};
 ghost use Rattle.std.specs.Option.{option_copied};
 ghost use Rattle.cc_command.specs.Built.{built_tree};
-ghost use Rattle.cc_engine.specs.Completion.{BeginsOrIsTold, Completes, FinishesOnce, Refuses, ShowsVisible, is_in_range, names_before, words_before};
+ghost use Rattle.cc_engine.specs.Completion.{Completes, Refuses, is_in_range, names_before, words_before};
 ghost use Rattle.cc_engine.specs.Paths.{PathsOf};
 ghost use Rattle.cc_gather.specs.Finished.{Differ};
 ghost use Rattle.cc_values.specs.Values.{lent_by};
@@ -53,28 +53,9 @@ pub fn complete<D: Folder>(
         (D.tells_executable folder.now) (D.home_path folder.now)
         (option_copied current_dir.entry)))
         command.new (map string_bytes words.items) index found.items) }
-    ensures once { IfOk result (λ found.
-        FinishesOnce (get_or (map string_bytes words.items) index []) found.items) }
-
-    // Where a visible candidate was gathered, no hidden one is answered.
-    ensures visible { IfOk result (λ found.
-        ShowsVisible (get_or (map string_bytes words.items) index []) found.items) }
 
     // Two candidates that are answered never share an id.
     ensures differ { IfOk result (λ found. Differ found.items) }
-
-    // What comes neither from a completer nor from the folder begins with the word.
-    ensures begins { IfOk result (λ found. BeginsOrIsTold (lent_by
-        (λ item. (⟦<dyn ValueCompleter as ValueCompleter>⟧ item.vtable).answers item.value)
-        completers.now.completers.items
-        ⟦<FnCompleter as ValueCompleter>⟧.answers completers.now.completer_closures.items
-        (λ item. (⟦<dyn ValueCandidates as ValueCandidates>⟧ item.vtable).lists item.value)
-        completers.now.lists.items
-        ⟦<FnCandidates as ValueCandidates>⟧.lists completers.now.list_closures.items
-        (PathsOf (D.lists folder.now) (D.tells_dir folder.now) (D.tells_file folder.now)
-        (D.tells_executable folder.now) (D.home_path folder.now)
-        (option_copied current_dir.entry)))
-        (get_or (map string_bytes words.items) index []) found.items) }
     ensures built { OnOk result (command.new ≡ built_tree command.old) }
     ensures in_range { OnOk result (is_in_range command.new.node (length words.items) index ≡ true) }
     ensures errors { IfErr result (Refuses command.old command.new (length words.items) index) }

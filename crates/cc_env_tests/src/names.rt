@@ -10,6 +10,7 @@ fn powershell_has_three_names(rt: HostRuntime) {
     assert!(rt; named("pwsh") == Some(Builtin::Powershell));
     assert!(rt; named("powershell_ise") == Some(Builtin::Powershell));
     assert!(rt; named("zsh") == Some(Builtin::Zsh));
+    assert!(rt; named("zsh") != Some(Builtin::Bash));
     assert!(rt; named("tcsh").is_none());
 }
 

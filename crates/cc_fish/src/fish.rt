@@ -51,7 +51,6 @@ impl Generator for Fish {
     }
 }
 
-// Writes the script of the tree that the list holds.
 fn write_script<W: Sink>(alloc: Global, flat: &Flat<'_>, sink: &mut W) -> Result<(), Error>
     requires { 0 < length flat.now }
     ensures { Writes W.taken W.failed result sink.old sink.new (fish_script (tree_at flat.now 0)) }

@@ -178,8 +178,12 @@ fn words_lead_through_the_table(rt: HostRuntime) {
     is(&rt, labels(rt.alloc(), table(script.as_str())), LABELS);
 }
 
-// `app` with a child `test` that is called `tst` too, which no shell shows.
-const HIDDEN: &str = r#"{"name": "app", "subcommands": [{"name": "test", "aliases": ["tst"]}]}"#;
+// `app` with a child `test` that is called `tst` too, which no shell shows, and a hidden child
+// `debug` with an option `--deep` and a hidden flag `-q`.
+const HIDDEN: &str = r#"{"name": "app", "subcommands": [{"name": "test", "aliases": ["tst"]},
+    {"name": "debug", "hide": true, "args": [
+        {"id": "deep", "long": "deep", "action": "Set"},
+        {"id": "quiet", "short": "q", "action": "SetTrue", "hide": true}]}]}"#;
 
 #[test]
 fn a_hidden_alias_leads_nowhere(rt: HostRuntime) {
@@ -188,6 +192,41 @@ fn a_hidden_alias_leads_nowhere(rt: HostRuntime) {
     let after_alias = label_after(rt.alloc(), table, "app", "tst").expect(&rt, "no label");
     let after_name = label_after(rt.alloc(), table, "app", "test").expect(&rt, "no label");
     same(&rt, (after_alias, after_name), ("app", "app__subcmd__test"));
+}
+
+const HIDDEN_CASE: &str = "
+            app,debug)
+                cmd=\"app__subcmd__debug\"
+                ;;
+";
+
+const HIDDEN_ARM: &str = "
+        app__subcmd__debug)
+            opts=\"-q -h --deep --help\"
+            if [[ ${cur} == -* || ${COMP_CWORD} -eq 2 ]] ; then
+                COMPREPLY=( $(compgen -W \"${opts}\" -- \"${cur}\") )
+                return 0
+            fi
+            case \"${prev}\" in
+                --deep)
+                    COMPREPLY=($(compgen -f \"${cur}\"))
+                    return 0
+                    ;;
+                *)
+                    COMPREPLY=()
+                    ;;
+            esac
+            COMPREPLY=( $(compgen -W \"${opts}\" -- \"${cur}\") )
+            return 0
+            ;;
+";
+
+#[test]
+fn a_hidden_child_and_what_it_takes_are_written(rt: HostRuntime) {
+    let root = "opts=\"-h --help test debug help\"";
+    has(&rt, script(&rt, Bash, HIDDEN), root);
+    has(&rt, script(&rt, Bash, HIDDEN), HIDDEN_CASE);
+    has(&rt, script(&rt, Bash, HIDDEN), HIDDEN_ARM);
 }
 
 // Whether the call failed with a clash of this label.

@@ -1,12 +1,12 @@
 //! Descriptions that hold any character, as the shells read them in their scripts. bash's scripts
-//! hold no description, and Nushell's hold them without quotes.
+//! hold no description, and Nushell's hold helps alone, without quotes.
 
 use crate::written::script;
 use cc_base::Error;
 use cc_fish::Fish;
 use cc_lists::Generator;
 use cc_quote::{elvish_word, fish_double, fish_word, posix_word, powershell_word, zsh_unescape};
-use cc_tables::{Elvish, PowerShell};
+use cc_tables::{Elvish, Nushell, PowerShell};
 use cc_zsh::Zsh;
 use std::alloc::{AllocError, Global};
 use std::fmt::Write;
@@ -173,6 +173,34 @@ fn reads<R: Abort + AllocGlobal, S: Described + Copy + Drop>(
     is_read(rt, S::about(alloc, script.as_str()), wanted.as_str());
     if values {
         is_read(rt, S::value_help(alloc, script.as_str()), wanted.as_str());
+    }
+}
+
+#[test]
+fn nushell_reads_any_character_of_a_help(rt: HostRuntime) {
+    for byte in 1..128_u8 {
+        nushell_reads(&rt, &[char::from(byte)]);
+    }
+    nushell_reads(&rt, &[' ', '#', ' ', '\n', ' ', ' ', ']']);
+}
+
+// Fails unless this help of the flag `--x` is read in Nushell's script.
+fn nushell_reads<R: Abort + AllocGlobal>(rt: &R, text: &[char]) {
+    let tree = tree_file(rt.alloc(), text).expect(rt, "no tree");
+    let script = script(rt, Nushell, tree.as_str()).expect(rt, "no script");
+    let wanted = spaced(rt.alloc(), text).expect(rt, "no text");
+    is_read(rt, commented(rt.alloc(), script.as_str()), wanted.as_str());
+}
+
+// What stands after the first ` # ` of the line of the flag `--x`, up to the line that closes its
+// block.
+fn commented(alloc: Global, script: &str) -> Result<Option<String>, Error> {
+    let Some((line, _)) = after(script, "\n    --x").split_once("\n  ]\n") else {
+        return Ok(None);
+    };
+    match line.split_once(" # ") {
+        Some((_, help)) => Ok(Some(String::from_str(alloc, help)?)),
+        None => Ok(None),
     }
 }
 

@@ -55,7 +55,6 @@ pub fn generate_to<R: Files, G: Generator + Drop>(
     Ok(path)
 }
 
-// Writes the script to the file of this path.
 fn write_file<R: Files, G: Generator + Drop>(
     files: &R,
     alloc: Global,

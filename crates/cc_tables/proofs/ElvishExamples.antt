@@ -10,11 +10,10 @@ use Rattle.cc_quote.specs.Tokens.{cut, is_word, strip_words, after_words}
 use Rattle.cc_quote.specs.ElvishTokens.{elvish_tokens}
 use Rattle.cc_visits.specs.Visits.{tables_below}
 use Rattle.cc_tables.specs.ElvishReader.{part, step, spelling, tables_begin, elvish_tables}
-use Rattle.cc_tables.specs.ElvishScript.{Row, offer_row, head, functions, completions, head_text}
-use Rattle.cc_tables.specs.ElvishScript.{tail, row_begin, text_begin, row_end, row_text}
-use Rattle.cc_tables.specs.ElvishScript.{table_begin, key_end, key_text, table_end, table_text}
-use Rattle.cc_tables.specs.ElvishScript.{script_text}
+use Rattle.cc_tables.specs.ElvishScript.{Row, elvish_frame, elvish_named, offer_row, row_begin, row_end}
+use Rattle.cc_tables.specs.ElvishScript.{row_text, text_begin}
 use Rattle.cc_tables.specs.Offers.{node_offers}
+use Rattle.cc_tables.specs.Script.{head_text, named_text, script_text, table_text}
 use Rattle.cc_tables.specs.TableReader.{after_step, next, tables_of, read}
 use Rattle.cc_tables.specs.Tables.{Table, path_tables, tree_tables}
 
@@ -24,14 +23,14 @@ unfolding row_begin text_begin row_end row_text
 row = refl
 
 -- a table without rows
-table : table_text (record { key = codes "app"; rows = [] }) ≡ codes "\n        &'app'= {\n        }"
-unfolding table_begin key_end key_text table_end table_text
+table : table_text elvish_frame row_text (record { key = codes "app"; rows = [] }) ≡ codes "\n        &'app'= {\n        }"
+unfolding elvish_frame table_text
 table = refl
 
 -- a script without tables
-script : script_text (codes "app") []
+script : script_text elvish_frame row_text (codes "app") []
     ≡ codes "\nuse builtin;\nuse str;\n\nset edit:completion:arg-completer[app] = {|@words|\n    fn spaces {|n|\n        builtin:repeat $n ' ' | str:join ''\n    }\n    fn cand {|text desc|\n        edit:complex-candidate $text &display=$text' '(spaces (- 14 (wcswidth $text)))$desc\n    }\n    var command = 'app'\n    for word $words[1..-1] {\n        if (str:has-prefix $word '-') {\n            break\n        }\n        set command = $command';'$word\n    }\n    var completions = [\n    ]\n    $completions[$command]\n}\n"
-unfolding head functions completions head_text tail script_text
+unfolding elvish_named elvish_frame named_text head_text script_text
 script = refl
 
 -- a node with a flag, a positional, an option whose help is empty, and a child, each with an alias, and
@@ -94,13 +93,13 @@ read_back =
     ∷ []
 
 -- a script with these tables reads back to them
-two_tables : elvish_tables (script_text (codes "app") given) ≡ Some read_back
-unfolding is_word strip_words after_words sign cut elvish_tokens part step spelling after_step next tables_of read tables_begin elvish_tables head functions completions head_text tail row_begin text_begin row_end row_text table_begin key_end key_text table_end table_text script_text
+two_tables : elvish_tables (script_text elvish_frame row_text (codes "app") given) ≡ Some read_back
+unfolding is_word strip_words after_words sign cut elvish_tokens part step spelling after_step next tables_of read tables_begin elvish_tables elvish_named elvish_frame named_text head_text row_begin text_begin row_end row_text table_text script_text
 two_tables = refl
 
 -- a program named as the word after which its tables stand
-no_table : elvish_tables (script_text (codes "completions") []) ≡ Some []
-unfolding is_word strip_words after_words sign cut elvish_tokens part step spelling after_step next tables_of read tables_begin elvish_tables head functions completions head_text tail script_text
+no_table : elvish_tables (script_text elvish_frame row_text (codes "completions") []) ≡ Some []
+unfolding is_word strip_words after_words sign cut elvish_tokens part step spelling after_step next tables_of read tables_begin elvish_tables elvish_named elvish_frame named_text head_text script_text
 no_table = refl
 
 -- tables that are not closed, a description that is not quoted, and no tables at all

@@ -1,5 +1,5 @@
 -- The Elvish script of a plain tree reads to the tree's tables.
-use Rattle.std.proofs.Common.{◌≡◌, ◌≢◌, ◌==◌, ◌||◌, not, ℕ, Bool, true, false, cond, IsTrue, refl}
+use Rattle.std.proofs.Common.{◌≡◌, ◌≢◌, ◌==◌, ◌||◌, not, ℕ, Bool, true, false, cond, IsTrue, codes, refl}
 use Rattle.std.proofs.Common.{arith}
 use Rattle.std.specs.Char.{is_ascii_alphanumeric}
 use Rattle.std.proofs.lemmas.Bool.Decides.{nat_tests}
@@ -11,12 +11,13 @@ use Rattle.cc_command.specs.Tree.{Tree}
 use Rattle.cc_command.proofs.PlainParts.{plain_full_name}
 use Rattle.cc_base.specs.Bytes.{single_quote}
 use Rattle.cc_quote.specs.ElvishTokens.{is_bare, IsBareWord}
-use Rattle.cc_tables.specs.ElvishReader.{elvish_tables, ElvishReads}
-use Rattle.cc_tables.specs.ElvishScript.{offer_row, script_text}
-use Rattle.cc_tables.specs.Offers.{word}
-use Rattle.cc_tables.specs.Tables.{tree_tables}
+use Rattle.cc_tables.specs.ElvishReader.{elvish_tables, ElvishReads, offer_read}
+use Rattle.cc_tables.specs.ElvishScript.{elvish_frame, offer_text}
+use Rattle.cc_tables.specs.Offers.{node_offers, word}
+use Rattle.cc_tables.specs.Script.{script_text}
+use Rattle.cc_tables.specs.Tables.{path_tables}
 use Rattle.cc_tables.specs.declared.offers.Offer.{Offer}
-use Rattle.cc_tables.proofs.ElvishReadsBack.{spaced_row, elvish_reads_back}
+use Rattle.cc_tables.proofs.ElvishReadsBack.{elvish_reads_back}
 use Rattle.cc_tables.proofs.PlainOffers.{IsPlainOffer}
 use Rattle.cc_tables.proofs.PlainTables.{of_plain_name, reads_offers}
 
@@ -41,8 +42,9 @@ word_bare offer h = (h.is_some, AllByRecursion-weaker (λ byte. name_byte byte �
 
 -- the script of a plain tree reads to its tables
 pub elvish_plain_reads : (tree : Tree) → IsTrue (is_plain_tree tree) → ElvishReads tree
+unfolding elvish_frame
 elvish_plain_reads tree h =
     let bin_name = full_name tree.node in
-    reads_offers offer_row spaced_row (λ byte. IsTrue (not (byte == single_quote))) (λ row. IsBareWord row.word) no_quote_byte refl word_bare
-    (λ tables. elvish_tables (script_text bin_name tables)) tree h
-    (elvish_reads_back bin_name (tree_tables offer_row tree) (of_plain_name (λ byte. IsTrue (is_bare byte)) bare_byte bin_name (plain_full_name tree h)))
+    reads_offers offer_read (λ byte. IsTrue (not (byte == single_quote))) (λ offer. IsBareWord (word offer)) no_quote_byte refl word_bare
+    (λ tables. elvish_tables (script_text elvish_frame offer_text bin_name tables)) tree h
+    (elvish_reads_back bin_name (path_tables (codes ";") node_offers tree) (of_plain_name (λ byte. IsTrue (is_bare byte)) bare_byte bin_name (plain_full_name tree h)))

@@ -1,7 +1,6 @@
 pub mod ElvishExamples
 pub mod ElvishPlain
 pub mod ElvishReadsBack
-pub mod ElvishTexts
 pub mod ItemsRead
 pub mod NushellExamples
 pub mod NushellPlain
@@ -12,5 +11,5 @@ pub mod PlainTables
 pub mod PowershellExamples
 pub mod PowershellPlain
 pub mod PowershellReadsBack
-pub mod PowershellTexts
+pub mod ScriptReadsBack
 pub mod VisitedTables

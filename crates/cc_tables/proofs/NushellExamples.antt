@@ -9,10 +9,9 @@ use Rattle.cc_visits.specs.Visits.{tables_below}
 use Rattle.cc_tables.specs.NushellReader.{after, after_first, after_name, before, closed}
 use Rattle.cc_tables.specs.NushellReader.{in_block_sign, key_sign, lines_from, name_of, next}
 use Rattle.cc_tables.specs.NushellReader.{nushell_blocks, read, record_of, sign}
-use Rattle.cc_tables.specs.NushellScript.{Line, block_begin, block_end, block_text, content, head}
-use Rattle.cc_tables.specs.NushellScript.{help_begin, help_text, key_end, key_text, line_begin}
-use Rattle.cc_tables.specs.NushellScript.{line_text, node_lines, script_text, tail, tree_blocks}
-use Rattle.cc_tables.specs.NushellScript.{type_text, value_text}
+use Rattle.cc_tables.specs.NushellScript.{Line, content, help_begin, help_text, line_begin}
+use Rattle.cc_tables.specs.NushellScript.{line_text, node_lines, nushell_frame, type_text, value_text}
+use Rattle.cc_tables.specs.Script.{head_text, named_text, script_text, table_text}
 use Rattle.cc_tables.specs.Tables.{Table, path_tables}
 
 -- a help with a number sign, a bracket and a line feed, and one that is empty
@@ -25,9 +24,9 @@ given =
     ∷ record { key = codes "app run"; rows = record { name = codes "-o"; takes_value = true; help = Some [] } ∷ [] }
     ∷ []
 
-script : script_text given
+script : script_text nushell_frame line_text (codes "app") given
     ≡ codes "module completions {\n\n  export extern \"app\" [\n    --out: string\n    --x # a # b   ]\n  ]\n\n  export extern \"app run\" [\n    -o: string # \n  ]\n\n}\n\nexport use completions *\n"
-unfolding head tail line_begin value_text help_begin type_text help_text content line_text block_begin key_end key_text block_end block_text script_text
+unfolding nushell_frame named_text head_text line_begin value_text help_begin type_text help_text content line_text table_text script_text
 script = refl
 
 -- the same, as they are read
@@ -41,8 +40,8 @@ read_back =
     ∷ []
 
 -- the script reads back to them
-two_blocks : nushell_blocks (script_text given) ≡ Some read_back
-unfolding head tail line_begin value_text help_begin type_text help_text content line_text block_begin key_end key_text block_end block_text script_text lines_from after before after_first name_of after_name record_of in_block_sign key_sign sign next closed read nushell_blocks
+two_blocks : nushell_blocks (script_text nushell_frame line_text (codes "app") given) ≡ Some read_back
+unfolding nushell_frame named_text head_text line_begin value_text help_begin type_text help_text content line_text table_text script_text lines_from after before after_first name_of after_name record_of in_block_sign key_sign sign next closed read nushell_blocks
 two_blocks = refl
 
 -- a block that is not closed, and one with a line that is no record
@@ -64,7 +63,7 @@ app = record {
 }
 
 -- its blocks stand under each visible path
-app_blocks : tree_blocks app
+app_blocks : path_tables (codes " ") node_lines app
     ≡ record {
       key = codes "app";
       rows = record { name = codes "-v"; takes_value = false; help = Some (codes "Be loud") } ∷ record { name = codes "--verbose"; takes_value = false; help = Some (codes "Be loud") } ∷ [];

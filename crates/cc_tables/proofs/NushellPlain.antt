@@ -1,20 +1,23 @@
 -- The Nushell script of a plain tree reads to the tree's blocks.
 use Rattle.std.proofs.Common.{◌≡◌, ◌≢◌, ◌==◌, ◌||◌, ℕ, Bool, true, false, IsTrue, List, map}
-use Rattle.std.proofs.Common.{flat_map, refl, ap, ◌∙◌, inl, inr}
+use Rattle.std.proofs.Common.{codes, flat_map, refl, ap, ◌∙◌, inl, inr}
 use Rattle.std.specs.List.{AllByRecursion}
 use Rattle.std.proofs.lemmas.Bool.Decides.{eqb_tells}
 use Rattle.cc_base.proofs.Members.{AllByRecursion-weaker, AllByRecursion-append, AllByRecursion-map}
 use Rattle.cc_arg.specs.declared.arg.Arg.{Arg}
 use Rattle.cc_command.specs.ArgumentLists.{options, flags}
+use Rattle.cc_command.specs.Names.{full_name}
 use Rattle.cc_command.specs.Plain.{is_plain_tree}
 use Rattle.cc_command.specs.PlainName.{name_byte, foreign}
 use Rattle.cc_command.specs.Tree.{Tree}
 use Rattle.cc_command.proofs.PlainParts.{IsPlainArgument, IsPlainBelow, plain_node}
 use Rattle.cc_base.specs.Bytes.{line_feed, space}
 use Rattle.cc_tables.specs.NushellReader.{NushellReads, ends_name, line_read, nushell_blocks}
-use Rattle.cc_tables.specs.NushellScript.{argument_lines, node_lines, offer_line, script_text}
-use Rattle.cc_tables.specs.NushellScript.{tree_blocks}
+use Rattle.cc_tables.specs.NushellScript.{argument_lines, line_text, node_lines, nushell_frame}
+use Rattle.cc_tables.specs.NushellScript.{offer_line}
 use Rattle.cc_tables.specs.Offers.{argument_offers, word}
+use Rattle.cc_tables.specs.Script.{script_text}
+use Rattle.cc_tables.specs.Tables.{path_tables}
 use Rattle.cc_tables.specs.declared.offers.Offer.{Offer}
 use Rattle.cc_tables.proofs.NushellReadsBack.{IsReadableLine, nushell_reads_back}
 use Rattle.cc_tables.proofs.PlainOffers.{IsPlainOffer, arguments_plain}
@@ -76,9 +79,11 @@ node_readable tree h =
 
 -- the script of a plain tree reads to its blocks
 pub nushell_plain_reads : (tree : Tree) → IsTrue (is_plain_tree tree) → NushellReads tree
+unfolding nushell_frame
 nushell_plain_reads tree h =
+    let bin_name = full_name tree.node in
     reads_tables 32 space_foreign node_lines (λ tree. map line_read (node_lines tree)) line_read
-    (λ tree. refl) (λ blocks. nushell_blocks (script_text blocks)) tree h
-    (nushell_reads_back (tree_blocks tree)
+    (λ tree. refl) (λ blocks. nushell_blocks (script_text nushell_frame line_text bin_name blocks)) tree h
+    (nushell_reads_back bin_name (path_tables (codes " ") node_lines tree)
     (tables_readable 32 space_foreign node_lines
     (λ byte. (byte == line_feed) ≡ false) IsReadableLine no_line_feed refl node_readable tree h))

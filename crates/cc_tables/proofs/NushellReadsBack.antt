@@ -1,8 +1,9 @@
 -- A Nushell script reads back to the blocks that it was written from.
 use Rattle.std.proofs.Common.{◌≡◌, ◌==◌, ℕ, Bool, true, false, cond, List, [], ◌∷◌, ◌++◌, map}
-use Rattle.std.proofs.Common.{flat_map, Option, Some, None, codes, option_map, is_some, reverse}
+use Rattle.std.proofs.Common.{Option, Some, None, codes, option_map, is_some, reverse}
 use Rattle.std.proofs.Common.{refl, sym, ap, ◌∙◌, append_assoc, append-nil, arith}
 use Rattle.std.proofs.lemmas.Bool.Decides.{nat_tests}
+use Rattle.std.specs.Bool.{⊤}
 use Rattle.std.specs.List.{AllByRecursion}
 use Rattle.std.proofs.lemmas.List.{reverse-append, reverse-reverse}
 use Rattle.cc_base.proofs.Members.{AllByRecursion-append}
@@ -12,12 +13,12 @@ use Rattle.cc_tables.specs.NushellReader.{State, Sign, after, after_first, after
 use Rattle.cc_tables.specs.NushellReader.{between, closed, ends_name, holds, in_block}
 use Rattle.cc_tables.specs.NushellReader.{in_block_sign, key_sign, line_read, lines_from, name_of}
 use Rattle.cc_tables.specs.NushellReader.{next, nushell_blocks, opens, other, read, record_of, sign}
-use Rattle.cc_tables.specs.NushellScript.{Line, block_begin, block_end, block_text, content, head}
-use Rattle.cc_tables.specs.NushellScript.{help_begin, help_text, key_end, key_text, line_begin}
-use Rattle.cc_tables.specs.NushellScript.{line_text, script_text, tail, type_text, value_text}
+use Rattle.cc_tables.specs.NushellScript.{Line, content, help_begin, help_text, line_begin}
+use Rattle.cc_tables.specs.NushellScript.{line_text, nushell_frame, type_text, value_text}
+use Rattle.cc_tables.specs.Script.{head_text, named_text, script_text}
 use Rattle.cc_tables.specs.Tables.{Table}
-use Rattle.cc_tables.proofs.ItemsRead.{regroup_four}
 use Rattle.cc_tables.proofs.PlainTables.{IsReadable, table_read}
+use Rattle.cc_tables.proofs.ScriptReadsBack.{ReadsParts, script_reads}
 
 -- ---- a text by its lines
 
@@ -180,30 +181,7 @@ line_reads blocks key lines line rest h =
     ∙ one_line state (content line) rest (content_one_line line h.one)
     ∙ ap (λ s. reading (next state s) rest) (line_sign line h.whole)
 
--- items that stand one after another are read one after another
-in_order : {Value Item Read : Type 0} (reading : List Read → List ℕ → Value) (text : Item → List ℕ)
-    (as_read : Item → Read) (IsReadable : Item → Type 0) →
-    ((done : List Read) (item : Item) (rest : List ℕ) → IsReadable item
-    → reading done (text item ++ rest) ≡ reading (done ++ as_read item ∷ []) rest) →
-    (done : List Read) (items : List Item) (rest : List ℕ) → AllByRecursion IsReadable items
-    → reading done (flat_map text items ++ rest) ≡ reading (done ++ map as_read items) rest
-in_order reading text as_read IsReadable one done [] rest h =
-    ap (λ read. reading read rest) (sym (append-nil done))
-in_order reading text as_read IsReadable one done (item ∷ items) rest (h, hs) =
-    ap (reading done) (append_assoc (text item) (flat_map text items) rest)
-    ∙ one done item (flat_map text items ++ rest) h
-    ∙ in_order reading text as_read IsReadable one (done ++ as_read item ∷ []) items rest hs
-    ∙ ap (λ read. reading read rest) (append_assoc done (as_read item ∷ []) (map as_read items))
-
 -- ---- blocks
-
--- the key is on one line, and the lines can be read
-abbrev pub IsReadableBlock : Table Line → Type 0
-IsReadableBlock block = IsReadable (λ byte. (byte == line_feed) ≡ false) IsReadableLine block
-
--- a block as it is read
-abbrev pub block_read : Table Line → Table Line
-block_read block = table_read line_read block
 
 -- the key is what stands before the end of its line
 key_before : (key : List ℕ) → before (codes "\" [") (key ++ codes "\" [") ≡ Some key
@@ -235,55 +213,54 @@ key_one_line key h =
 abbrev in_blocks : List (Table Line) → List ℕ → Option (List (Table Line))
 in_blocks blocks script = reading (between blocks) script
 
+-- a key opens the lines of its block
 key_reads : (blocks : List (Table Line)) (key rest : List ℕ) → IsOneLine key
-    → in_blocks blocks (key_text key ++ rest) ≡ in_lines blocks key [] rest
-unfolding key_text block_begin key_end next
+    → in_blocks blocks (nushell_frame.key_begin ++ (key ++ (nushell_frame.key_end ++ rest)))
+    ≡ in_lines blocks key [] rest
+unfolding nushell_frame next
 key_reads blocks key rest h =
     let opening : List ℕ = codes "  export extern \"" in
-    ap (in_blocks blocks)
-    (append_assoc (opening ++ key) (codes "\" [\n") rest
-    ∙ append_assoc opening key (codes "\" [\n" ++ rest)
-    ∙ ap (λ text. opening ++ text) (sym (append_assoc key (codes "\" [") (10 ∷ rest))))
+    ap (λ text. in_blocks blocks (opening ++ text)) (sym (append_assoc key (codes "\" [") (10 ∷ rest)))
     ∙ one_line (between blocks) (opening ++ (key ++ codes "\" [")) rest (key_one_line key h)
     ∙ ap (λ s. reading (next (between blocks) s) rest) (key_line_sign key)
 
 -- what closes a block
 end_reads : (blocks : List (Table Line)) (key : List ℕ) (lines : List Line) (rest : List ℕ)
-    → in_lines blocks key lines (block_end ++ rest)
+    → in_lines blocks key lines (nushell_frame.table_end ++ rest)
     ≡ in_blocks (blocks ++ record { key = key; rows = lines } ∷ []) rest
-unfolding block_end lines_from after before sign key_sign in_block_sign next read
+unfolding nushell_frame lines_from after before sign key_sign in_block_sign next read
 end_reads blocks key lines rest = refl
 
-block_reads : (blocks : List (Table Line)) (block : Table Line) (rest : List ℕ)
-    → IsReadableBlock block
-    → in_blocks blocks (block_text block ++ rest) ≡ in_blocks (blocks ++ block_read block ∷ []) rest
-unfolding block_text
-block_reads blocks block rest h =
-    ap (in_blocks blocks)
-    (regroup_four (key_text block.key) (flat_map line_text block.rows) block_end rest)
-    ∙ key_reads blocks block.key (flat_map line_text block.rows ++ (block_end ++ rest)) h.key
-    ∙ in_order (in_lines blocks block.key) line_text line_read IsReadableLine
-    (line_reads blocks block.key) [] block.rows (block_end ++ rest) h.rows
-    ∙ end_reads blocks block.key (map line_read block.rows) rest
-
--- ---- the script
-
 -- before the blocks stands no key
-head_reads : (rest : List ℕ) → in_blocks [] (head ++ rest) ≡ in_blocks [] rest
-unfolding head lines_from after before sign key_sign in_block_sign next read
-head_reads rest = refl
+head_reads : (bin rest : List ℕ)
+    → in_blocks [] (head_text nushell_frame bin ++ rest) ≡ in_blocks [] rest
+unfolding nushell_frame head_text named_text lines_from after before sign key_sign in_block_sign next read
+head_reads bin rest = refl
 
 -- nor after them
-tail_reads : (blocks : List (Table Line)) → in_blocks blocks tail ≡ Some blocks
-unfolding tail lines_from after before sign key_sign in_block_sign next closed read
+tail_reads : (blocks : List (Table Line)) → in_blocks blocks nushell_frame.tail ≡ Some blocks
+unfolding nushell_frame lines_from after before sign key_sign in_block_sign next closed read
 tail_reads blocks = refl
 
--- a script reads back to its blocks, with a space for each line feed of a help
-pub nushell_reads_back : (blocks : List (Table Line)) → AllByRecursion IsReadableBlock blocks
-    → nushell_blocks (script_text blocks) ≡ Some (map block_read blocks)
-unfolding nushell_blocks script_text
-nushell_reads_back blocks h =
-    ap (in_blocks []) (append_assoc head (flat_map block_text blocks) tail)
-    ∙ head_reads (flat_map block_text blocks ++ tail)
-    ∙ in_order in_blocks block_text block_read IsReadableBlock block_reads [] blocks tail h
-    ∙ tail_reads (map block_read blocks)
+-- each part is read whatever follows it
+parts : ReadsParts nushell_frame line_text line_read IsOneLine IsReadableLine (λ rest. ⊤) in_blocks in_lines
+parts = record {
+  key_begins = λ rest. tt;
+  row_begins = λ line rest. tt;
+  end_begins = λ rest. tt;
+  tail_begins = tt;
+  key_reads = λ blocks key rest h _. key_reads blocks key rest h;
+  row_reads = λ blocks key lines line rest h _. line_reads blocks key lines line rest h;
+  end_reads = λ blocks key lines rest _. end_reads blocks key lines rest;
+  tail_reads = tail_reads;
+}
+
+-- a script reads back to its blocks, with a space for each line feed of a help, where the keys are on
+-- one line and the lines can be read
+pub nushell_reads_back : (bin : List ℕ) (blocks : List (Table Line))
+    → AllByRecursion (IsReadable (λ byte. (byte == line_feed) ≡ false) IsReadableLine) blocks
+    → nushell_blocks (script_text nushell_frame line_text bin blocks) ≡ Some (map (table_read line_read) blocks)
+unfolding nushell_blocks
+nushell_reads_back bin blocks h =
+    script_reads nushell_frame line_text line_read (λ byte. (byte == line_feed) ≡ false) IsReadableLine
+    (λ rest. ⊤) in_blocks in_lines parts nushell_blocks bin blocks (λ rest _. head_reads bin rest) h

@@ -1,16 +1,13 @@
--- The lines and the blocks of a Nushell script, as they are written.
-use Rattle.std.proofs.Common.{◌≡◌, Bool, true, false, List, ◌++◌, flat_map, codes, ap₂, ◌∙◌}
+-- The lines of a Nushell script, as they are written.
+use Rattle.std.proofs.Common.{◌≡◌, Bool, true, false, List, ◌++◌, flat_map, ap₂, ◌∙◌}
 use Rattle.std.proofs.lemmas.List.Concat.{flat_map-append}
 use Rattle.std.proofs.lemmas.List.Folds.{flat_map-map}
 use Rattle.cc_arg.specs.declared.arg.Arg.{Arg}
 use Rattle.cc_command.specs.ArgumentLists.{options, flags}
 use Rattle.cc_command.specs.Tree.{Tree}
-use Rattle.cc_command.specs.Names.{full_name}
-use Rattle.cc_visits.specs.Visits.{joined, table_visits}
-use Rattle.cc_tables.specs.NushellScript.{argument_lines, block_text, line_text, node_lines}
-use Rattle.cc_tables.specs.NushellScript.{node_text, offer_line, offer_text, tree_blocks}
+use Rattle.cc_tables.specs.NushellScript.{argument_lines, line_text, node_lines, offer_line}
+use Rattle.cc_tables.specs.NushellScript.{offer_text}
 use Rattle.cc_tables.specs.Offers.{argument_offers}
-use Rattle.cc_tables.proofs.VisitedTables.{texts_of_visits}
 
 -- the lines of arguments
 lines_of_arguments : (takes_value : Bool) (arguments : List Arg)
@@ -30,11 +27,3 @@ lines_of_node tree =
     (argument_lines false (flags tree.node))
     ∙ ap₂ (λ first second. first ++ second) (lines_of_arguments true (options tree.node))
     (lines_of_arguments false (flags tree.node))
-
--- the blocks of a tree
-pub blocks_of_visits : (tree : Tree)
-    → flat_map block_text (tree_blocks tree)
-    ≡ flat_map (λ visit. node_text visit.key visit.tree)
-    (table_visits (joined (codes " ")) (full_name tree.node) tree)
-unfolding node_text
-blocks_of_visits tree = texts_of_visits (codes " ") block_text node_lines tree

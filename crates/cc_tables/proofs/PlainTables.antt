@@ -1,6 +1,6 @@
 -- The tables of a plain tree can be read, by a reader to which the bytes of plain names mean nothing else.
 use Rattle.std.proofs.Common.{◌≡◌, ◌≢◌, ℕ, IsTrue, List, [], ◌∷◌, ◌++◌, map, flat_map, Option, Some}
-use Rattle.std.proofs.Common.{refl, ap, ap₂, ◌∙◌}
+use Rattle.std.proofs.Common.{codes, refl, ap, ap₂, ◌∙◌}
 use Rattle.std.specs.List.{AllByRecursion}
 use Rattle.std.proofs.lemmas.Simd.{map-map}
 use Rattle.cc_base.specs.Differ.{AllDifferBy}
@@ -29,8 +29,8 @@ pub record IsReadable {Row : Type 0} (IsKeyByte : ℕ → Type 0) (IsReadableRow
   pub rows : AllByRecursion IsReadableRow table.rows
 
 -- a table as it is read, where each row is read so
-abbrev pub table_read : {Row : Type 0} → (Row → Row) → Table Row → Table Row
-table_read as_read table = record table { rows = map as_read table.rows }
+abbrev pub table_read : {Item Row : Type 0} → (Item → Row) → Table Item → Table Row
+table_read as_read table = record { key = table.key; rows = map as_read table.rows }
 
 -- what is so of the bytes of plain names is so of a plain name
 pub of_plain_name : (IsByte : ℕ → Type 0) → ((byte : ℕ) → name_byte byte ≢ foreign → IsByte byte)
@@ -113,12 +113,13 @@ map-same f g same (item ∷ items) =
     ap₂ (λ first rest. first ∷ rest) (same item) (map-same f g same items)
 
 -- tables as they are read are those of the rows as they are read
-as_read_tables : {Row : Type 0} (separator : List ℕ) (rows read : Tree → List Row)
-    (as_read : Row → Row) → ((tree : Tree) → map as_read (rows tree) ≡ read tree) →
+as_read_tables : {Item Row : Type 0} (separator : List ℕ) (rows : Tree → List Item)
+    (read : Tree → List Row) (as_read : Item → Row) →
+    ((tree : Tree) → map as_read (rows tree) ≡ read tree) →
     (tree : Tree)
     → map (table_read as_read) (path_tables separator rows tree) ≡ path_tables separator read tree
 unfolding path_tables
-as_read_tables {Row} separator rows read as_read same tree =
+as_read_tables separator rows read as_read same tree =
     let key : Keyed (List (List ℕ))
     → List ℕ = λ visit. joined_path separator (full_name tree.node) visit.key in
     map-map (table_read as_read) (λ visit. table_of rows (key visit) visit.tree)
@@ -129,10 +130,11 @@ as_read_tables {Row} separator rows read as_read same tree =
     (table_visits longer_path [] tree)
 
 -- a plain tree's tables are read, where all tables that can be read are
-pub reads_tables : {Row : Type 0} (separator : ℕ) (is_foreign : name_byte separator ≡ foreign)
-    (rows read : Tree → List Row) (as_read : Row → Row)
+pub reads_tables : {Item Row : Type 0} (separator : ℕ)
+    (is_foreign : name_byte separator ≡ foreign) (rows : Tree → List Item)
+    (read : Tree → List Row) (as_read : Item → Row)
     → ((tree : Tree) → map as_read (rows tree) ≡ read tree)
-    → (tables_of : List (Table Row) → Option (List (Table Row))) (tree : Tree)
+    → (tables_of : List (Table Item) → Option (List (Table Row))) (tree : Tree)
     → IsTrue (is_plain_tree tree)
     → tables_of (path_tables (separator ∷ []) rows tree)
     ≡ Some (map (table_read as_read) (path_tables (separator ∷ []) rows tree))
@@ -144,28 +146,20 @@ reads_tables separator is_foreign rows read as_read same tables_of tree h reads 
   keys = keys_differ separator is_foreign read tree h;
 }
 
-module _ {Row : Type 0} (row : Offer → Row) (as_read : Row → Row) (IsKeyByte : ℕ → Type 0)
-    (IsReadableRow : Row → Type 0)
+-- the same, where the rows are the offers at each node
+module _ {Row : Type 0} (as_read : Offer → Row) (IsKeyByte : ℕ → Type 0) (IsRow : Offer → Type 0)
     (of_byte : (byte : ℕ) → name_byte byte ≢ foreign → IsKeyByte byte) (of_separator : IsKeyByte 59)
-    (of_offer : (offer : Offer) → IsPlainOffer offer → IsReadableRow (row offer)) where
-  -- the rows of the offers at a plain node
-  offers_readable : (tree : Tree) → IsPlainBelow tree
-      → AllByRecursion IsReadableRow (offered row tree)
-  offers_readable tree h =
-      AllByRecursion-map IsReadableRow row (node_offers tree)
-      (AllByRecursion-weaker IsPlainOffer (λ offer. IsReadableRow (row offer)) of_offer
-      (node_offers tree) (node_plain tree h))
-
-  -- the same, where each offer has a row
-  pub reads_offers : (tables_of : List (Table Row) → Option (List (Table Row))) (tree : Tree)
+    (of_offer : (offer : Offer) → IsPlainOffer offer → IsRow offer) where
+  pub reads_offers : (tables_of : List (Table Offer) → Option (List (Table Row))) (tree : Tree)
       → IsTrue (is_plain_tree tree)
-      → (AllByRecursion (IsReadable IsKeyByte IsReadableRow) (tree_tables row tree)
-      → tables_of (tree_tables row tree) ≡ Some (map (table_read as_read) (tree_tables row tree)))
-      → ReadsTables (tables_of (tree_tables row tree))
-      (tree_tables (λ offer. as_read (row offer)) tree) tree
+      → (AllByRecursion (IsReadable IsKeyByte IsRow) (path_tables (codes ";") node_offers tree)
+      → tables_of (path_tables (codes ";") node_offers tree)
+      ≡ Some (map (table_read as_read) (path_tables (codes ";") node_offers tree)))
+      → ReadsTables (tables_of (path_tables (codes ";") node_offers tree))
+      (tree_tables as_read tree) tree
   reads_offers tables_of tree h reads =
-      reads_tables 59 semicolon_foreign (offered row)
-      (offered (λ offer. as_read (row offer))) as_read
-      (λ tree. map-map as_read row (node_offers tree)) tables_of tree h
-      (reads (tables_readable 59 semicolon_foreign
-      (offered row) IsKeyByte IsReadableRow of_byte of_separator offers_readable tree h))
+      reads_tables 59 semicolon_foreign node_offers (offered as_read) as_read (λ tree. refl)
+      tables_of tree h
+      (reads (tables_readable 59 semicolon_foreign node_offers IsKeyByte IsRow of_byte of_separator
+      (λ tree k. AllByRecursion-weaker IsPlainOffer IsRow of_offer (node_offers tree) (node_plain tree k))
+      tree h))

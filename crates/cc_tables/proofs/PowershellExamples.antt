@@ -11,11 +11,11 @@ use Rattle.cc_quote.specs.Tokens.{cut, is_word, strip_words, after_words}
 use Rattle.cc_tables.specs.Offers.{argument_offers}
 use Rattle.cc_tables.specs.PowershellReader.{if_quoted, part, kind_of, step, spelling, tables_begin}
 use Rattle.cc_tables.specs.PowershellReader.{powershell_tables}
-use Rattle.cc_tables.specs.PowershellScript.{Row, parameter_name, parameter_value, offer_row, head}
-use Rattle.cc_tables.specs.PowershellScript.{command, completions, head_text, tail, kind_text}
-use Rattle.cc_tables.specs.PowershellScript.{row_begin, list_begin, kind_begin, text_begin, row_end}
-use Rattle.cc_tables.specs.PowershellScript.{words_text, details_text, row_text, table_begin}
-use Rattle.cc_tables.specs.PowershellScript.{key_end, key_text, table_end, table_text, script_text}
+use Rattle.cc_tables.specs.PowershellScript.{Row, details_text, kind_begin, kind_text, list_begin}
+use Rattle.cc_tables.specs.PowershellScript.{offer_row, parameter_name, parameter_value}
+use Rattle.cc_tables.specs.PowershellScript.{powershell_frame, powershell_named, row_begin, row_end}
+use Rattle.cc_tables.specs.PowershellScript.{row_text, text_begin, words_text}
+use Rattle.cc_tables.specs.Script.{head_text, named_text, script_text, table_text}
 use Rattle.cc_tables.specs.TableReader.{after_step, next, tables_of, read}
 use Rattle.cc_tables.specs.Tables.{Table}
 
@@ -26,14 +26,14 @@ unfolding kind_text row_begin list_begin kind_begin text_begin row_end words_tex
 row = refl
 
 -- a table without rows
-table : table_text (record { key = codes "app"; rows = [] }) ≡ codes "\n        'app' {\n            break\n        }"
-unfolding table_begin key_end key_text table_end table_text
+table : table_text powershell_frame row_text (record { key = codes "app"; rows = [] }) ≡ codes "\n        'app' {\n            break\n        }"
+unfolding powershell_frame table_text
 table = refl
 
 -- a script without tables
-script : script_text (codes "app") []
+script : script_text powershell_frame row_text (codes "app") []
     ≡ codes "\nusing namespace System.Management.Automation\nusing namespace System.Management.Automation.Language\n\nRegister-ArgumentCompleter -Native -CommandName 'app' -ScriptBlock {\n    param($wordToComplete, $commandAst, $cursorPosition)\n\n    $commandElements = $commandAst.CommandElements\n    $command = @(\n        'app'\n        for ($i = 1; $i -lt $commandElements.Count; $i++) {\n            $element = $commandElements[$i]\n            if ($element -isnot [StringConstantExpressionAst] -or\n                $element.StringConstantType -ne [StringConstantType]::BareWord -or\n                $element.Value.StartsWith('-') -or\n                $element.Value -eq $wordToComplete) {\n                break\n        }\n        $element.Value\n    }) -join ';'\n\n    $completions = @(switch ($command) {\n    })\n\n    $completions.Where{ $_.CompletionText -like \"$wordToComplete*\" } |\n        Sort-Object -Property ListItemText\n}\n"
-unfolding head command completions head_text tail script_text
+unfolding powershell_named powershell_frame named_text head_text script_text
 script = refl
 
 -- two tables as a program's help gives them
@@ -79,8 +79,8 @@ level_rows : map offer_row (argument_offers (record (new_arg (codes "level")) { 
 level_rows = refl
 
 -- a script with these tables reads back to them
-two_tables : powershell_tables (script_text (codes "app") given) ≡ Some read_back
-unfolding encode_utf8 is_word strip_words after_words sign sign_before powershell_signs cut powershell_tokens if_quoted part kind_of step spelling after_step next tables_of read tables_begin powershell_tables kind_text row_begin list_begin kind_begin text_begin row_end words_text details_text row_text table_begin key_end key_text table_end table_text head command completions head_text tail script_text
+two_tables : powershell_tables (script_text powershell_frame row_text (codes "app") given) ≡ Some read_back
+unfolding encode_utf8 is_word strip_words after_words sign sign_before powershell_signs cut powershell_tokens if_quoted part kind_of step spelling after_step next tables_of read tables_begin powershell_tables kind_text row_begin list_begin kind_begin text_begin row_end words_text details_text row_text table_text powershell_named powershell_frame named_text head_text script_text
 two_tables = refl
 
 -- tables that are not closed, an unknown kind, a group without `break`, a key between other quotes, and no tables at all

@@ -10,14 +10,16 @@ use Rattle.cc_command.specs.PlainName.{name_byte, foreign, joiner, letter}
 use Rattle.cc_command.specs.Tree.{Tree}
 use Rattle.cc_command.proofs.PlainParts.{plain_full_name}
 use Rattle.cc_quote.specs.PowershellTokens.{is_quote_first, IsUnquoted}
-use Rattle.cc_tables.specs.Offers.{word}
-use Rattle.cc_tables.specs.PowershellReader.{powershell_tables, PowershellReads}
-use Rattle.cc_tables.specs.PowershellScript.{capital_space, offer_row, script_text}
-use Rattle.cc_tables.specs.Tables.{tree_tables}
+use Rattle.cc_tables.specs.Offers.{node_offers, word}
+use Rattle.cc_tables.specs.PowershellReader.{offer_read, powershell_tables, PowershellReads}
+use Rattle.cc_tables.specs.PowershellScript.{capital_space, offer_row, powershell_frame}
+use Rattle.cc_tables.specs.PowershellScript.{offer_text}
+use Rattle.cc_tables.specs.Script.{script_text}
+use Rattle.cc_tables.specs.Tables.{path_tables}
 use Rattle.cc_tables.specs.declared.offers.Kind.{Kind}
 use Rattle.cc_tables.specs.declared.offers.Kind.TheVariants.{Short, Long, Subcommand}
 use Rattle.cc_tables.specs.declared.offers.Offer.{Offer}
-use Rattle.cc_tables.proofs.PowershellReadsBack.{spaced_row, IsPowershellRow, powershell_reads_back}
+use Rattle.cc_tables.proofs.PowershellReadsBack.{IsPowershellRow, powershell_reads_back}
 use Rattle.cc_tables.proofs.PlainOffers.{IsPlainOffer}
 use Rattle.cc_tables.proofs.PlainTables.{of_plain_name, reads_offers}
 
@@ -60,8 +62,9 @@ row_unquoted offer h =
 
 -- the script of a plain tree reads to its tables
 pub powershell_plain_reads : (tree : Tree) → IsTrue (is_plain_tree tree) → PowershellReads tree
+unfolding powershell_frame
 powershell_plain_reads tree h =
     let bin_name = full_name tree.node in
-    reads_offers offer_row spaced_row (λ byte. IsTrue (not (is_quote_first byte))) IsPowershellRow unquoted_byte unquoted_separator row_unquoted
-    (λ tables. powershell_tables (script_text bin_name tables)) tree h
-    (powershell_reads_back bin_name (tree_tables offer_row tree) (of_plain_name (λ byte. IsTrue (not (is_quote_first byte))) unquoted_byte bin_name (plain_full_name tree h)))
+    reads_offers offer_read (λ byte. IsTrue (not (is_quote_first byte))) (λ offer. IsPowershellRow (offer_row offer)) unquoted_byte unquoted_separator row_unquoted
+    (λ tables. powershell_tables (script_text powershell_frame offer_text bin_name tables)) tree h
+    (powershell_reads_back bin_name (path_tables (codes ";") node_offers tree) (of_plain_name (λ byte. IsTrue (not (is_quote_first byte))) unquoted_byte bin_name (plain_full_name tree h)))

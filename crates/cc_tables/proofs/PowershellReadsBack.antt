@@ -1,5 +1,5 @@
 -- A PowerShell script reads back to the tables that it was written from.
-use Rattle.std.proofs.Common.{◌≡◌, not, IsTrue, ℕ, List, [], ◌∷◌, ◌++◌, map, flat_map, Option, Some}
+use Rattle.std.proofs.Common.{◌≡◌, not, IsTrue, ℕ, List, [], ◌∷◌, ◌++◌, map, Option, Some}
 use Rattle.std.proofs.Common.{codes, refl, ap, ◌∙◌, append_assoc}
 use Rattle.std.specs.List.{AllByRecursion}
 use Rattle.cc_base.proofs.Lines.{IsLine, regroup_six}
@@ -14,41 +14,34 @@ use Rattle.cc_quote.specs.QuotedWord.{line_feeds_as_spaces}
 use Rattle.cc_quote.proofs.PowershellCutting.{quoted_text, escaped_text}
 use Rattle.cc_tables.specs.PowershellReader.{if_quoted, part, kind_of, between_rows, after_word}
 use Rattle.cc_tables.specs.PowershellReader.{after_kind, step, spelling, tables_begin}
-use Rattle.cc_tables.specs.PowershellReader.{powershell_tables}
+use Rattle.cc_tables.specs.PowershellReader.{offer_read, powershell_tables}
 use Rattle.cc_tables.specs.PowershellReader.{Place as RowPlace}
-use Rattle.cc_tables.specs.PowershellScript.{ResultKind, parameter_name, parameter_value, Row, head}
-use Rattle.cc_tables.specs.PowershellScript.{command, completions, head_text, tail, table_begin}
-use Rattle.cc_tables.specs.PowershellScript.{key_end, key_text, table_end, row_begin, list_begin}
-use Rattle.cc_tables.specs.PowershellScript.{kind_begin, kind_text, text_begin, row_end, words_text}
-use Rattle.cc_tables.specs.PowershellScript.{details_text, row_text, table_text, script_text}
+use Rattle.cc_tables.specs.PowershellScript.{ResultKind, parameter_name, parameter_value, Row}
+use Rattle.cc_tables.specs.PowershellScript.{details_text, kind_begin, kind_text, list_begin}
+use Rattle.cc_tables.specs.PowershellScript.{offer_row, offer_text, powershell_frame}
+use Rattle.cc_tables.specs.PowershellScript.{powershell_named, row_begin, row_end, row_text}
+use Rattle.cc_tables.specs.PowershellScript.{text_begin, words_text}
+use Rattle.cc_tables.specs.Script.{head_text, script_text}
 use Rattle.cc_tables.specs.TableReader.{State, between_tables, in_table, after_step, next}
 use Rattle.cc_tables.specs.TableReader.{tables_of, read}
 use Rattle.cc_tables.specs.Tables.{Table}
+use Rattle.cc_tables.specs.declared.offers.Offer.{Offer}
 use Rattle.cc_tables.proofs.PlainTables.{IsReadable, table_read}
-use Rattle.cc_tables.proofs.ItemsRead.{regroup_four, regroup_five, items_line, items_read}
+use Rattle.cc_tables.proofs.ItemsRead.{regroup_five}
+use Rattle.cc_tables.proofs.ScriptReadsBack.{ReadsParts, named_head, script_reads}
 
 -- a row as it is read: with a space for each line feed of its text
-abbrev pub spaced_row : Row → Row
+abbrev spaced_row : Row → Row
 spaced_row row = record row { text = line_feeds_as_spaces row.text }
-
--- a table as it is read
-abbrev pub spaced_table : Table Row → Table Row
-spaced_table table = table_read spaced_row table
 
 -- no quote stands in the word and in the list text; the other text may be any
 pub record IsPowershellRow (row : Row) : Type 0 where
   pub word : IsUnquoted row.word
   pub list : IsUnquoted row.list
 
--- nor in the key
-abbrev pub IsPowershellTable : Table Row → Type 0
-IsPowershellTable table = IsReadable (λ byte. IsTrue (not (is_quote_first byte))) IsPowershellRow table
-
 -- what the reader gives from a state on, where the script is cut from a place on
 abbrev reading : State RowPlace Row → Place → List ℕ → Option (List (Table Row))
 reading state place script = read spelling state (cut place (powershell_signs script))
-
--- ---- rows
 
 -- within a table, with the rows so far
 abbrev in_rows : List (Table Row) → List ℕ → List Row → List ℕ → Option (List (Table Row))
@@ -98,84 +91,55 @@ row_line : (row : Row) (rest : List ℕ) → IsLine (row_text row ++ rest)
 unfolding row_text words_text row_begin
 row_line row rest = line _
 
-rows_line : (rows : List Row) (rest : List ℕ) → IsLine rest → IsLine (flat_map row_text rows ++ rest)
-rows_line = items_line row_text row_line
-
-rows_read : (tables : List (Table Row)) (name : List ℕ) (rows : List Row) (rest : List ℕ) → AllByRecursion IsPowershellRow rows → IsLine rest
-    → in_rows tables name [] (flat_map row_text rows ++ rest) ≡ in_rows tables name (map spaced_row rows) rest
-rows_read tables name rows rest =
-    items_read (in_rows tables name) row_text spaced_row IsPowershellRow row_line (row_reads tables name) [] rows rest
-
--- ---- tables
-
 abbrev in_tables : List (Table Row) → List ℕ → Option (List (Table Row))
 in_tables tables script = reading (between_tables tables) between script
 
--- a line feed ends the token that opens the rows
-rows_open : (tables : List (Table Row)) (name rest : List ℕ) → IsLine rest
-    → reading (between_tables tables) (in_quotes [] (39 ∷ []) name) (key_end ++ rest) ≡ in_rows tables name [] rest
-unfolding key_end sign sign_before powershell_signs cut if_quoted part spelling next read
-rows_open tables name rest (line tail) = refl
+-- a key opens the rows of its table
+key_reads : (tables : List (Table Row)) (name rest : List ℕ) → IsUnquoted name → IsLine rest
+    → in_tables tables (powershell_frame.key_begin ++ (name ++ (powershell_frame.key_end ++ rest))) ≡ in_rows tables name [] rest
+unfolding powershell_frame sign sign_before powershell_signs cut if_quoted part spelling next read
+key_reads tables name rest h (line tail) =
+    ap (read spelling (between_tables tables)) (quoted_text name (codes "' {" ++ 10 ∷ tail) [] (39 ∷ []) [] h)
 
 -- a line feed ends the token that closes the rows
-rows_close : (tables : List (Table Row)) (name : List ℕ) (rows : List Row) (rest : List ℕ) → IsLine rest
-    → in_rows tables name rows (table_end ++ rest) ≡ in_tables (tables ++ record { key = name; rows = rows } ∷ []) rest
-unfolding table_end sign sign_before powershell_signs cut part step spelling after_step next read
-rows_close tables name rows rest (line tail) = refl
-
-end_line : (rest : List ℕ) → IsLine (table_end ++ rest)
-unfolding table_end
-end_line rest = line _
-
--- a table gives its key
-key_reads : (tables : List (Table Row)) (name rest : List ℕ) → IsUnquoted name
-    → in_tables tables (key_text name ++ rest) ≡ reading (between_tables tables) (in_quotes [] (39 ∷ []) name) (key_end ++ rest)
-unfolding key_text table_begin sign sign_before powershell_signs cut
-key_reads tables name rest h =
-    ap (in_tables tables) (regroup_four table_begin name key_end rest)
-    ∙ ap (read spelling (between_tables tables)) (quoted_text name (key_end ++ rest) [] (39 ∷ []) [] h)
-
--- and its rows
-table_reads : (tables : List (Table Row)) (table : Table Row) (rest : List ℕ) → IsPowershellTable table → IsLine rest
-    → in_tables tables (table_text table ++ rest) ≡ in_tables (tables ++ spaced_table table ∷ []) rest
-unfolding table_text
-table_reads tables table rest h l =
-    let closed : List ℕ = table_end ++ rest in
-    ap (in_tables tables) (regroup_four (key_text table.key) (flat_map row_text table.rows) table_end rest)
-    ∙ key_reads tables table.key (flat_map row_text table.rows ++ closed) h.key
-    ∙ rows_open tables table.key (flat_map row_text table.rows ++ closed) (rows_line table.rows closed (end_line rest))
-    ∙ rows_read tables table.key table.rows closed h.rows (end_line rest)
-    ∙ rows_close tables table.key (map spaced_row table.rows) rest l
-
-table_line : (table : Table Row) (rest : List ℕ) → IsLine (table_text table ++ rest)
-unfolding table_text key_text table_begin
-table_line table rest = line _
-
--- ---- the script
-
--- up to its tables a script holds the three words once, at the end
-head_reads : (bin rest : List ℕ) → IsUnquoted bin → IsLine rest → after_words tables_begin (powershell_tokens (head_text bin ++ rest)) ≡ cut between (powershell_signs rest)
-unfolding head head_text command completions is_word strip_words after_words sign sign_before powershell_signs cut powershell_tokens tables_begin
-head_reads bin rest h (line tail) =
-    ap (λ text. after_words tables_begin (powershell_tokens text)) (regroup_six head bin command bin completions rest)
-    ∙ ap (after_words tables_begin) (quoted_text bin (command ++ (bin ++ (completions ++ rest))) [] (39 ∷ []) [] h)
-    ∙ ap (after_words tables_begin) (quoted_text bin (completions ++ rest) [] (39 ∷ []) [] h)
+end_reads : (tables : List (Table Row)) (name : List ℕ) (rows : List Row) (rest : List ℕ) → IsLine rest
+    → in_rows tables name rows (powershell_frame.table_end ++ rest) ≡ in_tables (tables ++ record { key = name; rows = rows } ∷ []) rest
+unfolding powershell_frame sign sign_before powershell_signs cut part step spelling after_step next read
+end_reads tables name rows rest (line tail) = refl
 
 -- after the last table stands what ends them
-tail_reads : (tables : List (Table Row)) → in_tables tables tail ≡ Some tables
-unfolding tail sign sign_before powershell_signs cut if_quoted part spelling next tables_of read
+tail_reads : (tables : List (Table Row)) → in_tables tables powershell_frame.tail ≡ Some tables
+unfolding powershell_frame sign sign_before powershell_signs cut if_quoted part spelling next tables_of read
 tail_reads tables = refl
 
-tail_line : IsLine tail
-unfolding tail
-tail_line = line _
+parts : ReadsParts powershell_frame offer_text offer_read IsUnquoted (λ offer. IsPowershellRow (offer_row offer)) IsLine in_tables in_rows
+unfolding powershell_frame offer_text
+parts = record {
+  key_begins = λ rest. line _;
+  row_begins = λ offer rest. row_line (offer_row offer) rest;
+  end_begins = λ rest. line _;
+  tail_begins = line _;
+  key_reads = key_reads;
+  row_reads = λ tables key rows offer rest h l. row_reads tables key rows (offer_row offer) rest h l;
+  end_reads = end_reads;
+  tail_reads = tail_reads;
+}
 
--- a script reads back to its tables, with a space for each line feed of a text
-pub powershell_reads_back : (bin : List ℕ) (tables : List (Table Row)) → IsUnquoted bin → AllByRecursion IsPowershellTable tables
-    → powershell_tables (script_text bin tables) ≡ Some (map spaced_table tables)
-unfolding powershell_tables script_text
+-- up to its tables a script holds the three words once, at the end
+head_reads : (bin rest : List ℕ) → IsUnquoted bin → IsLine rest → after_words tables_begin (powershell_tokens (head_text powershell_frame bin ++ rest)) ≡ cut between (powershell_signs rest)
+unfolding powershell_frame powershell_named is_word strip_words after_words sign sign_before powershell_signs cut powershell_tokens tables_begin
+head_reads bin rest h (line tail) =
+    let last : List ℕ = bin ++ (powershell_named.completions ++ rest) in
+    ap (λ text. after_words tables_begin (powershell_tokens text)) (named_head powershell_frame powershell_named bin rest refl)
+    ∙ ap (after_words tables_begin) (quoted_text bin (powershell_named.between ++ last) [] (39 ∷ []) [] h)
+    ∙ ap (after_words tables_begin) (quoted_text bin (powershell_named.completions ++ rest) [] (39 ∷ []) [] h)
+
+-- a script reads back to its tables, with a space for each line feed of a text, where no quote stands
+-- in a key, in a word and in a list text
+pub powershell_reads_back : (bin : List ℕ) (tables : List (Table Offer)) → IsUnquoted bin
+    → AllByRecursion (IsReadable (λ byte. IsTrue (not (is_quote_first byte))) (λ offer. IsPowershellRow (offer_row offer))) tables
+    → powershell_tables (script_text powershell_frame offer_text bin tables) ≡ Some (map (table_read offer_read) tables)
+unfolding powershell_tables
 powershell_reads_back bin tables h k =
-    ap powershell_tables (append_assoc (head_text bin) (flat_map table_text tables) tail)
-    ∙ ap (read spelling (between_tables [])) (head_reads bin (flat_map table_text tables ++ tail) h (items_line table_text table_line tables tail tail_line))
-    ∙ items_read in_tables table_text spaced_table IsPowershellTable table_line table_reads [] tables tail k tail_line
-    ∙ tail_reads (map spaced_table tables)
+    script_reads powershell_frame offer_text offer_read (λ byte. IsTrue (not (is_quote_first byte))) (λ offer. IsPowershellRow (offer_row offer)) IsLine in_tables in_rows parts
+    powershell_tables bin tables (λ rest l. ap (read spelling (between_tables [])) (head_reads bin rest h l)) k

@@ -5,5 +5,6 @@ pub mod NushellScript
 pub mod Offers
 pub mod PowershellReader
 pub mod PowershellScript
+pub mod Script
 pub mod TableReader
 pub mod Tables

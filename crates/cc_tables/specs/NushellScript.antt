@@ -6,8 +6,9 @@ use Rattle.cc_command.specs.ArgumentLists.{options, flags}
 use Rattle.cc_command.specs.Tree.{Tree}
 use Rattle.cc_quote.specs.QuotedWord.{line_feeds_as_spaces}
 use Rattle.cc_tables.specs.Offers.{argument_offers, word}
-use Rattle.cc_tables.specs.Tables.{Table, path_tables, table_of}
+use Rattle.cc_tables.specs.Script.{tree_script}
 use Rattle.cc_tables.specs.declared.offers.Offer.{Offer}
+use Rattle.cc_tables.specs.declared.tables.Frame.{Frame}
 
 -- a name of an option or a flag as it is typed, whether it takes a value, and its help
 pub record Line : Type 0 where
@@ -29,15 +30,17 @@ argument_lines takes_value arguments =
 unfoldable pub node_lines : Tree → List Line
 node_lines tree = argument_lines true (options tree.node) ++ argument_lines false (flags tree.node)
 
--- ---- the frame
-
-unfoldable pub head : List ℕ
-head = codes "module completions {\n\n"
-
-unfoldable pub tail : List ℕ
-tail = codes "}\n\nexport use completions *\n"
-
--- ---- the blocks
+-- the frame, and what stands around a key and the lines of a block
+unfoldable pub nushell_frame : Frame
+nushell_frame = record {
+  head = codes "module completions {\n\n";
+  named = None;
+  key_begin = codes "  export extern \"";
+  key_end = codes "\" [\n";
+  table_end = codes "  ]\n\n";
+  separator = codes " ";
+  tail = codes "}\n\nexport use completions *\n";
+}
 
 -- before the name of a line
 unfoldable pub line_begin : List ℕ
@@ -72,38 +75,6 @@ line_text line = content line ++ codes "\n"
 unfoldable pub offer_text : Bool → Offer → List ℕ
 offer_text takes_value offer = line_text (offer_line takes_value offer)
 
--- before the key of a block
-unfoldable pub block_begin : List ℕ
-block_begin = codes "  export extern \""
-
--- after the key
-unfoldable pub key_end : List ℕ
-key_end = codes "\" [\n"
-
--- `export extern "key" [`
-unfoldable pub key_text : List ℕ → List ℕ
-key_text key = block_begin ++ key ++ key_end
-
--- after the lines of a block
-unfoldable pub block_end : List ℕ
-block_end = codes "  ]\n\n"
-
--- the key, the lines, and `]`
-unfoldable pub block_text : Table Line → List ℕ
-block_text block = key_text block.key ++ flat_map line_text block.rows ++ block_end
-
--- the block of a node under a key
-unfoldable pub node_text : List ℕ → Tree → List ℕ
-node_text key tree = block_text (table_of node_lines key tree)
-
--- the frame with these blocks in it
-unfoldable pub script_text : List (Table Line) → List ℕ
-script_text blocks = head ++ flat_map block_text blocks ++ tail
-
--- the blocks of a tree, one for each visible path: its key joins the names by spaces
-abbrev pub tree_blocks : Tree → List (Table Line)
-tree_blocks tree = path_tables (codes " ") node_lines tree
-
 -- the script of a tree
 abbrev pub nushell_script : Tree → List ℕ
-nushell_script tree = script_text (tree_blocks tree)
+nushell_script tree = tree_script nushell_frame line_text node_lines tree

@@ -1,14 +1,15 @@
 -- The text of a PowerShell script.
-use Rattle.std.specs.Prelude.{ℕ, List, [], ◌∷◌, ◌++◌, codes, flat_map, if◌then◌else◌, Option, Some}
+use Rattle.std.specs.Prelude.{ℕ, List, [], ◌∷◌, ◌++◌, codes, if◌then◌else◌, Option, Some}
 use Rattle.std.specs.Char.{is_ascii_uppercase}
 use Rattle.cc_command.specs.Tree.{Tree}
-use Rattle.cc_command.specs.Names.{full_name}
 use Rattle.cc_quote.specs.PowershellQuote.{powershell_escaped}
-use Rattle.cc_tables.specs.Offers.{word}
-use Rattle.cc_tables.specs.Tables.{Table, offered, table_of, tree_tables}
+use Rattle.cc_tables.specs.Offers.{node_offers, word}
+use Rattle.cc_tables.specs.Script.{tree_script}
 use Rattle.cc_tables.specs.declared.offers.Kind.{Kind}
 use Rattle.cc_tables.specs.declared.offers.Kind.TheVariants.{Short, Subcommand}
 use Rattle.cc_tables.specs.declared.offers.Offer.{Offer}
+use Rattle.cc_tables.specs.declared.tables.Frame.{Frame}
+use Rattle.cc_tables.specs.declared.tables.Named.{Named}
 
 -- the kind of a result: of an option or a flag, or of a subcommand
 pub data ResultKind : Type 0 where
@@ -46,29 +47,24 @@ offer_row offer = record {
   text = shown_text offer.description offer.fallback;
 }
 
--- ---- the frame
+-- around the two places of the program's name
+unfoldable pub powershell_named : Named
+powershell_named = record {
+  between = codes "' -ScriptBlock {\n    param($wordToComplete, $commandAst, $cursorPosition)\n\n    $commandElements = $commandAst.CommandElements\n    $command = @(\n        '";
+  completions = codes "'\n        for ($i = 1; $i -lt $commandElements.Count; $i++) {\n            $element = $commandElements[$i]\n            if ($element -isnot [StringConstantExpressionAst] -or\n                $element.StringConstantType -ne [StringConstantType]::BareWord -or\n                $element.Value.StartsWith('-') -or\n                $element.Value -eq $wordToComplete) {\n                break\n        }\n        $element.Value\n    }) -join ';'\n\n    $completions = @(switch ($command) {";
+}
 
--- up to the name of the program
-unfoldable pub head : List ℕ
-head = codes "\nusing namespace System.Management.Automation\nusing namespace System.Management.Automation.Language\n\nRegister-ArgumentCompleter -Native -CommandName '"
-
--- between the two places of the name
-unfoldable pub command : List ℕ
-command = codes "' -ScriptBlock {\n    param($wordToComplete, $commandAst, $cursorPosition)\n\n    $commandElements = $commandAst.CommandElements\n    $command = @(\n        '"
-
--- from the name to the tables
-unfoldable pub completions : List ℕ
-completions = codes "'\n        for ($i = 1; $i -lt $commandElements.Count; $i++) {\n            $element = $commandElements[$i]\n            if ($element -isnot [StringConstantExpressionAst] -or\n                $element.StringConstantType -ne [StringConstantType]::BareWord -or\n                $element.Value.StartsWith('-') -or\n                $element.Value -eq $wordToComplete) {\n                break\n        }\n        $element.Value\n    }) -join ';'\n\n    $completions = @(switch ($command) {"
-
--- all that stands before the tables, for the program bin
-unfoldable pub head_text : List ℕ → List ℕ
-head_text bin = head ++ bin ++ command ++ bin ++ completions
-
--- after the tables
-unfoldable pub tail : List ℕ
-tail = codes "\n    })\n\n    $completions.Where{ $_.CompletionText -like \"$wordToComplete*\" } |\n        Sort-Object -Property ListItemText\n}\n"
-
--- ---- the tables
+-- the frame, and what stands around a key and the rows of a table
+unfoldable pub powershell_frame : Frame
+powershell_frame = record {
+  head = codes "\nusing namespace System.Management.Automation\nusing namespace System.Management.Automation.Language\n\nRegister-ArgumentCompleter -Native -CommandName '";
+  named = Some powershell_named;
+  key_begin = codes "\n        '";
+  key_end = codes "' {";
+  table_end = codes "\n            break\n        }";
+  separator = codes ";";
+  tail = codes "\n    })\n\n    $completions.Where{ $_.CompletionText -like \"$wordToComplete*\" } |\n        Sort-Object -Property ListItemText\n}\n";
+}
 
 -- the name of a kind
 unfoldable pub kind_text : ResultKind → List ℕ
@@ -111,34 +107,6 @@ row_text row = words_text row ++ details_text row
 unfoldable pub offer_text : Offer → List ℕ
 offer_text offer = row_text (offer_row offer)
 
--- before the key of a table
-unfoldable pub table_begin : List ℕ
-table_begin = codes "\n        '"
-
--- after the key
-unfoldable pub key_end : List ℕ
-key_end = codes "' {"
-
--- `'key' {`, on a line of its own
-unfoldable pub key_text : List ℕ → List ℕ
-key_text key = table_begin ++ key ++ key_end
-
--- after the rows of a table
-unfoldable pub table_end : List ℕ
-table_end = codes "\n            break\n        }"
-
--- the key, the rows, `break` and `}`, each on a line of its own
-unfoldable pub table_text : Table Row → List ℕ
-table_text table = key_text table.key ++ flat_map row_text table.rows ++ table_end
-
--- the table of a node under a key
-unfoldable pub node_text : List ℕ → Tree → List ℕ
-node_text key tree = table_text (table_of (offered offer_row) key tree)
-
--- the frame, for the program bin, with these tables in it
-unfoldable pub script_text : List ℕ → List (Table Row) → List ℕ
-script_text bin tables = head_text bin ++ flat_map table_text tables ++ tail
-
 -- the script of a tree
 abbrev pub powershell_script : Tree → List ℕ
-powershell_script tree = script_text (full_name tree.node) (tree_tables offer_row tree)
+powershell_script tree = tree_script powershell_frame offer_text node_offers tree

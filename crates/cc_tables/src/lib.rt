@@ -5,6 +5,7 @@ mod elvish;
 mod nushell;
 mod offers;
 mod powershell;
+mod tables;
 
 pub use crate::elvish::Elvish;
 pub use crate::nushell::Nushell;

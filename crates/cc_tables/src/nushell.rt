@@ -1,64 +1,41 @@
 //! The Nushell script: a frame, and in it a block for each visible path.
 
-ghost use Rattle.std.specs.Prelude.{◌≡◌, ◌++◌, ◌<◌, None, codes, false, flat_map, true, length};
-ghost use Rattle.std.specs.Prelude.{IfOk, IfErr, OnOk, MatchOption};
+ghost use Rattle.std.specs.Prelude.{◌≡◌, ◌++◌, codes, false, flat_map, true, IfOk, IfErr, OnOk, MatchOption};
 ghost use Rattle.std.specs.String.{string_bytes};
 ghost use Rattle.cc_base.specs.Writes.{Writes, as_write};
-ghost use Rattle.cc_command.specs.ArgumentLists.{flags, options};
-ghost use Rattle.cc_flat.specs.Flat.{tree_at};
 ghost use Rattle.cc_quote.specs.QuotedWord.{line_feeds_as_spaces};
+ghost use Rattle.cc_tables.specs.NushellScript.{help_text, line_begin};
+ghost use Rattle.cc_tables.specs.NushellScript.{nushell_frame, offer_text, type_text};
+ghost use Rattle.cc_command.specs.ArgumentLists.{flags, options};
 ghost use Rattle.cc_tables.specs.Offers.{argument_offers, dashes};
-ghost use Rattle.cc_tables.specs.NushellScript.{block_begin, block_end, block_text, content, head};
-ghost use Rattle.cc_tables.specs.NushellScript.{help_begin, help_text, key_end, key_text};
-ghost use Rattle.cc_tables.specs.NushellScript.{line_begin, line_text, node_lines, node_text};
-ghost use Rattle.cc_tables.specs.NushellScript.{nushell_script, offer_text, tail, type_text};
 
 use crate::offers::{Kind, Offer, Rows, write_flags, write_options};
-use cc_base::{Error, Sink, as_error, put_all, put_around, put_piece};
-use cc_command::{Command, full_name};
+use crate::tables::{Frame, TableRows, write_tables};
+use cc_base::{Error, Sink, TextRef, put_around, put_piece};
+use cc_command::Command;
 use cc_flat::Flat;
 use cc_lists::Generator;
 use cc_quote::{Escape, put_escaped_piece};
-use cc_visits::{Joined, TableVisits};
 use memchr::memchr;
 use std::alloc::Global;
 use std::io::ErrorKind;
 
 // ---- the fixed texts
 
-#[tactic(auto, unfolding(crate::specs::NushellScript::head))]
-fn head() -> &'static str
-    ensures { result.now ≡ head }
+// The frame, and what stands around a key and the lines of a block.
+#[tactic(auto, unfolding(crate::specs::NushellScript::nushell_frame))]
+fn frame() -> Frame<'static>
+    ensures { result ≡ nushell_frame }
 {
-    "module completions {\n\n"
-}
-
-#[tactic(auto, unfolding(crate::specs::NushellScript::tail))]
-fn tail() -> &'static str
-    ensures { result.now ≡ tail }
-{
-    "}\n\nexport use completions *\n"
-}
-
-#[tactic(auto, unfolding(crate::specs::NushellScript::block_begin))]
-fn block_begin() -> &'static str
-    ensures { result.now ≡ block_begin }
-{
-    "  export extern \""
-}
-
-#[tactic(auto, unfolding(crate::specs::NushellScript::key_end))]
-fn key_end() -> &'static str
-    ensures { result.now ≡ key_end }
-{
-    "\" [\n"
-}
-
-#[tactic(auto, unfolding(crate::specs::NushellScript::block_end))]
-fn block_end() -> &'static str
-    ensures { result.now ≡ block_end }
-{
-    "  ]\n\n"
+    Frame {
+        head: TextRef::new("module completions {\n\n"),
+        named: None,
+        key_begin: TextRef::new("  export extern \""),
+        key_end: TextRef::new("\" [\n"),
+        table_end: TextRef::new("  ]\n\n"),
+        separator: TextRef::new(" "),
+        tail: TextRef::new("}\n\nexport use completions *\n"),
+    }
 }
 
 // The beginning of a line, with the dashes of a name of this kind.
@@ -71,13 +48,6 @@ fn line_begin(kind: Kind) -> &'static str
         Kind::Long => "    --",
         Kind::Subcommand => "    ",
     }
-}
-
-#[tactic(auto, unfolding(crate::specs::NushellScript::help_begin))]
-fn help_begin() -> &'static str
-    ensures { result.now ≡ help_begin }
-{
-    " # "
 }
 
 // What stands after a name.
@@ -119,100 +89,33 @@ impl Generator for Nushell {
         sink: &mut W,
     ) -> Result<(), Error> {
         let flat = Flat::new(alloc, command)?;
-        write_script(alloc, &flat, sink)
+        write_tables(alloc, &flat, &frame(), self, sink)
     }
 }
 
-// Writes the script of the tree that the list holds.
-#[tactic(auto, using(crate::proofs::NushellTexts::blocks_of_visits), unfolding(crate::specs::NushellScript::script_text))]
-fn write_script<W: Sink>(alloc: Global, flat: &Flat<'_>, sink: &mut W) -> Result<(), Error>
-    requires { 0 < length flat.now }
-    ensures { Writes W.taken W.failed result sink.old sink.new
-        (nushell_script (tree_at flat.now 0)) }
-{
-    let keys = Joined { separator: " " };
-    let visits = TableVisits::new(alloc, flat, full_name(flat.command(0)), &keys)?;
-    write_frame(alloc, visits, sink)
-}
+impl TableRows for Nushell {
+    ghost use Rattle.cc_tables.specs.NushellScript.{Line, line_text, node_lines};
 
-// Writes the frame, and in it a block for each visit.
-fn write_frame<W: Sink>(
-    alloc: Global,
-    visits: TableVisits<'_, '_, Joined<'_>>,
-    sink: &mut W,
-) -> Result<(), Error>
-    ensures { Writes W.taken W.failed result sink.old sink.new
-        (head ++ flat_map (λ visit. node_text visit.key visit.tree) visits.entry ++ tail) }
-{
-    put_all(sink, head().as_bytes())?;
-    write_blocks(alloc, visits, sink)?;
-    put_all(sink, tail().as_bytes())
-}
+    ghost Row = { Line };
 
-// Writes a block for each visit that is left.
-fn write_blocks<W: Sink>(
-    alloc: Global,
-    mut visits: TableVisits<'_, '_, Joined<'_>>,
-    sink: &mut W,
-) -> Result<(), Error>
-    ensures { Writes W.taken W.failed result sink.old sink.new
-        (flat_map (λ visit. node_text visit.key visit.tree) visits.entry) }
-{
-    while let Some(visit) = visits.next(alloc)? {
-        write_block(visit.key.as_str(), visit.command, sink)?;
+    ghost rows = { λ _. node_lines };
+
+    ghost text = { λ _. line_text };
+
+    #[tactic(auto, using(crate::proofs::NushellTexts::lines_of_node))]
+    fn write_rows<W: Sink>(&self, command: &Command, sink: &mut W) -> Result<(), ErrorKind> {
+        write_lines(command, sink)
     }
-    Ok(())
-}
-
-// Writes the block of a node.
-#[tactic(auto, unfolding(crate::specs::NushellScript::node_text, crate::specs::NushellScript::block_text))]
-fn write_block<W: Sink>(key: &str, command: &Command, sink: &mut W) -> Result<(), Error>
-    ensures { Writes W.taken W.failed result sink.old sink.new (node_text key.now command.now) }
-{
-    write_key(key, sink)?;
-    write_lines(command, sink)?;
-    put_all(sink, block_end().as_bytes())
-}
-
-// Writes the beginning of a block.
-#[tactic(auto, unfolding(crate::specs::NushellScript::key_text))]
-fn write_key<W: Sink>(key: &str, sink: &mut W) -> Result<(), Error>
-    ensures { Writes W.taken W.failed result sink.old sink.new (key_text key.now) }
-{
-    as_error(put_around(block_begin(), key, key_end(), sink))
-}
-
-// Writes the lines of a block.
-#[tactic(auto, using(crate::proofs::NushellTexts::lines_of_node))]
-fn write_lines<W: Sink>(command: &Command, sink: &mut W) -> Result<(), Error>
-    ensures { Writes W.taken W.failed result sink.old sink.new
-        (flat_map line_text (node_lines command.now)) }
-{
-    write_argument_lines(command, sink)
 }
 
 // Writes the lines of the options, then those of the flags.
-fn write_argument_lines<W: Sink>(command: &Command, sink: &mut W) -> Result<(), Error>
-    ensures { Writes W.taken W.failed result sink.old sink.new
+fn write_lines<W: Sink>(command: &Command, sink: &mut W) -> Result<(), ErrorKind>
+    ensures { Writes W.taken W.failed (as_write result) sink.old sink.new
         (flat_map (offer_text true) (flat_map argument_offers (options command.now.node))
         ++ flat_map (offer_text false) (flat_map argument_offers (flags command.now.node))) }
 {
-    write_option_lines(command, sink)?;
-    write_flag_lines(command, sink)
-}
-
-fn write_option_lines<W: Sink>(command: &Command, sink: &mut W) -> Result<(), Error>
-    ensures { Writes W.taken W.failed result sink.old sink.new
-        (flat_map (offer_text true) (flat_map argument_offers (options command.now.node))) }
-{
-    as_error(write_options(&Lines { takes_value: true }, command, sink))
-}
-
-fn write_flag_lines<W: Sink>(command: &Command, sink: &mut W) -> Result<(), Error>
-    ensures { Writes W.taken W.failed result sink.old sink.new
-        (flat_map (offer_text false) (flat_map argument_offers (flags command.now.node))) }
-{
-    as_error(write_flags(&Lines { takes_value: false }, command, sink))
+    write_options(&Lines { takes_value: true }, command, sink)?;
+    write_flags(&Lines { takes_value: false }, command, sink)
 }
 
 // The lines of options, which take a value, or of flags.
@@ -237,14 +140,14 @@ impl Rows for Lines {
 }
 
 // Writes the help where there is one.
-#[tactic(auto, unfolding(crate::specs::NushellScript::help_text))]
+#[tactic(auto, unfolding(crate::specs::NushellScript::help_text, crate::specs::NushellScript::help_begin))]
 fn write_help<W: Sink>(offer: &Offer<'_>, sink: &mut W) -> Result<(), ErrorKind>
     ensures { Writes W.taken W.failed (as_write result) sink.old sink.new
         (help_text offer.now.description) }
 {
     match &offer.description {
         Some(help) => {
-            put_piece(sink, help_begin().as_bytes())?;
+            put_piece(sink, " # ".as_bytes())?;
             put_escaped_piece(&OneLine, help.as_str(), sink)
         }
         None => Ok(()),

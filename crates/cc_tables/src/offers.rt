@@ -4,12 +4,12 @@ ghost use Rattle.std.specs.Prelude.{◌≡◌, ◌++◌, List, ℕ, flat_map, co
 ghost use Rattle.std.specs.Option.{option_copied};
 ghost use Rattle.cc_base.specs.Writes.{Writes, as_write};
 ghost use Rattle.cc_tables.specs.Offers.{argument_offer, argument_offers, child_offer};
-ghost use Rattle.cc_tables.specs.Offers.{child_offers, children_offers, node_offers};
-ghost use Rattle.cc_tables.specs.Offers.{short_offer};
+ghost use Rattle.cc_tables.specs.Offers.{child_offers, children_offers, short_offer};
 ghost use Rattle.cc_command.specs.ArgumentLists.{flags, options};
 ghost use Rattle.cc_command.specs.Names.{visible_names};
 ghost use Rattle.cc_command.specs.Tree.{forest_of};
 
+use crate::tables::TableRows;
 use cc_arg::{Arg, ShownName, shown_names};
 use cc_base::{Sink, TextRef};
 use cc_command::Command;
@@ -56,19 +56,23 @@ pub trait Rows {
             (row_text self.now offer.now) };
 }
 
-/// Writes the rows at a node: of its options, of its flags and of its children.
-#[tactic(auto, unfolding(crate::specs::Offers::node_offers))]
-pub fn write_rows<R: Rows, W: Sink>(
-    rows: &R,
-    command: &Command,
-    sink: &mut W,
-) -> Result<(), ErrorKind>
-    ensures { Writes W.taken W.failed (as_write result) sink.old sink.new
-        (flat_map (R.row_text rows.now) (node_offers command.now)) }
-{
-    write_options(rows, command, sink)?;
-    write_flags(rows, command, sink)?;
-    write_children(rows, command.get_subcommands(), sink)
+// The rows of a table are the offers at a node: of its options, of its flags and of its children.
+impl<R: Rows> TableRows for R {
+    ghost use Rattle.cc_tables.specs.Offers.{node_offers};
+    ghost use Rattle.cc_tables.specs.declared.offers.Offer.{Offer};
+
+    ghost Row = { Offer };
+
+    ghost rows = { λ _. node_offers };
+
+    ghost text = { R.row_text };
+
+    #[tactic(auto, unfolding(crate::specs::Offers::node_offers))]
+    fn write_rows<W: Sink>(&self, command: &Command, sink: &mut W) -> Result<(), ErrorKind> {
+        write_options(self, command, sink)?;
+        write_flags(self, command, sink)?;
+        write_children(self, command.get_subcommands(), sink)
+    }
 }
 
 /// Writes the rows of the options.

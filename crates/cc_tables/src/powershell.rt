@@ -1,60 +1,42 @@
 //! The PowerShell script: a frame, and in it a table for each visible path.
 
-ghost use Rattle.std.specs.Prelude.{◌≡◌, ◌++◌, ◌<◌, None, codes, flat_map, length, map, IfOk};
-ghost use Rattle.std.specs.Prelude.{IfErr, OnOk};
-ghost use Rattle.std.specs.Option.{option_copied};
+ghost use Rattle.std.specs.Prelude.{◌≡◌, ◌++◌, codes, IfOk, IfErr, OnOk};
 ghost use Rattle.std.specs.String.{string_bytes};
 ghost use Rattle.cc_base.specs.Writes.{Writes, as_write};
-ghost use Rattle.cc_flat.specs.Flat.{tree_at};
-ghost use Rattle.cc_tables.specs.PowershellScript.{capital_space, command, completions};
-ghost use Rattle.cc_tables.specs.PowershellScript.{head, head_text, key_end};
-ghost use Rattle.cc_tables.specs.PowershellScript.{key_text, kind_begin, kind_text, list_begin};
-ghost use Rattle.cc_tables.specs.PowershellScript.{node_text, offer_row, powershell_script};
-ghost use Rattle.cc_tables.specs.PowershellScript.{result_kind, row_begin, row_end, row_text};
-ghost use Rattle.cc_tables.specs.PowershellScript.{table_begin, table_end, table_text, tail};
-ghost use Rattle.cc_tables.specs.PowershellScript.{text_begin};
-ghost use Rattle.cc_tables.specs.Offers.{dashes, node_offers, word};
+ghost use Rattle.cc_tables.specs.PowershellScript.{capital_space, kind_begin, kind_text};
+ghost use Rattle.cc_tables.specs.PowershellScript.{list_begin, offer_row, powershell_frame};
+ghost use Rattle.cc_tables.specs.PowershellScript.{result_kind, row_begin, text_begin};
+ghost use Rattle.cc_tables.specs.Offers.{dashes, word};
 
-use crate::offers::{Kind, Offer, Rows, write_rows};
-use cc_base::{Error, Sink, as_error, put_all, put_around, put_piece, put_pieces};
-use cc_command::{Command, full_name};
+use crate::offers::{Kind, Offer, Rows};
+use crate::tables::{Frame, Named, write_tables};
+use cc_base::{Error, Sink, TextRef, put_around, put_piece};
+use cc_command::Command;
 use cc_flat::Flat;
 use cc_lists::Generator;
 use cc_quote::{PowershellEscape, put_escaped_piece};
-use cc_visits::{Joined, TableVisits};
 use std::alloc::Global;
 use std::io::ErrorKind;
 
 // ---- the fixed texts
 
-#[tactic(auto, unfolding(crate::specs::PowershellScript::head))]
-fn head() -> &'static str
-    ensures { result.now ≡ head }
+// The frame, and what stands around a key and the rows of a table.
+#[tactic(auto, unfolding(crate::specs::PowershellScript::powershell_frame, crate::specs::PowershellScript::powershell_named))]
+fn frame() -> Frame<'static>
+    ensures { result ≡ powershell_frame }
 {
-    "
+    let head = "
 using namespace System.Management.Automation
 using namespace System.Management.Automation.Language
 
-Register-ArgumentCompleter -Native -CommandName '"
-}
-
-#[tactic(auto, unfolding(crate::specs::PowershellScript::command))]
-fn command() -> &'static str
-    ensures { result.now ≡ command }
-{
-    "' -ScriptBlock {
+Register-ArgumentCompleter -Native -CommandName '";
+    let between = "' -ScriptBlock {
     param($wordToComplete, $commandAst, $cursorPosition)
 
     $commandElements = $commandAst.CommandElements
     $command = @(
-        '"
-}
-
-#[tactic(auto, unfolding(crate::specs::PowershellScript::completions))]
-fn completions() -> &'static str
-    ensures { result.now ≡ completions }
-{
-    "'
+        '";
+    let completions = "'
         for ($i = 1; $i -lt $commandElements.Count; $i++) {
             $element = $commandElements[$i]
             if ($element -isnot [StringConstantExpressionAst] -or
@@ -66,41 +48,26 @@ fn completions() -> &'static str
         $element.Value
     }) -join ';'
 
-    $completions = @(switch ($command) {"
-}
-
-#[tactic(auto, unfolding(crate::specs::PowershellScript::tail))]
-fn tail() -> &'static str
-    ensures { result.now ≡ tail }
-{
-    "
+    $completions = @(switch ($command) {";
+    let tail = "
     })
 
     $completions.Where{ $_.CompletionText -like \"$wordToComplete*\" } |
         Sort-Object -Property ListItemText
 }
-"
-}
-
-#[tactic(auto, unfolding(crate::specs::PowershellScript::table_begin))]
-fn table_begin() -> &'static str
-    ensures { result.now ≡ table_begin }
-{
-    "\n        '"
-}
-
-#[tactic(auto, unfolding(crate::specs::PowershellScript::key_end))]
-fn key_end() -> &'static str
-    ensures { result.now ≡ key_end }
-{
-    "' {"
-}
-
-#[tactic(auto, unfolding(crate::specs::PowershellScript::table_end))]
-fn table_end() -> &'static str
-    ensures { result.now ≡ table_end }
-{
-    "\n            break\n        }"
+";
+    Frame {
+        head: TextRef::new(head),
+        named: Some(Named {
+            between: TextRef::new(between),
+            completions: TextRef::new(completions),
+        }),
+        key_begin: TextRef::new("\n        '"),
+        key_end: TextRef::new("' {"),
+        table_end: TextRef::new("\n            break\n        }"),
+        separator: TextRef::new(";"),
+        tail: TextRef::new(tail),
+    }
 }
 
 // The beginning of a row, with the dashes of a name of this kind.
@@ -143,13 +110,6 @@ fn details_begin(kind: Kind, name: &str) -> &'static str
     }
 }
 
-#[tactic(auto, unfolding(crate::specs::PowershellScript::row_end))]
-fn row_end() -> &'static str
-    ensures { result.now ≡ row_end }
-{
-    "')"
-}
-
 /// Writes PowerShell scripts.
 #[derive(Clone, Copy, PartialEq, Eq, Debug)]
 pub struct PowerShell;
@@ -182,90 +142,8 @@ impl Generator for PowerShell {
         sink: &mut W,
     ) -> Result<(), Error> {
         let flat = Flat::new(alloc, command)?;
-        write_script(alloc, &flat, sink)
+        write_tables(alloc, &flat, &frame(), self, sink)
     }
-}
-
-// Writes the script of the tree that the list holds.
-#[tactic(auto, using(crate::proofs::PowershellTexts::tables_of_visits), unfolding(crate::specs::PowershellScript::script_text))]
-fn write_script<W: Sink>(alloc: Global, flat: &Flat<'_>, sink: &mut W) -> Result<(), Error>
-    requires { 0 < length flat.now }
-    ensures { Writes W.taken W.failed result sink.old sink.new
-        (powershell_script (tree_at flat.now 0)) }
-{
-    let bin_name = full_name(flat.command(0));
-    let keys = Joined { separator: ";" };
-    let visits = TableVisits::new(alloc, flat, bin_name, &keys)?;
-    write_frame(alloc, bin_name, visits, sink)
-}
-
-// Writes the frame, and in it a table for each visit.
-fn write_frame<W: Sink>(
-    alloc: Global,
-    bin_name: &str,
-    visits: TableVisits<'_, '_, Joined<'_>>,
-    sink: &mut W,
-) -> Result<(), Error>
-    ensures { Writes W.taken W.failed result sink.old sink.new (head_text bin_name.now
-        ++ flat_map (λ visit. node_text visit.key visit.tree) visits.entry ++ tail) }
-{
-    write_head(bin_name, sink)?;
-    write_tables(alloc, visits, sink)?;
-    put_all(sink, tail().as_bytes())
-}
-
-// Writes the frame up to the tables.
-#[tactic(auto, unfolding(crate::specs::PowershellScript::head_text))]
-fn write_head<W: Sink>(bin_name: &str, sink: &mut W) -> Result<(), Error>
-    ensures { Writes W.taken W.failed result sink.old sink.new (head_text bin_name.now) }
-{
-    put_all(sink, head().as_bytes())?;
-    put_all(sink, bin_name.as_bytes())?;
-    put_all(sink, command().as_bytes())?;
-    put_all(sink, bin_name.as_bytes())?;
-    put_all(sink, completions().as_bytes())
-}
-
-// Writes a table for each visit that is left.
-fn write_tables<W: Sink>(
-    alloc: Global,
-    mut visits: TableVisits<'_, '_, Joined<'_>>,
-    sink: &mut W,
-) -> Result<(), Error>
-    ensures { Writes W.taken W.failed result sink.old sink.new
-        (flat_map (λ visit. node_text visit.key visit.tree) visits.entry) }
-{
-    while let Some(visit) = visits.next(alloc)? {
-        as_error(write_table(visit.key.as_str(), visit.command, sink))?;
-    }
-    Ok(())
-}
-
-// Writes the table of a node.
-#[tactic(auto, unfolding(crate::specs::PowershellScript::node_text, crate::specs::PowershellScript::table_text))]
-fn write_table<W: Sink>(key: &str, command: &Command, sink: &mut W) -> Result<(), ErrorKind>
-    ensures { Writes W.taken W.failed (as_write result) sink.old sink.new
-        (node_text key.now command.now) }
-{
-    write_key(key, sink)?;
-    write_table_rows(command, sink)?;
-    put_piece(sink, table_end().as_bytes())
-}
-
-#[tactic(auto, using(crate::proofs::PowershellTexts::rows_of_offers))]
-fn write_table_rows<W: Sink>(command: &Command, sink: &mut W) -> Result<(), ErrorKind>
-    ensures { Writes W.taken W.failed (as_write result) sink.old sink.new
-        (flat_map row_text (map offer_row (node_offers command.now))) }
-{
-    write_rows(&PowerShell, command, sink)
-}
-
-// Writes the beginning of a table.
-#[tactic(auto, unfolding(crate::specs::PowershellScript::key_text))]
-fn write_key<W: Sink>(key: &str, sink: &mut W) -> Result<(), ErrorKind>
-    ensures { Writes W.taken W.failed (as_write result) sink.old sink.new (key_text key.now) }
-{
-    put_around(table_begin(), key, key_end(), sink)
 }
 
 impl Rows for PowerShell {
@@ -273,12 +151,12 @@ impl Rows for PowerShell {
 
     ghost row_text = { λ _. offer_text };
 
-    #[tactic(auto, unfolding(crate::specs::PowershellScript::offer_text, crate::specs::PowershellScript::row_text, crate::specs::PowershellScript::words_text, crate::specs::PowershellScript::details_text))]
+    #[tactic(auto, unfolding(crate::specs::PowershellScript::offer_text, crate::specs::PowershellScript::row_text, crate::specs::PowershellScript::words_text, crate::specs::PowershellScript::details_text, crate::specs::PowershellScript::row_end))]
     #[inline(always)]
     fn write_row<W: Sink>(&self, offer: &Offer<'_>, sink: &mut W) -> Result<(), ErrorKind> {
         write_words(offer, sink)?;
         put_escaped_piece(&PowershellEscape, shown_text(offer), sink)?;
-        put_piece(sink, row_end().as_bytes())
+        put_piece(sink, "')".as_bytes())
     }
 }
 
@@ -291,36 +169,9 @@ fn write_words<W: Sink>(offer: &Offer<'_>, sink: &mut W) -> Result<(), ErrorKind
         ++ kind_text (result_kind offer.now.kind) ++ text_begin)) }
 {
     let name = offer.name.as_str();
-    put_words(
-        row_begin(offer.kind),
-        name,
-        list_begin(offer.kind),
-        details_begin(offer.kind, name),
-        sink,
-    )
-}
-
-#[inline(always)]
-fn put_words<'a, W: Sink>(
-    before: &'a str,
-    name: &'a str,
-    between: &'a str,
-    after: &'a str,
-    sink: &mut W,
-) -> Result<(), ErrorKind>
-    ensures { Writes W.taken W.failed (as_write result) sink.old sink.new
-        (before.now ++ name.now ++ between.now ++ name.now ++ after.now) }
-{
-    put_pieces(
-        sink,
-        &[
-            before.as_bytes(),
-            name.as_bytes(),
-            between.as_bytes(),
-            name.as_bytes(),
-            after.as_bytes(),
-        ],
-    )
+    put_around(row_begin(offer.kind), name, list_begin(offer.kind), sink)?;
+    put_piece(sink, name.as_bytes())?;
+    put_piece(sink, details_begin(offer.kind, name).as_bytes())
 }
 
 // The help or the about where there is one and it is not empty.

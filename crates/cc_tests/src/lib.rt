@@ -1,8 +1,10 @@
 //! Tests of the library as programs use it: sinks that take little or fail, files, the shells as
-//! values, and the callers of `cc_caller`. The tests of what each script holds stand in
-//! `cc_script_tests`, and those that know no shell in `cc_core_tests`.
+//! values, the calls of `cc_agreement`, and the callers of `cc_caller`. The tests of what each
+//! script holds stand in `cc_script_tests`, and those that know no shell in `cc_core_tests`.
 #![tactic(auto)]
 
+#[cfg(test)]
+mod agreement;
 #[cfg(test)]
 mod caller;
 #[cfg(test)]

@@ -86,6 +86,12 @@ fn has_the_hash_of_its_copy(rt: &impl Abort, alloc: Global, shell: Shell) {
 }
 
 #[test]
+fn shells_that_differ_are_not_equal(rt: HostRuntime) {
+    assert!(rt; Shell::Bash != Shell::Zsh);
+    assert!(rt; Shell::Elvish != Shell::Nushell);
+}
+
+#[test]
 fn equal_shells_have_equal_hashes(rt: HostRuntime) {
     for shell in Shell::value_variants() {
         has_the_hash_of_its_copy(&rt, rt.alloc(), *shell);

@@ -4,8 +4,9 @@ use Rattle.std.specs.Cmp.Lexicographic.{slice_cmp}
 use Rattle.std.specs.Ordering.{match_ordering}
 use Rattle.serde_json.specs.Data.{Data, null, boolean, number, string, array, object, Items, Members, member, no_members, depth, items_depth, members_depth}
 use Rattle.serde_json.specs.Find.{as_array, get, get_member}
-use Rattle.serde_json.specs.View.{items_view, view}
-use Rattle.serde_json.specs.declared.value.Value.{Value}
+use Rattle.cc_json.specs.Seen.{items_view, view}
+use Rattle.json.specs.declared.value.Value.{Value}
+use Rattle.std.specs.declared.alloc.Global.{Global}
 
 abbrev depth_found : Option Data → ℕ
 depth_found None = 0
@@ -38,7 +39,7 @@ abbrev items_depth_found : Option Items → ℕ
 items_depth_found None = 0
 items_depth_found (Some ds) = items_depth ds
 
-item_within : (vs : List Value) (k : ℕ) (d : Value) → k < length vs
+item_within : (vs : List (Value Global)) (k : ℕ) (d : Value Global) → k < length vs
     → depth (view (get_or vs k d)) ≤ items_depth (items_view vs)
 item_within [] k d h = absurd (omega arith)
 item_within (v ∷ vs) zero d h = omega arith
@@ -54,7 +55,7 @@ list_is_flatter (array es) ds h =
 list_is_flatter (object ms) ds h = cc
 
 -- an item of a list nests less deep than the list
-pub item_is_flatter : (list : Data) (vs : List Value) (k : ℕ) (d : Value)
+pub item_is_flatter : (list : Data) (vs : List (Value Global)) (k : ℕ) (d : Value Global)
     → as_array list ≡ Some (items_view vs) → k < length vs → depth (view (get_or vs k d)) < depth list
 item_is_flatter list vs k d is h =
     omega (arith, item_within vs k d h, list_is_flatter list (items_view vs) is)

@@ -1,20 +1,17 @@
 -- How the readers of a tree file meet its form.
-use Rattle.std.proofs.Common.{◌≡◌, ◌∙◌, ◌<◌, ◌≤◌, ◌+◌, ◌++◌, ℕ, List, [], ◌∷◌, Bool, Option, Some, None, ap, ap₂, sym, refl, ◌&&◌, ◌||◌}
+use Rattle.std.proofs.Common.{◌≡◌, ◌∙◌, ◌<◌, ◌≤◌, ◌+◌, ◌++◌, ℕ, List, [], ◌∷◌, Option, Some, None, ap, sym, refl}
 use Rattle.std.proofs.Common.{length, map, take, drop, get_or, option_map, arith}
 use Rattle.std.specs.Prelude.{option_and_then, encode_utf8, Err, String, string_bytes, suc}
-use Rattle.std.specs.Borrow.{Bor}
 use Rattle.std.specs.declared.alloc.Global.{Global}
-use Rattle.std.specs.List.{list_all, list_any}
-use Rattle.std.specs.Map.{keys_of}
-use Rattle.std.specs.Str.{IsUtf8, bytes_eq, chars}
+use Rattle.std.specs.Str.{IsUtf8, chars}
 use Rattle.std.proofs.lemmas.List.{map-append, take_more, take-append-drop}
 use Rattle.std.proofs.lemmas.Str.{IsUtf8-past_char, chars_past_char, chars-nil}
 use Rattle.std.proofs.Math.Seq.{drop-cons}
 use Rattle.serde_json.specs.Data.{Data}
 use Rattle.serde_json.specs.Find.{as_str}
-use Rattle.serde_json.specs.View.{items_view, members_view, view}
-use Rattle.serde_json.specs.declared.value.Value.{Value}
-use Rattle.cc_tree_file.specs.TreeForm.{Gives, all_of, is_one_of, keys_in, only, pair_of}
+use Rattle.cc_json.specs.Seen.{items_view, view}
+use Rattle.json.specs.declared.value.Value.{Value}
+use Rattle.cc_tree_file.specs.TreeForm.{Gives, all_of, only, pair_of}
 use Rattle.cc_tree_file.specs.declared.error.TreeError.{TreeError}
 use Rattle.cc_tree_file.specs.declared.error.TreeError.TheVariants.{BadForm, Memory, NotJson}
 
@@ -43,7 +40,7 @@ both_step (Some x) None b = refl
 both_step (Some x) (Some xs) None = refl
 both_step (Some x) (Some xs) (Some ys) = refl
 
-all_of-append : {X : Type 0} (read : Data → Option X) (vs ws : List Value)
+all_of-append : {X : Type 0} (read : Data → Option X) (vs ws : List (Value Global))
     → all_of read (items_view (vs ++ ws))
     ≡ both (all_of read (items_view vs)) (all_of read (items_view ws))
 all_of-append read [] ws = sym (same_option _)
@@ -53,7 +50,7 @@ all_of-append read (v ∷ vs) ws =
     ∙ both_step (read (view v)) (all_of read (items_view vs)) (all_of read (items_view ws))
 
 -- one more item has the form
-pub all_of_next : {X : Type 0} (read : Data → Option X) (vs : List Value) (k : ℕ) (d : Value)
+pub all_of_next : {X : Type 0} (read : Data → Option X) (vs : List (Value Global)) (k : ℕ) (d : Value Global)
     (xs : List X) (x : X) → k < length vs → all_of read (items_view (take k vs)) ≡ Some xs
     → read (view (get_or vs k d)) ≡ Some x
     → all_of read (items_view (take (k + 1) vs)) ≡ Some (xs ++ x ∷ [])
@@ -63,7 +60,7 @@ all_of_next read vs k d xs x h before here =
     ∙ rw (before, here) refl
 
 -- an item that hasn't the form leaves the list without it
-pub all_of_stops : {X : Type 0} (read : Data → Option X) (vs : List Value) (k : ℕ) (d : Value)
+pub all_of_stops : {X : Type 0} (read : Data → Option X) (vs : List (Value Global)) (k : ℕ) (d : Value Global)
     (xs : List X) → k < length vs → all_of read (items_view (take k vs)) ≡ Some xs
     → read (view (get_or vs k d)) ≡ None → all_of read (items_view vs) ≡ None
 all_of_stops read vs k d xs h before here =
@@ -73,7 +70,7 @@ all_of_stops read vs k d xs h before here =
     ∙ rw (before, here) refl
 
 -- a list of texts grows by one
-pub texts_next : (vs : List Value) (k : ℕ) (d : Value) (texts : List (String Global))
+pub texts_next : (vs : List (Value Global)) (k : ℕ) (d : Value Global) (texts : List (String Global))
     (text : String Global) → k < length vs
     → all_of as_str (items_view (take k vs)) ≡ Some (map string_bytes texts)
     → as_str (view (get_or vs k d)) ≡ Some (string_bytes text)
@@ -83,12 +80,12 @@ texts_next vs k d texts text h before here =
     ∙ ap Some (sym (map-append string_bytes texts (text ∷ [])))
 
 -- a list that isn't of two items is no range
-pub no_pair_below : (vs : List Value) → length vs < 2 → pair_of (items_view vs) ≡ None
+pub no_pair_below : (vs : List (Value Global)) → length vs < 2 → pair_of (items_view vs) ≡ None
 no_pair_below [] h = refl
 no_pair_below (v ∷ []) h = refl
 no_pair_below (v ∷ w ∷ vs) h = absurd (omega arith)
 
-pub no_pair_above : (vs : List Value) → 3 ≤ length vs → pair_of (items_view vs) ≡ None
+pub no_pair_above : (vs : List (Value Global)) → 3 ≤ length vs → pair_of (items_view vs) ≡ None
 no_pair_above [] h = absurd (omega arith)
 no_pair_above (v ∷ []) h = absurd (omega arith)
 no_pair_above (v ∷ w ∷ []) h = absurd (omega arith)
@@ -109,20 +106,3 @@ pub not_only_one : (text rest more : List ℕ) (c d : ℕ) → IsUtf8 text → t
 not_only_one text rest more c d utf8 e f =
     sym (ap only (chars_past_char text rest c utf8 e
     ∙ ap (λ cs. c ∷ cs) (chars_past_char rest more d (IsUtf8-past_char text rest c utf8 e) f)))
-
--- ---- keys
-
--- a test over a mapped list
-list_any-map : {X Y : Type 0} (p : Y → Bool) (f : X → Y) (xs : List X)
-    → list_any (λ x. p (f x)) xs ≡ list_any p (map f xs)
-list_any-map p f [] = refl
-list_any-map p f (x ∷ xs) = ap (λ b. p (f x) || b) (list_any-map p f xs)
-
--- what the loop over the keys asks of each is what the form asks
-pub keys_pass : (keys : List (Bor (List ℕ))) (es : List (String Global × Value))
-    → list_all (λ key. list_any (λ known. bytes_eq known.now (string_bytes key)) keys) (keys_of es)
-    ≡ list_all (is_one_of (map (λ key. key.now) keys)) (keys_in (members_view es))
-keys_pass keys [] = refl
-keys_pass keys (e ∷ es) = ap₂ (λ a b. a && b)
-    (list_any-map (λ known. bytes_eq known (string_bytes e.0)) (λ (key : Bor (List ℕ)). key.now) keys)
-    (keys_pass keys es)

@@ -4,8 +4,9 @@ use Rattle.serde_json.specs.Data.{Data}
 use Rattle.serde_json.specs.Find.{as_bool, as_str, get}
 use Rattle.cc_arg.specs.Arguments.{new_arg}
 use Rattle.cc_arg.specs.declared.arg.Arg.{Arg}
+use Rattle.cc_json.specs.Keys.{has_only}
 use Rattle.cc_tree_file.specs.PossibleValueForm.{possible_values_of}
-use Rattle.cc_tree_file.specs.TreeForm.{◌>>=◌, action_of, character_of, characters_of, has_only}
+use Rattle.cc_tree_file.specs.TreeForm.{◌>>=◌, action_of, character_of, characters_of}
 use Rattle.cc_tree_file.specs.TreeForm.{hint_of, number_of, range_of, texts_of, with_key}
 
 -- the keys that an argument may have

@@ -8,8 +8,9 @@ use Rattle.serde_json.specs.Find.{as_array, as_bool, as_str, get}
 use Rattle.cc_arg.specs.declared.arg.Arg.{Arg}
 use Rattle.cc_command.specs.Made.{new_tree, with_argument, with_child, with_root}
 use Rattle.cc_command.specs.Tree.{Tree}
+use Rattle.cc_json.specs.Keys.{has_only}
 use Rattle.cc_tree_file.specs.ArgumentForm.{argument_of}
-use Rattle.cc_tree_file.specs.TreeForm.{◌>>=◌, all_of, has_only, number_of, texts_of, with_key}
+use Rattle.cc_tree_file.specs.TreeForm.{◌>>=◌, all_of, number_of, texts_of, with_key}
 
 -- the keys that a command may have
 unfoldable pub command_keys : List (List ℕ)

@@ -4,7 +4,8 @@ use Rattle.serde_json.specs.Data.{Data}
 use Rattle.serde_json.specs.Find.{as_array, as_bool, as_str, get}
 use Rattle.cc_arg.specs.PossibleValues.{new_possible_value}
 use Rattle.cc_arg.specs.declared.possible_value.PossibleValue.{PossibleValue}
-use Rattle.cc_tree_file.specs.TreeForm.{◌>>=◌, all_of, has_only, with_key}
+use Rattle.cc_json.specs.Keys.{has_only}
+use Rattle.cc_tree_file.specs.TreeForm.{◌>>=◌, all_of, with_key}
 
 -- the keys that a possible value may have
 unfoldable pub value_keys : List (List ℕ)

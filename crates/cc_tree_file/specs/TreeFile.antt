@@ -1,10 +1,11 @@
 -- What the bytes of a tree file are read as.
 use Rattle.std.specs.Prelude.{◌≡◌, ⊤, ℕ, List, Option, None, Some, Result, Ok, Err}
 use Rattle.std.specs.Str.{IsUtf8}
+use Rattle.std.specs.declared.alloc.Global.{Global}
+use Rattle.json.specs.declared.value.Value.{Value}
 use Rattle.serde_json.specs.Data.{Data}
 use Rattle.serde_json.specs.Read.{read}
-use Rattle.serde_json.specs.View.{view}
-use Rattle.serde_json.specs.declared.value.Value.{Value}
+use Rattle.cc_json.specs.Seen.{view}
 use Rattle.cc_command.specs.Tree.{Tree}
 use Rattle.cc_tree_file.specs.CommandForm.{command_of}
 use Rattle.cc_tree_file.specs.declared.error.TreeError.{TreeError}
@@ -20,11 +21,11 @@ SpellsNone bytes = IsUtf8 bytes → read bytes ≡ None
 
 -- reading bytes as JSON returns the value that they spell, and fails with `NotJson` where they spell none;
 -- it may be out of memory
-abbrev pub ReadsJson : List ℕ → Result Value TreeError → Type 0
-ReadsJson bytes (Ok value) = Spells bytes (view value)
-ReadsJson bytes (Err NotJson) = SpellsNone bytes
-ReadsJson bytes (Err BadForm) = ⊥
-ReadsJson bytes (Err Memory) = ⊤
+abbrev pub ReadsValue : List ℕ → Result (Value Global) TreeError → Type 0
+ReadsValue bytes (Ok value) = Spells bytes (view value)
+ReadsValue bytes (Err NotJson) = SpellsNone bytes
+ReadsValue bytes (Err BadForm) = ⊥
+ReadsValue bytes (Err Memory) = ⊤
 
 -- the bytes spell JSON, which describes this command, or none
 abbrev pub Describes : List ℕ → Option Tree → Type 0

@@ -1,13 +1,11 @@
 -- The form of a tree file: what each kind of value is read as.
-use Rattle.std.specs.Prelude.{◌≡◌, ◌&&◌, ⊤, ◌-◌, ◌^◌, ℕ, Bool, false, List, [], ◌∷◌, Option, Some, None}
+use Rattle.std.specs.Prelude.{◌≡◌, ◌&&◌, ⊤, ◌-◌, ◌^◌, ℕ, List, [], ◌∷◌, Option, Some, None}
 use Rattle.std.specs.Prelude.{Result, Ok, Err, if◌then◌else◌, nat_le, codes}
 use Rattle.std.specs.Prelude.{option_and_then, option_map}
-use Rattle.std.specs.List.{list_all, list_any}
-use Rattle.std.specs.Option.{option_map_or}
 use Rattle.std.specs.Str.{bytes_eq, chars}
 use Rattle.serde_json.specs.Data.{Data, null, boolean, number, string, array, object, Items, item}
-use Rattle.serde_json.specs.Data.{no_items, Members, member, no_members}
-use Rattle.serde_json.specs.Find.{as_array, as_number, as_object, as_str, as_u64, get}
+use Rattle.serde_json.specs.Data.{no_items}
+use Rattle.serde_json.specs.Find.{as_array, as_number, as_str, as_u64, get}
 use Rattle.cc_arg.specs.declared.action.ArgAction.{ArgAction}
 use Rattle.cc_arg.specs.declared.action.ArgAction.TheVariants.{Set, Append, SetTrue, SetFalse}
 use Rattle.cc_arg.specs.declared.action.ArgAction.TheVariants.{Count, Help, HelpShort, HelpLong}
@@ -124,19 +122,6 @@ hint_of name = if bytes_eq name (codes "Unknown") then Some Unknown
     else if bytes_eq name (codes "Url") then Some Url
     else if bytes_eq name (codes "EmailAddress") then Some EmailAddress
     else None
-
--- the keys of some members
-abbrev pub keys_in : Members → List (List ℕ)
-keys_in no_members = []
-keys_in (member key d ms) = key ∷ keys_in ms
-
--- the key is one of these
-abbrev pub is_one_of : List (List ℕ) → List ℕ → Bool
-is_one_of keys key = list_any (λ known. bytes_eq known key) keys
-
--- an object with no key but these
-abbrev pub has_only : List (List ℕ) → Data → Bool
-has_only keys d = option_map_or (λ ms. list_all (is_one_of keys) (keys_in ms)) (as_object d) false
 
 -- what a value sets in a subject: nothing where there is no value; nothing is defined where the value
 -- is of another kind

@@ -7,11 +7,11 @@ mod error;
 mod possible_values;
 mod values;
 
-ghost use Rattle.cc_tree_file.specs.TreeFile.{ReadsJson, ReadsTree};
+ghost use Rattle.cc_tree_file.specs.TreeFile.{ReadsTree, ReadsValue};
 
 pub use crate::error::TreeError;
 use cc_command::Command;
-use serde_json::Value;
+use cc_json::{JsonError, Scratch, Value, read_value};
 use std::alloc::Global;
 
 /// Returns the command that the bytes of a tree file describe. Fails with `NotJson` where the bytes
@@ -19,16 +19,29 @@ use std::alloc::Global;
 pub fn read_tree(alloc: Global, bytes: &[u8]) -> Result<Command, TreeError>
     ensures { ReadsTree bytes.now result }
 {
-    let tree = json(alloc, bytes)?;
+    match std::str::from_utf8(bytes) {
+        Ok(text) => described(alloc, text),
+        Err(_) => Err(TreeError::NotJson),
+    }
+}
+
+// The command that a text describes.
+fn described(alloc: Global, text: &str) -> Result<Command, TreeError>
+    ensures { ReadsTree text.now result }
+{
+    let mut scratch = Scratch::new(alloc);
+    let tree = value(alloc, text, &mut scratch)?;
     commands::command(alloc, &tree)
 }
 
-fn json(alloc: Global, bytes: &[u8]) -> Result<Value, TreeError>
-    ensures { ReadsJson bytes.now result }
+// The value that a text spells. It borrows from the text and, where there are escapes, from
+// `scratch`.
+fn value<'t>(alloc: Global, text: &'t str, scratch: &'t mut Scratch) -> Result<Value<'t>, TreeError>
+    ensures { ReadsValue text.now result }
 {
-    match Value::from_slice(alloc, bytes) {
+    match read_value(alloc, text, scratch) {
         Ok(value) => Ok(value),
-        Err(error) if error.is_memory() => Err(TreeError::Memory),
-        Err(_) => Err(TreeError::NotJson),
+        Err(JsonError::NotJson) => Err(TreeError::NotJson),
+        Err(JsonError::Memory) => Err(TreeError::Memory),
     }
 }

@@ -1,23 +1,24 @@
 //! The possible values of an argument of a tree file.
 
 ghost use Rattle.std.specs.Prelude.{◌≡◌, string_bytes};
-ghost use Rattle.serde_json.specs.View.{view};
+ghost use Rattle.cc_json.specs.Seen.{view};
 ghost use Rattle.cc_tree_file.specs.PossibleValueForm as form;
-ghost use Rattle.cc_tree_file.specs.TreeForm.{Gives, GivesSame, has_only};
+ghost use Rattle.cc_json.specs.Keys.{has_only};
+ghost use Rattle.cc_tree_file.specs.TreeForm.{Gives, GivesSame};
 
 use crate::error::TreeError;
-use crate::values::{boolean, has_only_keys, text};
+use crate::values::{boolean, text};
 use cc_arg::PossibleValue;
-use serde_json::Value;
+use cc_json::{Value, has_only_keys, member};
 use std::alloc::Global;
 
 const KEYS: [&str; 3] = ["name", "help", "hide"];
 
 /// The possible values that a list describes.
-pub fn possible_values(alloc: Global, value: &Value) -> Result<Vec<PossibleValue>, TreeError>
+pub fn possible_values(alloc: Global, value: &Value<'_>) -> Result<Vec<PossibleValue>, TreeError>
     ensures { Gives (λ values. values.items) result (form.possible_values_of (view value.now)) }
 {
-    let items = value.as_array().ok_or(TreeError::BadForm)?;
+    let items = cc_json::items(value).ok_or(TreeError::BadForm)?;
     let mut values = Vec::new(alloc);
     for item in items {
         values.push(possible_value(alloc, item)?)?;
@@ -25,7 +26,7 @@ pub fn possible_values(alloc: Global, value: &Value) -> Result<Vec<PossibleValue
     Ok(values)
 }
 
-fn possible_value(alloc: Global, tree: &Value) -> Result<PossibleValue, TreeError>
+fn possible_value(alloc: Global, tree: &Value<'_>) -> Result<PossibleValue, TreeError>
     ensures { GivesSame result (form.possible_value_of (view tree.now)) }
 {
     let name = name(alloc, tree)?;
@@ -34,35 +35,39 @@ fn possible_value(alloc: Global, tree: &Value) -> Result<PossibleValue, TreeErro
 }
 
 // The name, of an object with no other keys than a possible value's.
-fn name(alloc: Global, tree: &Value) -> Result<String, TreeError>
+fn name(alloc: Global, tree: &Value<'_>) -> Result<String, TreeError>
     ensures { Gives string_bytes result (form.name_of (view tree.now)) }
 {
     if !has_value_keys(tree) {
         return Err(TreeError::BadForm);
     }
-    text(alloc, tree.get("name").ok_or(TreeError::BadForm)?)
+    text(alloc, member(tree, "name").ok_or(TreeError::BadForm)?)
 }
 
 #[tactic(auto, unfolding(crate::specs::PossibleValueForm::value_keys))]
-fn has_value_keys(tree: &Value) -> bool
+fn has_value_keys(tree: &Value<'_>) -> bool
     ensures { result ≡ has_only form.value_keys (view tree.now) }
 {
     has_only_keys(tree, KEYS.as_slice())
 }
 
-fn with_help(alloc: Global, value: PossibleValue, tree: &Value) -> Result<PossibleValue, TreeError>
+fn with_help(
+    alloc: Global,
+    value: PossibleValue,
+    tree: &Value<'_>,
+) -> Result<PossibleValue, TreeError>
     ensures { GivesSame result (form.with_help (view tree.now) value) }
 {
-    match tree.get("help") {
+    match member(tree, "help") {
         Some(help) => Ok(value.help(text(alloc, help)?)),
         None => Ok(value),
     }
 }
 
-fn with_hide(value: PossibleValue, tree: &Value) -> Result<PossibleValue, TreeError>
+fn with_hide(value: PossibleValue, tree: &Value<'_>) -> Result<PossibleValue, TreeError>
     ensures { GivesSame result (form.with_hide (view tree.now) value) }
 {
-    match tree.get("hide") {
+    match member(tree, "hide") {
         Some(hide) => Ok(value.hide(boolean(hide)?)),
         None => Ok(value),
     }

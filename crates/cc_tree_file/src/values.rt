@@ -1,47 +1,45 @@
 //! The kinds of value that a tree file has.
 
 ghost use Rattle.std.specs.Prelude.{◌≡◌, map, option_and_then, string_bytes};
-ghost use Rattle.std.specs.BTreeMap.{keys as the_keys};
-ghost use Rattle.std.specs.List.{list_all, list_any};
-ghost use Rattle.std.specs.Str.{bytes_eq, chars};
+ghost use Rattle.std.specs.Str.{chars};
 ghost use Rattle.serde_json.specs.Find.{as_array, as_bool, as_str};
-ghost use Rattle.serde_json.specs.View.{view};
+ghost use Rattle.cc_json.specs.Seen.{view};
 ghost use Rattle.cc_tree_file.specs.TreeForm.{Gives, GivesSame, action_of, all_of, bound_of, character_of};
-ghost use Rattle.cc_tree_file.specs.TreeForm.{has_only, hint_of, number_of, only, range_of};
+ghost use Rattle.cc_tree_file.specs.TreeForm.{hint_of, number_of, only, range_of};
 
 use crate::error::TreeError;
 use cc_arg::{ArgAction, ValueHint, ValueRange};
-use serde_json::{Map, Value};
+use cc_json::{Value, is_null};
 use std::alloc::Global;
 
 /// A text.
-pub fn text(alloc: Global, value: &Value) -> Result<String, TreeError>
+pub fn text(alloc: Global, value: &Value<'_>) -> Result<String, TreeError>
     ensures { Gives string_bytes result (as_str (view value.now)) }
 {
-    let text = value.as_str().ok_or(TreeError::BadForm)?;
+    let text = cc_json::text(value).ok_or(TreeError::BadForm)?;
     Ok(String::from_str(alloc, text)?)
 }
 
 /// `true` or `false`.
-pub fn boolean(value: &Value) -> Result<bool, TreeError>
+pub fn boolean(value: &Value<'_>) -> Result<bool, TreeError>
     ensures { GivesSame result (as_bool (view value.now)) }
 {
-    value.as_bool().ok_or(TreeError::BadForm)
+    cc_json::boolean(value).ok_or(TreeError::BadForm)
 }
 
 /// A whole number that fits 64 bits.
-pub fn number(value: &Value) -> Result<usize, TreeError>
+pub fn number(value: &Value<'_>) -> Result<usize, TreeError>
     ensures { GivesSame result (number_of (view value.now)) }
 {
-    let number = value.as_u64().ok_or(TreeError::BadForm)?;
+    let number = cc_json::whole_number(value).ok_or(TreeError::BadForm)?;
     Ok(number as usize)
 }
 
 /// A text of one character.
-pub fn character(value: &Value) -> Result<char, TreeError>
+pub fn character(value: &Value<'_>) -> Result<char, TreeError>
     ensures { GivesSame result (character_of (view value.now)) }
 {
-    let text = value.as_str().ok_or(TreeError::BadForm)?;
+    let text = cc_json::text(value).ok_or(TreeError::BadForm)?;
     only_character(text).ok_or(TreeError::BadForm)
 }
 
@@ -58,11 +56,11 @@ fn only_character(text: &str) -> Option<char>
 }
 
 /// A list of texts.
-pub fn texts(alloc: Global, value: &Value) -> Result<Vec<String>, TreeError>
+pub fn texts(alloc: Global, value: &Value<'_>) -> Result<Vec<String>, TreeError>
     ensures { Gives (λ texts. map string_bytes texts.items) result
         (option_and_then (all_of as_str) (as_array (view value.now))) }
 {
-    let items = value.as_array().ok_or(TreeError::BadForm)?;
+    let items = cc_json::items(value).ok_or(TreeError::BadForm)?;
     let mut texts = Vec::new(alloc);
     for item in items {
         texts.push(text(alloc, item)?)?;
@@ -71,11 +69,11 @@ pub fn texts(alloc: Global, value: &Value) -> Result<Vec<String>, TreeError>
 }
 
 /// A list of texts of one character each.
-pub fn characters(alloc: Global, value: &Value) -> Result<Vec<char>, TreeError>
+pub fn characters(alloc: Global, value: &Value<'_>) -> Result<Vec<char>, TreeError>
     ensures { Gives (λ characters. characters.items) result
         (option_and_then (all_of character_of) (as_array (view value.now))) }
 {
-    let items = value.as_array().ok_or(TreeError::BadForm)?;
+    let items = cc_json::items(value).ok_or(TreeError::BadForm)?;
     let mut characters = Vec::new(alloc);
     for item in items {
         characters.push(character(item)?)?;
@@ -84,10 +82,10 @@ pub fn characters(alloc: Global, value: &Value) -> Result<Vec<char>, TreeError>
 }
 
 /// The least and the greatest number of values, where the latter is `null` for no bound.
-pub fn range(value: &Value) -> Result<ValueRange, TreeError>
+pub fn range(value: &Value<'_>) -> Result<ValueRange, TreeError>
     ensures { GivesSame result (range_of (view value.now)) }
 {
-    let items = value.as_array().ok_or(TreeError::BadForm)?;
+    let items = cc_json::items(value).ok_or(TreeError::BadForm)?;
     let [least, greatest] = items.as_slice() else {
         return Err(TreeError::BadForm);
     };
@@ -100,20 +98,20 @@ pub fn range(value: &Value) -> Result<ValueRange, TreeError>
 }
 
 // A number, or `null` for no bound.
-fn bound(value: &Value) -> Result<usize, TreeError>
+fn bound(value: &Value<'_>) -> Result<usize, TreeError>
     ensures { GivesSame result (bound_of (view value.now)) }
 {
-    if value.is_null() {
+    if is_null(value) {
         return Ok(usize::MAX);
     }
     number(value)
 }
 
 /// The name of an action.
-pub fn action(value: &Value) -> Result<ArgAction, TreeError>
+pub fn action(value: &Value<'_>) -> Result<ArgAction, TreeError>
     ensures { GivesSame result (option_and_then action_of (as_str (view value.now))) }
 {
-    match value.as_str().ok_or(TreeError::BadForm)? {
+    match cc_json::text(value).ok_or(TreeError::BadForm)? {
         "Set" => Ok(ArgAction::Set),
         "Append" => Ok(ArgAction::Append),
         "SetTrue" => Ok(ArgAction::SetTrue),
@@ -128,10 +126,10 @@ pub fn action(value: &Value) -> Result<ArgAction, TreeError>
 }
 
 /// The name of a value hint.
-pub fn hint(value: &Value) -> Result<ValueHint, TreeError>
+pub fn hint(value: &Value<'_>) -> Result<ValueHint, TreeError>
     ensures { GivesSame result (option_and_then hint_of (as_str (view value.now))) }
 {
-    match value.as_str().ok_or(TreeError::BadForm)? {
+    match cc_json::text(value).ok_or(TreeError::BadForm)? {
         "Unknown" => Ok(ValueHint::Unknown),
         "Other" => Ok(ValueHint::Other),
         "AnyPath" => Ok(ValueHint::AnyPath),
@@ -147,27 +145,4 @@ pub fn hint(value: &Value) -> Result<ValueHint, TreeError>
         "EmailAddress" => Ok(ValueHint::EmailAddress),
         _ => Err(TreeError::BadForm),
     }
-}
-
-/// Whether the value is an object with no key but these.
-pub fn has_only_keys(value: &Value, keys: &[&str]) -> bool
-    ensures { result ≡ has_only (map (λ key. key.now) keys.now) (view value.now) }
-{
-    match value.as_object() {
-        Some(members) => have_only_keys(members, keys),
-        None => false,
-    }
-}
-
-fn have_only_keys(members: &Map<String, Value>, keys: &[&str]) -> bool
-    ensures { result ≡ list_all (λ key. list_any (λ known. bytes_eq known.now (string_bytes key))
-        keys.now) (the_keys members.now) }
-{
-    members.keys().all(|key| is_among(keys, key.as_str()))
-}
-
-fn is_among(keys: &[&str], key: &str) -> bool
-    ensures { result ≡ list_any (λ known. bytes_eq known.now key.now) keys.now }
-{
-    keys.iter().any(|known| *known == key)
 }

@@ -110,8 +110,8 @@ impl<'f, 'a, K: Keys> PathSteps<'f, 'a, K> {
     }
 
     #[tactic(auto, using(crate::proofs::StepStack::step_enter, crate::proofs::StepStack::step_leave, crate::proofs::StepStack::steps_listed, crate::proofs::StepStack::AreListed_rest, crate::proofs::StepStack::AreListed_push, crate::proofs::StepStack::AreListed_top, crate::proofs::StepStack::AreListed_above, crate::proofs::FromStack::from_stack_none))]
-    /// The next step; `None` where none is left. Fails where memory runs out; what is left is then
-    /// open.
+    /// The next step; `None` where none is left. Fails where memory runs out. What later calls
+    /// return is then open: steps may be missing, or leave a node that was not entered.
     pub fn next(&mut self, alloc: Global) -> Result<Option<PathStep<'a>>, AllocError>
         ensures first { IfOk result
             (λ found. self.old ≡ option_to_list (option_map step_of found) ++ self.new) }

@@ -68,7 +68,6 @@ fn has_found(arguments: &[Arg], ids: &[Text]) -> bool
     false
 }
 
-// Writes the names of those that are found.
 fn write_words<W: Sink>(arguments: &[Arg], ids: &[Text], sink: &mut W) -> Result<(), Error>
     ensures { Writes W.taken W.failed result sink.old sink.new
         (joined (codes " ") (conflict_words (with_ids arguments.now ids.now))) }
@@ -100,7 +99,6 @@ fn write_first<W: Sink>(
     write_own(argument, begun, sink)
 }
 
-// Writes the short and the long of an argument.
 fn write_own<W: Sink>(argument: &Arg, begun: &mut bool, sink: &mut W) -> Result<(), Error>
     ensures written { Writes W.taken W.failed result sink.old sink.new
         (joined_after (codes " ") begun.old (own_words argument.now)) }

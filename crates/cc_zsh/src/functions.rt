@@ -46,7 +46,6 @@ pub(crate) fn write_functions<W: Sink>(
     write_sorted(alloc, flat, sink)
 }
 
-// Writes the function of a command.
 fn write_of<W: Sink>(command: &Command, sink: &mut W) -> Result<(), Error>
     ensures { Writes W.taken W.failed result sink.old sink.new
         (function_text (function_of command.now.node command.now.children)) }

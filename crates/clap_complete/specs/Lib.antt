@@ -70,10 +70,13 @@ pub use Rattle.cc_tables.specs.NushellScript
 pub use Rattle.cc_tables.specs.Offers
 pub use Rattle.cc_tables.specs.PowershellReader
 pub use Rattle.cc_tables.specs.PowershellScript
+pub use Rattle.cc_tables.specs.Script as TableScript
 pub use Rattle.cc_tables.specs.TableReader
 pub use Rattle.cc_tables.specs.Tables
 pub use Rattle.cc_tables.specs.declared.offers.Kind
 pub use Rattle.cc_tables.specs.declared.offers.Offer
+pub use Rattle.cc_tables.specs.declared.tables.Frame
+pub use Rattle.cc_tables.specs.declared.tables.Named
 -- bash
 pub use Rattle.cc_bash.specs.Arms as BashArms
 pub use Rattle.cc_bash.specs.CaseTable as BashCaseTable

@@ -1,7 +1,7 @@
 use Rattle.std.proofs.Common.{◌≡◌, ◌<◌, None, Some, arith, codes, length, rules, subst, sym}
 use Rattle.serde_json.specs.Data.{depth}
 use Rattle.serde_json.specs.Find.{as_array, get}
-use Rattle.serde_json.specs.View.{items_view, view}
+use Rattle.cc_json.specs.Seen.{items_view, view}
 use Rattle.cc_tree_file.specs.CommandForm.{own_of}
 use Rattle.cc_tree_file.specs.TreeForm.{GivesSame}
 use Rattle.cc_tree_file.proofs.ChildrenLemmas.{own_alone, own_with_children}

@@ -1,6 +1,6 @@
 use Rattle.std.specs.Prelude.{◌≡◌, drop, fold, option_map}
 use Rattle.serde_json.specs.Data.{depth}
-use Rattle.serde_json.specs.View.{items_view, view}
+use Rattle.cc_json.specs.Seen.{items_view, view}
 use Rattle.cc_command.specs.Made.{with_child}
 use Rattle.cc_tree_file.specs.CommandForm.{each_command}
 use Rattle.cc_tree_file.proofs.commands.+commands.Given as goal

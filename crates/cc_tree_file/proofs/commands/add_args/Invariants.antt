@@ -1,5 +1,5 @@
 use Rattle.std.specs.Prelude.{◌≡◌, drop, fold, option_map}
-use Rattle.serde_json.specs.View.{items_view}
+use Rattle.cc_json.specs.Seen.{items_view}
 use Rattle.cc_tree_file.specs.ArgumentForm.{argument_of}
 use Rattle.cc_tree_file.specs.CommandForm.{add_argument}
 use Rattle.cc_tree_file.specs.TreeForm.{all_of}

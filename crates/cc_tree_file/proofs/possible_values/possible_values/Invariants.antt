@@ -1,5 +1,5 @@
 use Rattle.std.proofs.Common.{◌≡◌, Some, take}
-use Rattle.serde_json.specs.View.{items_view}
+use Rattle.cc_json.specs.Seen.{items_view}
 use Rattle.cc_tree_file.specs.PossibleValueForm.{possible_value_of}
 use Rattle.cc_tree_file.specs.TreeForm.{all_of}
 use Rattle.cc_tree_file.proofs.possible_values.possible_values.Given as goal

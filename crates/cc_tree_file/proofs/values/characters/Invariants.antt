@@ -1,5 +1,5 @@
 use Rattle.std.proofs.Common.{◌≡◌, Some, take}
-use Rattle.serde_json.specs.View.{items_view}
+use Rattle.cc_json.specs.Seen.{items_view}
 use Rattle.cc_tree_file.specs.TreeForm.{all_of, character_of}
 use Rattle.cc_tree_file.proofs.values.characters.Given as goal
 

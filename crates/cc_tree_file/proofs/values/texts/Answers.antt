@@ -2,7 +2,7 @@ use Rattle.std.proofs.Common.{◌≡◌, ◌∙◌, ◌<◌, Some, ap, arith, Gl
 use Rattle.std.specs.Prelude.{option_and_then}
 use Rattle.std.proofs.lemmas.Result.{err_from_is_err_and}
 use Rattle.serde_json.specs.Find.{as_array, as_str}
-use Rattle.serde_json.specs.View.{items_view, view}
+use Rattle.cc_json.specs.Seen.{items_view, view}
 use Rattle.cc_tree_file.specs.TreeForm.{all_of}
 use Rattle.cc_tree_file.proofs.TreeFormLemmas.{all_of_stops, passes_on, texts_next}
 use Rattle.cc_tree_file.proofs.values.texts.Goals as goal

@@ -1,6 +1,6 @@
 use Rattle.std.proofs.Common.{◌≡◌, Some, map, string_bytes, take}
 use Rattle.serde_json.specs.Find.{as_str}
-use Rattle.serde_json.specs.View.{items_view}
+use Rattle.cc_json.specs.Seen.{items_view}
 use Rattle.cc_tree_file.specs.TreeForm.{all_of}
 use Rattle.cc_tree_file.proofs.values.texts.Given as goal
 

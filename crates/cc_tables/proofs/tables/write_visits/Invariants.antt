@@ -1,12 +1,12 @@
 use Rattle.std.proofs.Common.{◌≡◌, ◌++◌, flat_map, length}
-use Rattle.cc_tables.specs.ElvishScript.{node_text}
-use Rattle.cc_tables.proofs.elvish.write_tables.Given as goal
+use Rattle.cc_tables.specs.Script.{node_text}
+use Rattle.cc_tables.proofs.tables.write_visits.Given as goal
 
 -- what was taken and the tables that are left make the whole; no put failed
 abbrev pub invariant-loop-visits : goal.invariant-loop-visits
 invariant-loop-visits g l = record {
-  whole : g.W.Sink.taken l.sink ++ flat_map (λ visit. node_text visit.key visit.tree) l.visits
-      ≡ g.W.Sink.taken l.initial.sink ++ flat_map (λ visit. node_text visit.key visit.tree) l.initial.visits;
+  whole : g.W.Sink.taken l.sink ++ flat_map (λ visit. node_text l.frame (g.R.TableRows.text l.rows) (g.R.TableRows.rows l.rows) visit.key visit.tree) l.visits
+      ≡ g.W.Sink.taken l.initial.sink ++ flat_map (λ visit. node_text l.frame (g.R.TableRows.text l.rows) (g.R.TableRows.rows l.rows) visit.key visit.tree) l.initial.visits;
   failures : g.W.Sink.failed l.sink ≡ g.W.Sink.failed l.initial.sink;
 }
 

@@ -1,0 +1,175 @@
+//! The calls.
+
+use crate::fixtures::{command, environment, texts};
+use crate::sinks::Narrow;
+use clap_complete::aot::{Counted, put_all};
+use clap_complete::command::Command;
+use clap_complete::engine::{Completers, MemoryFolder, complete};
+use clap_complete::env::{EnvCompleter, Shells};
+use clap_complete::{CompleteEnv, Error, Shell, generate, generate_to};
+use std::alloc::Global;
+use std::rt::Files;
+
+/// The names of the calls: what is done, and for which shell.
+pub(crate) const CALLS: &[&str] = &[
+    "build",
+    "complete",
+    "complete names",
+    "complete values",
+    "generate bash",
+    "generate elvish",
+    "generate fish",
+    "generate nushell",
+    "generate powershell",
+    "generate zsh",
+    "generate_to bash",
+    "generate_to elvish",
+    "generate_to fish",
+    "generate_to nushell",
+    "generate_to powershell",
+    "generate_to zsh",
+    "write_registration bash",
+    "write_registration elvish",
+    "write_registration fish",
+    "write_registration powershell",
+    "write_registration zsh",
+    "write_complete bash",
+    "write_complete elvish",
+    "write_complete fish",
+    "write_complete powershell",
+    "write_complete zsh",
+    "try_complete register bash",
+    "try_complete register elvish",
+    "try_complete register fish",
+    "try_complete register powershell",
+    "try_complete register zsh",
+    "try_complete reply bash",
+    "try_complete reply elvish",
+    "try_complete reply fish",
+    "try_complete reply powershell",
+    "try_complete reply zsh",
+];
+
+/// Makes the call of this name, which writes to the sink.
+pub(crate) fn call<R: Files + AllocGlobal>(
+    rt: &R,
+    name: &str,
+    command: &mut Command,
+    sink: &mut Counted<Narrow>,
+) -> Result<(), Error> {
+    let alloc = rt.alloc();
+    let (done, shell) = name.split_once(' ').unwrap_or((name, ""));
+    match done {
+        "build" => command.build(alloc),
+        "complete" => completed(alloc, shell, command, sink),
+        "generate" => {
+            let shell = Shell::parse(alloc, shell)?;
+            generate(alloc, shell, command, String::from_str(alloc, "app")?, sink)
+        }
+        "generate_to" => {
+            let shell = Shell::parse(alloc, shell)?;
+            let name = String::from_str(alloc, "app")?;
+            let path = generate_to(rt, alloc, shell, command, name, ".")?;
+            put_all(sink, path.as_str().as_bytes())
+        }
+        "write_registration" => registered(alloc, shell, sink),
+        "write_complete" => replied(alloc, shell, command, sink),
+        _ => tried(alloc, shell, sink),
+    }
+}
+
+// Puts the value of each candidate: the names of children and options, the possible values of an
+// option, or paths.
+fn completed(
+    alloc: Global,
+    asked: &str,
+    command: &mut Command,
+    sink: &mut Counted<Narrow>,
+) -> Result<(), Error> {
+    let words: &[&str] = match asked {
+        "names" => &["app", ""],
+        "values" => &["app", "--color", ""],
+        _ => &["app", "--root", "k"],
+    };
+    let last = words.len().saturating_sub(1);
+    let words = texts(alloc, words)?;
+    let folder = folder();
+    let lent = nothing(alloc);
+    let found = complete(alloc, command, words, last, Some("/w"), &folder, &lent)?;
+    for candidate in &found {
+        put_all(sink, candidate.get_value().as_bytes())?;
+        put_all(sink, b"\n")?;
+    }
+    Ok(())
+}
+
+fn registered(alloc: Global, shell: &str, sink: &mut Counted<Narrow>) -> Result<(), Error> {
+    match Shells::builtins().completer(shell) {
+        Some(shell) => {
+            shell.write_registration(alloc, "COMPLETE", "app", "my app", "/o'p/app", sink)
+        }
+        None => Ok(()),
+    }
+}
+
+fn replied(
+    alloc: Global,
+    shell: &str,
+    command: &mut Command,
+    sink: &mut Counted<Narrow>,
+) -> Result<(), Error> {
+    let words = texts(alloc, &["app", "--root", "k"])?;
+    let asked = environment(alloc, &[("_CLAP_COMPLETE_INDEX", "2")])?;
+    let folder = folder();
+    let lent = nothing(alloc);
+    match Shells::builtins().completer(shell) {
+        Some(shell) => {
+            shell.write_complete(
+                alloc,
+                command,
+                words,
+                Some("/w"),
+                &asked,
+                &folder,
+                &lent,
+                sink,
+            )
+        }
+        None => Ok(()),
+    }
+}
+
+// What a program does which a shell asks for its registration, or for a reply.
+fn tried(alloc: Global, asked: &str, sink: &mut Counted<Narrow>) -> Result<(), Error> {
+    let (asked, shell) = asked.split_once(' ').unwrap_or((asked, ""));
+    let variables = [("COMPLETE", shell), ("_CLAP_COMPLETE_INDEX", "2")];
+    let words: &[&str] = if asked == "register" {
+        &["/o'p/app"]
+    } else {
+        &["app", "--", "app", "--root", "k"]
+    };
+    CompleteEnv::with_factory(|alloc: Global| command(alloc))
+        .try_complete(
+            alloc,
+            texts(alloc, words)?,
+            Some("/w"),
+            &environment(alloc, &variables)?,
+            &folder(),
+            &nothing(alloc),
+            sink,
+        )
+        .map(drop)
+}
+
+// A folder with files to complete.
+fn folder() -> MemoryFolder {
+    MemoryFolder::new(
+        &[("/w", &["keys", "key.asc"]), ("/w/keys", &[])],
+        &["/w/key.asc"],
+    )
+}
+
+// No completers and no lists.
+fn nothing(alloc: Global) -> Completers {
+    Completers::new(alloc, Vec::new(alloc), Vec::new(alloc))
+}

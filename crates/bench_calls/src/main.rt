@@ -1,0 +1,135 @@
+//! `bench_calls`: makes a call of the library over a small command, or over a chain of commands,
+//! for the scripts of `bench`, which have its allocations fail, leave its sink little room or make
+//! the chain long. Without words it prints the names of the calls.
+//!
+//! ```text
+//! bench_calls CALL ROOM            the sink has room for ROOM bytes, and then fails
+//! bench_calls CALL ROOM nothing    the sink has room for ROOM bytes, and then takes nothing
+//! bench_calls 'chain CALL' DEPTH   the call over a chain of DEPTH commands
+//! ```
+#![tactic(auto)]
+
+mod calls;
+mod chain;
+mod fixtures;
+mod shown;
+mod sinks;
+
+use crate::calls::{CALLS, call};
+use crate::chain::attempt_chain;
+use crate::fixtures::command;
+use crate::shown::shown;
+use crate::sinks::Narrow;
+use clap_complete::Error;
+use clap_complete::aot::Counted;
+use clap_complete::command::Command;
+use std::env::{self, Env};
+use std::io::ErrorKind;
+use std::process::ExitCode;
+use std::rt::Files;
+
+fn main(rt: HostRuntime) -> ExitCode {
+    match carry_out(&rt) {
+        Ok(()) => ExitCode::SUCCESS,
+        // Outside the call.
+        Err(_) => ExitCode::from(3),
+    }
+}
+
+fn carry_out<R: Env + Files + Print + AllocGlobal>(rt: &R) -> Result<(), Error> {
+    let words = env::args(rt).map_err(|_| Error::Memory)?;
+    let words: Vec<String> = words.collect(rt.alloc())?;
+    match words.as_slice() {
+        [_, name, number] => {
+            let number = number_of(number.as_str());
+            match name.as_str().strip_prefix("chain ") {
+                Some(name) => attempt_chain(rt, name, number),
+                None => attempt(rt, name.as_str(), number, Some(ErrorKind::StorageFull)),
+            }
+        }
+        [_, name, room, _] => attempt(rt, name.as_str(), number_of(room.as_str()), None),
+        _ => print_names(rt),
+    }
+}
+
+fn number_of(word: &str) -> usize {
+    word.parse::<usize>().unwrap_or(0)
+}
+
+fn print_names<R: Print>(rt: &R) -> Result<(), Error> {
+    for name in CALLS {
+        print(rt, name)?;
+    }
+    Ok(())
+}
+
+// Makes a call with a sink that has this room and then fails by the kind, or takes nothing; and
+// once more with room enough.
+fn attempt<R: Files + Print + AllocGlobal>(
+    rt: &R,
+    name: &str,
+    room: usize,
+    spent: Option<ErrorKind>,
+) -> Result<(), Error> {
+    let mut command = command(rt.alloc())?;
+    let done = attempt_twice(rt, name, room, spent, &mut command);
+    drop(command);
+    done
+}
+
+fn attempt_twice<R: Files + Print + AllocGlobal>(
+    rt: &R,
+    name: &str,
+    room: usize,
+    spent: Option<ErrorKind>,
+    command: &mut Command,
+) -> Result<(), Error> {
+    attempt_first(rt, name, room, spent, command)?;
+    attempt_again(rt, name, spent, command)
+}
+
+// The line `begin` stands before the call and `end` after it, then how it ended, and what the
+// command is then.
+fn attempt_first<R: Files + Print + AllocGlobal>(
+    rt: &R,
+    name: &str,
+    room: usize,
+    spent: Option<ErrorKind>,
+    command: &mut Command,
+) -> Result<(), Error> {
+    let mut sink = Counted::new(Narrow::new(rt.alloc(), room, spent)?);
+    print(rt, "begin")?;
+    let ended = call(rt, name, command, &mut sink);
+    print(rt, "end")?;
+    print(rt, ending(&ended))?;
+    let state = shown(rt.alloc(), command)?;
+    print(rt, state.as_str())
+}
+
+// The line `again`, and after it the text of the call.
+fn attempt_again<R: Files + Print + AllocGlobal>(
+    rt: &R,
+    name: &str,
+    spent: Option<ErrorKind>,
+    command: &mut Command,
+) -> Result<(), Error> {
+    print(rt, "again")?;
+    let mut sink = Counted::new(Narrow::new(rt.alloc(), usize::MAX, spent)?);
+    call(rt, name, command, &mut sink)?;
+    let text = String::from_utf8_lossy(rt.alloc(), sink.get_ref().bytes())?;
+    print(rt, text.as_str())
+}
+
+fn ending(ended: &Result<(), Error>) -> &'static str {
+    match ended {
+        Ok(()) => "done",
+        Err(Error::Memory) => "out of memory",
+        Err(Error::Write(ErrorKind::StorageFull)) => "no room",
+        Err(Error::Write(ErrorKind::WriteZero)) => "nothing taken",
+        Err(_) => "another error",
+    }
+}
+
+pub(crate) fn print<R: Print>(rt: &R, line: &str) -> Result<(), Error> {
+    rt.println(line).map_err(|error| Error::Write(error.kind()))
+}

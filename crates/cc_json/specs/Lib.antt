@@ -1,0 +1,3 @@
+pub mod Keys
+pub mod Reads
+pub mod Seen

@@ -1,0 +1,11 @@
+//! Reads JSON with the meaning of `serde_json`, into values that borrow their text.
+#![tactic(auto)]
+
+mod look;
+mod number;
+mod range;
+mod read;
+
+pub use crate::look::{boolean, has_only_keys, is_null, items, member, text, whole_number};
+pub use crate::read::{JsonError, read_value};
+pub use json::{Scratch, Value};

@@ -1,0 +1,82 @@
+//! Looks into a value.
+
+ghost use Rattle.std.specs.Prelude.{◌≡◌, is_some, map, option_and_then};
+ghost use Rattle.std.specs.List.{list_all, list_any};
+ghost use Rattle.std.specs.Option.{option_map};
+ghost use Rattle.std.specs.Str.{bytes_eq};
+ghost use Rattle.cc_json.specs.Seen.{items_view, view};
+ghost use Rattle.cc_json.specs.Keys.{has_only};
+ghost use Rattle.serde_json.specs.Find.{as_array, as_bool, as_null, as_number, as_str, as_u64, get};
+
+use crate::number::whole;
+use json::Value;
+
+/// Whether a value is `null`.
+pub fn is_null(value: &Value<'_>) -> bool
+    ensures { result ≡ is_some (as_null (view value.now)) }
+{
+    value.is_null()
+}
+
+/// A text.
+pub fn text<'t>(value: &Value<'t>) -> Option<&'t str>
+    ensures { option_map (λ text. text.now) result ≡ as_str (view value.now) }
+{
+    value.as_str()
+}
+
+/// `true` or `false`.
+pub fn boolean(value: &Value<'_>) -> Option<bool>
+    ensures { result ≡ as_bool (view value.now) }
+{
+    value.as_bool()
+}
+
+/// A whole number that fits 64 bits.
+#[tactic(auto, using(crate::proofs::Found::whole_seen))]
+pub fn whole_number(value: &Value<'_>) -> Option<u64>
+    ensures { result ≡ option_and_then as_u64 (as_number (view value.now)) }
+{
+    whole(value.as_number()?)
+}
+
+/// The items of a list.
+pub fn items<'v, 't>(value: &'v Value<'t>) -> Option<&'v Vec<Value<'t>>>
+    ensures { option_map (λ items. items_view items.now.items) result
+        ≡ as_array (view value.now) }
+{
+    match value {
+        Value::Array(items) => Some(items),
+        _ => None,
+    }
+}
+
+/// The value at a key of an object.
+pub fn member<'v, 't>(value: &'v Value<'t>, key: &str) -> Option<&'v Value<'t>>
+    ensures { option_map (λ found. view found.now) result ≡ get key.now (view value.now) }
+{
+    value.get(key)
+}
+
+/// Whether the value is an object with no key but these.
+pub fn has_only_keys(value: &Value<'_>, keys: &[&str]) -> bool
+    ensures { result ≡ has_only (map (λ key. key.now) keys.now) (view value.now) }
+{
+    match value {
+        Value::Object(members) => have_only_keys(members.as_slice(), keys),
+        _ => false,
+    }
+}
+
+fn have_only_keys(members: &[(&str, Value<'_>)], keys: &[&str]) -> bool
+    ensures { result ≡ list_all (λ member. list_any (λ known. bytes_eq known.now member.0.now)
+        keys.now) members.now }
+{
+    members.iter().all(|member| is_among(keys, member.0))
+}
+
+fn is_among(keys: &[&str], key: &str) -> bool
+    ensures { result ≡ list_any (λ known. bytes_eq known.now key.now) keys.now }
+{
+    keys.iter().any(|known| *known == key)
+}

@@ -1,0 +1,166 @@
+//! A script that is tables: a frame, and in it a table for each visible path.
+
+ghost use Rattle.std.specs.Prelude.{◌≡◌, ◌++◌, ◌<◌, flat_map, length};
+ghost use Rattle.cc_base.specs.Writes.{Writes, as_write};
+ghost use Rattle.cc_flat.specs.Flat.{tree_at};
+ghost use Rattle.cc_tables.specs.Script.{head_text, named_text, node_text, tree_script};
+
+use cc_base::{Error, Sink, Text, TextRef, as_error, put_all, put_around, put_piece};
+use cc_command::{Command, full_name};
+use cc_flat::Flat;
+use cc_visits::{Joined, Keys, TableVisits};
+use std::alloc::{AllocError, Global};
+use std::io::ErrorKind;
+
+/// The fixed texts of a script, and what separates the names of a key.
+#[derive(Drop)]
+pub struct Frame<'a> {
+    /// The beginning of the script.
+    pub head: TextRef<'a>,
+    /// What follows it, where the script names the program.
+    pub named: Option<Named<'a>>,
+    /// Before the key of a table.
+    pub key_begin: TextRef<'a>,
+    /// After the key.
+    pub key_end: TextRef<'a>,
+    /// After the rows of a table.
+    pub table_end: TextRef<'a>,
+    /// Between two names of a key.
+    pub separator: TextRef<'a>,
+    /// After the tables.
+    pub tail: TextRef<'a>,
+}
+
+impl<'a> Keys for Frame<'a> {
+    ghost use Rattle.cc_visits.specs.Visits.{joined};
+
+    ghost longer = { λ frame. joined frame.separator };
+
+    fn longer(&self, alloc: Global, key: &str, name: &str) -> Result<Text, AllocError> {
+        let separator = self.separator.as_str();
+        Joined { separator }.longer(alloc, key, name)
+    }
+}
+
+/// The fixed texts of a script that names the program twice before its tables.
+#[derive(Drop)]
+pub struct Named<'a> {
+    /// Between the two places of the name.
+    pub between: TextRef<'a>,
+    /// From the name to the tables.
+    pub completions: TextRef<'a>,
+}
+
+/// How the rows of a table are written.
+pub trait TableRows {
+    ghost use Rattle.std.specs.Prelude.{List, ℕ, flat_map};
+    ghost use Rattle.cc_base.specs.Writes.{Writes, as_write};
+    ghost use Rattle.cc_command.specs.Tree.{Tree};
+
+    // a row
+    ghost Row: { Type 0 };
+
+    // the rows at a node
+    ghost rows: { Self → Tree → List Self.Row };
+
+    // the text of a row
+    ghost text: { Self → Self.Row → List ℕ };
+
+    /// Writes the rows at a node.
+    fn write_rows<W: Sink>(&self, command: &Command, sink: &mut W) -> Result<(), ErrorKind>
+        ensures { Writes W.taken W.failed (as_write result) sink.old sink.new
+            (flat_map (text self.now) (rows self.now command.now)) };
+}
+
+/// Writes the script of the tree that the list holds.
+pub fn write_tables<R: TableRows, W: Sink>(
+    alloc: Global,
+    flat: &Flat<'_>,
+    frame: &Frame<'_>,
+    rows: &R,
+    sink: &mut W,
+) -> Result<(), Error>
+    requires { 0 < length flat.now }
+    ensures { Writes W.taken W.failed result sink.old sink.new
+        (tree_script frame.now (R.text rows.now) (R.rows rows.now) (tree_at flat.now 0)) }
+{
+    let bin_name = full_name(flat.command(0));
+    let visits = TableVisits::new(alloc, flat, bin_name, frame)?;
+    write_frame(alloc, bin_name, visits, frame, rows, sink)
+}
+
+// Writes the frame, and in it a table for each visit.
+fn write_frame<R: TableRows, W: Sink>(
+    alloc: Global,
+    bin_name: &str,
+    visits: TableVisits<'_, '_, Frame<'_>>,
+    frame: &Frame<'_>,
+    rows: &R,
+    sink: &mut W,
+) -> Result<(), Error>
+    ensures { Writes W.taken W.failed result sink.old sink.new (head_text frame.now bin_name.now
+        ++ flat_map (λ visit. node_text frame.now (R.text rows.now) (R.rows rows.now) visit.key
+        visit.tree) visits.entry ++ frame.now.tail) }
+{
+    write_head(frame, bin_name, sink)?;
+    write_visits(alloc, visits, frame, rows, sink)?;
+    put_all(sink, frame.tail.as_str().as_bytes())
+}
+
+// Writes the frame up to the tables.
+#[tactic(auto, unfolding(crate::specs::Script::head_text, crate::specs::Script::named_text))]
+fn write_head<W: Sink>(frame: &Frame<'_>, bin_name: &str, sink: &mut W) -> Result<(), Error>
+    ensures { Writes W.taken W.failed result sink.old sink.new
+        (head_text frame.now bin_name.now) }
+{
+    put_all(sink, frame.head.as_str().as_bytes())?;
+    match &frame.named {
+        Some(named) => write_named(named, bin_name, sink),
+        None => Ok(()),
+    }
+}
+
+// Writes what names the program.
+fn write_named<W: Sink>(named: &Named<'_>, bin_name: &str, sink: &mut W) -> Result<(), Error>
+    ensures { Writes W.taken W.failed result sink.old sink.new
+        (bin_name.now ++ named.now.between ++ bin_name.now ++ named.now.completions) }
+{
+    let between = named.between.as_str();
+    as_error(put_around(bin_name, between, bin_name, sink))?;
+    put_all(sink, named.completions.as_str().as_bytes())
+}
+
+// Writes a table for each visit that is left.
+fn write_visits<R: TableRows, W: Sink>(
+    alloc: Global,
+    mut visits: TableVisits<'_, '_, Frame<'_>>,
+    frame: &Frame<'_>,
+    rows: &R,
+    sink: &mut W,
+) -> Result<(), Error>
+    ensures { Writes W.taken W.failed result sink.old sink.new
+        (flat_map (λ visit. node_text frame.now (R.text rows.now) (R.rows rows.now) visit.key
+        visit.tree) visits.entry) }
+{
+    while let Some(visit) = visits.next(alloc)? {
+        as_error(write_table(visit.key.as_str(), visit.command, frame, rows, sink))?;
+    }
+    Ok(())
+}
+
+// Writes the table of a node.
+#[tactic(auto, unfolding(crate::specs::Script::node_text, crate::specs::Script::table_text))]
+fn write_table<R: TableRows, W: Sink>(
+    key: &str,
+    command: &Command,
+    frame: &Frame<'_>,
+    rows: &R,
+    sink: &mut W,
+) -> Result<(), ErrorKind>
+    ensures { Writes W.taken W.failed (as_write result) sink.old sink.new
+        (node_text frame.now (R.text rows.now) (R.rows rows.now) key.now command.now) }
+{
+    put_around(frame.key_begin.as_str(), key, frame.key_end.as_str(), sink)?;
+    rows.write_rows(command, sink)?;
+    put_piece(sink, frame.table_end.as_str().as_bytes())
+}

@@ -1,0 +1,185 @@
+//! The bash script of a command beside what live completion offers, by the calls of `cc_agreement`.
+
+use crate::checks::{is, same};
+use crate::fixtures::{CLASHING, tree};
+use cc_agreement::{bash_script_and_candidates, has_no_hidden_alias};
+use clap_complete::Error;
+use clap_complete::aot::Collected;
+use clap_complete::command::Command;
+use clap_complete::engine::{Completers, CompletionCandidate, MemoryFolder};
+use std::alloc::{AllocError, Global};
+use std::fmt::Write;
+use std::process::Abort;
+
+// `app`, called `a` too, with a child `run`, shown as `r` too and called `go`, that has an option
+// `--out` and a child `job`, called `j` too, with a flag `--deep`; nothing is generated.
+const CALLED: &str = r#"{"name": "app", "aliases": ["a"], "disable_help_flag": true,
+    "disable_help_subcommand": true, "subcommands": [
+        {"name": "run", "disable_help_flag": true, "disable_help_subcommand": true,
+            "visible_aliases": ["r"], "aliases": ["go"],
+            "args": [{"id": "out", "long": "out", "action": "Set"}], "subcommands": [
+                {"name": "job", "disable_help_flag": true, "disable_help_subcommand": true,
+                    "aliases": ["j"],
+                    "args": [{"id": "deep", "long": "deep", "action": "SetTrue"}]}]}]}"#;
+
+fn owned(alloc: Global, words: &[&str]) -> Result<Vec<String>, AllocError> {
+    let mut owned = Vec::new(alloc);
+    for word in words {
+        owned.push(String::from_str(alloc, word)?)?;
+    }
+    Ok(owned)
+}
+
+// Fails unless the call answers so for these words and the command of a tree file.
+fn has_none<R: Abort + AllocGlobal>(rt: &R, text: &str, words: &[&str], wanted: bool) {
+    let words = owned(rt.alloc(), words).expect(rt, "no words");
+    let command = tree(rt, text);
+    same(rt, has_no_hidden_alias(&command, words.as_slice()), wanted);
+    drop(command);
+}
+
+#[test]
+fn a_hidden_alias_of_a_command_below_is_found(rt: HostRuntime) {
+    has_none(&rt, CALLED, &[], true);
+    has_none(&rt, CALLED, &["run", "r", "job", "--out", "a"], true);
+    has_none(&rt, CALLED, &["go"], false);
+    has_none(&rt, CALLED, &["run", "j", "job"], false);
+}
+
+// What the call returns under the bin name `app`, with nothing lent and no folders.
+fn called(
+    alloc: Global,
+    command: &mut Command,
+    sink: &mut Collected,
+    words: Vec<String>,
+    index: usize,
+) -> Result<Vec<CompletionCandidate>, Error> {
+    let bin_name = String::from_str(alloc, "app")?;
+    let folder = MemoryFolder::new(&[], &[]);
+    let lent = Completers::new(alloc, Vec::new(alloc), Vec::new(alloc));
+    bash_script_and_candidates(
+        alloc, command, bin_name, sink, words, index, None, &folder, &lent,
+    )
+}
+
+// What is set by the first case of a script for this label and word, and else the label itself.
+fn label_after<'a>(
+    alloc: Global,
+    script: &'a str,
+    label: &'a str,
+    word: &str,
+) -> Result<&'a str, AllocError> {
+    let case = format!(in alloc; "\n            {label},{word})\n                cmd=\"")?;
+    let Some((_, set)) = script.split_once(case.as_str()) else {
+        return Ok(label);
+    };
+    match set.split_once('"') {
+        Some((after, _)) => Ok(after),
+        None => Ok(label),
+    }
+}
+
+// The label to which the cases of a script lead over these words.
+fn label_at<'a>(alloc: Global, script: &'a str, words: &[&str]) -> Result<&'a str, AllocError> {
+    let mut label = "app";
+    for word in words {
+        label = label_after(alloc, script, label, word)?;
+    }
+    Ok(label)
+}
+
+// The words that the arm of a label offers; nothing where it has no arm.
+fn offered<'a>(alloc: Global, script: &'a str, label: &str) -> Result<&'a str, AllocError> {
+    let arm = format!(in alloc; "\n        {label})\n            opts=\"")?;
+    let Some((_, rest)) = script.split_once(arm.as_str()) else {
+        return Ok("");
+    };
+    match rest.split_once('"') {
+        Some((offered, _)) => Ok(offered),
+        None => Ok(""),
+    }
+}
+
+fn values(alloc: Global, candidates: &[CompletionCandidate]) -> Result<String, AllocError> {
+    let mut values = String::new(alloc);
+    for candidate in candidates {
+        write!(values, " {}", candidate.get_value())?;
+    }
+    Ok(values)
+}
+
+// The command line of these words after `app`, and an empty word.
+fn line_of(alloc: Global, words: &[&str]) -> Result<Vec<String>, AllocError> {
+    let mut line = owned(alloc, &["app"])?;
+    for word in words {
+        line.push(String::from_str(alloc, word)?)?;
+    }
+    line.push(String::new(alloc))?;
+    Ok(line)
+}
+
+// Where the script of a command leads over these words, what it offers there, and the candidates
+// for an empty word after them.
+fn beside(alloc: Global, command: &mut Command, words: &[&str]) -> Result<String, Error> {
+    let mut sink = Collected::new(alloc);
+    let found = called(alloc, command, &mut sink, line_of(alloc, words)?, words.len() + 1)?;
+    let script = String::from_utf8_lossy(alloc, sink.as_slice())?;
+    let label = label_at(alloc, script.as_str(), words)?;
+    let offered = offered(alloc, script.as_str(), label)?;
+    let values = values(alloc, found.as_slice())?;
+    Ok(format!(in alloc; "{label}: {offered};{values}")?)
+}
+
+// Fails unless these words lead there. `none` says that none of them is a hidden alias.
+fn leads<R: Abort + AllocGlobal>(rt: &R, words: &[&str], none: bool, wanted: &str) {
+    has_none(rt, CALLED, words, none);
+    let mut command = tree(rt, CALLED);
+    let beside = beside(rt.alloc(), &mut command, words);
+    drop(command);
+    is(rt, beside, wanted);
+}
+
+#[test]
+fn script_and_candidates_are_of_one_command(rt: HostRuntime) {
+    leads(&rt, &[], true, "app: run r; r");
+    leads(&rt, &["r"], true, "app__subcmd__run: --out job; job --out");
+    leads(
+        &rt,
+        &["--", "run"],
+        true,
+        "app__subcmd__run: --out job; job",
+    );
+    let job = "app__subcmd__run__subcmd__job: --deep; --deep";
+    leads(&rt, &["--flag", "run", "--out", "job"], true, job);
+}
+
+// The cases know no hidden alias.
+#[test]
+fn a_hidden_alias_leads_the_candidates_alone(rt: HostRuntime) {
+    leads(&rt, &["go"], false, "app: run r; job --out");
+}
+
+// Whether the call fails so, and how much it writes.
+fn failure<R: Abort + AllocGlobal>(rt: &R, text: &str, index: usize) -> (Option<Error>, usize) {
+    let mut command = tree(rt, text);
+    let mut sink = Collected::new(rt.alloc());
+    let words = owned(rt.alloc(), &["app"]).expect(rt, "no words");
+    let returned = called(rt.alloc(), &mut command, &mut sink, words, index);
+    assert!(rt; command.is_built());
+    drop(command);
+    (returned.err(), sink.as_slice().len())
+}
+
+#[test]
+fn an_index_out_of_range_fails_after_the_script(rt: HostRuntime) {
+    let (error, written) = failure(&rt, CALLED, 1);
+    assert!(rt; matches!(error, Some(Error::NoCompletion)));
+    assert!(rt; written > 0);
+}
+
+#[test]
+fn a_shared_label_fails_before_the_index_is_looked_at(rt: HostRuntime) {
+    let (error, written) = failure(&rt, CLASHING, 1);
+    assert!(rt; matches!(error, Some(Error::LabelClash(_))));
+    same(&rt, written, 0);
+}
