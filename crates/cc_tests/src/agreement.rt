@@ -122,7 +122,13 @@ fn line_of(alloc: Global, words: &[&str]) -> Result<Vec<String>, AllocError> {
 // for an empty word after them.
 fn beside(alloc: Global, command: &mut Command, words: &[&str]) -> Result<String, Error> {
     let mut sink = Collected::new(alloc);
-    let found = called(alloc, command, &mut sink, line_of(alloc, words)?, words.len() + 1)?;
+    let found = called(
+        alloc,
+        command,
+        &mut sink,
+        line_of(alloc, words)?,
+        words.len() + 1,
+    )?;
     let script = String::from_utf8_lossy(alloc, sink.as_slice())?;
     let label = label_at(alloc, script.as_str(), words)?;
     let offered = offered(alloc, script.as_str(), label)?;
