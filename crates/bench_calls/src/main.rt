@@ -88,8 +88,8 @@ fn attempt_twice<R: Files + Print + AllocGlobal>(
     attempt_again(rt, name, spent, command)
 }
 
-// The line `begin` stands before the call and `end` after it, then how it ended, and what the
-// command is then.
+// The line `begin` stands before the call and `end` after it, then how it ended, how many bytes the
+// sink took, and what the command is then.
 fn attempt_first<R: Files + Print + AllocGlobal>(
     rt: &R,
     name: &str,
@@ -102,6 +102,9 @@ fn attempt_first<R: Files + Print + AllocGlobal>(
     let ended = call(rt, name, command, &mut sink);
     print(rt, "end")?;
     print(rt, ending(&ended))?;
+    let count = sink.get_ref().bytes().len();
+    let taken = format!(in rt.alloc(); "{count}")?;
+    print(rt, taken.as_str())?;
     let state = shown(rt.alloc(), command)?;
     print(rt, state.as_str())
 }
