@@ -94,7 +94,7 @@ fn completed(
     let last = words.len().saturating_sub(1);
     let words = texts(alloc, words)?;
     let folder = folder();
-    let lent = nothing(alloc);
+    let lent = Completers::new(alloc, Vec::new(alloc), Vec::new(alloc));
     let found = complete(alloc, command, words, last, Some("/w"), &folder, &lent)?;
     for candidate in &found {
         put_all(sink, candidate.get_value().as_bytes())?;
@@ -121,7 +121,7 @@ fn replied(
     let words = texts(alloc, &["app", "--root", "k"])?;
     let asked = environment(alloc, &[("_CLAP_COMPLETE_INDEX", "2")])?;
     let folder = folder();
-    let lent = nothing(alloc);
+    let lent = Completers::new(alloc, Vec::new(alloc), Vec::new(alloc));
     match Shells::builtins().completer(shell) {
         Some(shell) => {
             shell.write_complete(
@@ -155,7 +155,7 @@ fn tried(alloc: Global, asked: &str, sink: &mut Counted<Narrow>) -> Result<(), E
             Some("/w"),
             &environment(alloc, &variables)?,
             &folder(),
-            &nothing(alloc),
+            &Completers::new(alloc, Vec::new(alloc), Vec::new(alloc)),
             sink,
         )
         .map(drop)
@@ -167,9 +167,4 @@ fn folder() -> MemoryFolder {
         &[("/w", &["keys", "key.asc"]), ("/w/keys", &[])],
         &["/w/key.asc"],
     )
-}
-
-// No completers and no lists.
-fn nothing(alloc: Global) -> Completers {
-    Completers::new(alloc, Vec::new(alloc), Vec::new(alloc))
 }
