@@ -6,5 +6,5 @@ mod node;
 
 pub use crate::command::{
     Command, Flags, NameAndVisibleAliases, Options, Positionals, build_as, first_with, full_name,
-    is_plain_name,
+    has_name, is_plain_name,
 };

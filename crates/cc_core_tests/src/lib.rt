@@ -14,11 +14,11 @@ mod debug;
 #[cfg(test)]
 mod fixtures;
 #[cfg(test)]
-mod index;
-#[cfg(test)]
 mod kinds;
 #[cfg(test)]
 mod lists;
+#[cfg(test)]
+mod lookup;
 #[cfg(test)]
 mod pieces;
 #[cfg(test)]

@@ -15,7 +15,7 @@ use cc_candidates::{
     Completers, CompletionCandidate, FnCandidates, FnCompleter, ValueCandidates, ValueCompleter,
 };
 use cc_command::Command;
-use cc_flat::{Flat, Index};
+use cc_flat::Flat;
 use cc_paths::Folder;
 use cc_values::PathSource;
 use cc_walk::line_of;
@@ -109,9 +109,8 @@ fn completed<P: PathSource>(
         command.now (map string_bytes words.now) index found.items) }
 {
     let flat = Flat::new(alloc, command)?;
-    let tree = Index::new(alloc, flat)?;
-    let line = line_of(&tree, words_before(command, words, index));
-    let node = tree.flat().command(line.node);
+    let line = line_of(&flat, words_before(command, words, index));
+    let node = flat.command(line.node);
     let word = word_at(words, index);
     let found = offered(alloc, node, &line.state, word, completers, paths)?;
     Ok(found)

@@ -1,4 +1,4 @@
 pub mod EntryCode
 pub mod Flat
-pub mod Index
+pub mod Lookup
 pub mod Numbered

@@ -2,7 +2,6 @@
 #![tactic(auto)]
 
 mod flat;
-mod index;
+mod lookup;
 
 pub use crate::flat::Flat;
-pub use crate::index::{Found, Index};

@@ -8,12 +8,12 @@ ghost use Rattle.cc_walk.specs.Stands.{stand_of};
 ghost use Rattle.cc_walk.specs.Visible.{HasNoHiddenAlias, visible_end};
 
 use crate::state::State;
-use cc_flat::Index;
+use cc_flat::Flat;
 
 /// The node that words lead to, and the state at it.
 #[derive(Drop)]
 pub struct Line<'a> {
-    /// The number of the node in the index.
+    /// The number of the node.
     pub node: usize,
     /// What the words after the last descent leave there.
     pub state: State<'a>,
@@ -23,27 +23,27 @@ pub struct Line<'a> {
 ///
 /// A word that names a child, by its name or an alias, leads to the child, whatever stands before
 /// it. All other words after the last such word belong to the node that is reached. Allocates
-/// nothing; takes one look-up of a name for each word, and time that grows with the count of the
-/// node's arguments.
-pub fn line_of<'a>(index: &Index<'a>, words: &[String]) -> Line<'a>
-    requires { IsFlat index.now }
-    ensures within { result.node < length index.now }
-    ensures line { IsLine (tree_at index.now 0) (map string_bytes words.now)
-        (tree_at index.now result.node) result.state }
-    ensures only { IsOnlyLine (tree_at index.now 0) (map string_bytes words.now)
-        (tree_at index.now result.node) result.state }
+/// nothing; a word takes time that grows with the names of the node's children and with the count
+/// of its arguments.
+pub fn line_of<'a>(flat: &Flat<'a>, words: &[String]) -> Line<'a>
+    requires { IsFlat flat.now }
+    ensures within { result.node < length flat.now }
+    ensures line { IsLine (tree_at flat.now 0) (map string_bytes words.now)
+        (tree_at flat.now result.node) result.state }
+    ensures only { IsOnlyLine (tree_at flat.now 0) (map string_bytes words.now)
+        (tree_at flat.now result.node) result.state }
 
     // Where no word is a hidden alias, the visible names lead to the same node.
-    ensures visible { HasNoHiddenAlias (tree_at index.now 0) (map string_bytes words.now) →
-        tree_at index.now result.node
-        ≡ visible_end (tree_at index.now 0) (map string_bytes words.now) }
+    ensures visible { HasNoHiddenAlias (tree_at flat.now 0) (map string_bytes words.now) →
+        tree_at flat.now result.node
+        ≡ visible_end (tree_at flat.now 0) (map string_bytes words.now) }
 {
     let mut line = Line {
         node: 0,
         state: State::start(false),
     };
     for word in words {
-        line = line.advance(index, word);
+        line = line.advance(flat, word);
     }
     line
 }
@@ -51,21 +51,21 @@ pub fn line_of<'a>(index: &Index<'a>, words: &[String]) -> Line<'a>
 impl<'a> Line<'a> {
     /// The line after one more word. A word that names a child leads to it, even where an option is
     /// open or `--` has been read.
-    fn advance(self, index: &Index<'a>, word: &str) -> Line<'a>
-        requires flat { IsFlat index.now }
-        requires node { self.node < length index.now }
+    fn advance(self, flat: &Flat<'a>, word: &str) -> Line<'a>
+        requires flat { IsFlat flat.now }
+        requires node { self.node < length flat.now }
         requires place { self.state.place < usize.MAX }
-        ensures within { result.node < length index.now }
-        ensures stands { stand_of index.now result
-            ≡ stand_step (stand_of index.now self.entry) word.now }
+        ensures within { result.node < length flat.now }
+        ensures stands { stand_of flat.now result
+            ≡ stand_step (stand_of flat.now self.entry) word.now }
     {
-        if let Some(found) = index.find(self.node, word) {
+        if let Some(child) = flat.find_child(self.node, word) {
             return Line {
-                node: found.child,
+                node: child,
                 state: State::start(self.state.escaped),
             };
         }
-        let arguments = index.flat().command(self.node).get_arguments();
+        let arguments = flat.command(self.node).get_arguments();
         Line {
             node: self.node,
             state: self.state.step(arguments, word),

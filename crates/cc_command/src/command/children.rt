@@ -6,6 +6,7 @@ ghost use Rattle.cc_command.specs.Tree.{forest_of, has_nodes};
 ghost use Rattle.cc_command.specs.Names.{find_child, has_child};
 
 use crate::command::Command;
+use crate::command::getters::has_name;
 
 impl Command {
     /// The children in the order in which they were added.
@@ -28,7 +29,7 @@ impl Command {
         ensures { option_copied result ≡ find_child self.now.children word.now }
     {
         for child in &self.children {
-            if child.has_name(word) {
+            if has_name(child, word) {
                 return Some(child);
             }
         }
@@ -40,7 +41,7 @@ pub(super) fn has_child(siblings: &[Command], word: &str) -> bool
     ensures { result ≡ has_child (forest_of siblings.now) word.now }
 {
     for sibling in siblings {
-        if sibling.has_name(word) {
+        if has_name(sibling, word) {
             return true;
         }
     }

@@ -154,15 +154,15 @@ impl Command {
     {
         self.node.built && self.node.bin_name.is_some()
     }
+}
 
-    /// Whether the word is the name or an alias, visible or hidden.
-    pub(crate) fn has_name(&self, word: &str) -> bool
-        ensures { result ≡ has_name self.now.node word.now }
-    {
-        self.get_name() == word
-            || contains_name(self.node.visible_aliases.as_slice(), word)
-            || contains_name(self.node.aliases.as_slice(), word)
-    }
+/// Whether the word is the command's name or an alias, visible or hidden.
+pub fn has_name(command: &Command, word: &str) -> bool
+    ensures { result ≡ has_name command.now.node word.now }
+{
+    command.get_name() == word
+        || contains_name(command.get_visible_aliases(), word)
+        || contains_name(command.get_aliases(), word)
 }
 
 /// The bin name where there is one, else the name.

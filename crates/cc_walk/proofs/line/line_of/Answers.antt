@@ -10,7 +10,7 @@ use Rattle.cc_walk.proofs.line.line_of.Goals as goal
 pub loop-word-preserved : goal.loop-word-preserved
 loop-word-preserved c =
     let i = c.loop-word.word-index in
-    let stand = stand_of c.args.index.now c.loop-word.line in
+    let stand = stand_of c.args.flat.now c.loop-word.line in
     let stepped = c.advance-line.ensures.stands ∙ ap (stand_step stand) c.deref.ensures in
     record {
       within = c.advance-line.ensures.within;
@@ -22,15 +22,15 @@ loop-word-preserved c =
 
 pub returns-clause-line : goal.returns-clause-line
 returns-clause-line c =
-    line_there (stand_of c.args.index.now c.loop-word.line) (tree_at c.args.index.now 0) (map string_bytes c.args.words.now)
+    line_there (stand_of c.args.flat.now c.loop-word.line) (tree_at c.args.flat.now 0) (map string_bytes c.args.words.now)
     (map string_bytes (drop c.loop-word.word-index c.args.words.now)) (ap (map string_bytes) (drop_all c.loop-word.word-index c.args.words.now c.loop-word-test.false)) c.loop-word.invariant.rest
 
 pub returns-clause-only : goal.returns-clause-only
 returns-clause-only c =
-    only_line_there (stand_of c.args.index.now c.loop-word.line) (tree_at c.args.index.now 0) (map string_bytes c.args.words.now)
+    only_line_there (stand_of c.args.flat.now c.loop-word.line) (tree_at c.args.flat.now 0) (map string_bytes c.args.words.now)
     (map string_bytes (drop c.loop-word.word-index c.args.words.now)) (ap (map string_bytes) (drop_all c.loop-word.word-index c.args.words.now c.loop-word-test.false)) c.loop-word.invariant.rest
 
 pub returns-clause-visible : goal.returns-clause-visible
 returns-clause-visible c =
-    visible_there (stand_of c.args.index.now c.loop-word.line) (tree_at c.args.index.now 0) (map string_bytes c.args.words.now)
+    visible_there (stand_of c.args.flat.now c.loop-word.line) (tree_at c.args.flat.now 0) (map string_bytes c.args.words.now)
     (map string_bytes (drop c.loop-word.word-index c.args.words.now)) (ap (map string_bytes) (drop_all c.loop-word.word-index c.args.words.now c.loop-word-test.false)) c.loop-word.invariant.rest

@@ -7,7 +7,7 @@ use Rattle.cc_walk.proofs.line.line_of.Given as goal
 
 abbrev pub invariant-loop-word : goal.invariant-loop-word
 invariant-loop-word l = record {
-  within : l.line.node < length l.index;
+  within : l.line.node < length l.flat;
   place : l.line.state.place ≤ l.word-index + 1;
-  rest : walk (stand_of l.index l.line) (map string_bytes (drop l.word-index l.words)) ≡ walked (tree_at l.index 0) (map string_bytes l.words);
+  rest : walk (stand_of l.flat l.line) (map string_bytes (drop l.word-index l.words)) ≡ walked (tree_at l.flat 0) (map string_bytes l.words);
 }

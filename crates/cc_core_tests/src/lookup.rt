@@ -2,46 +2,37 @@
 
 use crate::checks::same;
 use crate::fixtures::{MY_APP, tree};
-use cc_base::Error;
 use cc_command::Command;
-use cc_flat::{Flat, Found, Index};
-use std::alloc::Global;
+use cc_flat::Flat;
+use std::alloc::{AllocError, Global};
 use std::process::Abort;
 
-// What a word leads to from a command.
-fn found(alloc: Global, root: &Command, word: &str) -> Result<Option<Found>, Error> {
-    let index = Index::new(alloc, Flat::new(alloc, root)?)?;
-    let found = found_in(&index, word);
-    drop(index);
+// The number of the child that a word leads to from a command.
+fn found(alloc: Global, root: &Command, word: &str) -> Result<Option<usize>, AllocError> {
+    let flat = Flat::new(alloc, root)?;
+    let found = found_in(&flat, word);
+    drop(flat);
     Ok(found)
 }
 
-fn found_in(index: &Index<'_>, word: &str) -> Option<Found> {
-    if index.flat().len() == 0 {
+fn found_in(flat: &Flat<'_>, word: &str) -> Option<usize> {
+    if flat.len() == 0 {
         return None;
     }
-    index.find(0, word)
+    flat.find_child(0, word)
 }
 
 // Fails unless a word leads to this from the root of `myapp`.
-fn leads(rt: &impl Abort, alloc: Global, word: &str, wanted: Option<Found>) {
+fn leads(rt: &impl Abort, alloc: Global, word: &str, wanted: Option<usize>) {
     let root = tree(rt, alloc, MY_APP);
-    same(rt, found(alloc, &root, word).expect(rt, "no index"), wanted);
+    same(rt, found(alloc, &root, word).expect(rt, "no nodes"), wanted);
     drop(root);
 }
 
 #[test]
 fn a_word_leads_to_the_child_of_that_name_or_alias(rt: HostRuntime) {
-    let shown = Found {
-        child: 1,
-        visible: true,
-    };
-    let hidden = Found {
-        child: 1,
-        visible: false,
-    };
-    leads(&rt, rt.alloc(), "test", Some(shown));
-    leads(&rt, rt.alloc(), "t", Some(hidden));
+    leads(&rt, rt.alloc(), "test", Some(1));
+    leads(&rt, rt.alloc(), "t", Some(1));
     leads(&rt, rt.alloc(), "config", None);
 }
 
