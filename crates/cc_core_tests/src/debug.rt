@@ -3,7 +3,6 @@
 use crate::checks::is;
 use cc_arg::{ArgAction, ValueHint, ValueRange};
 use cc_base::{Error, Failures, Items, Text};
-use cc_flat::Found;
 use std::alloc::{AllocError, Global};
 use std::fmt::Debug;
 use std::io::ErrorKind;
@@ -61,17 +60,4 @@ fn items_show_their_field(rt: HostRuntime) {
 fn a_text_shows_its_field(rt: HostRuntime) {
     let text = Text::copy_of(rt.alloc(), "it's").expect(&rt, "no text");
     is(&rt, shown(rt.alloc(), text), "Text { inner: \"it's\" }");
-}
-
-#[test]
-fn what_a_word_leads_to_shows_its_fields(rt: HostRuntime) {
-    let found = Found {
-        child: 1,
-        visible: true,
-    };
-    is(
-        &rt,
-        shown(rt.alloc(), found),
-        "Found { child: 1, visible: true }",
-    );
 }
