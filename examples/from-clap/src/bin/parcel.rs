@@ -70,15 +70,16 @@ fn project() -> [Command; 5] {
     [
         child("init", "Make a project").args([
             Arg::new("folder").value_hint(ValueHint::DirPath),
-            option("template", "What to begin with").short('t'),
+            option("template", "What to begin with").short('t').value_hint(ValueHint::DirPath),
         ]),
         child("run", "Run a script of the project").args([
             Arg::new("script"),
+            option("shell", "What runs it").value_hint(ValueHint::CommandName),
             Arg::new("words").num_args(0..).last(true).allow_hyphen_values(true),
         ]),
         child("test", "Run the tests").arg(flag("watch", "Again after each change").short('w')),
         child("publish", "Publish the package").args([
-            option("tag", "The tag it gets"),
+            option("tag", "The tag it gets").value_hint(ValueHint::Other),
             option("otp", "The password for this one time").short('o').hide(true),
         ]),
         child("env", "Print variables").args([
