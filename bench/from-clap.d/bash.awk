@@ -1,5 +1,6 @@
-# Prints the path, a tab and the word of each option, flag and child of a bash script. `bin` is the
-# program.
+# Prints rows, as examples/from-clap/src/rows.rs describes them, of each option, flag and child of a
+# bash script: words and possible values. `bin` is the program.
+BEGIN { OFS = "\t" }
 /^            [^ ]+,[^ ]+\)$/ {
     split($1, parts, ",")
     word = substr(parts[2], 1, length(parts[2]) - 1)
@@ -15,14 +16,23 @@
 }
 /^        [^ ]+\)$/ { label = substr($1, 1, length($1) - 1) }
 /^            opts=/ { split($0, parts, "\""); options[label] = parts[2] }
+/^                -[^ ]*\)$/ { word = substr($1, 1, length($1) - 1) }
+/^                    COMPREPLY=\(\$\(compgen -W / {
+    split($0, parts, "\"")
+    values[label, word] = parts[2]
+}
 END { walk(root, bin) }
 
 # Prints what stands at a label, and at those below it. Values of positionals are passed over.
-function walk(label, path,    words, count, i) {
+function walk(label, path,    words, count, names, name_count, i, j) {
     count = split(options[label], words, " ")
     for (i = 1; i <= count; i++) {
         if (words[i] ~ /^-/ || (label, words[i]) in below) {
-            print path "\t" words[i]
+            print path, words[i]
+        }
+        name_count = split(values[label, words[i]], names, " ")
+        for (j = 1; j <= name_count; j++) {
+            print path, words[i], "value", names[j]
         }
         if ((label, words[i]) in below) {
             walk(below[label, words[i]], path " " words[i])

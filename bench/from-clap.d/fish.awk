@@ -1,4 +1,15 @@
-# Prints the path, a tab and the words of each record of a fish script. `bin` is the program.
+# Prints rows, as examples/from-clap/src/rows.rs describes them, of each record of a fish script.
+# `bin` is the program.
+BEGIN {
+    OFS = "\t"
+    hints["-r"] = "Unknown"
+    hints["-r -F"] = "AnyPath"
+    hints["-r -f"] = "Other"
+    hints["-r -f -a \"(__fish_complete_directories)\""] = "DirPath"
+    hints["-r -f -a \"(__fish_complete_command)\""] = "CommandName"
+    hints["-r -f -a \"(__fish_complete_users)\""] = "Username"
+    hints["-r -f -a \"(__fish_print_hostnames)\""] = "Hostname"
+}
 /^complete -c / {
     path = bin
     rest = $0
@@ -7,9 +18,33 @@
         add_names(parts[2])
         rest = substr($0, index($0, parts[2]) + length(parts[2]) + 1)
     }
-    sub(/ -d '.*/, "", rest)
-    count = split(rest, words, " ")
-    print_words(rest ~ / -[sl] /)
+    help = ""
+    if (match(rest, / -d '([^'\\]|\\.)*'/)) {
+        help = plain(substr(rest, RSTART + 5, RLENGTH - 6))
+        rest = substr(rest, 1, RSTART - 1) substr(rest, RSTART + RLENGTH)
+    }
+    value = match(rest, / -r( |$)/) ? substr(rest, RSTART + 1) : ""
+    find_words(value == "" ? rest : substr(rest, 1, RSTART - 1))
+    print_rows("")
+    if (help != "") {
+        print_rows("\thelp\t" help)
+    }
+    if (value in hints) {
+        print_rows("\thint\t" hints[value])
+    }
+    sub(/^-r -f -a "/, "", value)
+    $0 = value
+}
+# A possible value, of which each but the first has a line of its own.
+/\\t'.*'"?$/ {
+    at = index($0, "\\t'")
+    name = substr($0, 1, at - 1)
+    help = substr($0, at + 3)
+    sub(/'"?$/, "", help)
+    print_rows("\tvalue\t" name)
+    if (help != "") {
+        print_rows("\thelp of " name "\t" plain(plain(help)))
+    }
 }
 
 # Adds the names that a condition has to the path.
@@ -27,16 +62,34 @@ function add_names(condition,    pieces, fields, count, i) {
     }
 }
 
-# Prints the shorts and longs of a record, or the name of a child.
-function print_words(is_argument,    i) {
-    for (i = 1; i < count && words[i] != "-r"; i++) {
-        if (is_argument && words[i] == "-s") {
-            print path "\t-" words[i + 1]
-        } else if (is_argument && words[i] == "-l") {
-            print path "\t--" words[i + 1]
-        } else if (!is_argument && words[i] == "-a") {
-            gsub(/"/, "", words[i + 1])
-            print path "\t" words[i + 1]
+# Sets `words` to the shorts and longs of a record, or to the name of a child.
+function find_words(text,    fields, count, is_argument, i) {
+    split("", words)
+    word_count = 0
+    is_argument = text ~ / -[sl] /
+    count = split(text, fields, " ")
+    for (i = 1; i < count; i++) {
+        if (is_argument && fields[i] ~ /^-[sl]$/) {
+            words[++word_count] = (fields[i] == "-s" ? "-" : "--") fields[i + 1]
+        } else if (!is_argument && fields[i] == "-a") {
+            gsub(/"/, "", fields[i + 1])
+            words[++word_count] = fields[i + 1]
         }
     }
+}
+
+# Prints a row for each word, with a tab and the texts of a kind, or with none.
+function print_rows(texts,    i) {
+    for (i = 1; i <= word_count; i++) {
+        print path, words[i] texts
+    }
+}
+
+# A text without the backslashes that quote what is after them.
+function plain(text,    read) {
+    while (match(text, /\\./)) {
+        read = read substr(text, 1, RSTART - 1) substr(text, RSTART + 1, 1)
+        text = substr(text, RSTART + 2)
+    }
+    return read text
 }

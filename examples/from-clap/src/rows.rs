@@ -1,9 +1,15 @@
 //! What a command takes, by clap's own build of it.
 
-use clap::{Arg, Command};
+use clap::builder::PossibleValue;
+use clap::{Arg, ArgAction, Command, ValueHint};
 
-/// A row for each short, long and child that may be given at each visible path: the names of the
-/// path with spaces between them, a tab, and the word.
+/// Rows for each short, long, child and positional of each visible path: the names of the path
+/// with spaces between them, a tab, and the word, which of a positional is its id as `<id>`. In
+/// further rows a tab, a kind, a tab and a text come after these:
+///
+/// - `help` and the help or about, where there is one
+/// - `value` and the name of a possible value, and `help of NAME` and its help, where it has one
+/// - `hint` and the hint for other values
 pub fn rows(command: &Command) -> String {
     let mut built = command.clone();
     built.build();
@@ -13,20 +19,66 @@ pub fn rows(command: &Command) -> String {
 }
 
 fn add(command: &Command, path: &str, rows: &mut String) {
-    for word in command.get_arguments().flat_map(words) {
-        *rows += &format!("{path}\t{word}\n");
+    for arg in command.get_arguments() {
+        for word in words(arg) {
+            add_word(path, &word, texts(arg), rows);
+        }
     }
     for child in command.get_subcommands() {
         for name in std::iter::once(child.get_name()).chain(child.get_visible_aliases()) {
-            *rows += &format!("{path}\t{name}\n");
+            add_word(path, name, help(child.get_about()), rows);
             add(child, &format!("{path} {name}"), rows);
         }
     }
 }
 
+fn add_word(path: &str, word: &str, texts: Vec<String>, rows: &mut String) {
+    *rows += &format!("{path}\t{word}\n");
+    for text in texts {
+        *rows += &format!("{path}\t{word}\t{text}\n");
+    }
+}
+
 fn words(arg: &Arg) -> Vec<String> {
+    if arg.is_positional() {
+        return vec![format!("<{}>", arg.get_id())];
+    }
     let shorts = arg.get_short_and_visible_aliases().unwrap_or_default();
     let longs = arg.get_long_and_visible_aliases().unwrap_or_default();
     let shorts = shorts.iter().map(|short| format!("-{short}"));
     shorts.chain(longs.iter().map(|long| format!("--{long}"))).collect()
+}
+
+/// The kinds and texts of an argument's rows. Releases of clap differ in the helps of the flags
+/// that they generate, so for these the ones of a script stand here.
+fn texts(arg: &Arg) -> Vec<String> {
+    let mut texts = match arg.get_action() {
+        ArgAction::Help => help(Some("Print help")),
+        ArgAction::Version => help(Some("Print version")),
+        _ => help(arg.get_help()),
+    };
+    let values = arg.get_possible_values();
+    if values.is_empty() && arg.get_action().takes_values() {
+        texts.push(format!("hint\t{:?}", hint(arg)));
+    }
+    texts.extend(values.iter().filter(|value| !value.is_hide_set()).flat_map(value_texts));
+    texts
+}
+
+fn value_texts(value: &PossibleValue) -> Vec<String> {
+    let name = value.get_name();
+    let help = value.get_help().map(|help| format!("help of {name}\t{help}"));
+    std::iter::once(format!("value\t{name}")).chain(help).collect()
+}
+
+/// The hint of an argument. A file is completed as any path is.
+fn hint(arg: &Arg) -> ValueHint {
+    match arg.get_value_hint() {
+        ValueHint::FilePath => ValueHint::AnyPath,
+        hint => hint,
+    }
+}
+
+fn help(text: Option<impl ToString>) -> Vec<String> {
+    text.iter().map(|text| format!("help\t{}", text.to_string())).collect()
 }
