@@ -60,7 +60,7 @@ END {
 }
 
 # Prints the rows of an option, a flag or a positional. `rest` ends with the values.
-function print_rows(word, help, rest,    outer, count, lines, at, i) {
+function print_rows(word, help, rest,    outer, count, lines, at, name, i) {
     print path, word
     print_help(word, "help", help)
     if (!match(rest, /:([^:\\]|\\.)*$/)) {

@@ -49,8 +49,8 @@ fn words(arg: &Arg) -> Vec<String> {
     shorts.chain(longs.iter().map(|long| format!("--{long}"))).collect()
 }
 
-/// The kinds and texts of an argument's rows. Releases of clap differ in the helps of the flags
-/// that they generate, so for these the ones of a script stand here.
+/// The kinds and texts of an argument's rows. The helps of generated flags differ from release to
+/// release of clap, so for these the texts of a script stand here.
 fn texts(arg: &Arg) -> Vec<String> {
     let mut texts = match arg.get_action() {
         ArgAction::Help => help(Some("Print help")),
@@ -71,7 +71,7 @@ fn value_texts(value: &PossibleValue) -> Vec<String> {
     std::iter::once(format!("value\t{name}")).chain(help).collect()
 }
 
-/// The hint of an argument. A file is completed as any path is.
+/// The hint of an argument. The shells whose hints are read complete a file as any path.
 fn hint(arg: &Arg) -> ValueHint {
     match arg.get_value_hint() {
         ValueHint::FilePath => ValueHint::AnyPath,
