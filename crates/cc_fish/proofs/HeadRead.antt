@@ -12,7 +12,7 @@ use Rattle.cc_quote.specs.FishQuote.FishPlace.{bare}
 use Rattle.cc_quote.specs.FishTokens.{in_word, commands_from, fish_commands}
 use Rattle.cc_quote.proofs.FishWords.{IsSafe}
 use Rattle.cc_quote.proofs.FishCutting.{Adds, adds_word, adds_flat_map, safe_goes_on, word_ends}
-use Rattle.cc_fish.specs.FishScript.{slash_text, first_short, first_long, spec_word, spec_text, specs_text, head_1, head_2, head_3, head_4, head_5, head_6, head_7, head_end, head_back, head_front, head_around, head_text}
+use Rattle.cc_fish.specs.FishScript.{slash_text, first_short, first_long, spec_word, spec_text, specs_text, optspecs_begin, optspecs_join, needs_command_begin, needs_command_parse, needs_command_answer, using_subcommand_call, using_subcommand_answer, head_text}
 use Rattle.cc_fish.specs.FishTable.{function_name}
 use Rattle.cc_fish.specs.RecordReader.{records_of, records}
 use Rattle.cc_fish.specs.Records.{Record}
@@ -22,9 +22,12 @@ use Rattle.cc_fish.proofs.RecordsRead.{Yields, yields_none, unchanged}
 
 -- ---- the fixed texts, around any words
 
+abbrev head_around : List ℕ → List ℕ → List ℕ
+head_around function specs =
+    optspecs_begin ++ function ++ optspecs_join ++ specs ++ needs_command_begin ++ function ++ needs_command_parse ++ function ++ needs_command_answer ++ function ++ using_subcommand_call ++ function ++ using_subcommand_answer
+
 head_then : (function specs rest : List ℕ) → head_around function specs ++ rest
-    ≡ head_1 ++ (function ++ (head_2 ++ (specs ++ (head_3 ++ (function ++ (head_4 ++ (function ++ (head_5 ++ (function ++ (head_6 ++ (function ++ (head_7 ++ rest))))))))))))
-unfolding head_front head_back head_end
+    ≡ optspecs_begin ++ (function ++ (optspecs_join ++ (specs ++ (needs_command_begin ++ (function ++ (needs_command_parse ++ (function ++ (needs_command_answer ++ (function ++ (using_subcommand_call ++ (function ++ (using_subcommand_answer ++ rest))))))))))))
 head_then function specs rest = simp append_assoc
 
 -- what is read in the word after these, which begins so
@@ -40,46 +43,46 @@ after_argparse word text = read_in (codes "argparse" ∷ codes "-s" ∷ []) word
 abbrev after_set : List ℕ → List ℕ → Option (List Record)
 after_set word text = read_in (codes "set" ∷ codes "-l" ∷ codes "cmd" ∷ []) word text
 
-part_1 : (function text : List ℕ) → IsSafe function → records (head_1 ++ (function ++ text)) ≡ after_function (codes "__fish_" ++ function) text
-unfolding fish_sign fish_commands head_1
-part_1 function text h = ap records_of (safe_goes_on function (codes "function" ∷ []) (codes "__fish_") text h)
+optspecs_named : (function text : List ℕ) → IsSafe function → records (optspecs_begin ++ (function ++ text)) ≡ after_function (codes "__fish_" ++ function) text
+unfolding fish_sign fish_commands optspecs_begin
+optspecs_named function text h = ap records_of (safe_goes_on function (codes "function" ∷ []) (codes "__fish_") text h)
 
-part_2 : (word specs : List ℕ) (words : List (List ℕ)) (function text : List ℕ) → Adds specs words → IsSafe function
-    → after_function word (head_2 ++ (specs ++ (head_3 ++ (function ++ text)))) ≡ after_function (codes "__fish_" ++ function) text
-unfolding fish_sign head_2 head_3
-part_2 word specs words function text adds h =
-    ap records_of (word_ends (codes "string" ∷ codes "join" ∷ []) (ascii.line_feed ∷ []) (specs ++ (head_3 ++ (function ++ text))) (adds.ends (head_3 ++ (function ++ text)) (inr refl)))
-    ∙ ap records_of (adds.read (codes "string" ∷ codes "join" ∷ (ascii.line_feed ∷ []) ∷ []) (head_3 ++ (function ++ text)) (inr refl))
+optspecs_read : (word specs : List ℕ) (words : List (List ℕ)) (function text : List ℕ) → Adds specs words → IsSafe function
+    → after_function word (optspecs_join ++ (specs ++ (needs_command_begin ++ (function ++ text)))) ≡ after_function (codes "__fish_" ++ function) text
+unfolding fish_sign optspecs_join needs_command_begin
+optspecs_read word specs words function text adds h =
+    ap records_of (word_ends (codes "string" ∷ codes "join" ∷ []) (ascii.line_feed ∷ []) (specs ++ (needs_command_begin ++ (function ++ text))) (adds.ends (needs_command_begin ++ (function ++ text)) (inr refl)))
+    ∙ ap records_of (adds.read (codes "string" ∷ codes "join" ∷ (ascii.line_feed ∷ []) ∷ []) (needs_command_begin ++ (function ++ text)) (inr refl))
     ∙ ap records_of (safe_goes_on function (codes "function" ∷ []) (codes "__fish_") text h)
 
-part_4 : (word function text : List ℕ) → IsSafe function → after_function word (head_4 ++ (function ++ text)) ≡ after_argparse (codes "(__fish_" ++ function) text
-unfolding fish_sign head_4
-part_4 word function text h = ap records_of (safe_goes_on function (codes "argparse" ∷ codes "-s" ∷ []) (codes "(__fish_") text h)
+needs_command_parsed : (word function text : List ℕ) → IsSafe function → after_function word (needs_command_parse ++ (function ++ text)) ≡ after_argparse (codes "(__fish_" ++ function) text
+unfolding fish_sign needs_command_parse
+needs_command_parsed word function text h = ap records_of (safe_goes_on function (codes "argparse" ∷ codes "-s" ∷ []) (codes "(__fish_") text h)
 
-part_5 : (word function text : List ℕ) → IsSafe function → after_argparse word (head_5 ++ (function ++ text)) ≡ after_function (codes "__fish_" ++ function) text
-unfolding fish_sign head_5
-part_5 word function text h = ap records_of (safe_goes_on function (codes "function" ∷ []) (codes "__fish_") text h)
+needs_command_read : (word function text : List ℕ) → IsSafe function → after_argparse word (needs_command_answer ++ (function ++ text)) ≡ after_function (codes "__fish_" ++ function) text
+unfolding fish_sign needs_command_answer
+needs_command_read word function text h = ap records_of (safe_goes_on function (codes "function" ∷ []) (codes "__fish_") text h)
 
-part_6 : (word function text : List ℕ) → IsSafe function → after_function word (head_6 ++ (function ++ text)) ≡ after_set (codes "(__fish_" ++ function) text
-unfolding fish_sign head_6
-part_6 word function text h = ap records_of (safe_goes_on function (codes "set" ∷ codes "-l" ∷ codes "cmd" ∷ []) (codes "(__fish_") text h)
+using_subcommand_called : (word function text : List ℕ) → IsSafe function → after_function word (using_subcommand_call ++ (function ++ text)) ≡ after_set (codes "(__fish_" ++ function) text
+unfolding fish_sign using_subcommand_call
+using_subcommand_called word function text h = ap records_of (safe_goes_on function (codes "set" ∷ codes "-l" ∷ codes "cmd" ∷ []) (codes "(__fish_") text h)
 
-part_7 : (word text : List ℕ) → after_set word (head_7 ++ text) ≡ records text
-unfolding fish_sign fish_commands head_7
-part_7 word text = refl
+using_subcommand_read : (word text : List ℕ) → after_set word (using_subcommand_answer ++ text) ≡ records text
+unfolding fish_sign fish_commands using_subcommand_answer
+using_subcommand_read word text = refl
 
 head_read : (function specs : List ℕ) (words : List (List ℕ)) (rest : List ℕ) → IsSafe function → Adds specs words → records (head_around function specs ++ rest) ≡ records rest
 head_read function specs words rest h adds =
-    let from_6 : List ℕ = head_6 ++ (function ++ (head_7 ++ rest)) in
-    let from_5 : List ℕ = head_5 ++ (function ++ from_6) in
-    let from_4 : List ℕ = head_4 ++ (function ++ from_5) in
+    let using_subcommand : List ℕ = using_subcommand_call ++ (function ++ (using_subcommand_answer ++ rest)) in
+    let answer : List ℕ = needs_command_answer ++ (function ++ using_subcommand) in
+    let parse : List ℕ = needs_command_parse ++ (function ++ answer) in
     ap records (head_then function specs rest)
-    ∙ part_1 function (head_2 ++ (specs ++ (head_3 ++ (function ++ from_4)))) h
-    ∙ part_2 (codes "__fish_" ++ function) specs words function from_4 adds h
-    ∙ part_4 (codes "__fish_" ++ function) function from_5 h
-    ∙ part_5 (codes "(__fish_" ++ function) function from_6 h
-    ∙ part_6 (codes "__fish_" ++ function) function (head_7 ++ rest) h
-    ∙ part_7 (codes "(__fish_" ++ function) rest
+    ∙ optspecs_named function (optspecs_join ++ (specs ++ (needs_command_begin ++ (function ++ parse)))) h
+    ∙ optspecs_read (codes "__fish_" ++ function) specs words function parse adds h
+    ∙ needs_command_parsed (codes "__fish_" ++ function) function answer h
+    ∙ needs_command_read (codes "(__fish_" ++ function) function using_subcommand h
+    ∙ using_subcommand_called (codes "__fish_" ++ function) function (using_subcommand_answer ++ rest) h
+    ∙ using_subcommand_read (codes "(__fish_" ++ function) rest
 
 -- ---- what `argparse` is told of an argument is one word
 

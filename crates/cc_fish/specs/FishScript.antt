@@ -171,48 +171,46 @@ spec_word argument =
 unfoldable pub spec_text : Arg → List ℕ
 spec_text argument = space ∷ spec_word argument
 
-unfoldable pub head_1 : List ℕ
-head_1 = codes "# Print an optspec for argparse to handle cmd's options that are independent of any subcommand.\nfunction __fish_"
+-- up to the program in the name of the function that prints what `argparse` is told
+unfoldable pub optspecs_begin : List ℕ
+optspecs_begin = codes "# Print an optspec for argparse to handle cmd's options that are independent of any subcommand.\nfunction __fish_"
 
-unfoldable pub head_2 : List ℕ
-head_2 = codes "_global_optspecs\n    string join \\n"
+-- from there up to what it prints
+unfoldable pub optspecs_join : List ℕ
+optspecs_join = codes "_global_optspecs\n    string join \\n"
 
-unfoldable pub head_3 : List ℕ
-head_3 = codes "\nend\n\nfunction __fish_"
+-- up to the program in the name of the function that tells whether no command was given yet
+unfoldable pub needs_command_begin : List ℕ
+needs_command_begin = codes "\nend\n\nfunction __fish_"
 
-unfoldable pub head_4 : List ℕ
-head_4 = codes "_needs_command\n    # Figure out if the current invocation already has a command.\n    set -l cmd (commandline -opc)\n    set -e cmd[1]\n    argparse -s (__fish_"
+-- from there up to the program in its call of the first function
+unfoldable pub needs_command_parse : List ℕ
+needs_command_parse = codes "_needs_command\n    # Figure out if the current invocation already has a command.\n    set -l cmd (commandline -opc)\n    set -e cmd[1]\n    argparse -s (__fish_"
 
-unfoldable pub head_5 : List ℕ
-head_5 = codes "_global_optspecs) -- $cmd 2>/dev/null\n    or return\n    if set -q argv[1]\n        # Also print the command, so this can be used to figure out what it is.\n        echo $argv[1]\n        return 1\n    end\n    return 0\nend\n\nfunction __fish_"
+-- from there up to the program in the name of the function that tells which command was given
+unfoldable pub needs_command_answer : List ℕ
+needs_command_answer = codes "_global_optspecs) -- $cmd 2>/dev/null\n    or return\n    if set -q argv[1]\n        # Also print the command, so this can be used to figure out what it is.\n        echo $argv[1]\n        return 1\n    end\n    return 0\nend\n\nfunction __fish_"
 
-unfoldable pub head_6 : List ℕ
-head_6 = codes "_using_subcommand\n    set -l cmd (__fish_"
+-- from there up to the program in its call of the second function
+unfoldable pub using_subcommand_call : List ℕ
+using_subcommand_call = codes "_using_subcommand\n    set -l cmd (__fish_"
 
-unfoldable pub head_7 : List ℕ
-head_7 = codes "_needs_command)\n    test -z \"$cmd\"\n    and return 1\n    contains -- $cmd[1] $argv\nend\n\n"
-
-unfoldable pub head_end : List ℕ → List ℕ
-head_end function = head_5 ++ (function ++ (head_6 ++ (function ++ head_7)))
-
-unfoldable pub head_back : List ℕ → List ℕ
-head_back function = head_3 ++ (function ++ (head_4 ++ (function ++ head_end function)))
-
-unfoldable pub head_front : List ℕ → List ℕ
-head_front function = head_1 ++ (function ++ head_2)
-
--- the head around what `argparse` is told
-abbrev pub head_around : List ℕ → List ℕ → List ℕ
-head_around function specs = head_front function ++ (specs ++ head_back function)
+-- from there on
+unfoldable pub using_subcommand_answer : List ℕ
+using_subcommand_answer = codes "_needs_command)\n    test -z \"$cmd\"\n    and return 1\n    contains -- $cmd[1] $argv\nend\n\n"
 
 -- what `argparse` is told of the arguments that are no positionals
 abbrev pub specs_text : List Arg → List ℕ
 specs_text arguments = flat_map spec_text (filter (λ argument. not (is_positional argument)) arguments)
 
--- the head, which stands only where the root has children
+-- the head, where the root has children: three functions, each named after the program
 unfoldable pub head_text : List ℕ → Tree → List ℕ
 head_text function root =
-    if has_nodes root.children then head_around function (specs_text root.node.arguments) else []
+    if has_nodes root.children then
+    optspecs_begin ++ function ++ optspecs_join ++ specs_text root.node.arguments
+    ++ needs_command_begin ++ function ++ needs_command_parse ++ function ++ needs_command_answer ++ function
+    ++ using_subcommand_call ++ function ++ using_subcommand_answer
+    else []
 
 -- ---- the whole
 

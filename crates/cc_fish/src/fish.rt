@@ -12,7 +12,7 @@ use crate::function::function_name;
 use crate::head::write_head;
 use crate::keys::FishKeys;
 use crate::lines::write_visit;
-use cc_base::{Error, Sink};
+use cc_base::{Error, Sink, as_error};
 use cc_command::{Command, full_name};
 use cc_flat::Flat;
 use cc_lists::Generator;
@@ -60,7 +60,6 @@ fn write_script<W: Sink>(alloc: Global, flat: &Flat<'_>, sink: &mut W) -> Result
     write_parts(alloc, flat, bin_name, function.as_str(), sink)
 }
 
-// Writes the head and the records.
 #[tactic(auto, unfolding(crate::specs::FishScript::script_text))]
 fn write_parts<W: Sink>(
     alloc: Global,
@@ -73,11 +72,10 @@ fn write_parts<W: Sink>(
     ensures { Writes W.taken W.failed result sink.old sink.new
         (script_text bin_name.now function.now (tree_at flat.now 0)) }
 {
-    write_head(function, flat.command(0), sink)?;
+    as_error(write_head(function, flat.command(0), sink))?;
     write_body(alloc, flat, bin_name, function, sink)
 }
 
-// Writes the records of all visible paths.
 #[tactic(auto, using(crate::proofs::ScriptRead::entered_texts))]
 fn write_body<W: Sink>(
     alloc: Global,
@@ -95,7 +93,6 @@ fn write_body<W: Sink>(
     write_steps(alloc, bin_name, function, steps, sink)
 }
 
-// Writes the records of the nodes that are still to be entered.
 fn write_steps<W: Sink>(
     alloc: Global,
     bin_name: &str,

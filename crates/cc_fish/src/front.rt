@@ -13,7 +13,7 @@ ghost use Rattle.cc_fish.specs.FishScript.{
 };
 ghost use Rattle.cc_fish.specs.FishTable.{child_names};
 
-use crate::fixed::not_seen;
+use crate::texts::not_seen;
 use cc_command::Command;
 use std::alloc::{AllocError, Global};
 

@@ -3,12 +3,12 @@
 #![tactic(auto)]
 
 mod fish;
-mod fixed;
 mod front;
 mod function;
 mod head;
 mod keys;
 mod lines;
+mod texts;
 mod values;
 
 pub use crate::fish::Fish;

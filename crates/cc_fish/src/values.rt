@@ -12,7 +12,7 @@ ghost use Rattle.cc_fish.specs.FishScript.{
   values_text,
 };
 
-use crate::fixed::list_begin;
+use crate::texts::list_begin;
 use cc_arg::{Arg, PossibleValue, ValueHint, possible_values};
 use cc_base::{Error, Sink, put_all};
 use cc_quote::{put_fish_help_for_eval, put_fish_quoted_for_eval};
