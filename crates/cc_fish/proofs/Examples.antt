@@ -14,7 +14,7 @@ use Rattle.cc_command.specs.Tree.{Tree, none}
 use Rattle.cc_quote.specs.FishQuote.{fish_sign, is_fish_safe, fish_quoted, fish_quoted_for_eval, fish_help_for_eval_of, fish_escaped}
 use Rattle.cc_quote.specs.FishTokens.{fish_commands}
 use Rattle.cc_visits.specs.Visits.{paths_below}
-use Rattle.cc_fish.specs.FishScript.{value_text, value_lines, list_begin, listed_text, values_text, names_text, option_text, flag_text, child_text, options_text, flags_text, below_text, node_text, visit_text, front_text, key_condition, not_seen, spec_text, head_text, body_text, script_text, fish_script}
+use Rattle.cc_fish.specs.FishScript.{value_text, value_lines, list_begin, listed_text, values_text, names_text, argument_text, child_text, options_text, flags_text, below_text, node_text, visit_text, front_text, key_condition, not_seen, spec_text, head_text, body_text, script_text, fish_script}
 use Rattle.cc_fish.specs.FishTable.{tables}
 use Rattle.cc_fish.specs.RecordReader.{no_record, records}
 use Rattle.cc_fish.specs.Records.{Condition, Record}
@@ -141,7 +141,7 @@ deep_text : body_text (codes "app") (codes "app") deep
     ++ line (codes "complete -c app -n \"__fish_app_using_subcommand a; and not __fish_seen_subcommand_from b\" -f -a \"b\"")
     ++ line (codes "complete -c app -n \"__fish_app_using_subcommand a; and __fish_seen_subcommand_from b; and not __fish_seen_subcommand_from c\" -f -a \"c\"")
     ++ line (codes "complete -c app -n \"__fish_app_using_subcommand a; and __fish_seen_subcommand_from b; and __fish_seen_subcommand_from c\" -s v")
-unfolding encode_utf8 paths_below body_text visit_text node_text options_text flags_text below_text option_text flag_text child_text names_text front_text key_condition not_seen
+unfolding encode_utf8 paths_below body_text visit_text node_text options_text flags_text below_text argument_text values_text child_text names_text front_text key_condition not_seen
 deep_text = refl
 
 deep_tables : tables deep
@@ -155,7 +155,7 @@ deep_tables = refl
 
 -- `app` without children, with what building adds
 alone_text : fish_script (built_under (Some (codes "app")) (new_tree (codes "app"))) ≡ line (codes "complete -c app -s h -l help -d 'Print help'")
-unfolding encode_utf8 paths_below help_argument version_argument help_name help_help version_name fish_escaped script_text head_text body_text visit_text node_text options_text flags_text below_text option_text flag_text names_text front_text key_condition
+unfolding encode_utf8 paths_below help_argument version_argument help_name help_help version_name fish_escaped script_text head_text body_text visit_text node_text options_text flags_text below_text argument_text values_text names_text front_text key_condition
 alone_text = refl
 
 -- an option with a value that is shown and one that is hidden
@@ -167,9 +167,9 @@ color = record (new_arg (codes "color")) {
   possible_values = Some (new_possible_value (codes "auto") ∷ record (new_possible_value (codes "never")) { hide = true } ∷ []);
 }
 
-color_text : option_text (front_text (codes "app") (Some (codes "__fish_app_needs_command"))) color
+color_text : argument_text (front_text (codes "app") (Some (codes "__fish_app_needs_command"))) true color
     ≡ line (codes "complete -c app -n \"__fish_app_needs_command\" -s c -l color -d 'Colour' -r -f -a \"auto\\t''\"")
-unfolding encode_utf8 fish_escaped is_fish_safe fish_quoted fish_quoted_for_eval fish_help_for_eval_of value_text value_lines list_begin listed_text values_text names_text option_text front_text
+unfolding encode_utf8 fish_escaped is_fish_safe fish_quoted fish_quoted_for_eval fish_help_for_eval_of value_text value_lines list_begin listed_text values_text names_text argument_text front_text
 color_text = refl
 
 color_spec : spec_text color ≡ codes " c/color="

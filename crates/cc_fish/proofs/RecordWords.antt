@@ -250,7 +250,7 @@ part_adds None hint = hint_adds hint
 abbrev pub values_words : Arg → List (List ℕ)
 values_words argument = part_words (possible_values argument) argument.value_hint
 
-pub values_adds : (argument : Arg) → Adds (values_text argument) (values_words argument)
+pub values_adds : (argument : Arg) → Adds (values_text true argument) (values_words argument)
 unfolding values_text
 values_adds argument = part_adds (possible_values argument) argument.value_hint
 

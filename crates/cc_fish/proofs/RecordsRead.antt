@@ -18,7 +18,7 @@ use Rattle.cc_quote.specs.FishQuote.{fish_sign}
 use Rattle.cc_quote.specs.FishTokens.{between, commands_from, fish_commands}
 use Rattle.cc_quote.proofs.FishWords.{IsSafe}
 use Rattle.cc_quote.proofs.FishCutting.{word_read, Adds, adds_append}
-use Rattle.cc_fish.specs.FishScript.{names_text, values_text, help_text, front_text, option_text, flag_text, child_text, children_text, node_text, options_text, flags_text, below_text}
+use Rattle.cc_fish.specs.FishScript.{names_text, values_text, help_text, front_text, argument_text, child_text, children_text, node_text, options_text, flags_text, below_text}
 use Rattle.cc_fish.specs.FishTable.{condition_at, child_names, has_positionals, hint_marks, hint_offers, value_marks, value_offers, short_names, flag_record, option_record, child_record, child_records, node_records}
 use Rattle.cc_fish.specs.RecordReader.{joined_words, offered_of, condition, condition_of, told_once, record_from, an_option, the_operand, no_record, records_of, records}
 use Rattle.cc_fish.specs.Records.{Condition, Record}
@@ -195,22 +195,22 @@ record_yields bin_name path children text words read is adds h =
     }
 
 flag_yields : (bin_name : List ℕ) (path : List (List ℕ)) (children : Forest) → IsAt bin_name path children → (argument : Arg) → IsPlainArgument argument
-    → Yields (flag_text (path_front bin_name path children) argument) (flag_record bin_name (condition_at bin_name path children) argument ∷ [])
-unfolding flag_text
+    → Yields (argument_text (path_front bin_name path children) false argument) (flag_record bin_name (condition_at bin_name path children) argument ∷ [])
+unfolding argument_text values_text
 flag_yields bin_name path children is argument plain =
     record_yields bin_name path children (names_text argument) (names_words argument) _ is (names_adds argument plain)
     (ap (record_from an_option (at bin_name (condition_at bin_name path children))) (sym (append-nil (names_words argument))) ∙ names_read bin_name argument (condition_at bin_name path children) [])
 
 option_yields : (bin_name : List ℕ) (path : List (List ℕ)) (children : Forest) → IsAt bin_name path children → (argument : Arg) → IsPlainArgument argument
-    → Yields (option_text (path_front bin_name path children) argument) (option_record bin_name (condition_at bin_name path children) argument ∷ [])
-unfolding option_text
+    → Yields (argument_text (path_front bin_name path children) true argument) (option_record bin_name (condition_at bin_name path children) argument ∷ [])
+unfolding argument_text
 option_yields bin_name path children is argument plain =
     let front : List ℕ = path_front bin_name path children in
-    let one : Yields (front ++ ((names_text argument ++ values_text argument) ++ line_feed ∷ [])) (option_record bin_name (condition_at bin_name path children) argument ∷ []) =
-    record_yields bin_name path children (names_text argument ++ values_text argument) (names_words argument ++ values_words argument) (option_record bin_name (condition_at bin_name path children) argument) is
-    (adds_append (names_text argument) (values_text argument) (names_words argument) (values_words argument) (names_adds argument plain) (values_adds argument))
+    let one : Yields (front ++ ((names_text argument ++ values_text true argument) ++ line_feed ∷ [])) (option_record bin_name (condition_at bin_name path children) argument ∷ []) =
+    record_yields bin_name path children (names_text argument ++ values_text true argument) (names_words argument ++ values_words argument) (option_record bin_name (condition_at bin_name path children) argument) is
+    (adds_append (names_text argument) (values_text true argument) (names_words argument) (values_words argument) (names_adds argument plain) (values_adds argument))
     (names_read bin_name argument (condition_at bin_name path children) (values_words argument) ∙ values_read bin_name argument (condition_at bin_name path children)) in
-    rw (← append_assoc (names_text argument) (values_text argument) (line_feed ∷ [])) one
+    rw (← append_assoc (names_text argument) (values_text true argument) (line_feed ∷ [])) one
 
 child_yields : (bin_name : List ℕ) (path : List (List ℕ)) (children : Forest) → IsAt bin_name path children → (no_files : Bool) (about : Option (List ℕ)) (name : List ℕ) → IsPlainName name
     → Yields (child_text (path_front bin_name path children) no_files about name) (child_record bin_name (condition_at bin_name path children) no_files about name ∷ [])
@@ -247,7 +247,7 @@ node_yields bin_name path tree is plain =
     let when : Option Condition = condition_at bin_name path tree.children in
     let node = plain_node tree.node plain.node in
     yields_append _ _ _ _
-    (yields_map IsPlainArgument (option_text front) (option_record bin_name when) (option_yields bin_name path tree.children is) (options tree.node) node.options)
+    (yields_map IsPlainArgument (argument_text front true) (option_record bin_name when) (option_yields bin_name path tree.children is) (options tree.node) node.options)
     (yields_append _ _ _ _
-    (yields_map IsPlainArgument (flag_text front) (flag_record bin_name when) (flag_yields bin_name path tree.children is) (flags tree.node) node.flags)
+    (yields_map IsPlainArgument (argument_text front false) (flag_record bin_name when) (flag_yields bin_name path tree.children is) (flags tree.node) node.flags)
     (children_yield bin_name path tree.children is (not (has_positionals tree.node)) tree.children plain.children))

@@ -1,5 +1,5 @@
 -- The text of a fish script.
-use Rattle.std.specs.Prelude.{ℕ, List, [], ◌∷◌, ◌++◌, if◌then◌else◌, Bool, not, Option, Some, None, codes, encode_utf8, filter, flat_map, map, unwrap_or}
+use Rattle.std.specs.Prelude.{ℕ, List, [], ◌∷◌, ◌++◌, if◌then◌else◌, Bool, true, false, not, Option, Some, None, codes, encode_utf8, filter, flat_map, map, unwrap_or}
 use Rattle.cc_arg.specs.declared.arg.Arg.{Arg}
 use Rattle.cc_arg.specs.declared.possible_value.PossibleValue.{PossibleValue}
 use Rattle.cc_arg.specs.declared.value_hint.ValueHint.{ValueHint}
@@ -106,16 +106,16 @@ abbrev pub value_part : Option (List PossibleValue) → ValueHint → List ℕ
 value_part (Some values) hint = listed_text values
 value_part None hint = hint_text hint
 
-unfoldable pub values_text : Arg → List ℕ
-values_text argument = value_part (possible_values argument) argument.value_hint
+-- what the value of an argument may be, where it takes one
+unfoldable pub values_text : Bool → Arg → List ℕ
+values_text true argument = value_part (possible_values argument) argument.value_hint
+values_text false argument = []
 
 -- ---- the records of a node, each a line
 
-unfoldable pub option_text : List ℕ → Arg → List ℕ
-option_text front argument = front ++ (names_text argument ++ (values_text argument ++ line_feed ∷ []))
-
-unfoldable pub flag_text : List ℕ → Arg → List ℕ
-flag_text front argument = front ++ (names_text argument ++ line_feed ∷ [])
+-- the record of an argument that takes values, or takes none
+unfoldable pub argument_text : List ℕ → Bool → Arg → List ℕ
+argument_text front takes argument = front ++ (names_text argument ++ (values_text takes argument ++ line_feed ∷ []))
 
 -- the record of a child's name, which marks no files where the node has no positional
 unfoldable pub child_text : List ℕ → Bool → Option (List ℕ) → List ℕ → List ℕ
@@ -128,10 +128,10 @@ children_text front no_files (more node below rest) =
     flat_map (child_text front no_files node.about) (visible_names node) ++ children_text front no_files rest
 
 unfoldable pub options_text : List ℕ → Node → List ℕ
-options_text front node = flat_map (option_text front) (options node)
+options_text front node = flat_map (argument_text front true) (options node)
 
 unfoldable pub flags_text : List ℕ → Node → List ℕ
-flags_text front node = flat_map (flag_text front) (flags node)
+flags_text front node = flat_map (argument_text front false) (flags node)
 
 unfoldable pub below_text : List ℕ → Tree → List ℕ
 below_text front tree = children_text front (not (has_positionals tree.node)) tree.children

@@ -13,22 +13,21 @@ ghost use Rattle.std.specs.Prelude.{
 };
 ghost use Rattle.std.specs.Option.{option_copied};
 ghost use Rattle.cc_arg.specs.ShownNames.{shown_longs, shown_shorts};
-ghost use Rattle.cc_base.specs.Writes.{Writes};
+ghost use Rattle.cc_base.specs.Writes.{Writes, as_write};
 ghost use Rattle.cc_command.specs.ArgumentLists.{flags, options};
 ghost use Rattle.cc_command.specs.Names.{visible_names};
 ghost use Rattle.cc_command.specs.Tree.{forest_of};
 ghost use Rattle.cc_visits.specs.Meaning.{visit_of};
 ghost use Rattle.cc_fish.specs.FishScript.{
+  argument_text,
   below_text,
   child_text,
   children_text,
-  flag_text,
   flags_text,
   help_text,
   long_text,
   names_text,
   node_text,
-  option_text,
   options_text,
   short_text,
   visit_text,
@@ -38,13 +37,13 @@ ghost use Rattle.cc_fish.specs.FishTable.{has_positionals};
 use crate::front::front;
 use crate::values::write_values;
 use cc_arg::{Arg, shown_longs, shown_shorts};
-use cc_base::{Error, Sink, put_all};
+use cc_base::{Error, Sink, as_error, put_all, put_around, put_piece, put_pieces};
 use cc_command::Command;
-use cc_quote::{FishEscape, put_escaped};
+use cc_quote::{FishEscape, put_escaped_piece};
 use cc_visits::Visit;
 use std::alloc::Global;
+use std::io::ErrorKind;
 
-/// Writes the records of a visit.
 #[tactic(auto, unfolding(crate::specs::FishScript::visit_text))]
 pub(crate) fn write_visit<W: Sink>(
     alloc: Global,
@@ -60,14 +59,14 @@ pub(crate) fn write_visit<W: Sink>(
     write_node(front.as_str(), visit.command, sink)
 }
 
-// Writes the records of a node, each of which begins with the front.
+// Each record begins with the front.
 #[tactic(auto, unfolding(crate::specs::FishScript::node_text))]
 fn write_node<W: Sink>(front: &str, command: &Command, sink: &mut W) -> Result<(), Error>
     ensures { Writes W.taken W.failed result sink.old sink.new (node_text front.now command.now) }
 {
     write_options(front, command, sink)?;
     write_flags(front, command, sink)?;
-    write_below(front, command, sink)
+    as_error(write_below(front, command, sink))
 }
 
 #[tactic(auto, unfolding(crate::specs::FishScript::options_text))]
@@ -76,7 +75,7 @@ fn write_options<W: Sink>(front: &str, command: &Command, sink: &mut W) -> Resul
         (options_text front.now command.now.node) }
 {
     for option in command.get_opts() {
-        write_option(front, option, sink)?;
+        write_argument(front, true, option, sink)?;
     }
     Ok(())
 }
@@ -87,43 +86,39 @@ fn write_flags<W: Sink>(front: &str, command: &Command, sink: &mut W) -> Result<
         (flags_text front.now command.now.node) }
 {
     for flag in command.get_flags() {
-        write_flag(front, flag, sink)?;
+        write_argument(front, false, flag, sink)?;
     }
     Ok(())
 }
 
-#[tactic(auto, unfolding(crate::specs::FishScript::option_text))]
-fn write_option<W: Sink>(front: &str, argument: &Arg, sink: &mut W) -> Result<(), Error>
+// An option takes values, a flag takes none.
+#[tactic(auto, unfolding(crate::specs::FishScript::argument_text))]
+fn write_argument<W: Sink>(
+    front: &str,
+    takes: bool,
+    argument: &Arg,
+    sink: &mut W,
+) -> Result<(), Error>
     ensures { Writes W.taken W.failed result sink.old sink.new
-        (option_text front.now argument.now) }
+        (argument_text front.now takes argument.now) }
 {
     put_all(sink, front.as_bytes())?;
-    write_names(argument, sink)?;
-    write_values(argument, sink)?;
+    as_error(write_names(argument, sink))?;
+    write_values(takes, argument, sink)?;
     put_all(sink, "\n".as_bytes())
 }
 
-#[tactic(auto, unfolding(crate::specs::FishScript::flag_text))]
-fn write_flag<W: Sink>(front: &str, argument: &Arg, sink: &mut W) -> Result<(), Error>
-    ensures { Writes W.taken W.failed result sink.old sink.new (flag_text front.now argument.now) }
-{
-    put_all(sink, front.as_bytes())?;
-    write_names(argument, sink)?;
-    put_all(sink, "\n".as_bytes())
-}
-
-// Writes the shorts, the longs and the help of an argument.
 #[tactic(auto, unfolding(crate::specs::FishScript::names_text))]
-fn write_names<W: Sink>(argument: &Arg, sink: &mut W) -> Result<(), Error>
-    ensures { Writes W.taken W.failed result sink.old sink.new (names_text argument.now) }
+fn write_names<W: Sink>(argument: &Arg, sink: &mut W) -> Result<(), ErrorKind>
+    ensures { Writes W.taken W.failed (as_write result) sink.old sink.new (names_text argument.now) }
 {
     write_shorts(argument, sink)?;
     write_longs(argument, sink)?;
     write_help(argument.get_help(), sink)
 }
 
-fn write_shorts<W: Sink>(argument: &Arg, sink: &mut W) -> Result<(), Error>
-    ensures { Writes W.taken W.failed result sink.old sink.new
+fn write_shorts<W: Sink>(argument: &Arg, sink: &mut W) -> Result<(), ErrorKind>
+    ensures { Writes W.taken W.failed (as_write result) sink.old sink.new
         (flat_map short_text (shown_shorts argument.now)) }
 {
     for short in shown_shorts(argument) {
@@ -132,16 +127,16 @@ fn write_shorts<W: Sink>(argument: &Arg, sink: &mut W) -> Result<(), Error>
     Ok(())
 }
 
-fn write_short<W: Sink>(short: char, sink: &mut W) -> Result<(), Error>
-    ensures { Writes W.taken W.failed result sink.old sink.new (short_text short) }
+fn write_short<W: Sink>(short: char, sink: &mut W) -> Result<(), ErrorKind>
+    ensures { Writes W.taken W.failed (as_write result) sink.old sink.new (short_text short) }
 {
     let mut buffer = [0; 4];
-    put_all(sink, " -s ".as_bytes())?;
-    put_all(sink, short.encode_utf8(&mut buffer).as_bytes())
+    put_piece(sink, " -s ".as_bytes())?;
+    put_piece(sink, short.encode_utf8(&mut buffer).as_bytes())
 }
 
-fn write_longs<W: Sink>(argument: &Arg, sink: &mut W) -> Result<(), Error>
-    ensures { Writes W.taken W.failed result sink.old sink.new
+fn write_longs<W: Sink>(argument: &Arg, sink: &mut W) -> Result<(), ErrorKind>
+    ensures { Writes W.taken W.failed (as_write result) sink.old sink.new
         (flat_map long_text (shown_longs argument.now)) }
 {
     for long in shown_longs(argument) {
@@ -150,30 +145,28 @@ fn write_longs<W: Sink>(argument: &Arg, sink: &mut W) -> Result<(), Error>
     Ok(())
 }
 
-fn write_long<W: Sink>(long: &str, sink: &mut W) -> Result<(), Error>
-    ensures { Writes W.taken W.failed result sink.old sink.new (long_text long.now) }
+fn write_long<W: Sink>(long: &str, sink: &mut W) -> Result<(), ErrorKind>
+    ensures { Writes W.taken W.failed (as_write result) sink.old sink.new (long_text long.now) }
 {
-    put_all(sink, " -l ".as_bytes())?;
-    put_all(sink, long.as_bytes())
+    put_pieces(sink, &[" -l ".as_bytes(), long.as_bytes()])
 }
 
-// Writes a help or an about, where there is one.
-fn write_help<W: Sink>(help: Option<&str>, sink: &mut W) -> Result<(), Error>
-    ensures { Writes W.taken W.failed result sink.old sink.new
+// The help of an argument, or the about of a child.
+fn write_help<W: Sink>(help: Option<&str>, sink: &mut W) -> Result<(), ErrorKind>
+    ensures { Writes W.taken W.failed (as_write result) sink.old sink.new
         (help_text (option_copied help.entry)) }
 {
     let Some(help) = help else {
         return Ok(());
     };
-    put_all(sink, " -d '".as_bytes())?;
-    put_escaped(&FishEscape, help, sink)?;
-    put_all(sink, "'".as_bytes())
+    put_piece(sink, " -d '".as_bytes())?;
+    put_escaped_piece(&FishEscape, help, sink)?;
+    put_piece(sink, "'".as_bytes())
 }
 
-// Writes the records of the children's names.
 #[tactic(auto, unfolding(crate::specs::FishScript::below_text))]
-fn write_below<W: Sink>(front: &str, command: &Command, sink: &mut W) -> Result<(), Error>
-    ensures { Writes W.taken W.failed result sink.old sink.new (below_text front.now command.now) }
+fn write_below<W: Sink>(front: &str, command: &Command, sink: &mut W) -> Result<(), ErrorKind>
+    ensures { Writes W.taken W.failed (as_write result) sink.old sink.new (below_text front.now command.now) }
 {
     let no_files = !has_positionals(command);
     write_children(front, no_files, command.get_subcommands(), sink)
@@ -194,8 +187,8 @@ fn write_children<W: Sink>(
     no_files: bool,
     children: &[Command],
     sink: &mut W,
-) -> Result<(), Error>
-    ensures { Writes W.taken W.failed result sink.old sink.new
+) -> Result<(), ErrorKind>
+    ensures { Writes W.taken W.failed (as_write result) sink.old sink.new
         (children_text front.now no_files (forest_of children.now)) }
 {
     for child in children {
@@ -204,14 +197,13 @@ fn write_children<W: Sink>(
     Ok(())
 }
 
-// Writes a record for each visible name of a child.
 fn write_child<W: Sink>(
     front: &str,
     no_files: bool,
     child: &Command,
     sink: &mut W,
-) -> Result<(), Error>
-    ensures { Writes W.taken W.failed result sink.old sink.new
+) -> Result<(), ErrorKind>
+    ensures { Writes W.taken W.failed (as_write result) sink.old sink.new
         (flat_map (child_text front.now no_files child.now.node.about)
         (visible_names child.now.node)) }
 {
@@ -221,7 +213,6 @@ fn write_child<W: Sink>(
     Ok(())
 }
 
-// Writes the record of a child's name.
 #[tactic(auto, unfolding(crate::specs::FishScript::child_text))]
 fn write_name<W: Sink>(
     front: &str,
@@ -229,17 +220,15 @@ fn write_name<W: Sink>(
     about: Option<&str>,
     name: &str,
     sink: &mut W,
-) -> Result<(), Error>
-    ensures { Writes W.taken W.failed result sink.old sink.new
+) -> Result<(), ErrorKind>
+    ensures { Writes W.taken W.failed (as_write result) sink.old sink.new
         (child_text front.now no_files (option_copied about.entry) name.now) }
 {
-    put_all(sink, front.as_bytes())?;
-    put_all(sink, no_files_mark(no_files).as_bytes())?;
-    put_all(sink, " -a \"".as_bytes())?;
-    put_all(sink, name.as_bytes())?;
-    put_all(sink, "\"".as_bytes())?;
+    put_piece(sink, front.as_bytes())?;
+    put_piece(sink, no_files_mark(no_files).as_bytes())?;
+    put_around(" -a \"", name, "\"", sink)?;
     write_help(about, sink)?;
-    put_all(sink, "\n".as_bytes())
+    put_piece(sink, "\n".as_bytes())
 }
 
 // The mark that no files are offered.

@@ -17,11 +17,14 @@ use cc_arg::{Arg, PossibleValue, ValueHint, possible_values};
 use cc_base::{Error, Sink, put_all};
 use cc_quote::{put_fish_help_for_eval, put_fish_quoted_for_eval};
 
-/// Writes what an option's value may be.
+/// Nothing, where the argument takes no values.
 #[tactic(auto, unfolding(crate::specs::FishScript::values_text))]
-pub(crate) fn write_values<W: Sink>(argument: &Arg, sink: &mut W) -> Result<(), Error>
-    ensures { Writes W.taken W.failed result sink.old sink.new (values_text argument.now) }
+pub(crate) fn write_values<W: Sink>(takes: bool, argument: &Arg, sink: &mut W) -> Result<(), Error>
+    ensures { Writes W.taken W.failed result sink.old sink.new (values_text takes argument.now) }
 {
+    if !takes {
+        return Ok(());
+    }
     match possible_values(argument) {
         Some(values) => write_listed(values, sink),
         None => put_all(sink, hint_marks(argument.get_value_hint()).as_bytes()),
