@@ -13,13 +13,14 @@ use Rattle.cc_arg.specs.Arguments.{possible_values}
 use Rattle.cc_arg.specs.ShownNames.{shown_shorts, shown_longs}
 use Rattle.cc_command.proofs.PlainParts.{IsPlainArgument}
 use Rattle.cc_base.specs.Bytes as ascii
+use Rattle.cc_base.specs.Joined.{separator, joined, joined_after}
 use Rattle.cc_quote.specs.QuotedWord.{line_feeds_as_spaces}
 use Rattle.cc_quote.specs.FishQuote.{fish_sign, advance, begins_word, begins_with_word, is_fish_safe, double_byte, double_escaped, single_quoted, fish_quoted, fish_quoted_for_eval, fish_help_for_eval_of, fish_escaped}
 use Rattle.cc_quote.specs.FishQuote.FishPlace.{bare, in_double}
 use Rattle.cc_quote.specs.FishTokens.{between, in_word, commands_from, fish_commands}
 use Rattle.cc_quote.proofs.FishWords.{safe_sign, safe_bytes, safe_in_double, double_read, single_quoted_read, fish_quoted_read, advance-append}
 use Rattle.cc_quote.proofs.FishCutting.{Spells, word_read, Adds, adds_none, adds_word, adds_append, adds_flat_map, command_read}
-use Rattle.cc_fish.specs.FishScript.{condition_text, short_text, long_text, help_text, value_text, separated, value_lines, list_begin, listed_text, hint_text, value_part, values_text, names_text, front_text}
+use Rattle.cc_fish.specs.FishScript.{condition_text, short_text, long_text, help_text, value_text, value_lines, list_begin, listed_text, hint_text, value_part, values_text, names_text, front_text}
 use Rattle.cc_fish.specs.FishTable.{value_word}
 use Rattle.cc_fish.specs.RecordReader.{joined_words, offered_of}
 use Rattle.cc_fish.proofs.FishNames.{IsName, letter_safe, joiner_safe, name_safe, name_spelled, IsShortName, plain_shorts, plain_longs}
@@ -130,17 +131,27 @@ value_once value word =
     ∙ tab_once (word ++ fish_quoted value.name) help
     ∙ ap (λ t. Some (in_double t)) (simp append_assoc)
 
+-- some lines, where it is told whether a line stands before them
+abbrev lines_after : Bool → List (List ℕ) → List ℕ
+lines_after begun lines = joined_after (ascii.line_feed ∷ []) begun lines
+
+separator_kept : (begun : Bool) → list_all is_kept (separator (ascii.line_feed ∷ []) begun) ≡ true
+separator_kept true = refl
+separator_kept false = refl
+
 -- the first reading of listed values
-values_once : (values : List PossibleValue) (separator word : List ℕ) → list_all is_kept separator ≡ true
-    → advance (Some (in_double word)) (separated separator (map value_text values)) ≡ Some (in_double (word ++ separated separator (map value_inner values)))
-values_once [] separator word h = rw append-nil
-values_once (value ∷ values) separator word h =
-    let further : List ℕ = separated (ascii.line_feed ∷ []) (map value_text values) in
-    advance-append separator (value_text value ++ further) (Some (in_double word))
-    ∙ ap (λ place. advance place (value_text value ++ further)) (kept_read separator word h)
-    ∙ advance-append (value_text value) further (Some (in_double (word ++ separator)))
-    ∙ ap (λ place. advance place further) (value_once value (word ++ separator))
-    ∙ values_once values (ascii.line_feed ∷ []) ((word ++ separator) ++ value_inner value) refl
+values_once : (values : List PossibleValue) (begun : Bool) (word : List ℕ)
+    → advance (Some (in_double word)) (lines_after begun (map value_text values)) ≡ Some (in_double (word ++ lines_after begun (map value_inner values)))
+values_once [] begun word = rw append-nil
+values_once (value ∷ values) begun word =
+    let before : List ℕ = separator (ascii.line_feed ∷ []) begun in
+    let further : List ℕ = lines_after true (map value_text values) in
+    ap (advance (Some (in_double word))) (append_assoc before (value_text value) further)
+    ∙ advance-append before (value_text value ++ further) (Some (in_double word))
+    ∙ ap (λ place. advance place (value_text value ++ further)) (kept_read before word (separator_kept begun))
+    ∙ advance-append (value_text value) further (Some (in_double (word ++ before)))
+    ∙ ap (λ place. advance place further) (value_once value (word ++ before))
+    ∙ values_once values true ((word ++ before) ++ value_inner value)
     ∙ ap (λ t. Some (in_double t)) (simp append_assoc)
 
 quoted_begins : (text rest : List ℕ) → IsTrue (begins_with_word (fish_quoted text ++ rest))
@@ -169,20 +180,20 @@ value_spelled value =
     }
 
 further_twice : (values : List PossibleValue) (word : List ℕ)
-    → joined_words (commands_from (in_word [] (bare word)) (separated (ascii.line_feed ∷ []) (map value_inner values))) ≡ Some (word ∷ map value_word values)
+    → joined_words (commands_from (in_word [] (bare word)) (lines_after true (map value_inner values))) ≡ Some (word ∷ map value_word values)
 unfolding fish_sign
 further_twice [] word = refl
 further_twice (value ∷ values) word =
-    let further : List ℕ = separated (ascii.line_feed ∷ []) (map value_inner values) in
+    let further : List ℕ = lines_after true (map value_inner values) in
     ap (λ commands. option_map (λ later. word ∷ later) (joined_words commands)) (word_read (value_inner value) (value_word value) [] further (value_spelled value))
     ∙ ap (option_map (λ later. word ∷ later)) (further_twice values (value_word value))
 
 -- the second reading of listed values
-pub values_twice : (values : List PossibleValue) → offered_of (separated [] (map value_inner values)) ≡ Some (map value_word values)
+pub values_twice : (values : List PossibleValue) → offered_of (joined (ascii.line_feed ∷ []) (map value_inner values)) ≡ Some (map value_word values)
 unfolding fish_commands
 values_twice [] = refl
 values_twice (value ∷ values) =
-    ap joined_words (word_read (value_inner value) (value_word value) [] (separated (ascii.line_feed ∷ []) (map value_inner values)) (value_spelled value))
+    ap joined_words (word_read (value_inner value) (value_word value) [] (lines_after true (map value_inner values)) (value_spelled value))
     ∙ further_twice values (value_word value)
 
 -- ---- what an option's value may be
@@ -236,15 +247,15 @@ shown_of values = filter (λ value. not value.hide) values
 
 -- the words of listed values, or of the hint
 abbrev pub part_words : Option (List PossibleValue) → ValueHint → List (List ℕ)
-part_words (Some values) hint = codes "-r" ∷ codes "-f" ∷ codes "-a" ∷ separated [] (map value_inner (shown_of values)) ∷ []
+part_words (Some values) hint = codes "-r" ∷ codes "-f" ∷ codes "-a" ∷ joined (ascii.line_feed ∷ []) (map value_inner (shown_of values)) ∷ []
 part_words None hint = hint_words hint
 
 part_adds : (values : Option (List PossibleValue)) (hint : ValueHint) → Adds (value_part values hint) (part_words values hint)
 unfolding listed_text list_begin value_lines
 part_adds (Some values) hint =
-    let raw : List ℕ = separated [] (map value_text (shown_of values)) in
-    let once : List ℕ = separated [] (map value_inner (shown_of values)) in
-    adds_offer (ascii.double_quote ∷ (raw ++ ascii.double_quote ∷ [])) once (in_doubles raw once (values_once (shown_of values) [] [] refl))
+    let raw : List ℕ = joined (ascii.line_feed ∷ []) (map value_text (shown_of values)) in
+    let once : List ℕ = joined (ascii.line_feed ∷ []) (map value_inner (shown_of values)) in
+    adds_offer (ascii.double_quote ∷ (raw ++ ascii.double_quote ∷ [])) once (in_doubles raw once (values_once (shown_of values) false []))
 part_adds None hint = hint_adds hint
 
 abbrev pub values_words : Arg → List (List ℕ)

@@ -11,6 +11,7 @@ use Rattle.cc_command.specs.ArgumentLists.{options, flags}
 use Rattle.cc_command.specs.Names.{full_name, visible_names}
 use Rattle.cc_command.specs.Tree.{Forest, none, more, Tree, has_nodes}
 use Rattle.cc_base.specs.Bytes.{space, line_feed}
+use Rattle.cc_base.specs.Joined.{joined}
 use Rattle.cc_quote.specs.FishQuote.{fish_escaped, fish_quoted_for_eval, fish_help_for_eval_of}
 use Rattle.cc_visits.specs.Visits.{Keyed, path_visits}
 use Rattle.cc_fish.specs.FishTable.{child_names, function_name, has_positionals}
@@ -74,14 +75,9 @@ names_text argument =
 unfoldable pub value_text : PossibleValue → List ℕ
 value_text value = fish_quoted_for_eval value.name ++ (codes "\\t" ++ fish_help_for_eval_of (unwrap_or value.help []))
 
--- lines one after another: the first after this separator, each further one after a line feed
-abbrev pub separated : List ℕ → List (List ℕ) → List ℕ
-separated separator [] = []
-separated separator (line ∷ lines) = separator ++ (line ++ separated (line_feed ∷ []) lines)
-
 -- the values of a list that are shown, each on a line of its own
 unfoldable pub value_lines : List PossibleValue → List ℕ
-value_lines values = separated [] (map value_text (filter (λ value. not value.hide) values))
+value_lines values = joined (line_feed ∷ []) (map value_text (filter (λ value. not value.hide) values))
 
 unfoldable pub list_begin : List ℕ
 list_begin = codes " -r -f -a \""

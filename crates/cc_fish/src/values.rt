@@ -1,12 +1,13 @@
 //! What a record says of an option's values.
 
-ghost use Rattle.std.specs.Prelude.{◌≡◌, ◌++◌, ◌∷◌, [], filter, map, not, unwrap_or, Some};
+ghost use Rattle.std.specs.Prelude.{◌≡◌, ◌++◌, ◌∷◌, [], not, unwrap_or, Some};
 ghost use Rattle.std.specs.Option.{option_copied};
+ghost use Rattle.cc_base.specs.Bytes.{line_feed};
+ghost use Rattle.cc_base.specs.Joined.{separator};
 ghost use Rattle.cc_base.specs.Writes.{Writes};
 ghost use Rattle.cc_fish.specs.FishScript.{
   hint_text,
   listed_text,
-  separated,
   value_lines,
   value_text,
   values_text,
@@ -31,7 +32,6 @@ pub(crate) fn write_values<W: Sink>(takes: bool, argument: &Arg, sink: &mut W) -
     }
 }
 
-// Writes the values that are shown.
 #[tactic(auto, unfolding(crate::specs::FishScript::listed_text))]
 fn write_listed<W: Sink>(values: &[PossibleValue], sink: &mut W) -> Result<(), Error>
     ensures { Writes W.taken W.failed result sink.old sink.new
@@ -42,26 +42,17 @@ fn write_listed<W: Sink>(values: &[PossibleValue], sink: &mut W) -> Result<(), E
     put_all(sink, "\"".as_bytes())
 }
 
-// Writes the values that are shown, each on a line of its own.
 #[tactic(auto, unfolding(crate::specs::FishScript::value_lines))]
 fn write_lines<W: Sink>(values: &[PossibleValue], sink: &mut W) -> Result<(), Error>
     ensures { Writes W.taken W.failed result sink.old sink.new (value_lines values.now) }
 {
-    write_shown(values, sink)
-}
-
-// The same, value by value.
-fn write_shown<W: Sink>(values: &[PossibleValue], sink: &mut W) -> Result<(), Error>
-    ensures { Writes W.taken W.failed result sink.old sink.new
-        (separated [] (map value_text (filter (λ value. not value.hide) values.now))) }
-{
-    let mut separator = "";
+    let mut begun = false;
     for value in values {
         if !is_shown(value) {
             continue;
         }
-        write_value(separator, value, sink)?;
-        separator = "\n";
+        write_value(begun, value, sink)?;
+        begun = true;
     }
     Ok(())
 }
@@ -73,16 +64,22 @@ fn is_shown(value: &PossibleValue) -> bool
     !value.is_hide_set()
 }
 
-// Writes a value after a separator.
+// A value after the line feed that separates it from the one before.
 #[tactic(auto, unfolding(crate::specs::FishScript::value_text))]
-fn write_value<W: Sink>(separator: &str, value: &PossibleValue, sink: &mut W) -> Result<(), Error>
+fn write_value<W: Sink>(begun: bool, value: &PossibleValue, sink: &mut W) -> Result<(), Error>
     ensures { Writes W.taken W.failed result sink.old sink.new
-        (separator.now ++ value_text value.now) }
+        (separator (line_feed ∷ []) begun ++ value_text value.now) }
 {
-    put_all(sink, separator.as_bytes())?;
+    put_all(sink, separator(begun).as_bytes())?;
     put_fish_quoted_for_eval(value.get_name(), sink)?;
     put_all(sink, "\\t".as_bytes())?;
     put_fish_help_for_eval(value.get_help().unwrap_or(""), sink)
+}
+
+fn separator(begun: bool) -> &'static str
+    ensures { result.now ≡ separator (line_feed ∷ []) begun }
+{
+    if begun { "\n" } else { "" }
 }
 
 // A value follows, and fish offers what it does by default.
