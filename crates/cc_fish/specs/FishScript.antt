@@ -33,7 +33,7 @@ not_seen = codes "; and not __fish_seen_subcommand_from"
 abbrev pub excluded_text : Forest → List ℕ
 excluded_text children = if has_nodes children then not_seen ++ flat_map spaced_name (child_names children) else []
 
--- the key of a node, which is what stands for its path in a condition; the root's is empty
+-- the key of a node: the part of a condition that tells its path; the root's is empty
 abbrev pub fish_key : List ℕ → List ℕ → List ℕ
 fish_key [] name = codes "_using_subcommand " ++ name
 fish_key (byte ∷ bytes) name = (byte ∷ bytes) ++ seen_text name

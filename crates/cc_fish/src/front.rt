@@ -35,7 +35,6 @@ pub(crate) fn front(
     Ok(front)
 }
 
-// Adds when the records of a node hold.
 #[tactic(auto, unfolding(crate::specs::FishScript::key_condition))]
 fn push_condition(
     front: &mut String,
@@ -56,7 +55,7 @@ fn push_condition(
     front.push_str("\"")
 }
 
-// Adds when the records of the root hold.
+// The records of the root hold until a subcommand is given. Without children there is none to give.
 #[tactic(auto, unfolding(crate::specs::FishScript::key_condition))]
 fn push_root(front: &mut String, function: &str, command: &Command) -> Result<(), AllocError>
     ensures { OnOk result (string_bytes front.new ≡ string_bytes front.old
@@ -70,7 +69,7 @@ fn push_root(front: &mut String, function: &str, command: &Command) -> Result<()
     front.push_str("_needs_command\"")
 }
 
-// Adds that none of the children's names was seen, where there are children.
+// Once a child's name is given, the records of the child hold in place of these.
 fn push_excluded(front: &mut String, command: &Command) -> Result<(), AllocError>
     ensures { OnOk result (string_bytes front.new
         ≡ string_bytes front.old ++ excluded_text command.now.children) }
@@ -82,7 +81,6 @@ fn push_excluded(front: &mut String, command: &Command) -> Result<(), AllocError
     push_children(front, command.get_subcommands())
 }
 
-// Adds the visible names of the children, each after a space.
 fn push_children(front: &mut String, children: &[Command]) -> Result<(), AllocError>
     ensures { OnOk result (string_bytes front.new
         ≡ string_bytes front.old ++ flat_map spaced_name (child_names (forest_of children.now))) }
@@ -93,7 +91,6 @@ fn push_children(front: &mut String, children: &[Command]) -> Result<(), AllocEr
     Ok(())
 }
 
-// Adds the visible names of a child, each after a space.
 fn push_names(front: &mut String, child: &Command) -> Result<(), AllocError>
     ensures { OnOk result (string_bytes front.new
         ≡ string_bytes front.old ++ flat_map spaced_name (visible_names child.now.node)) }

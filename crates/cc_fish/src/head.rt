@@ -91,7 +91,7 @@ fn write_first_long<W: Sink>(argument: &Arg, sink: &mut W) -> Result<(), ErrorKi
     put_piece(sink, long.as_bytes())
 }
 
-// What stands after a short: a slash where there is a long.
+// `argparse` takes a short and a long with a slash between them as one option.
 fn slash(argument: &Arg) -> &'static str
     ensures { result.now ≡ slash_text (shown_longs argument.now) }
 {
@@ -102,7 +102,7 @@ fn slash(argument: &Arg) -> &'static str
     }
 }
 
-// What stands after the names: `=` where the argument takes values.
+// `argparse` takes `=` after the names to mean that a value follows.
 fn equals(argument: &Arg) -> &'static str
     ensures { result.now ≡ (if takes_values argument.now then codes "=" else []) }
 {

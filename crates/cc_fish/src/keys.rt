@@ -1,10 +1,10 @@
-//! The keys of nodes: what stands for a path in a condition.
+//! The keys of nodes: the part of a condition that tells the path.
 
 use cc_base::Text;
 use cc_visits::Keys;
 use std::alloc::{AllocError, Global};
 
-/// What stands in a condition for the path of a node: nothing at the root.
+/// The part of a condition that tells the path of a node: empty at the root.
 #[derive(Drop)]
 pub struct FishKeys;
 

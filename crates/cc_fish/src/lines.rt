@@ -172,7 +172,6 @@ fn write_below<W: Sink>(front: &str, command: &Command, sink: &mut W) -> Result<
     write_children(front, no_files, command.get_subcommands(), sink)
 }
 
-// Whether one of a node's arguments is a positional.
 fn has_positionals(command: &Command) -> bool
     ensures { result ≡ has_positionals command.now.node }
 {
@@ -231,7 +230,7 @@ fn write_name<W: Sink>(
     put_piece(sink, "\n".as_bytes())
 }
 
-// The mark that no files are offered.
+// Where the node has no positional, no file may follow.
 fn no_files_mark(no_files: bool) -> &'static str
     ensures { result.now ≡ (if no_files then codes " -f" else []) }
 {

@@ -1,6 +1,6 @@
 //! What a record says of an option's values.
 
-ghost use Rattle.std.specs.Prelude.{◌≡◌, ◌++◌, ◌∷◌, [], not, unwrap_or, Some};
+ghost use Rattle.std.specs.Prelude.{◌≡◌, ◌++◌, ◌∷◌, [], not, true, unwrap_or, OnOk, Some};
 ghost use Rattle.std.specs.Option.{option_copied};
 ghost use Rattle.cc_base.specs.Bytes.{line_feed};
 ghost use Rattle.cc_base.specs.Joined.{separator};
@@ -15,7 +15,7 @@ ghost use Rattle.cc_fish.specs.FishScript.{
 
 use crate::texts::list_begin;
 use cc_arg::{Arg, PossibleValue, ValueHint, possible_values};
-use cc_base::{Error, Sink, put_all};
+use cc_base::{Error, Sink, put_all, put_separator};
 use cc_quote::{put_fish_help_for_eval, put_fish_quoted_for_eval};
 
 /// Nothing, where the argument takes no values.
@@ -51,35 +51,27 @@ fn write_lines<W: Sink>(values: &[PossibleValue], sink: &mut W) -> Result<(), Er
         if !is_shown(value) {
             continue;
         }
-        write_value(begun, value, sink)?;
-        begun = true;
+        write_value(&mut begun, value, sink)?;
     }
     Ok(())
 }
 
-// Whether a value is offered.
 fn is_shown(value: &PossibleValue) -> bool
     ensures { result ≡ not value.now.hide }
 {
     !value.is_hide_set()
 }
 
-// A value after the line feed that separates it from the one before.
 #[tactic(auto, unfolding(crate::specs::FishScript::value_text))]
-fn write_value<W: Sink>(begun: bool, value: &PossibleValue, sink: &mut W) -> Result<(), Error>
-    ensures { Writes W.taken W.failed result sink.old sink.new
-        (separator (line_feed ∷ []) begun ++ value_text value.now) }
+fn write_value<W: Sink>(begun: &mut bool, value: &PossibleValue, sink: &mut W) -> Result<(), Error>
+    ensures written { Writes W.taken W.failed result sink.old sink.new
+        (separator (line_feed ∷ []) begun.old ++ value_text value.now) }
+    ensures begun { OnOk result (begun.new ≡ true) }
 {
-    put_all(sink, separator(begun).as_bytes())?;
+    put_separator("\n", begun, sink)?;
     put_fish_quoted_for_eval(value.get_name(), sink)?;
     put_all(sink, "\\t".as_bytes())?;
     put_fish_help_for_eval(value.get_help().unwrap_or(""), sink)
-}
-
-fn separator(begun: bool) -> &'static str
-    ensures { result.now ≡ separator (line_feed ∷ []) begun }
-{
-    if begun { "\n" } else { "" }
 }
 
 // A value follows, and fish offers what it does by default.
@@ -100,7 +92,7 @@ const USERS: &str = " -r -f -a \"(__fish_complete_users)\"";
 
 const HOSTS: &str = " -r -f -a \"(__fish_print_hostnames)\"";
 
-// What a hint alone tells.
+// Where no values are listed.
 #[tactic(auto, unfolding(crate::specs::FishScript::hint_text))]
 fn hint_marks(hint: ValueHint) -> &'static str
     ensures { result.now ≡ hint_text hint }
