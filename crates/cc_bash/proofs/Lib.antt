@@ -1,8 +1,8 @@
 pub mod ArmOrder
+pub mod ArmTexts
 pub mod CaseOrder
 pub mod CaseWalk
 pub mod Clashes
-pub mod DetailTexts
 pub mod EachArm
 mod Examples
 pub mod ListedNodes

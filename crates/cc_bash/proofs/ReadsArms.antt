@@ -13,7 +13,7 @@ use Rattle.cc_quote.proofs.PosixCutting.{IsWord, tokens_from, bare_word, double_
 use Rattle.cc_bash.specs.Arms.{Detail, Arm}
 use Rattle.cc_bash.specs.Reader.{Table, pattern_of, assigned, bare_text, with_arm, new_arm, next, read}
 use Rattle.cc_bash.specs.Reader.State.{between_arms, at_words, after_words, at_level, between_details}
-use Rattle.cc_bash.specs.Script.{words_text, detail_text, arm_words_text, arm_level_text, arm_text}
+use Rattle.cc_bash.specs.Script.{words_text, detail_text, arm_text}
 use Rattle.cc_bash.specs.Texts.{arm_begins, arm_words, arm_level, arm_details, arm_ends}
 use Rattle.cc_bash.proofs.ReadsCases.{reading, pattern_found}
 use Rattle.cc_bash.proofs.ReadsDetails.{IsReadableDetail, detail_line, details_read}
@@ -29,7 +29,7 @@ pub record IsReadableArm (arm : Arm) : Type 0 where
 
 -- an arm begins a line, and so does what is left of it after the level
 pub arm_line : (arm : Arm) (rest : List ℕ) → IsLine (arm_text arm ++ rest)
-unfolding arm_text arm_words_text arm_begins
+unfolding arm_text arm_begins
 arm_line arm rest = line _
 
 ends_line : (rest : List ℕ) → IsLine (arm_ends ++ rest)
@@ -50,7 +50,7 @@ fold_arms table (arm ∷ arms) = fold_arms (with_arm table arm) arms
     ∙ ap (λ many. record table { arms = many }) (append_assoc table.arms (arm ∷ []) arms)
 
 regroup_arm : (a b c d e f g h i rest : List ℕ) →
-    ((((((a ++ b) ++ c) ++ d) ++ ((e ++ f) ++ g)) ++ h) ++ i) ++ rest
+    ((((((((a ++ b) ++ c) ++ d) ++ e) ++ f) ++ g) ++ h) ++ i) ++ rest
     ≡ a ++ (b ++ (c ++ (d ++ (e ++ (f ++ (g ++ (h ++ (i ++ rest))))))))
 regroup_arm a b c d e f g h i rest = simp append_assoc
 
@@ -94,7 +94,7 @@ module _ (whole : Bool) where
   arm_reads : (table : Table) (arm : Arm) (rest : List ℕ) → IsReadableArm arm → IsLine rest →
       reading whole (between_arms table) between (arm_text arm ++ rest)
       ≡ reading whole (between_arms (with_arm table arm)) between rest
-  unfolding arm_text arm_words_text arm_level_text arm_begins arm_words arm_level sign byte_of cut read
+  unfolding arm_text arm_begins arm_words arm_level sign byte_of cut read
   arm_reads table arm rest h l =
       let ended : List ℕ = arm_ends ++ rest in
       let details : List ℕ = flat_map detail_text arm.details ++ ended in

@@ -12,8 +12,8 @@ use Rattle.cc_bash.specs.Arms.{Arm}
 use Rattle.cc_bash.specs.CaseTable.{Case}
 use Rattle.cc_bash.specs.Reader.{Table, pattern_of, assigned, is_root, case_by, next, closed_table, read, bash_cases, bash_table}
 use Rattle.cc_bash.specs.Reader.State.{begins, at_root_label, after_root_label, between_cases, after_cases, between_arms, finished}
-use Rattle.cc_bash.specs.Script.{case_text, arm_text, head_text, unsorted_text, sorted_text, bash_script}
-use Rattle.cc_bash.specs.Texts.{function_begins, function_head, cases_begin, arms_begin, arms_end, unsorted}
+use Rattle.cc_bash.specs.Script.{case_text, arm_text, head_text, tail_text, bash_script}
+use Rattle.cc_bash.specs.Texts.{function_begins, function_head, cases_begin, arms_begin, arms_end, unsorted, otherwise, sorted, script_ends}
 use Rattle.cc_bash.proofs.ReadsArms.{IsReadableArm, arm_line, arms_read}
 use Rattle.cc_bash.proofs.ReadsCases.{reading, IsReadableCase, case_line, cases_read}
 
@@ -70,9 +70,9 @@ begin_line : (rest : List ℕ) → IsLine (arms_begin ++ rest)
 unfolding arms_begin
 begin_line rest = line _
 
-tail_line : (label bin : List ℕ) (rest : List ℕ) → IsLine (unsorted_text label bin ++ rest)
-unfolding unsorted_text arms_end
-tail_line label bin rest = line _
+tail_line : (label bin : List ℕ) → IsLine (tail_text label bin)
+unfolding tail_text arms_end
+tail_line label bin = line _
 
 -- a closed table stays, whatever follows
 read_finished : (table : Table) (tokens : List Token) →
@@ -89,20 +89,23 @@ unfolding arms_begin sign byte_of cut is_word pattern_of assigned case_by next r
 arms_open table rest (line tail) = refl
 
 -- what stands after the arms
-tail_reads : (table : Table) (label bin rest : List ℕ) →
-    reading true (between_arms table) between (unsorted_text label bin ++ rest) ≡ Some table
-unfolding unsorted_text arms_end sign byte_of cut is_word pattern_of next read
-tail_reads table label bin rest =
-    ap (reading true (between_arms table) between) (regroup_tail arms_end label unsorted bin rest)
-    ∙ read_finished table (tokens_from between
-    (drop 10 arms_end ++ (label ++ (unsorted ++ (bin ++ rest)))))
+tail_reads : (table : Table) (label bin : List ℕ) →
+    reading true (between_arms table) between (tail_text label bin) ≡ Some table
+unfolding tail_text arms_end sign byte_of cut is_word pattern_of next read
+tail_reads table label bin =
+    ap (reading true (between_arms table) between)
+    (regroup_tail arms_end label unsorted bin otherwise sorted script_ends)
+    ∙ read_finished table (tokens_from between (drop 10 arms_end
+    ++ (label ++ (unsorted ++ (bin ++ (otherwise ++ (label ++ (sorted ++ (bin ++ script_ends)))))))))
   where
-    regroup_tail : (a b c d e : List ℕ) → (((a ++ b) ++ c) ++ d) ++ e ≡ a ++ (b ++ (c ++ (d ++ e)))
-    regroup_tail a b c d e = simp append_assoc
+    regroup_tail : (a b c d e f g : List ℕ) →
+        (((((((a ++ b) ++ c) ++ d) ++ e) ++ b) ++ f) ++ d) ++ g
+        ≡ a ++ (b ++ (c ++ (d ++ (e ++ (b ++ (f ++ (d ++ g)))))))
+    regroup_tail a b c d e f g = simp append_assoc
 
-regroup_script : (a b c d e f : List ℕ) →
-    ((((a ++ b) ++ c) ++ d) ++ e) ++ f ≡ a ++ (b ++ (c ++ (d ++ (e ++ f))))
-regroup_script a b c d e f = simp append_assoc
+regroup_script : (a b c d e : List ℕ) →
+    (((a ++ b) ++ c) ++ d) ++ e ≡ a ++ (b ++ (c ++ (d ++ e)))
+regroup_script a b c d e = simp append_assoc
 
 -- a script is read back to its table
 pub bash_reads_back : (label bin : List ℕ) (cases : List Case) (arms : List Arm) → IsOther label →
@@ -111,19 +114,18 @@ pub bash_reads_back : (label bin : List ℕ) (cases : List Case) (arms : List Ar
     ≡ Some (record { root = label; cases = cases; arms = arms })
 unfolding bash_table bash_script posix_tokens
 bash_reads_back label bin cases arms h k m =
-    let tail : List ℕ = unsorted_text label bin ++ sorted_text label bin in
+    let tail : List ℕ = tail_text label bin in
     let armed : List ℕ = flat_map arm_text arms ++ tail in
     ap (reading true begins between) (regroup_script (head_text label) (flat_map case_text cases)
-    arms_begin (flat_map arm_text arms) (unsorted_text label bin) (sorted_text label bin))
+    arms_begin (flat_map arm_text arms) (tail_text label bin))
     ∙ head_reads true label (flat_map case_text cases ++ (arms_begin ++ armed)) h
     (cases_line cases (arms_begin ++ armed) (begin_line armed))
     ∙ cases_read true (new_table label) cases (arms_begin ++ armed) k (begin_line armed)
     ∙ arms_open (record { root = label; cases = cases; arms = [] }) armed
-    (arms_line arms tail (tail_line label bin (sorted_text label bin)))
+    (arms_line arms tail (tail_line label bin))
     ∙ arms_read true (record { root = label; cases = cases; arms = [] }) arms tail m
-    (tail_line label bin (sorted_text label bin))
+    (tail_line label bin)
     ∙ tail_reads (record { root = label; cases = cases; arms = arms }) label bin
-    (sorted_text label bin)
 
 -- the cases are read whatever stands at the labels
 read_cases_closed : (table : Table) (tokens : List Token) →
@@ -144,10 +146,9 @@ pub bash_cases_back : (label bin : List ℕ) (cases : List Case) (arms : List Ar
     ≡ Some (record { root = label; cases = cases; arms = [] })
 unfolding bash_cases bash_script posix_tokens
 bash_cases_back label bin cases arms h k =
-    let armed : List ℕ = flat_map arm_text arms
-    ++ (unsorted_text label bin ++ sorted_text label bin) in
+    let armed : List ℕ = flat_map arm_text arms ++ tail_text label bin in
     ap (reading false begins between) (regroup_script (head_text label) (flat_map case_text cases)
-    arms_begin (flat_map arm_text arms) (unsorted_text label bin) (sorted_text label bin))
+    arms_begin (flat_map arm_text arms) (tail_text label bin))
     ∙ head_reads false label (flat_map case_text cases ++ (arms_begin ++ armed)) h
     (cases_line cases (arms_begin ++ armed) (begin_line armed))
     ∙ cases_read false (new_table label) cases (arms_begin ++ armed) k (begin_line armed)

@@ -14,7 +14,7 @@ use Rattle.cc_quote.proofs.PosixCutting.{IsWord, tokens_from, bare_word, double_
 use Rattle.cc_bash.specs.Arms.{Offered, values, files, typed, nothing, Mode, filenames, plusdirs, nospace, Detail, Arm}
 use Rattle.cc_bash.specs.Reader.{Table, pattern_of, bare_text, double_text, is_empty_reply, is_typed_reply, is_compgen_reply, mode_named, with_detail, new_detail, next, read}
 use Rattle.cc_bash.specs.Reader.State.{between_details, at_reply, at_values, after_reply}
-use Rattle.cc_bash.specs.Script.{words_text, offered_text, reply_text, mode_word, mode_text, moded_text, pattern_text, detail_text}
+use Rattle.cc_bash.specs.Script.{words_text, offered_text, reply_text, mode_word, mode_text, moded_text, detail_text}
 use Rattle.cc_bash.specs.Texts.{detail_begins, detail_word_ends, separator_kept, separator_back, reply_begins, reply_ends, values_begin, values_end, files_offered, word_offered, mode_begins, mode_ends, filenames_word, plusdirs_word, nospace_word, detail_ends}
 use Rattle.cc_bash.proofs.ReadsCases.{reading, pattern_found}
 use Rattle.cc_bash.proofs.WordsRead.{Lacks, words_read, IsKept-words}
@@ -58,7 +58,7 @@ end_line rest = line _
 
 -- a detail begins a line
 pub detail_line : (detail : Detail) (rest : List ℕ) → IsLine (detail_text detail ++ rest)
-unfolding detail_text pattern_text detail_begins
+unfolding detail_text detail_begins
 detail_line detail rest = line _
 
 fold_details : (arm : Arm) (details : List Detail) →
@@ -195,7 +195,7 @@ module _ (whole : Bool) where
       IsReadableDetail detail → IsLine rest →
       reading whole (between_details table arm) between (detail_text detail ++ rest)
       ≡ reading whole (between_details table (with_detail arm detail)) between rest
-  unfolding detail_text pattern_text detail_begins sign byte_of cut
+  unfolding detail_text detail_begins sign byte_of cut
   detail_reads table arm detail rest h l =
       let after : List ℕ = detail_ends ++ rest in
       let moded : List ℕ = moded_text detail.mode detail.offered ++ after in

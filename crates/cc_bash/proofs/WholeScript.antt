@@ -13,7 +13,7 @@ use Rattle.cc_bash.specs.CaseTable.{case_below, node_cases, tree_cases}
 use Rattle.cc_bash.specs.Labels.{Labelled, first_again, labelled, labelled_under, root_label, shared_label}
 use Rattle.cc_bash.specs.Nodes.{labelled_of}
 use Rattle.cc_bash.specs.Reads.{BashReads}
-use Rattle.cc_bash.specs.Script.{arm_text, bash_script, case_text, head_text, sorted_text, tree_script, unsorted_text}
+use Rattle.cc_bash.specs.Script.{arm_text, bash_script, case_text, head_text, tail_text, tree_script}
 use Rattle.cc_bash.specs.Texts.{arms_begin}
 use Rattle.cc_bash.specs.declared.nodes.LabelledNode.{LabelledNode}
 use Rattle.cc_bash.proofs.PlainTable.{bash_plain_reads}
@@ -25,27 +25,23 @@ script_by root tree nodes =
     (arm_of root 1 tree ∷ map node_arm (in_order arm_below nodes))
 
 -- its pieces, in the order in which they are written
-pub script_pieces : (root bin again : List ℕ) (tree : Tree) (lent nodes : List Labelled) →
-    bin ≡ full_name tree.node → again ≡ full_name tree.node → lent ≡ nodes →
-    (((((head_text root ++ flat_map case_text (in_order case_below (flat_map node_cases lent)))
+pub script_pieces : (root bin : List ℕ) (tree : Tree) (lent nodes : List Labelled) →
+    bin ≡ full_name tree.node → lent ≡ nodes →
+    ((((head_text root ++ flat_map case_text (in_order case_below (flat_map node_cases lent)))
     ++ arms_begin) ++ arm_text (arm_of root 1 tree))
-    ++ flat_map arm_text (map node_arm (in_order arm_below nodes))) ++ unsorted_text root bin)
-    ++ sorted_text root again
+    ++ flat_map arm_text (map node_arm (in_order arm_below nodes))) ++ tail_text root bin
     ≡ script_by root tree nodes
 unfolding bash_script
-script_pieces root bin again tree lent nodes is is_again same =
+script_pieces root bin tree lent nodes is same =
     let one : List ℕ = arm_text (arm_of root 1 tree) in
     let rest : List ℕ = flat_map arm_text (map node_arm (in_order arm_below nodes)) in
     let before : List ℕ = (head_text root
     ++ flat_map case_text (in_order case_below (flat_map node_cases nodes))) ++ arms_begin in
-    ap (λ ns. (((((head_text root ++ flat_map case_text
+    ap (λ ns. ((((head_text root ++ flat_map case_text
     (in_order case_below (flat_map node_cases ns))) ++ arms_begin) ++ one) ++ rest)
-    ++ unsorted_text root bin) ++ sorted_text root again) same
-    ∙ ap (λ b. (((before ++ one) ++ rest) ++ unsorted_text root b) ++ sorted_text root again) is
-    ∙ ap (λ b. (((before ++ one) ++ rest) ++ unsorted_text root (full_name tree.node))
-    ++ sorted_text root b) is_again
-    ∙ ap (λ t. (t ++ unsorted_text root (full_name tree.node))
-    ++ sorted_text root (full_name tree.node)) (append_assoc before one rest)
+    ++ tail_text root bin) same
+    ∙ ap (λ b. ((before ++ one) ++ rest) ++ tail_text root b) is
+    ∙ ap (λ t. t ++ tail_text root (full_name tree.node)) (append_assoc before one rest)
 
 -- the nodes that were listed are the tree's
 pub nodes_are : (tree at : Tree) (root : List ℕ) (nodes : List LabelledNode) → at ≡ tree →

@@ -47,43 +47,33 @@ moded_text (Some filenames) offered =
     ((separator_kept ++ reply_text offered) ++ separator_back) ++ mode_text filenames
 moded_text (Some mode) offered = reply_text offered ++ mode_text mode
 
--- the word of a detail as a pattern
-unfoldable pub pattern_text : List ℕ → List ℕ
-pattern_text word = (detail_begins ++ word) ++ detail_word_ends
-
+-- the word of a detail as a pattern, then the reply
 unfoldable pub detail_text : Detail → List ℕ
 detail_text detail =
-    (pattern_text detail.word ++ moded_text detail.mode detail.offered) ++ detail_ends
+    (((detail_begins ++ detail.word) ++ detail_word_ends)
+    ++ moded_text detail.mode detail.offered) ++ detail_ends
 
--- the label of an arm, with its words
-unfoldable pub arm_words_text : List ℕ → List (List ℕ) → List ℕ
-arm_words_text label words = ((arm_begins ++ label) ++ arm_words) ++ words_text words
-
--- the level of an arm
-unfoldable pub arm_level_text : List ℕ → List ℕ
-arm_level_text level = (arm_level ++ level) ++ arm_details
-
+-- the label of an arm, its words, its level and its details
 unfoldable pub arm_text : Arm → List ℕ
 arm_text arm =
-    ((arm_words_text arm.label arm.words ++ arm_level_text arm.level)
-    ++ flat_map detail_text arm.details) ++ arm_ends
+    (((((((arm_begins ++ arm.label) ++ arm_words) ++ words_text arm.words) ++ arm_level)
+    ++ arm.level) ++ arm_details) ++ flat_map detail_text arm.details) ++ arm_ends
 
 -- what stands before the cases, for the function of this label
 unfoldable pub head_text : List ℕ → List ℕ
 head_text label = (((function_begins ++ label) ++ function_head) ++ label) ++ cases_begin
 
--- what stands after the arms, in two parts, for the function of this label and the program bin
-unfoldable pub unsorted_text : List ℕ → List ℕ → List ℕ
-unsorted_text label bin = ((arms_end ++ label) ++ unsorted) ++ bin
-
-unfoldable pub sorted_text : List ℕ → List ℕ → List ℕ
-sorted_text label bin = (((otherwise ++ label) ++ sorted) ++ bin) ++ script_ends
+-- what stands after the arms, for the function of this label and the program bin
+unfoldable pub tail_text : List ℕ → List ℕ → List ℕ
+tail_text label bin =
+    (((((((arms_end ++ label) ++ unsorted) ++ bin) ++ otherwise) ++ label) ++ sorted) ++ bin)
+    ++ script_ends
 
 -- a script with these cases and arms
 unfoldable pub bash_script : List ℕ → List ℕ → List Case → List Arm → List ℕ
 bash_script label bin cases arms =
-    ((((head_text label ++ flat_map case_text cases) ++ arms_begin) ++ flat_map arm_text arms)
-    ++ unsorted_text label bin) ++ sorted_text label bin
+    (((head_text label ++ flat_map case_text cases) ++ arms_begin) ++ flat_map arm_text arms)
+    ++ tail_text label bin
 
 -- the script of a tree
 unfoldable pub tree_script : Tree → List ℕ

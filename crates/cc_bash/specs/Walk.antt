@@ -1,5 +1,5 @@
 -- The walk through a tree by visible names, and the labels on its way.
-use Rattle.std.specs.Prelude.{ℕ, suc, List, [], ◌∷◌, ◌++◌, length, Option, Some, None}
+use Rattle.std.specs.Prelude.{ℕ, suc, List, [], ◌∷◌, ◌++◌, length, Some, None}
 use Rattle.cc_command.specs.Tree.{Forest, none, more, Tree}
 use Rattle.cc_command.specs.Names.{visible_child}
 use Rattle.cc_bash.specs.Labels.{child_label}

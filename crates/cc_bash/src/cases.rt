@@ -2,16 +2,16 @@
 
 ghost use Rattle.std.specs.Prelude.{◌≡◌, ◌++◌, List, map, flat_map, IfOk, OnOk};
 ghost use Rattle.cc_base.specs.Sorting.{in_order};
-ghost use Rattle.cc_base.specs.Writes.{Writes};
+ghost use Rattle.cc_base.specs.Writes.{Writes, as_write};
 ghost use Rattle.cc_bash.specs.CaseTable.{case_below, node_cases};
 ghost use Rattle.cc_bash.specs.Nodes.{case_of, labelled_of};
 ghost use Rattle.cc_bash.specs.Script.{case_text};
-ghost use Rattle.cc_bash.specs.Texts.{case_begins, case_comma, case_ends, case_sets};
 
 use crate::nodes::LabelledNode;
 use crate::texts::{case_begins, case_comma, case_ends, case_sets};
-use cc_base::{Error, Sink, put_all};
+use cc_base::{Sink, put_pieces};
 use std::alloc::{AllocError, Global};
+use std::io::ErrorKind;
 
 /// From one label a word leads to another.
 #[derive(Clone, Copy, PartialEq, Eq, PartialOrd, Ord, Debug)]
@@ -75,9 +75,8 @@ fn push_cases<'a, 'b>(
     Ok(())
 }
 
-/// Writes the cases.
-pub(crate) fn write_cases<W: Sink>(cases: &[Case<'_>], sink: &mut W) -> Result<(), Error>
-    ensures { Writes W.taken W.failed result sink.old sink.new
+pub(crate) fn write_cases<W: Sink>(cases: &[Case<'_>], sink: &mut W) -> Result<(), ErrorKind>
+    ensures { Writes W.taken W.failed (as_write result) sink.old sink.new
         (flat_map case_text (map case_of cases.now)) }
 {
     for case in cases {
@@ -87,28 +86,18 @@ pub(crate) fn write_cases<W: Sink>(cases: &[Case<'_>], sink: &mut W) -> Result<(
 }
 
 #[tactic(auto, unfolding(crate::specs::Script::case_text))]
-fn write_case<W: Sink>(case: &Case<'_>, sink: &mut W) -> Result<(), Error>
-    ensures { Writes W.taken W.failed result sink.old sink.new (case_text (case_of case.now)) }
+fn write_case<W: Sink>(case: &Case<'_>, sink: &mut W) -> Result<(), ErrorKind>
+    ensures { Writes W.taken W.failed (as_write result) sink.old sink.new
+        (case_text (case_of case.now)) }
 {
-    write_pattern(case, sink)?;
-    write_target(case, sink)
-}
-
-fn write_pattern<W: Sink>(case: &Case<'_>, sink: &mut W) -> Result<(), Error>
-    ensures { Writes W.taken W.failed result sink.old sink.new
-        (((case_begins ++ case.now.from.now) ++ case_comma) ++ case.now.word.now) }
-{
-    put_all(sink, case_begins().as_bytes())?;
-    put_all(sink, case.from.as_bytes())?;
-    put_all(sink, case_comma().as_bytes())?;
-    put_all(sink, case.word.as_bytes())
-}
-
-fn write_target<W: Sink>(case: &Case<'_>, sink: &mut W) -> Result<(), Error>
-    ensures { Writes W.taken W.failed result sink.old sink.new
-        ((case_sets ++ case.now.to.now) ++ case_ends) }
-{
-    put_all(sink, case_sets().as_bytes())?;
-    put_all(sink, case.to.as_bytes())?;
-    put_all(sink, case_ends().as_bytes())
+    let pieces = [
+        case_begins().as_bytes(),
+        case.from.as_bytes(),
+        case_comma().as_bytes(),
+        case.word.as_bytes(),
+        case_sets().as_bytes(),
+        case.to.as_bytes(),
+        case_ends().as_bytes(),
+    ];
+    put_pieces(sink, &pieces)
 }

@@ -2,26 +2,26 @@
 
 ghost use Rattle.std.specs.Prelude.{◌++◌, filter, map, flat_map};
 ghost use Rattle.cc_arg.specs.ShownNames.{shown_longs, shown_shorts};
-ghost use Rattle.cc_base.specs.Writes.{Writes};
+ghost use Rattle.cc_base.specs.Writes.{Writes, as_write};
 ghost use Rattle.cc_command.specs.ArgumentLists.{is_option};
-ghost use Rattle.cc_bash.specs.Arms.{detail_of, filenames, long_word, mode_of, names_of_shown};
-ghost use Rattle.cc_bash.specs.Arms.{nospace, offered_by, option_details, plusdirs, short_word};
-ghost use Rattle.cc_bash.specs.Arms.{values};
-ghost use Rattle.cc_bash.specs.Script.{detail_text, mode_text, moded_text, offered_text};
-ghost use Rattle.cc_bash.specs.Script.{reply_text};
+ghost use Rattle.cc_bash.specs.Arms.{detail_of, long_word, mode_of, names_of_shown, offered_by};
+ghost use Rattle.cc_bash.specs.Arms.{option_details, short_word, values};
+ghost use Rattle.cc_bash.specs.Script.{detail_text, moded_text, offered_text, reply_text};
+ghost use Rattle.cc_bash.specs.Texts.{mode_begins, mode_ends};
 
 use crate::texts::{
     detail_begins, detail_ends, detail_word_ends, filenames_word, files_offered, mode_begins,
     mode_ends, nospace_word, plusdirs_word, reply_begins, reply_ends, separator_back,
     separator_kept, values_begin, values_end, word_offered,
 };
-use crate::words::{write_dashed, write_shown_values};
+use crate::words::write_shown_values;
 use cc_arg::{Arg, PossibleValue, ValueHint, possible_values, shown_longs, shown_shorts};
-use cc_base::{Error, Sink, put_all};
+use cc_base::{Sink, put_around, put_piece, put_pieces};
+use std::io::ErrorKind;
 
-/// Writes the details of those of the arguments that are options.
-pub(crate) fn write_details<W: Sink>(arguments: &[Arg], sink: &mut W) -> Result<(), Error>
-    ensures { Writes W.taken W.failed result sink.old sink.new
+/// Flags and positionals have no details.
+pub(crate) fn write_details<W: Sink>(arguments: &[Arg], sink: &mut W) -> Result<(), ErrorKind>
+    ensures { Writes W.taken W.failed (as_write result) sink.old sink.new
         (flat_map detail_text (flat_map option_details (filter is_option arguments.now))) }
 {
     for argument in arguments {
@@ -34,16 +34,16 @@ pub(crate) fn write_details<W: Sink>(arguments: &[Arg], sink: &mut W) -> Result<
 }
 
 // For the longs, then for the shorts.
-fn write_option<W: Sink>(argument: &Arg, sink: &mut W) -> Result<(), Error>
-    ensures { Writes W.taken W.failed result sink.old sink.new
+fn write_option<W: Sink>(argument: &Arg, sink: &mut W) -> Result<(), ErrorKind>
+    ensures { Writes W.taken W.failed (as_write result) sink.old sink.new
         (flat_map detail_text (option_details argument.now)) }
 {
     write_long_details(argument, sink)?;
     write_short_details(argument, sink)
 }
 
-fn write_long_details<W: Sink>(argument: &Arg, sink: &mut W) -> Result<(), Error>
-    ensures { Writes W.taken W.failed result sink.old sink.new
+fn write_long_details<W: Sink>(argument: &Arg, sink: &mut W) -> Result<(), ErrorKind>
+    ensures { Writes W.taken W.failed (as_write result) sink.old sink.new
         (flat_map detail_text
         (map (detail_of argument.now) (map long_word (shown_longs argument.now)))) }
 {
@@ -53,8 +53,8 @@ fn write_long_details<W: Sink>(argument: &Arg, sink: &mut W) -> Result<(), Error
     Ok(())
 }
 
-fn write_short_details<W: Sink>(argument: &Arg, sink: &mut W) -> Result<(), Error>
-    ensures { Writes W.taken W.failed result sink.old sink.new
+fn write_short_details<W: Sink>(argument: &Arg, sink: &mut W) -> Result<(), ErrorKind>
+    ensures { Writes W.taken W.failed (as_write result) sink.old sink.new
         (flat_map detail_text
         (map (detail_of argument.now) (map short_word (shown_shorts argument.now)))) }
 {
@@ -66,60 +66,64 @@ fn write_short_details<W: Sink>(argument: &Arg, sink: &mut W) -> Result<(), Erro
 }
 
 // For a name and the dashes before it.
-#[tactic(auto, unfolding(crate::specs::Script::detail_text, crate::specs::Script::pattern_text))]
-fn write_detail<W: Sink>(
+#[tactic(auto, unfolding(crate::specs::Script::detail_text))]
+fn write_detail<'a, W: Sink>(
     argument: &Arg,
-    dashes: &str,
-    name: &str,
+    dashes: &'a str,
+    name: &'a str,
     sink: &mut W,
-) -> Result<(), Error>
-    ensures { Writes W.taken W.failed result sink.old sink.new
+) -> Result<(), ErrorKind>
+    ensures { Writes W.taken W.failed (as_write result) sink.old sink.new
         (detail_text (detail_of argument.now (dashes.now ++ name.now))) }
 {
-    put_all(sink, detail_begins().as_bytes())?;
-    write_dashed(dashes, name, sink)?;
-    put_all(sink, detail_word_ends().as_bytes())?;
+    let pieces = [
+        detail_begins().as_bytes(),
+        dashes.as_bytes(),
+        name.as_bytes(),
+        detail_word_ends().as_bytes(),
+    ];
+    put_pieces(sink, &pieces)?;
     write_moded(argument, sink)?;
-    put_all(sink, detail_ends().as_bytes())
+    put_piece(sink, detail_ends().as_bytes())
 }
 
-#[tactic(auto, unfolding(crate::specs::Script::moded_text))]
-fn write_moded<W: Sink>(argument: &Arg, sink: &mut W) -> Result<(), Error>
-    ensures { Writes W.taken W.failed result sink.old sink.new
+#[tactic(auto, unfolding(crate::specs::Script::moded_text, crate::specs::Script::mode_text, crate::specs::Script::mode_word))]
+fn write_moded<W: Sink>(argument: &Arg, sink: &mut W) -> Result<(), ErrorKind>
+    ensures { Writes W.taken W.failed (as_write result) sink.old sink.new
         (moded_text (mode_of argument.now) (offered_by argument.now)) }
 {
     match argument.get_value_hint() {
         ValueHint::FilePath => {
-            put_all(sink, separator_kept().as_bytes())?;
+            put_piece(sink, separator_kept().as_bytes())?;
             write_reply(argument, sink)?;
-            put_all(sink, separator_back().as_bytes())?;
-            write_filenames(sink)
+            put_piece(sink, separator_back().as_bytes())?;
+            write_mode(filenames_word(), sink)
         }
         ValueHint::DirPath => {
             write_reply(argument, sink)?;
-            write_plusdirs(sink)
+            write_mode(plusdirs_word(), sink)
         }
         ValueHint::Other => {
             write_reply(argument, sink)?;
-            write_nospace(sink)
+            write_mode(nospace_word(), sink)
         }
         _ => write_reply(argument, sink),
     }
 }
 
 #[tactic(auto, unfolding(crate::specs::Script::reply_text))]
-fn write_reply<W: Sink>(argument: &Arg, sink: &mut W) -> Result<(), Error>
-    ensures { Writes W.taken W.failed result sink.old sink.new
+fn write_reply<W: Sink>(argument: &Arg, sink: &mut W) -> Result<(), ErrorKind>
+    ensures { Writes W.taken W.failed (as_write result) sink.old sink.new
         (reply_text (offered_by argument.now)) }
 {
-    put_all(sink, reply_begins().as_bytes())?;
+    put_piece(sink, reply_begins().as_bytes())?;
     write_offered(argument, sink)?;
-    put_all(sink, reply_ends().as_bytes())
+    put_piece(sink, reply_ends().as_bytes())
 }
 
 #[tactic(auto, unfolding(crate::specs::Script::offered_text))]
-fn write_offered<W: Sink>(argument: &Arg, sink: &mut W) -> Result<(), Error>
-    ensures { Writes W.taken W.failed result sink.old sink.new
+fn write_offered<W: Sink>(argument: &Arg, sink: &mut W) -> Result<(), ErrorKind>
+    ensures { Writes W.taken W.failed (as_write result) sink.old sink.new
         (offered_text (offered_by argument.now)) }
 {
     if let Some(possible) = possible_values(argument) {
@@ -127,44 +131,25 @@ fn write_offered<W: Sink>(argument: &Arg, sink: &mut W) -> Result<(), Error>
     }
     match argument.get_value_hint() {
         ValueHint::DirPath => Ok(()),
-        ValueHint::Other => put_all(sink, word_offered().as_bytes()),
-        _ => put_all(sink, files_offered().as_bytes()),
+        ValueHint::Other => put_piece(sink, word_offered().as_bytes()),
+        _ => put_piece(sink, files_offered().as_bytes()),
     }
 }
 
 #[tactic(auto, unfolding(crate::specs::Script::offered_text))]
-fn write_values<W: Sink>(possible: &[PossibleValue], sink: &mut W) -> Result<(), Error>
-    ensures { Writes W.taken W.failed result sink.old sink.new
+fn write_values<W: Sink>(possible: &[PossibleValue], sink: &mut W) -> Result<(), ErrorKind>
+    ensures { Writes W.taken W.failed (as_write result) sink.old sink.new
         (offered_text (values (names_of_shown possible.now))) }
 {
-    put_all(sink, values_begin().as_bytes())?;
+    put_piece(sink, values_begin().as_bytes())?;
     write_shown_values(possible, sink)?;
-    put_all(sink, values_end().as_bytes())
+    put_piece(sink, values_end().as_bytes())
 }
 
-#[tactic(auto, unfolding(crate::specs::Script::mode_text, crate::specs::Script::mode_word))]
-fn write_filenames<W: Sink>(sink: &mut W) -> Result<(), Error>
-    ensures { Writes W.taken W.failed result sink.old sink.new (mode_text filenames) }
+// The word names the mode.
+fn write_mode<W: Sink>(word: &str, sink: &mut W) -> Result<(), ErrorKind>
+    ensures { Writes W.taken W.failed (as_write result) sink.old sink.new
+        ((mode_begins ++ word.now) ++ mode_ends) }
 {
-    put_all(sink, mode_begins().as_bytes())?;
-    put_all(sink, filenames_word().as_bytes())?;
-    put_all(sink, mode_ends().as_bytes())
-}
-
-#[tactic(auto, unfolding(crate::specs::Script::mode_text, crate::specs::Script::mode_word))]
-fn write_plusdirs<W: Sink>(sink: &mut W) -> Result<(), Error>
-    ensures { Writes W.taken W.failed result sink.old sink.new (mode_text plusdirs) }
-{
-    put_all(sink, mode_begins().as_bytes())?;
-    put_all(sink, plusdirs_word().as_bytes())?;
-    put_all(sink, mode_ends().as_bytes())
-}
-
-#[tactic(auto, unfolding(crate::specs::Script::mode_text, crate::specs::Script::mode_word))]
-fn write_nospace<W: Sink>(sink: &mut W) -> Result<(), Error>
-    ensures { Writes W.taken W.failed result sink.old sink.new (mode_text nospace) }
-{
-    put_all(sink, mode_begins().as_bytes())?;
-    put_all(sink, nospace_word().as_bytes())?;
-    put_all(sink, mode_ends().as_bytes())
+    put_around(mode_begins(), word, mode_ends(), sink)
 }

@@ -7,9 +7,7 @@ ghost use Rattle.cc_command.specs.Names.{full_name};
 ghost use Rattle.cc_bash.specs.Arms.{arm_below, arm_of, node_arm};
 ghost use Rattle.cc_bash.specs.CaseTable.{case_below, node_cases};
 ghost use Rattle.cc_bash.specs.Nodes.{labelled_of};
-ghost use Rattle.cc_bash.specs.Script.{arm_text, bash_script, case_text, head_text, sorted_text};
-ghost use Rattle.cc_bash.specs.Script.{unsorted_text};
-ghost use Rattle.cc_bash.specs.Texts.{arms_begin};
+ghost use Rattle.cc_bash.specs.Script.{arm_text, bash_script, case_text, head_text, tail_text};
 
 use crate::arms::{sort_nodes, write_arm, write_arms};
 use crate::cases::{sorted_cases, write_cases};
@@ -18,7 +16,7 @@ use crate::texts::{
     arms_begin, arms_end, cases_begin, function_begins, function_head, otherwise, script_ends,
     sorted, unsorted,
 };
-use cc_base::{Error, Sink, put_all};
+use cc_base::{Error, Sink, as_error, put_all, put_pieces};
 use cc_command::{Command, full_name};
 use std::alloc::Global;
 
@@ -38,22 +36,25 @@ pub(crate) fn write_script<W: Sink>(
 {
     write_head(root, sink)?;
     write_table(alloc, &nodes, sink)?;
-    write_arms_begin(sink)?;
-    write_root_arm(alloc, root, command, sink)?;
+    put_all(sink, arms_begin().as_bytes())?;
+    // the root's path has one name
+    write_arm(alloc, root, 1, command, sink)?;
     write_sorted_arms(alloc, nodes, sink)?;
-    write_unsorted(root, full_name(command), sink)?;
-    write_sorted(root, full_name(command), sink)
+    write_tail(root, full_name(command), sink)
 }
 
 #[tactic(auto, unfolding(crate::specs::Script::head_text))]
 fn write_head<W: Sink>(label: &str, sink: &mut W) -> Result<(), Error>
     ensures { Writes W.taken W.failed result sink.old sink.new (head_text label.now) }
 {
-    put_all(sink, function_begins().as_bytes())?;
-    put_all(sink, label.as_bytes())?;
-    put_all(sink, function_head().as_bytes())?;
-    put_all(sink, label.as_bytes())?;
-    put_all(sink, cases_begin().as_bytes())
+    let pieces = [
+        function_begins().as_bytes(),
+        label.as_bytes(),
+        function_head().as_bytes(),
+        label.as_bytes(),
+        cases_begin().as_bytes(),
+    ];
+    as_error(put_pieces(sink, &pieces))
 }
 
 fn write_table<W: Sink>(
@@ -66,26 +67,7 @@ fn write_table<W: Sink>(
         (in_order case_below (flat_map node_cases (map labelled_of nodes.now)))) }
 {
     let cases = sorted_cases(alloc, nodes)?;
-    write_cases(&cases, sink)
-}
-
-fn write_arms_begin<W: Sink>(sink: &mut W) -> Result<(), Error>
-    ensures { Writes W.taken W.failed result sink.old sink.new arms_begin }
-{
-    put_all(sink, arms_begin().as_bytes())
-}
-
-// The root's level is 1, since its path has one name.
-fn write_root_arm<W: Sink>(
-    alloc: Global,
-    label: &str,
-    command: &Command,
-    sink: &mut W,
-) -> Result<(), Error>
-    ensures { Writes W.taken W.failed result sink.old sink.new
-        (arm_text (arm_of label.now 1 command.now)) }
-{
-    write_arm(alloc, label, 1, command, sink)
+    as_error(write_cases(&cases, sink))
 }
 
 fn write_sorted_arms<W: Sink>(
@@ -101,23 +83,20 @@ fn write_sorted_arms<W: Sink>(
     write_arms(alloc, &nodes, sink)
 }
 
-#[tactic(auto, unfolding(crate::specs::Script::unsorted_text))]
-fn write_unsorted<W: Sink>(label: &str, bin: &str, sink: &mut W) -> Result<(), Error>
-    ensures { Writes W.taken W.failed result sink.old sink.new (unsorted_text label.now bin.now) }
+#[tactic(auto, unfolding(crate::specs::Script::tail_text))]
+fn write_tail<'a, W: Sink>(label: &'a str, bin: &'a str, sink: &mut W) -> Result<(), Error>
+    ensures { Writes W.taken W.failed result sink.old sink.new (tail_text label.now bin.now) }
 {
-    put_all(sink, arms_end().as_bytes())?;
-    put_all(sink, label.as_bytes())?;
-    put_all(sink, unsorted().as_bytes())?;
-    put_all(sink, bin.as_bytes())
-}
-
-#[tactic(auto, unfolding(crate::specs::Script::sorted_text))]
-fn write_sorted<W: Sink>(label: &str, bin: &str, sink: &mut W) -> Result<(), Error>
-    ensures { Writes W.taken W.failed result sink.old sink.new (sorted_text label.now bin.now) }
-{
-    put_all(sink, otherwise().as_bytes())?;
-    put_all(sink, label.as_bytes())?;
-    put_all(sink, sorted().as_bytes())?;
-    put_all(sink, bin.as_bytes())?;
-    put_all(sink, script_ends().as_bytes())
+    let pieces = [
+        arms_end().as_bytes(),
+        label.as_bytes(),
+        unsorted().as_bytes(),
+        bin.as_bytes(),
+        otherwise().as_bytes(),
+        label.as_bytes(),
+        sorted().as_bytes(),
+        bin.as_bytes(),
+        script_ends().as_bytes(),
+    ];
+    as_error(put_pieces(sink, &pieces))
 }

@@ -1,4 +1,5 @@
-//! The fixed texts of a script, as the definitions have them.
+//! The fixed texts of a script, as the definitions have them. They have any lifetime, since all
+//! pieces that are put together must have one.
 
 ghost use Rattle.std.specs.Prelude.{◌≡◌};
 ghost use Rattle.cc_bash.specs.Texts.{arm_begins, arm_details, arm_ends, arm_level, arm_words};
@@ -11,14 +12,14 @@ ghost use Rattle.cc_bash.specs.Texts.{reply_ends, script_ends, separator_back, s
 ghost use Rattle.cc_bash.specs.Texts.{sorted, unsorted, values_begin, values_end, word_offered};
 
 #[tactic(auto, unfolding(crate::specs::Texts::function_begins))]
-pub(crate) fn function_begins() -> &'static str
+pub(crate) fn function_begins<'a>() -> &'a str
     ensures { result.now ≡ function_begins }
 {
     "_"
 }
 
 #[tactic(auto, unfolding(crate::specs::Texts::function_head))]
-pub(crate) fn function_head() -> &'static str
+pub(crate) fn function_head<'a>() -> &'a str
     ensures { result.now ≡ function_head }
 {
     "() {
@@ -41,7 +42,7 @@ pub(crate) fn function_head() -> &'static str
 }
 
 #[tactic(auto, unfolding(crate::specs::Texts::cases_begin))]
-pub(crate) fn cases_begin() -> &'static str
+pub(crate) fn cases_begin<'a>() -> &'a str
     ensures { result.now ≡ cases_begin }
 {
     "\"
@@ -49,7 +50,7 @@ pub(crate) fn cases_begin() -> &'static str
 }
 
 #[tactic(auto, unfolding(crate::specs::Texts::arms_begin))]
-pub(crate) fn arms_begin() -> &'static str
+pub(crate) fn arms_begin<'a>() -> &'a str
     ensures { result.now ≡ arms_begin }
 {
     "
@@ -62,7 +63,7 @@ pub(crate) fn arms_begin() -> &'static str
 }
 
 #[tactic(auto, unfolding(crate::specs::Texts::arms_end))]
-pub(crate) fn arms_end() -> &'static str
+pub(crate) fn arms_end<'a>() -> &'a str
     ensures { result.now ≡ arms_end }
 {
     "
@@ -75,14 +76,14 @@ if [[ \"${BASH_VERSINFO[0]}\" -eq 4 && \"${BASH_VERSINFO[1]}\" -ge 4 \
 }
 
 #[tactic(auto, unfolding(crate::specs::Texts::unsorted))]
-pub(crate) fn unsorted() -> &'static str
+pub(crate) fn unsorted<'a>() -> &'a str
     ensures { result.now ≡ unsorted }
 {
     " -o nosort -o bashdefault -o default "
 }
 
 #[tactic(auto, unfolding(crate::specs::Texts::otherwise))]
-pub(crate) fn otherwise() -> &'static str
+pub(crate) fn otherwise<'a>() -> &'a str
     ensures { result.now ≡ otherwise }
 {
     "
@@ -91,14 +92,14 @@ else
 }
 
 #[tactic(auto, unfolding(crate::specs::Texts::sorted))]
-pub(crate) fn sorted() -> &'static str
+pub(crate) fn sorted<'a>() -> &'a str
     ensures { result.now ≡ sorted }
 {
     " -o bashdefault -o default "
 }
 
 #[tactic(auto, unfolding(crate::specs::Texts::script_ends))]
-pub(crate) fn script_ends() -> &'static str
+pub(crate) fn script_ends<'a>() -> &'a str
     ensures { result.now ≡ script_ends }
 {
     "
@@ -107,7 +108,7 @@ fi
 }
 
 #[tactic(auto, unfolding(crate::specs::Texts::case_begins))]
-pub(crate) fn case_begins() -> &'static str
+pub(crate) fn case_begins<'a>() -> &'a str
     ensures { result.now ≡ case_begins }
 {
     "
@@ -115,14 +116,14 @@ pub(crate) fn case_begins() -> &'static str
 }
 
 #[tactic(auto, unfolding(crate::specs::Texts::case_comma))]
-pub(crate) fn case_comma() -> &'static str
+pub(crate) fn case_comma<'a>() -> &'a str
     ensures { result.now ≡ case_comma }
 {
     ","
 }
 
 #[tactic(auto, unfolding(crate::specs::Texts::case_sets))]
-pub(crate) fn case_sets() -> &'static str
+pub(crate) fn case_sets<'a>() -> &'a str
     ensures { result.now ≡ case_sets }
 {
     ")
@@ -130,7 +131,7 @@ pub(crate) fn case_sets() -> &'static str
 }
 
 #[tactic(auto, unfolding(crate::specs::Texts::case_ends))]
-pub(crate) fn case_ends() -> &'static str
+pub(crate) fn case_ends<'a>() -> &'a str
     ensures { result.now ≡ case_ends }
 {
     "\"
@@ -138,7 +139,7 @@ pub(crate) fn case_ends() -> &'static str
 }
 
 #[tactic(auto, unfolding(crate::specs::Texts::arm_begins))]
-pub(crate) fn arm_begins() -> &'static str
+pub(crate) fn arm_begins<'a>() -> &'a str
     ensures { result.now ≡ arm_begins }
 {
     "
@@ -146,7 +147,7 @@ pub(crate) fn arm_begins() -> &'static str
 }
 
 #[tactic(auto, unfolding(crate::specs::Texts::arm_words))]
-pub(crate) fn arm_words() -> &'static str
+pub(crate) fn arm_words<'a>() -> &'a str
     ensures { result.now ≡ arm_words }
 {
     ")
@@ -154,7 +155,7 @@ pub(crate) fn arm_words() -> &'static str
 }
 
 #[tactic(auto, unfolding(crate::specs::Texts::arm_level))]
-pub(crate) fn arm_level() -> &'static str
+pub(crate) fn arm_level<'a>() -> &'a str
     ensures { result.now ≡ arm_level }
 {
     "\"
@@ -162,7 +163,7 @@ pub(crate) fn arm_level() -> &'static str
 }
 
 #[tactic(auto, unfolding(crate::specs::Texts::arm_details))]
-pub(crate) fn arm_details() -> &'static str
+pub(crate) fn arm_details<'a>() -> &'a str
     ensures { result.now ≡ arm_details }
 {
     " ]] ; then
@@ -173,7 +174,7 @@ pub(crate) fn arm_details() -> &'static str
 }
 
 #[tactic(auto, unfolding(crate::specs::Texts::arm_ends))]
-pub(crate) fn arm_ends() -> &'static str
+pub(crate) fn arm_ends<'a>() -> &'a str
     ensures { result.now ≡ arm_ends }
 {
     "
@@ -187,7 +188,7 @@ pub(crate) fn arm_ends() -> &'static str
 }
 
 #[tactic(auto, unfolding(crate::specs::Texts::detail_begins))]
-pub(crate) fn detail_begins() -> &'static str
+pub(crate) fn detail_begins<'a>() -> &'a str
     ensures { result.now ≡ detail_begins }
 {
     "
@@ -195,14 +196,14 @@ pub(crate) fn detail_begins() -> &'static str
 }
 
 #[tactic(auto, unfolding(crate::specs::Texts::detail_word_ends))]
-pub(crate) fn detail_word_ends() -> &'static str
+pub(crate) fn detail_word_ends<'a>() -> &'a str
     ensures { result.now ≡ detail_word_ends }
 {
     ")"
 }
 
 #[tactic(auto, unfolding(crate::specs::Texts::separator_kept))]
-pub(crate) fn separator_kept() -> &'static str
+pub(crate) fn separator_kept<'a>() -> &'a str
     ensures { result.now ≡ separator_kept }
 {
     "
@@ -214,7 +215,7 @@ pub(crate) fn separator_kept() -> &'static str
 }
 
 #[tactic(auto, unfolding(crate::specs::Texts::separator_back))]
-pub(crate) fn separator_back() -> &'static str
+pub(crate) fn separator_back<'a>() -> &'a str
     ensures { result.now ≡ separator_back }
 {
     "
@@ -224,7 +225,7 @@ pub(crate) fn separator_back() -> &'static str
 }
 
 #[tactic(auto, unfolding(crate::specs::Texts::reply_begins))]
-pub(crate) fn reply_begins() -> &'static str
+pub(crate) fn reply_begins<'a>() -> &'a str
     ensures { result.now ≡ reply_begins }
 {
     "
@@ -232,42 +233,42 @@ pub(crate) fn reply_begins() -> &'static str
 }
 
 #[tactic(auto, unfolding(crate::specs::Texts::reply_ends))]
-pub(crate) fn reply_ends() -> &'static str
+pub(crate) fn reply_ends<'a>() -> &'a str
     ensures { result.now ≡ reply_ends }
 {
     ")"
 }
 
 #[tactic(auto, unfolding(crate::specs::Texts::values_begin))]
-pub(crate) fn values_begin() -> &'static str
+pub(crate) fn values_begin<'a>() -> &'a str
     ensures { result.now ≡ values_begin }
 {
     "$(compgen -W \""
 }
 
 #[tactic(auto, unfolding(crate::specs::Texts::values_end))]
-pub(crate) fn values_end() -> &'static str
+pub(crate) fn values_end<'a>() -> &'a str
     ensures { result.now ≡ values_end }
 {
     "\" -- \"${cur}\")"
 }
 
 #[tactic(auto, unfolding(crate::specs::Texts::files_offered))]
-pub(crate) fn files_offered() -> &'static str
+pub(crate) fn files_offered<'a>() -> &'a str
     ensures { result.now ≡ files_offered }
 {
     "$(compgen -f \"${cur}\")"
 }
 
 #[tactic(auto, unfolding(crate::specs::Texts::word_offered))]
-pub(crate) fn word_offered() -> &'static str
+pub(crate) fn word_offered<'a>() -> &'a str
     ensures { result.now ≡ word_offered }
 {
     "\"${cur}\""
 }
 
 #[tactic(auto, unfolding(crate::specs::Texts::mode_begins))]
-pub(crate) fn mode_begins() -> &'static str
+pub(crate) fn mode_begins<'a>() -> &'a str
     ensures { result.now ≡ mode_begins }
 {
     "
@@ -276,7 +277,7 @@ pub(crate) fn mode_begins() -> &'static str
 }
 
 #[tactic(auto, unfolding(crate::specs::Texts::mode_ends))]
-pub(crate) fn mode_ends() -> &'static str
+pub(crate) fn mode_ends<'a>() -> &'a str
     ensures { result.now ≡ mode_ends }
 {
     "
@@ -284,28 +285,28 @@ pub(crate) fn mode_ends() -> &'static str
 }
 
 #[tactic(auto, unfolding(crate::specs::Texts::filenames_word))]
-pub(crate) fn filenames_word() -> &'static str
+pub(crate) fn filenames_word<'a>() -> &'a str
     ensures { result.now ≡ filenames_word }
 {
     "filenames"
 }
 
 #[tactic(auto, unfolding(crate::specs::Texts::plusdirs_word))]
-pub(crate) fn plusdirs_word() -> &'static str
+pub(crate) fn plusdirs_word<'a>() -> &'a str
     ensures { result.now ≡ plusdirs_word }
 {
     "plusdirs"
 }
 
 #[tactic(auto, unfolding(crate::specs::Texts::nospace_word))]
-pub(crate) fn nospace_word() -> &'static str
+pub(crate) fn nospace_word<'a>() -> &'a str
     ensures { result.now ≡ nospace_word }
 {
     "nospace"
 }
 
 #[tactic(auto, unfolding(crate::specs::Texts::detail_ends))]
-pub(crate) fn detail_ends() -> &'static str
+pub(crate) fn detail_ends<'a>() -> &'a str
     ensures { result.now ≡ detail_ends }
 {
     "

@@ -3,7 +3,7 @@
 ghost use Rattle.std.specs.Prelude.{◌≡◌, ◌++◌, ◌||◌, codes, filter, flat_map, true, OnOk};
 ghost use Rattle.cc_arg.specs.Arguments.{is_positional};
 ghost use Rattle.cc_base.specs.Joined.{has_texts, separator};
-ghost use Rattle.cc_base.specs.Writes.{Writes};
+ghost use Rattle.cc_base.specs.Writes.{Writes, as_write};
 ghost use Rattle.cc_command.specs.Names.{visible_names};
 ghost use Rattle.cc_command.specs.Tree.{forest_of};
 ghost use Rattle.cc_bash.specs.Arms.{long_word, long_words, names_of_shown, names_of_values};
@@ -12,12 +12,12 @@ ghost use Rattle.cc_bash.specs.Script.{words_text};
 ghost use Rattle.cc_bash.specs.Words.{words_after};
 
 use cc_arg::{Arg, PossibleValue, possible_values};
-use cc_base::{Error, Sink, put_all, put_separator};
+use cc_base::{Sink, put_pieces};
 use cc_command::Command;
+use std::io::ErrorKind;
 
-/// Writes the words at a command.
-pub(crate) fn write_words<W: Sink>(command: &Command, sink: &mut W) -> Result<(), Error>
-    ensures { Writes W.taken W.failed result sink.old sink.new (words_text (words_at command.now)) }
+pub(crate) fn write_words<W: Sink>(command: &Command, sink: &mut W) -> Result<(), ErrorKind>
+    ensures { Writes W.taken W.failed (as_write result) sink.old sink.new (words_text (words_at command.now)) }
 {
     let arguments = command.get_arguments();
     let mut begun = false;
@@ -28,8 +28,8 @@ pub(crate) fn write_words<W: Sink>(command: &Command, sink: &mut W) -> Result<()
 }
 
 // `begun` tells whether a word was written before.
-fn write_shorts<W: Sink>(arguments: &[Arg], begun: &mut bool, sink: &mut W) -> Result<(), Error>
-    ensures written { Writes W.taken W.failed result sink.old sink.new
+fn write_shorts<W: Sink>(arguments: &[Arg], begun: &mut bool, sink: &mut W) -> Result<(), ErrorKind>
+    ensures written { Writes W.taken W.failed (as_write result) sink.old sink.new
         (words_after begun.old (flat_map short_words arguments.now)) }
     ensures begun { OnOk result
         (begun.new ≡ (begun.old || has_texts (flat_map short_words arguments.now))) }
@@ -40,8 +40,12 @@ fn write_shorts<W: Sink>(arguments: &[Arg], begun: &mut bool, sink: &mut W) -> R
     Ok(())
 }
 
-fn write_short_words<W: Sink>(argument: &Arg, begun: &mut bool, sink: &mut W) -> Result<(), Error>
-    ensures written { Writes W.taken W.failed result sink.old sink.new
+fn write_short_words<W: Sink>(
+    argument: &Arg,
+    begun: &mut bool,
+    sink: &mut W,
+) -> Result<(), ErrorKind>
+    ensures written { Writes W.taken W.failed (as_write result) sink.old sink.new
         (words_after begun.old (short_words argument.now)) }
     ensures begun { OnOk result (begun.new ≡ (begun.old || has_texts (short_words argument.now))) }
 {
@@ -54,18 +58,17 @@ fn write_short_words<W: Sink>(argument: &Arg, begun: &mut bool, sink: &mut W) ->
     write_short_word(short, begun, sink)
 }
 
-fn write_short_word<W: Sink>(short: char, begun: &mut bool, sink: &mut W) -> Result<(), Error>
-    ensures written { Writes W.taken W.failed result sink.old sink.new
+fn write_short_word<W: Sink>(short: char, begun: &mut bool, sink: &mut W) -> Result<(), ErrorKind>
+    ensures written { Writes W.taken W.failed (as_write result) sink.old sink.new
         (separator (codes " ") begun.old ++ short_word short) }
     ensures begun { OnOk result (begun.new ≡ true) }
 {
     let mut buffer = [0; 4];
-    put_separator(" ", begun, sink)?;
-    write_dashed("-", short.encode_utf8(&mut buffer), sink)
+    put_word("-", short.encode_utf8(&mut buffer), begun, sink)
 }
 
-fn write_longs<W: Sink>(arguments: &[Arg], begun: &mut bool, sink: &mut W) -> Result<(), Error>
-    ensures written { Writes W.taken W.failed result sink.old sink.new
+fn write_longs<W: Sink>(arguments: &[Arg], begun: &mut bool, sink: &mut W) -> Result<(), ErrorKind>
+    ensures written { Writes W.taken W.failed (as_write result) sink.old sink.new
         (words_after begun.old (flat_map long_words arguments.now)) }
     ensures begun { OnOk result
         (begun.new ≡ (begun.old || has_texts (flat_map long_words arguments.now))) }
@@ -76,8 +79,12 @@ fn write_longs<W: Sink>(arguments: &[Arg], begun: &mut bool, sink: &mut W) -> Re
     Ok(())
 }
 
-fn write_long_words<W: Sink>(argument: &Arg, begun: &mut bool, sink: &mut W) -> Result<(), Error>
-    ensures written { Writes W.taken W.failed result sink.old sink.new
+fn write_long_words<W: Sink>(
+    argument: &Arg,
+    begun: &mut bool,
+    sink: &mut W,
+) -> Result<(), ErrorKind>
+    ensures written { Writes W.taken W.failed (as_write result) sink.old sink.new
         (words_after begun.old (long_words argument.now)) }
     ensures begun { OnOk result (begun.new ≡ (begun.old || has_texts (long_words argument.now))) }
 {
@@ -85,34 +92,17 @@ fn write_long_words<W: Sink>(argument: &Arg, begun: &mut bool, sink: &mut W) -> 
         return Ok(());
     };
     for alias in argument.get_visible_aliases() {
-        write_long_word(alias.as_str(), begun, sink)?;
+        put_word("--", alias.as_str(), begun, sink)?;
     }
-    write_long_word(long, begun, sink)
-}
-
-fn write_long_word<W: Sink>(long: &str, begun: &mut bool, sink: &mut W) -> Result<(), Error>
-    ensures written { Writes W.taken W.failed result sink.old sink.new
-        (separator (codes " ") begun.old ++ long_word long.now) }
-    ensures begun { OnOk result (begun.new ≡ true) }
-{
-    put_separator(" ", begun, sink)?;
-    write_dashed("--", long, sink)
-}
-
-/// Writes a name after its dashes.
-pub(crate) fn write_dashed<W: Sink>(dashes: &str, name: &str, sink: &mut W) -> Result<(), Error>
-    ensures { Writes W.taken W.failed result sink.old sink.new (dashes.now ++ name.now) }
-{
-    put_all(sink, dashes.as_bytes())?;
-    put_all(sink, name.as_bytes())
+    put_word("--", long, begun, sink)
 }
 
 fn write_positional_values<W: Sink>(
     arguments: &[Arg],
     begun: &mut bool,
     sink: &mut W,
-) -> Result<(), Error>
-    ensures written { Writes W.taken W.failed result sink.old sink.new
+) -> Result<(), ErrorKind>
+    ensures written { Writes W.taken W.failed (as_write result) sink.old sink.new
         (words_after begun.old (flat_map value_names (filter is_positional arguments.now))) }
     ensures begun { OnOk result (begun.new
         ≡ (begun.old || has_texts (flat_map value_names (filter is_positional arguments.now)))) }
@@ -130,8 +120,8 @@ fn write_argument_values<W: Sink>(
     argument: &Arg,
     begun: &mut bool,
     sink: &mut W,
-) -> Result<(), Error>
-    ensures written { Writes W.taken W.failed result sink.old sink.new
+) -> Result<(), ErrorKind>
+    ensures written { Writes W.taken W.failed (as_write result) sink.old sink.new
         (words_after begun.old (value_names argument.now)) }
     ensures begun { OnOk result (begun.new ≡ (begun.old || has_texts (value_names argument.now))) }
 {
@@ -145,25 +135,25 @@ fn write_values<W: Sink>(
     possible: &[PossibleValue],
     begun: &mut bool,
     sink: &mut W,
-) -> Result<(), Error>
-    ensures written { Writes W.taken W.failed result sink.old sink.new
+) -> Result<(), ErrorKind>
+    ensures written { Writes W.taken W.failed (as_write result) sink.old sink.new
         (words_after begun.old (names_of_values possible.now)) }
     ensures begun { OnOk result
         (begun.new ≡ (begun.old || has_texts (names_of_values possible.now))) }
 {
     for value in possible {
-        write_word(value.get_name(), begun, sink)?;
+        put_word("", value.get_name(), begun, sink)?;
     }
     Ok(())
 }
 
-/// Writes the names of those of the values that are shown.
+/// The names of those of the values that are shown.
 #[tactic(auto, using(crate::proofs::WordTexts::words_after_false))]
 pub(crate) fn write_shown_values<W: Sink>(
     possible: &[PossibleValue],
     sink: &mut W,
-) -> Result<(), Error>
-    ensures { Writes W.taken W.failed result sink.old sink.new
+) -> Result<(), ErrorKind>
+    ensures { Writes W.taken W.failed (as_write result) sink.old sink.new
         (words_text (names_of_shown possible.now)) }
 {
     let mut begun = false;
@@ -171,7 +161,7 @@ pub(crate) fn write_shown_values<W: Sink>(
         if value.is_hide_set() {
             continue;
         }
-        write_word(value.get_name(), &mut begun, sink)?;
+        put_word("", value.get_name(), &mut begun, sink)?;
     }
     Ok(())
 }
@@ -180,8 +170,8 @@ fn write_children<W: Sink>(
     children: &[Command],
     begun: &mut bool,
     sink: &mut W,
-) -> Result<(), Error>
-    ensures { Writes W.taken W.failed result sink.old sink.new
+) -> Result<(), ErrorKind>
+    ensures { Writes W.taken W.failed (as_write result) sink.old sink.new
         (words_after begun.old (sibling_names (forest_of children.now))) }
 {
     for child in children {
@@ -190,23 +180,32 @@ fn write_children<W: Sink>(
     Ok(())
 }
 
-fn write_names<W: Sink>(command: &Command, begun: &mut bool, sink: &mut W) -> Result<(), Error>
-    ensures written { Writes W.taken W.failed result sink.old sink.new
+fn write_names<W: Sink>(command: &Command, begun: &mut bool, sink: &mut W) -> Result<(), ErrorKind>
+    ensures written { Writes W.taken W.failed (as_write result) sink.old sink.new
         (words_after begun.old (visible_names command.now.node)) }
     ensures begun { OnOk result (begun.new ≡ true) }
 {
-    write_word(command.get_name(), begun, sink)?;
+    put_word("", command.get_name(), begun, sink)?;
     for alias in command.get_visible_aliases() {
-        write_word(alias.as_str(), begun, sink)?;
+        put_word("", alias.as_str(), begun, sink)?;
     }
     Ok(())
 }
 
-fn write_word<W: Sink>(word: &str, begun: &mut bool, sink: &mut W) -> Result<(), Error>
-    ensures written { Writes W.taken W.failed result sink.old sink.new
-        (separator (codes " ") begun.old ++ word.now) }
+// A space comes before it where `begun` says that a word does.
+fn put_word<W: Sink>(
+    dashes: &str,
+    name: &str,
+    begun: &mut bool,
+    sink: &mut W,
+) -> Result<(), ErrorKind>
+    ensures written { Writes W.taken W.failed (as_write result) sink.old sink.new
+        (separator (codes " ") begun.old ++ (dashes.now ++ name.now)) }
     ensures begun { OnOk result (begun.new ≡ true) }
 {
-    put_separator(" ", begun, sink)?;
-    put_all(sink, word.as_bytes())
+    if *begun {
+        return put_pieces(sink, &[" ".as_bytes(), dashes.as_bytes(), name.as_bytes()]);
+    }
+    *begun = true;
+    put_pieces(sink, &[dashes.as_bytes(), name.as_bytes()])
 }

@@ -1,5 +1,5 @@
 use Rattle.cc_base.proofs.WrittenTexts.{writes_same, writes_then}
-use Rattle.cc_bash.proofs.DetailTexts.{option_parts}
+use Rattle.cc_bash.proofs.ArmTexts.{option_parts}
 use Rattle.cc_bash.proofs.details.write_option.Goals as goal
 
 pub returns : goal.returns

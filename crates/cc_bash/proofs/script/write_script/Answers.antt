@@ -2,6 +2,7 @@ use Rattle.std.proofs.Common.{◌≡◌, List, map, rules}
 use Rattle.cc_base.proofs.WrittenTexts.{writes_same, writes_then}
 use Rattle.cc_bash.specs.Labels.{Labelled}
 use Rattle.cc_bash.specs.Nodes.{labelled_of}
+use Rattle.cc_bash.specs.Texts.{arms_begin}
 use Rattle.cc_bash.proofs.WholeScript.{script_pieces}
 use Rattle.cc_bash.proofs.script.write_script.Goals as goal
 
@@ -10,10 +11,10 @@ returns g c =
     let lent : List Labelled = map labelled_of c.deref.result.now in
     let nodes : List Labelled = map labelled_of c.args.nodes.items in
     let same : lent ≡ nodes = search rules in
+    let begin : c.as_bytes.result.now ≡ arms_begin = search rules in
     writes_same _ _
-    (script_pieces c.args.root.now c.full_name.result.now c.full_name-2.result.now c.args.command.now lent nodes c.full_name.ensures c.full_name-2.ensures same)
-    (writes_then _ _ (writes_then _ _ (writes_then _ _
-    (writes_then _ _ (writes_then _ _ (writes_then _ _
-    c.in_ok-write_head.ensures c.in_ok-write_table.ensures) c.in_ok-write_arms_begin.ensures)
-    c.in_ok-write_root_arm.ensures)
-    c.in_ok-write_sorted_arms.ensures) c.in_ok-write_unsorted.ensures) c.write_sorted.ensures)
+    (script_pieces c.args.root.now c.full_name.result.now c.args.command.now lent nodes c.full_name.ensures same)
+    (writes_then _ _ (writes_then _ _ (writes_then _ _ (writes_then _ _ (writes_then _ _
+    c.in_ok-write_head.ensures c.in_ok-write_table.ensures) (writes_same _ _ begin c.in_ok-put_all.ensures.written))
+    c.in_ok-write_arm.ensures)
+    c.in_ok-write_sorted_arms.ensures) c.write_tail.ensures)
