@@ -7,7 +7,8 @@ use Rattle.cc_arg.specs.ShownNames.{shown_longs, shown_shorts}
 use Rattle.cc_command.specs.ArgumentLists.{is_option}
 use Rattle.cc_command.specs.Tree.{Tree}
 use Rattle.cc_bash.specs.Arms.{Arm, detail_of, details_at, long_word, option_details, short_word, words_at}
-use Rattle.cc_bash.specs.Script.{arm_text, detail_text, words_text}
+use Rattle.cc_bash.specs.Script.{arm_text, detail_text}
+use Rattle.cc_bash.specs.Words.{words_text}
 use Rattle.cc_bash.specs.Texts.{arm_begins, arm_words, arm_level, arm_details, arm_ends}
 
 pub arm_parts : (label level : List ℕ) (tree : Tree) (arguments : List Arg)

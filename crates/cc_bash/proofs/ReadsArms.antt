@@ -13,7 +13,8 @@ use Rattle.cc_quote.proofs.PosixCutting.{IsWord, tokens_from, bare_word, double_
 use Rattle.cc_bash.specs.Arms.{Detail, Arm}
 use Rattle.cc_bash.specs.Reader.{Table, pattern_of, assigned, bare_text, with_arm, new_arm, next, read}
 use Rattle.cc_bash.specs.Reader.State.{between_arms, at_words, after_words, at_level, between_details}
-use Rattle.cc_bash.specs.Script.{words_text, detail_text, arm_text}
+use Rattle.cc_bash.specs.Script.{detail_text, arm_text}
+use Rattle.cc_bash.specs.Words.{words_text}
 use Rattle.cc_bash.specs.Texts.{arm_begins, arm_words, arm_level, arm_details, arm_ends}
 use Rattle.cc_bash.proofs.ReadsCases.{reading, pattern_found}
 use Rattle.cc_bash.proofs.ReadsDetails.{IsReadableDetail, detail_line, details_read}

@@ -14,7 +14,8 @@ use Rattle.cc_quote.proofs.PosixCutting.{IsWord, tokens_from, bare_word, double_
 use Rattle.cc_bash.specs.Arms.{Offered, values, files, typed, nothing, Mode, filenames, plusdirs, nospace, Detail, Arm}
 use Rattle.cc_bash.specs.Reader.{Table, pattern_of, bare_text, double_text, is_empty_reply, is_typed_reply, is_compgen_reply, mode_named, with_detail, new_detail, next, read}
 use Rattle.cc_bash.specs.Reader.State.{between_details, at_reply, at_values, after_reply}
-use Rattle.cc_bash.specs.Script.{words_text, offered_text, reply_text, mode_word, mode_text, moded_text, detail_text}
+use Rattle.cc_bash.specs.Script.{offered_text, reply_text, mode_word, mode_text, moded_text, detail_text}
+use Rattle.cc_bash.specs.Words.{words_text}
 use Rattle.cc_bash.specs.Texts.{detail_begins, detail_word_ends, separator_kept, separator_back, reply_begins, reply_ends, values_begin, values_end, files_offered, word_offered, mode_begins, mode_ends, filenames_word, plusdirs_word, nospace_word, detail_ends}
 use Rattle.cc_bash.proofs.ReadsCases.{reading, pattern_found}
 use Rattle.cc_bash.proofs.WordsRead.{Lacks, words_read, IsKept-words}

@@ -1,5 +1,5 @@
 -- Texts that are cut at a byte, and words that are cut at spaces.
-use Rattle.std.proofs.Common.{◌≡◌, ℕ, true, false, ◌==◌, List, [], ◌∷◌, ◌++◌, flat_map, Some, refl, ap, ◌∙◌, sym, append_assoc, append-nil, inl, inr, arith}
+use Rattle.std.proofs.Common.{◌≡◌, ℕ, true, false, ◌==◌, List, [], ◌∷◌, ◌++◌, Some, refl, ap, ◌∙◌, sym, append_assoc, append-nil, inl, inr, arith}
 use Rattle.std.specs.List.{AllByRecursion}
 use Rattle.std.proofs.lemmas.Bool.{cases_Bool}
 use Rattle.std.proofs.lemmas.Bool.Decides.{nat_tests}
@@ -8,7 +8,7 @@ use Rattle.cc_quote.specs.PosixTokens.{sign}
 use Rattle.cc_quote.specs.PosixTokens.Sign.{blank, other}
 use Rattle.cc_quote.proofs.PosixCutting.{IsOther, IsWord, IsKept, IsKept-append, IsKept-IsWord}
 use Rattle.cc_bash.specs.Reader.{parted, words_from}
-use Rattle.cc_bash.specs.Script.{spaced_word, words_text}
+use Rattle.cc_bash.specs.Words.{words_after, words_text}
 
 -- the byte does not stand in the text
 abbrev pub Lacks : ℕ → List ℕ → Type 0
@@ -59,32 +59,32 @@ space_ends [] rest h = absurd h
 space_ends (b ∷ word) rest h = refl
 
 more_read : (word : List ℕ) (words : List (List ℕ)) → IsWord word → AllByRecursion IsWord words →
-    words_from word (flat_map spaced_word words) ≡ word ∷ words
+    words_from word (words_after true words) ≡ word ∷ words
 more_read word [] h k = word_ends word h
 more_read word (next ∷ words) h k =
-    space_ends word (next ++ flat_map spaced_word words) h
-    ∙ ap (λ ws. word ∷ ws) (word_begins next (flat_map spaced_word words) k.0
+    space_ends word (next ++ words_after true words) h
+    ∙ ap (λ ws. word ∷ ws) (word_begins next (words_after true words) k.0
     ∙ more_read next words k.0 k.1)
 
 -- words that are joined by spaces are cut again
 pub words_read : (words : List (List ℕ)) → AllByRecursion IsWord words →
     words_from [] (words_text words) ≡ words
 words_read [] h = refl
-words_read (word ∷ words) h = word_begins word (flat_map spaced_word words) h.0
+words_read (word ∷ words) h = word_begins word (words_after true words) h.0
     ∙ more_read word words h.0 h.1
 
 spaced_kept : (words : List (List ℕ)) → AllByRecursion IsWord words →
-    IsKept (flat_map spaced_word words)
+    IsKept (words_after true words)
 unfolding sign
 spaced_kept [] h = tt
 spaced_kept (word ∷ words) h = (
   inr refl,
-  IsKept-append word (flat_map spaced_word words) (IsKept-IsWord word h.0)
+  IsKept-append word (words_after true words) (IsKept-IsWord word h.0)
       (spaced_kept words h.1),
 )
 
 -- and double quotes keep them
 pub IsKept-words : (words : List (List ℕ)) → AllByRecursion IsWord words → IsKept (words_text words)
 IsKept-words [] h = tt
-IsKept-words (word ∷ words) h = IsKept-append word (flat_map spaced_word words)
+IsKept-words (word ∷ words) h = IsKept-append word (words_after true words)
     (IsKept-IsWord word h.0) (spaced_kept words h.1)

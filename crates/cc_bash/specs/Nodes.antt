@@ -1,13 +1,18 @@
--- What the code's nodes, its stack and its cases stand for.
-use Rattle.std.specs.Prelude.{ℕ, suc, ◌<◌, ◌≤◌, List, ◌∷◌, length, map}
+-- What the code's nodes, its stack, its cases and its parts of the words stand for.
+use Rattle.std.specs.Prelude.{ℕ, suc, ◌<◌, ◌≤◌, List, [], ◌∷◌, length, map, if◌then◌else◌}
 use Rattle.std.specs.List.{All}
+use Rattle.cc_arg.specs.declared.arg.Arg.{Arg}
+use Rattle.cc_arg.specs.Arguments.{is_positional}
 use Rattle.cc_command.specs.Tree.{Tree}
 use Rattle.cc_flat.specs.Flat.{Entry, tree_at}
+use Rattle.cc_bash.specs.Arms.{long_words, short_words, value_names}
 use Rattle.cc_bash.specs.CaseTable.{Case}
 use Rattle.cc_bash.specs.Labels.{Labelled, child_label, labelled_node, labelled_under}
 use Rattle.cc_bash.specs.declared.cases.Case.{Case as CaseValue}
 use Rattle.cc_bash.specs.declared.nodes.LabelledNode.{LabelledNode}
 use Rattle.cc_bash.specs.declared.nodes.Pending.{Pending}
+use Rattle.cc_bash.specs.declared.words.Part.{Part}
+use Rattle.cc_bash.specs.declared.words.Part.TheVariants.{Shorts, Longs, Values}
 
 -- a node as a clause sees it
 abbrev pub labelled_of : LabelledNode → Labelled
@@ -46,3 +51,9 @@ IsListed flat pending = (pending.number < length flat) × (pending.level ≤ suc
 -- so are those of each item
 abbrev pub AreListed : List Entry → List Pending → Type 0
 AreListed flat stack = All (IsListed flat) stack
+
+-- an argument's words of a part
+abbrev pub part_words : Part → Arg → List (List ℕ)
+part_words Shorts argument = short_words argument
+part_words Longs argument = long_words argument
+part_words Values argument = if is_positional argument then value_names argument else []

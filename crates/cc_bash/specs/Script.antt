@@ -1,20 +1,12 @@
 -- The text of a bash script.
-use Rattle.std.specs.Prelude.{ℕ, List, [], ◌∷◌, ◌++◌, flat_map, codes, Option, Some, None}
+use Rattle.std.specs.Prelude.{ℕ, List, [], ◌++◌, flat_map, Option, Some, None}
 use Rattle.cc_command.specs.Tree.{Tree}
 use Rattle.cc_command.specs.Names.{full_name}
 use Rattle.cc_bash.specs.Labels.{root_label}
 use Rattle.cc_bash.specs.CaseTable.{Case, tree_cases}
 use Rattle.cc_bash.specs.Arms.{Offered, values, files, typed, nothing, Mode, filenames, plusdirs, nospace, Detail, Arm, tree_arms}
+use Rattle.cc_bash.specs.Words.{words_text}
 use Rattle.cc_bash.specs.Texts.{function_begins, function_head, cases_begin, arms_begin, arms_end, unsorted, otherwise, sorted, script_ends, case_begins, case_comma, case_sets, case_ends, arm_begins, arm_words, arm_level, arm_details, arm_ends, detail_begins, detail_word_ends, separator_kept, separator_back, reply_begins, reply_ends, values_begin, values_end, files_offered, word_offered, mode_begins, mode_ends, filenames_word, plusdirs_word, nospace_word, detail_ends}
-
--- a word after another
-abbrev pub spaced_word : List ℕ → List ℕ
-spaced_word word = codes " " ++ word
-
--- some words, with a space between each and the next
-abbrev pub words_text : List (List ℕ) → List ℕ
-words_text [] = []
-words_text (word ∷ words) = word ++ flat_map spaced_word words
 
 -- a case: the label and the word, then the label that is set
 unfoldable pub case_text : Case → List ℕ

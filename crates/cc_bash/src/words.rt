@@ -1,43 +1,76 @@
 //! The options and names that are offered at a command.
 
-ghost use Rattle.std.specs.Prelude.{◌≡◌, ◌++◌, ◌||◌, codes, filter, flat_map, true, OnOk};
-ghost use Rattle.cc_arg.specs.Arguments.{is_positional};
+ghost use Rattle.std.specs.Prelude.{◌≡◌, ◌++◌, ◌||◌, codes, flat_map, true, OnOk};
 ghost use Rattle.cc_base.specs.Joined.{has_texts, separator};
 ghost use Rattle.cc_base.specs.Writes.{Writes, as_write};
 ghost use Rattle.cc_command.specs.Names.{visible_names};
 ghost use Rattle.cc_command.specs.Tree.{forest_of};
 ghost use Rattle.cc_bash.specs.Arms.{long_word, long_words, names_of_shown, names_of_values};
-ghost use Rattle.cc_bash.specs.Arms.{short_word, short_words, sibling_names, value_names, words_at};
-ghost use Rattle.cc_bash.specs.Script.{words_text};
-ghost use Rattle.cc_bash.specs.Words.{words_after};
+ghost use Rattle.cc_bash.specs.Arms.{short_word, short_words, sibling_names, words_at};
+ghost use Rattle.cc_bash.specs.Nodes.{part_words};
+ghost use Rattle.cc_bash.specs.Words.{words_after, words_text};
+ghost use Rattle.cc_bash.specs.declared.words.Part.TheVariants.{Values};
 
 use cc_arg::{Arg, PossibleValue, possible_values};
 use cc_base::{Sink, put_pieces};
 use cc_command::Command;
 use std::io::ErrorKind;
 
+// The words of all arguments that stand together.
+#[derive(Clone, Copy)]
+enum Part {
+    Shorts,
+    Longs,
+    // those of positionals
+    Values,
+}
+
 pub(crate) fn write_words<W: Sink>(command: &Command, sink: &mut W) -> Result<(), ErrorKind>
-    ensures { Writes W.taken W.failed (as_write result) sink.old sink.new (words_text (words_at command.now)) }
+    ensures { Writes W.taken W.failed (as_write result) sink.old sink.new
+        (words_text (words_at command.now)) }
 {
     let arguments = command.get_arguments();
     let mut begun = false;
-    write_shorts(arguments, &mut begun, sink)?;
-    write_longs(arguments, &mut begun, sink)?;
-    write_positional_values(arguments, &mut begun, sink)?;
+    write_part(arguments, Part::Shorts, &mut begun, sink)?;
+    write_part(arguments, Part::Longs, &mut begun, sink)?;
+    write_part(arguments, Part::Values, &mut begun, sink)?;
     write_children(command.get_subcommands(), &mut begun, sink)
 }
 
 // `begun` tells whether a word was written before.
-fn write_shorts<W: Sink>(arguments: &[Arg], begun: &mut bool, sink: &mut W) -> Result<(), ErrorKind>
+fn write_part<W: Sink>(
+    arguments: &[Arg],
+    part: Part,
+    begun: &mut bool,
+    sink: &mut W,
+) -> Result<(), ErrorKind>
     ensures written { Writes W.taken W.failed (as_write result) sink.old sink.new
-        (words_after begun.old (flat_map short_words arguments.now)) }
+        (words_after begun.old (flat_map (part_words part) arguments.now)) }
     ensures begun { OnOk result
-        (begun.new ≡ (begun.old || has_texts (flat_map short_words arguments.now))) }
+        (begun.new ≡ (begun.old || has_texts (flat_map (part_words part) arguments.now))) }
 {
     for argument in arguments {
-        write_short_words(argument, begun, sink)?;
+        write_argument_words(argument, part, begun, sink)?;
     }
     Ok(())
+}
+
+fn write_argument_words<W: Sink>(
+    argument: &Arg,
+    part: Part,
+    begun: &mut bool,
+    sink: &mut W,
+) -> Result<(), ErrorKind>
+    ensures written { Writes W.taken W.failed (as_write result) sink.old sink.new
+        (words_after begun.old (part_words part argument.now)) }
+    ensures begun { OnOk result
+        (begun.new ≡ (begun.old || has_texts (part_words part argument.now))) }
+{
+    match part {
+        Part::Shorts => write_short_words(argument, begun, sink),
+        Part::Longs => write_long_words(argument, begun, sink),
+        Part::Values => write_positional_values(argument, begun, sink),
+    }
 }
 
 fn write_short_words<W: Sink>(
@@ -67,18 +100,6 @@ fn write_short_word<W: Sink>(short: char, begun: &mut bool, sink: &mut W) -> Res
     put_word("-", short.encode_utf8(&mut buffer), begun, sink)
 }
 
-fn write_longs<W: Sink>(arguments: &[Arg], begun: &mut bool, sink: &mut W) -> Result<(), ErrorKind>
-    ensures written { Writes W.taken W.failed (as_write result) sink.old sink.new
-        (words_after begun.old (flat_map long_words arguments.now)) }
-    ensures begun { OnOk result
-        (begun.new ≡ (begun.old || has_texts (flat_map long_words arguments.now))) }
-{
-    for argument in arguments {
-        write_long_words(argument, begun, sink)?;
-    }
-    Ok(())
-}
-
 fn write_long_words<W: Sink>(
     argument: &Arg,
     begun: &mut bool,
@@ -98,33 +119,18 @@ fn write_long_words<W: Sink>(
 }
 
 fn write_positional_values<W: Sink>(
-    arguments: &[Arg],
-    begun: &mut bool,
-    sink: &mut W,
-) -> Result<(), ErrorKind>
-    ensures written { Writes W.taken W.failed (as_write result) sink.old sink.new
-        (words_after begun.old (flat_map value_names (filter is_positional arguments.now))) }
-    ensures begun { OnOk result (begun.new
-        ≡ (begun.old || has_texts (flat_map value_names (filter is_positional arguments.now)))) }
-{
-    for argument in arguments {
-        if !argument.is_positional() {
-            continue;
-        }
-        write_argument_values(argument, begun, sink)?;
-    }
-    Ok(())
-}
-
-fn write_argument_values<W: Sink>(
     argument: &Arg,
     begun: &mut bool,
     sink: &mut W,
 ) -> Result<(), ErrorKind>
     ensures written { Writes W.taken W.failed (as_write result) sink.old sink.new
-        (words_after begun.old (value_names argument.now)) }
-    ensures begun { OnOk result (begun.new ≡ (begun.old || has_texts (value_names argument.now))) }
+        (words_after begun.old (part_words Values argument.now)) }
+    ensures begun { OnOk result
+        (begun.new ≡ (begun.old || has_texts (part_words Values argument.now))) }
 {
+    if !argument.is_positional() {
+        return Ok(());
+    }
     match possible_values(argument) {
         Some(possible) => write_values(possible, begun, sink),
         None => Ok(()),
@@ -148,7 +154,6 @@ fn write_values<W: Sink>(
 }
 
 /// The names of those of the values that are shown.
-#[tactic(auto, using(crate::proofs::WordTexts::words_after_false))]
 pub(crate) fn write_shown_values<W: Sink>(
     possible: &[PossibleValue],
     sink: &mut W,

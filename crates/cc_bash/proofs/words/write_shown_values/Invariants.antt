@@ -1,7 +1,6 @@
 use Rattle.std.proofs.Common.{◌≡◌, ◌++◌, drop}
 use Rattle.cc_bash.specs.Arms.{names_of_shown}
-use Rattle.cc_bash.specs.Script.{words_text}
-use Rattle.cc_bash.specs.Words.{words_after}
+use Rattle.cc_bash.specs.Words.{words_after, words_text}
 use Rattle.cc_bash.proofs.words.write_shown_values.Given as goal
 
 -- what was taken and the values that are left make the whole; no put failed

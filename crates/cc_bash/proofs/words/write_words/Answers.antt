@@ -12,8 +12,8 @@ returns g c =
     let same : arguments ≡ c.args.command.now.node.arguments = search rules in
     let below : children ≡ c.args.command.now.children = search rules in
     writes_same _ _ (words_written c.args.command.now arguments children _ _ _ same below
-    c.in_ok-write_shorts.ensures.begun c.in_ok-write_longs.ensures.begun c.in_ok-write_positional_values.ensures.begun)
+    c.in_ok-write_part.ensures.begun c.in_ok-write_part-2.ensures.begun c.in_ok-write_part-3.ensures.begun)
     (writes_then _ _
     (writes_then _ _
-    (writes_then _ _ c.in_ok-write_shorts.ensures.written c.in_ok-write_longs.ensures.written)
-    c.in_ok-write_positional_values.ensures.written) c.write_children.ensures)
+    (writes_then _ _ c.in_ok-write_part.ensures.written c.in_ok-write_part-2.ensures.written)
+    c.in_ok-write_part-3.ensures.written) c.write_children.ensures)
