@@ -12,6 +12,7 @@ ghost use Rattle.cc_visits.specs.Stack.{from_stack};
 use cc_base::Text;
 use cc_command::{Command, full_name};
 use cc_flat::Flat;
+use cc_visits::push_reversed;
 use std::alloc::{AllocError, Global};
 
 /// A node below the root, with its label.
@@ -186,13 +187,4 @@ fn children_of(
         })?;
     }
     Ok(made)
-}
-
-// Moves items onto the stack, the first one last.
-fn push_reversed(stack: &mut Vec<Pending>, mut items: Vec<Pending>) -> Result<(), AllocError>
-    ensures { OnOk result (stack.new.items ≡ stack.old.items ++ reverse items.items) }
-{
-    items.reverse();
-    stack.append(&mut items)?;
-    Ok(())
 }

@@ -9,5 +9,6 @@ mod visit;
 
 pub use crate::keys::{Joined, Keys};
 pub use crate::path_steps::{PathStep, PathSteps};
+pub use crate::stack::push_reversed;
 pub use crate::table_visits::TableVisits;
 pub use crate::visit::Visit;
