@@ -4,8 +4,8 @@ ghost use Rattle.std.specs.Prelude.{◌++◌, filter, map, flat_map};
 ghost use Rattle.cc_arg.specs.ShownNames.{shown_longs, shown_shorts};
 ghost use Rattle.cc_base.specs.Writes.{Writes, as_write};
 ghost use Rattle.cc_command.specs.ArgumentLists.{is_option};
-ghost use Rattle.cc_bash.specs.Arms.{detail_of, long_word, mode_of, names_of_shown, offered_by};
-ghost use Rattle.cc_bash.specs.Arms.{option_details, short_word, values};
+ghost use Rattle.cc_bash.specs.Arms.{detail_of, long_word, mode_of, offered_by};
+ghost use Rattle.cc_bash.specs.Arms.{option_details, short_word};
 ghost use Rattle.cc_bash.specs.Script.{detail_text, moded_text, offered_text, reply_text};
 ghost use Rattle.cc_bash.specs.Texts.{mode_begins, mode_ends};
 
@@ -15,7 +15,7 @@ use crate::texts::{
     separator_kept, values_begin, values_end, word_offered,
 };
 use crate::words::write_shown_values;
-use cc_arg::{Arg, PossibleValue, ValueHint, possible_values, shown_longs, shown_shorts};
+use cc_arg::{Arg, ValueHint, possible_values, shown_longs, shown_shorts};
 use cc_base::{Sink, put_around, put_piece, put_pieces};
 use std::io::ErrorKind;
 
@@ -127,23 +127,15 @@ fn write_offered<W: Sink>(argument: &Arg, sink: &mut W) -> Result<(), ErrorKind>
         (offered_text (offered_by argument.now)) }
 {
     if let Some(possible) = possible_values(argument) {
-        return write_values(possible, sink);
+        put_piece(sink, values_begin().as_bytes())?;
+        write_shown_values(possible, sink)?;
+        return put_piece(sink, values_end().as_bytes());
     }
     match argument.get_value_hint() {
         ValueHint::DirPath => Ok(()),
         ValueHint::Other => put_piece(sink, word_offered().as_bytes()),
         _ => put_piece(sink, files_offered().as_bytes()),
     }
-}
-
-#[tactic(auto, unfolding(crate::specs::Script::offered_text))]
-fn write_values<W: Sink>(possible: &[PossibleValue], sink: &mut W) -> Result<(), ErrorKind>
-    ensures { Writes W.taken W.failed (as_write result) sink.old sink.new
-        (offered_text (values (names_of_shown possible.now))) }
-{
-    put_piece(sink, values_begin().as_bytes())?;
-    write_shown_values(possible, sink)?;
-    put_piece(sink, values_end().as_bytes())
 }
 
 // The word names the mode.

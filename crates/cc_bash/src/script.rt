@@ -20,7 +20,7 @@ use cc_base::{Error, Sink, as_error, put_all, put_pieces};
 use cc_command::{Command, full_name};
 use std::alloc::Global;
 
-/// Writes the script of a command whose root has this label, with these nodes below it.
+/// The root has this label, and below it are these nodes.
 pub(crate) fn write_script<W: Sink>(
     alloc: Global,
     command: &Command,
