@@ -1,7 +1,8 @@
-//! Names in a registration.
+//! Names and paths in a registration.
 
 ghost use Rattle.std.specs.Prelude.{◌≡◌};
-ghost use Rattle.cc_registrations.specs.Names.{underscored};
+ghost use Rattle.std.specs.List.{list_all};
+ghost use Rattle.cc_registrations.specs.Names.{is_path_byte, is_plain_path, underscored};
 
 use cc_quote::Escape;
 use memchr::memchr;
@@ -19,4 +20,33 @@ impl Escape for Underscores {
         };
         Some((&text[..at], "_", &text[at + 1..]))
     }
+}
+
+/// Whether a path is plain: not empty, and made of ASCII letters, digits and `/._-`. The contracts
+/// of the registrations for Elvish and PowerShell say of such a completer that it reads back.
+#[tactic(auto, unfolding(crate::specs::Names::is_plain_path))]
+pub fn is_plain_path(path: &str) -> bool
+    ensures { result ≡ is_plain_path path.now }
+{
+    !path.is_empty() && are_path_bytes(path.as_bytes())
+}
+
+// Whether each byte may stand in a plain path.
+fn are_path_bytes(bytes: &[u8]) -> bool
+    ensures { result ≡ list_all is_path_byte bytes.now }
+{
+    for byte in bytes {
+        if !is_path_byte(*byte) {
+            return false;
+        }
+    }
+    true
+}
+
+// Whether a byte may stand in a plain path.
+#[tactic(auto, unfolding(crate::specs::Names::is_path_byte))]
+fn is_path_byte(byte: u8) -> bool
+    ensures { result ≡ is_path_byte byte }
+{
+    byte.is_ascii_alphanumeric() || matches!(byte, b'/' | b'.' | b'_' | b'-')
 }
