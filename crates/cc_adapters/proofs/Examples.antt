@@ -1,6 +1,8 @@
--- What an adapter asks for, by example.
-use Rattle.std.proofs.Common.{◌≡◌, [], ◌∷◌, codes, refl}
+-- What an adapter asks for, and which names it has, by example.
+use Rattle.std.proofs.Common.{◌≡◌, [], ◌∷◌, true, false, codes, refl}
 use Rattle.cc_adapters.specs.Asks.{with_next}
+use Rattle.cc_adapters.specs.Builtins.{builtin_named}
+use Rattle.cc_adapters.specs.declared.builtin.Builtin.TheVariants.{Powershell}
 
 -- the index of the word after `app`
 next_word : with_next (codes "app" ∷ []) 1 ≡ codes "app" ∷ [] ∷ []
@@ -9,3 +11,17 @@ next_word = refl
 -- that of `app` itself
 told_word : with_next (codes "app" ∷ []) 0 ≡ codes "app" ∷ []
 told_word = refl
+
+-- ---- names
+
+powershell_row : builtin_named Powershell (codes "powershell") ≡ true
+powershell_row = refl
+
+pwsh_row : builtin_named Powershell (codes "pwsh") ≡ true
+pwsh_row = refl
+
+powershell_ise_row : builtin_named Powershell (codes "powershell_ise") ≡ true
+powershell_ise_row = refl
+
+other_row : builtin_named Powershell (codes "zsh") ≡ false
+other_row = refl
