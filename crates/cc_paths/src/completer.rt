@@ -48,7 +48,9 @@ impl<D> PathCompleter<D, IsDir> {
 }
 
 impl<D, T> PathCompleter<D, T> {
-    fn with_test(folder: D, test: T) -> PathCompleter<D, T>
+    /// A completer of the paths that pass a test, which may be of a type of the caller's own. With a
+    /// test that holds no boxed closure it can be lent in `Completers`.
+    pub fn with_test(folder: D, test: T) -> PathCompleter<D, T>
         ensures { result ≡ record { folder = folder; test = test; stdio = false; current_dir = None } }
     {
         PathCompleter {
@@ -79,6 +81,8 @@ impl<D: Drop, T: Drop> PathCompleter<D, T> {
 
     /// Replaces the test by a closure, which may be called with any text. It is given the path of
     /// each listed name that begins as the word does, and for an empty word the current folder's.
+    /// This is for calls of `complete` and `complete_at` themselves: no trait object is made of a
+    /// type that holds a boxed closure, so what is to be lent in `Completers` is made by `with_test`.
     pub fn filter(self, test: TextTest) -> PathCompleter<D, FnTest>
         requires { TextTest.IsAlwaysCallable test }
         ensures folder { result.folder ≡ self.folder }
