@@ -11,6 +11,8 @@ mod fixtures;
 #[cfg(test)]
 mod lent;
 #[cfg(test)]
+mod lent_paths;
+#[cfg(test)]
 mod numbered;
 #[cfg(test)]
 mod odd_words;

@@ -7,8 +7,8 @@ use cc_candidates::Completers;
 use cc_paths::MemoryFolder;
 use std::process::Abort;
 
-// `/w` with a file and two folders, one of them hidden, and a home folder with a folder.
-fn work() -> MemoryFolder {
+/// `/w` with a file and two folders, one of them hidden, and a home folder with a folder.
+pub(crate) fn work() -> MemoryFolder {
     MemoryFolder::new(
         &[
             ("/w", &["src", ".git", "a.txt"]),
@@ -22,8 +22,8 @@ fn work() -> MemoryFolder {
     .with_home("/home/u")
 }
 
-// `/o` with two files and a folder.
-fn other() -> MemoryFolder {
+/// `/o` with two files and a folder.
+pub(crate) fn other() -> MemoryFolder {
     MemoryFolder::new(
         &[("/o", &["foobar", "foo", "bar"]), ("/o/foo", &[])],
         &["/o/foobar", "/o/bar"],

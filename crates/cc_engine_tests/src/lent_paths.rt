@@ -1,0 +1,88 @@
+//! Completers of paths that are lent.
+
+ghost use Rattle.std.specs.Prelude.{⊤};
+
+use crate::numbered::with_positional;
+use crate::offered::{found_last, text_of};
+use crate::paths::{other, work};
+use cc_arg::ValueRange;
+use cc_base::Error;
+use cc_candidates::{Completers, CompletionCandidate, ValueCompleter};
+use cc_paths::{Folder, MemoryFolder, PathCompleter, PathTest, RealFolder};
+use std::alloc::Global;
+use std::process::Abort;
+
+/// The paths of names that begin with `foo` pass.
+#[derive(Drop)]
+struct BeginsWithFoo;
+
+impl<D: Folder> PathTest<D> for BeginsWithFoo {
+    ghost tells = { λ _ _ _ _. ⊤ };
+
+    fn passes(&self, _folder: &D, path: &str) -> bool {
+        path.contains("/foo")
+    }
+}
+
+// The completers of the files in `/w` and of the paths in `/o` whose names begin with `foo`.
+fn path_completers(alloc: Global) -> Result<Completers, Error> {
+    let files = PathCompleter::file(work()).current_dir(String::from_str(alloc, "/w")?);
+    let own = PathCompleter::with_test(other(), BeginsWithFoo);
+    let own = own.current_dir(String::from_str(alloc, "/o")?);
+    let mut completers: Vec<Box<dyn ValueCompleter>> = Vec::new(alloc);
+    completers.push(Box::new(alloc, files)?)?;
+    completers.push(Box::new(alloc, own)?)?;
+    Ok(Completers::new(alloc, completers, Vec::new(alloc)))
+}
+
+// The completer of all paths of the system.
+fn system_completer(rt: &HostRuntime) -> Result<Completers, Error> {
+    let alloc = rt.alloc();
+    let all = PathCompleter::any(RealFolder::new(*rt, None));
+    let mut completers: Vec<Box<dyn ValueCompleter>> = Vec::new(alloc);
+    completers.push(Box::new(alloc, all)?)?;
+    Ok(Completers::new(alloc, completers, Vec::new(alloc)))
+}
+
+// What an argument of this completer offers for a word, where the paths of hints have no folder.
+fn found(
+    alloc: Global,
+    lent: Result<Completers, Error>,
+    completer: usize,
+    word: &str,
+) -> Result<Vec<CompletionCandidate>, Error> {
+    let lent = lent?;
+    let mut command = with_positional(alloc, completer, ValueRange::new(1, 1))?;
+    let words = ["app", word];
+    let folder = MemoryFolder::new(&[], &[]);
+    let found = found_last(alloc, &mut command, words.as_slice(), None, &folder, &lent);
+    drop(command);
+    drop(lent);
+    found
+}
+
+// Fails unless an argument of this completer offers these values, each with a space after it.
+fn offers<R: Abort + AllocGlobal>(rt: &R, completer: usize, word: &str, wanted: &str) {
+    let lent = path_completers(rt.alloc());
+    let shown = text_of(rt, found(rt.alloc(), lent, completer, word));
+    assert_eq!(rt; shown.as_str(), wanted);
+}
+
+#[test]
+fn a_lent_completer_of_files_lists_its_own_folder(rt: HostRuntime) {
+    offers(&rt, 0, "", "a.txt src/ ");
+    offers(&rt, 0, ".g", ".git/ ");
+    offers(&rt, 0, "~/s", "~/src/ ");
+}
+
+#[test]
+fn a_lent_completer_asks_the_callers_test(rt: HostRuntime) {
+    offers(&rt, 1, "", "foo/ foobar ");
+    offers(&rt, 1, "b", "");
+}
+
+#[test]
+fn a_completer_of_the_systems_paths_is_lent(rt: HostRuntime) {
+    let found = found(rt.alloc(), system_completer(&rt), 0, "/dev/nul");
+    assert_eq!(rt; text_of(&rt, found).as_str(), "/dev/null ");
+}
