@@ -65,7 +65,8 @@ fn the_root_of_the_system_is_a_folder(rt: HostRuntime) {
     let folder = RealFolder::new(&rt, Some(text(&rt, "/home/u")));
     assert!(rt; folder.is_dir("/") && !folder.is_file("/"));
     assert!(rt; folder.names(rt.alloc(), "/").is_ok());
-    assert!(rt; folder.names(rt.alloc(), "/no/such/folder").is_err());
+    let missing = folder.names(rt.alloc(), "/no/such/folder");
+    assert!(rt; matches!(missing, Err(FolderError::Unreadable)));
 }
 
 // The path of a name in a folder.
