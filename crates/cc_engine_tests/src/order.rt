@@ -1,6 +1,8 @@
 //! What a candidate holds, and the order of candidates.
 
-use cc_candidates::CompletionCandidate;
+use cc_candidates::{
+    ArgValueCandidates, ArgValueCompleter, CompletionCandidate, SubcommandCandidates,
+};
 use std::alloc::{AllocError, Global};
 use std::process::Abort;
 
@@ -62,5 +64,16 @@ fn debug_shows_every_field(rt: HostRuntime) {
         text.as_str(),
         "CompletionCandidate { value: Text { inner: \"a\" }, help: None, id: None, \
          tag: Some(Text { inner: \"t\" }), display_order: None, hidden: false }"
+    );
+}
+
+#[test]
+fn debug_shows_numbers(rt: HostRuntime) {
+    let (value, list) = (ArgValueCompleter::new(7), ArgValueCandidates::new(1));
+    let text = format!(in rt.alloc(); "{value:?} {list:?} {:?}", SubcommandCandidates::new(0));
+    assert_eq!(rt;
+        text.expect(&rt, "no text").as_str(),
+        "ArgValueCompleter { number: 7 } ArgValueCandidates { number: 1 } \
+         SubcommandCandidates { number: 0 }"
     );
 }
