@@ -1,2 +1,3 @@
 pub mod KnownNames
 pub mod PlainScript
+pub mod QuietScript

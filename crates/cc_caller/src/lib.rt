@@ -1,4 +1,4 @@
-//! Callers of the library: one whose contract says what the script that it writes reads to, and one
+//! Callers of the library: two whose contracts say what the script that they write reads to, and one
 //! whose contract says which names it completes a word with.
 #![tactic(auto)]
 
@@ -7,8 +7,10 @@ ghost use Rattle.std.specs.String.{string_bytes};
 ghost use Rattle.clap_complete.specs.Built.{built_under};
 ghost use Rattle.cc_caller.specs.PlainScript.{TakesPlain};
 
+mod bash;
 mod known_names;
 
+pub use crate::bash::write_bash_if_quiet;
 pub use crate::known_names::{KnownNames, tools};
 use clap_complete::aot::{Elvish, Sink};
 use clap_complete::command::{Command, is_plain_name};

@@ -1,0 +1,21 @@
+-- What a call that writes a bash script of plain commands with quiet values alone does.
+use Rattle.std.specs.Prelude.{◌≡◌, ℕ, List, ◌++◌, Bool, true, false, Some, Result, Ok, ⊤}
+use Rattle.clap_complete.specs.BashArms.{tree_arms}
+use Rattle.clap_complete.specs.BashCaseTable.{tree_cases}
+use Rattle.clap_complete.specs.BashLabels.{root_label}
+use Rattle.clap_complete.specs.BashReader.{bash_table}
+use Rattle.clap_complete.specs.BashScript.{tree_script}
+use Rattle.clap_complete.specs.Error.{Error}
+use Rattle.clap_complete.specs.Tree.{Tree}
+
+-- the script of the tree is taken, and it reads to the tree's cases and arms
+pub record TakesTable (old new : List ℕ) (tree : Tree) : Type 0 where
+  pub taken : new ≡ old ++ tree_script tree
+  pub table : bash_table (tree_script tree)
+      ≡ Some (record { root = root_label tree; cases = tree_cases tree; arms = tree_arms tree })
+
+-- On `Ok(true)` the script is taken and reads to the table; on `Ok(false)` nothing is taken.
+abbrev pub TakesQuiet : Result Bool Error → List ℕ → List ℕ → Tree → Type 0
+TakesQuiet (Ok true) old new tree = TakesTable old new tree
+TakesQuiet (Ok false) old new tree = new ≡ old
+TakesQuiet _ old new tree = ⊤

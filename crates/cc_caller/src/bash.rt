@@ -1,0 +1,32 @@
+//! A bash script whose possible values are read back too.
+
+ghost use Rattle.std.specs.Prelude.{Some};
+ghost use Rattle.std.specs.String.{string_bytes};
+ghost use Rattle.clap_complete.specs.Built.{built_under};
+ghost use Rattle.cc_caller.specs.QuietScript.{TakesQuiet};
+
+use clap_complete::aot::{Bash, Sink};
+use clap_complete::command::{Command, is_plain_name};
+use clap_complete::{Error, generate};
+use std::alloc::Global;
+
+/// Writes the bash script of a plain command with quiet possible values under a plain bin name, and
+/// returns whether it did: `Ok(false)` where the command or the name is not so, and then nothing is
+/// written.
+///
+/// Fails with `Memory`, `Write` and `LabelClash` as `generate` does.
+pub fn write_bash_if_quiet<W: Sink>(
+    alloc: Global,
+    command: &mut Command,
+    bin_name: String,
+    sink: &mut W,
+) -> Result<bool, Error>
+    ensures { TakesQuiet result (W.taken sink.old) (W.taken sink.new)
+        (built_under (Some (string_bytes bin_name)) command.old) }
+{
+    if !command.is_plain() || !command.has_quiet_values() || !is_plain_name(bin_name.as_str()) {
+        return Ok(false);
+    }
+    generate(alloc, Bash, command, bin_name, sink)?;
+    Ok(true)
+}
