@@ -181,6 +181,7 @@ fn nushell_reads_any_character_of_a_help(rt: HostRuntime) {
     for byte in 1..128_u8 {
         nushell_reads(&rt, &[char::from(byte)]);
     }
+    nushell_reads(&rt, &['\\', '\n']);
     nushell_reads(&rt, &[' ', '#', ' ', '\n', ' ', ' ', ']']);
 }
 
