@@ -7,7 +7,7 @@ use Rattle.cc_command.specs.Names.{visible_names}
 use Rattle.cc_command.specs.Tree.{Forest, none, more, Tree, has_nodes}
 use Rattle.cc_visits.specs.Visits.{Keyed, keyed, Step, enter, leave, steps_below}
 use Rattle.cc_zsh.specs.Functions.{entries_of, has_entries}
-use Rattle.cc_zsh.specs.Nested.{arm_ends, arm_text, arms_text, block_text, nested_7, nested_begins, nested_line}
+use Rattle.cc_zsh.specs.Nested.{arm_ends, arm_text, arms_text, block_text, nested_ends, nested_begins, nested_line}
 use Rattle.cc_zsh.specs.Steps.{enter_text, last_name, leave_text, nested_closes, nested_opens, step_text}
 
 -- a node has names to describe where it has children
@@ -34,14 +34,14 @@ arm name above node (more first under others) arms is =
     let block : List ℕ = block_text above tree in
     let begins : List ℕ = nested_begins node in
     let whole : List ℕ = arms_text node below in
-    let end : List ℕ = nested_7 ++ arm_ends in
+    let end : List ℕ = nested_ends ++ arm_ends in
     ap (λ t. enter_text (keyed name above tree) ++ (t ++ (end ++ []))) is ∙
     ap (λ t. enter_text (keyed name above tree) ++ (whole ++ t)) (append-nil end) ∙
     ap (λ t. 40 ∷ t) (append_assoc name (41 ∷ 10 ∷ (block ++ 10 ∷ begins)) (whole ++ end) ∙
     ap (λ t. name ++ 41 ∷ 10 ∷ t) (append_assoc block (10 ∷ begins) (whole ++ end) ∙
     ap (λ t. block ++ 10 ∷ t)
-    (ap (λ t. begins ++ t) (sym (append_assoc whole nested_7 arm_ends)) ∙
-    sym (append_assoc begins (whole ++ nested_7) arm_ends))))
+    (ap (λ t. begins ++ t) (sym (append_assoc whole nested_ends arm_ends)) ∙
+    sym (append_assoc begins (whole ++ nested_ends) arm_ends))))
 
 -- what is written of one node below a key
 abbrev steps_of : Node → Node → Forest → List ℕ → List (Step (List ℕ))

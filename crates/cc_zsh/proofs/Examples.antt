@@ -16,12 +16,12 @@ use Rattle.cc_command.specs.Built.{built_tree, built_under}
 use Rattle.cc_command.specs.Texts.{help_name, help_help, help_about}
 use Rattle.cc_quote.specs.ZshQuote.{zsh_escaped_help, zsh_escaped_value}
 use Rattle.cc_zsh.specs.Conflicts.{conflicts_text}
-use Rattle.cc_zsh.specs.Functions.{entries_end, entries_text, entry_text, function_1, function_2, function_3, function_4, function_5, function_text, sorted_functions}
-use Rattle.cc_zsh.specs.Nested.{arm_ends, arms_text, below_1, below_2, below_3, below_text, block_begins, block_ends, block_text, children_text, nested_1, nested_2, nested_3, nested_4, nested_5, nested_6, nested_7, nested_begins, root_text}
+use Rattle.cc_zsh.specs.Functions.{entries_end, entries_text, entry_text, unless_defined, function_begins, commands_begin, describe_begins, describe_ends, function_text, sorted_functions}
+use Rattle.cc_zsh.specs.Nested.{arm_ends, arms_text, command_begins, state_begins, state_ends, below_text, block_begins, block_ends, block_text, children_text, case_state, set_words, set_context, context_command, case_line, case_line_in, nested_ends, nested_begins, root_text}
 use Rattle.cc_zsh.specs.Options.{flag_line, flag_text, flags_text, front_text, help_text, line_end, option_line, option_text, options_text}
 use Rattle.cc_zsh.specs.Positionals.{count_text, positional_escaped, positional_text, positionals_text}
 use Rattle.cc_zsh.specs.Values.{described_list, described_text, hint_text, list_text, named_list, named_text, one_value, value_text, values_text}
-use Rattle.cc_zsh.specs.ZshScript.{begin_1, begin_2, begin_3, begin_text, end_1, end_2, end_3, end_4, end_5, end_text, functions_text, middle, script_text, zsh_script}
+use Rattle.cc_zsh.specs.ZshScript.{compdef_begins, autoloads, body_begins, begin_text, if_called, then_call, else_define, defined_for, if_ends, end_text, functions_text, body_ends, script_text, zsh_script}
 
 -- ---- single lines
 
@@ -248,5 +248,5 @@ whole : zsh_script app ≡
     ++ codes "else\n"
     ++ codes "    compdef _app app\n"
     ++ codes "fi\n"
-unfolding zsh_escaped_help encode_utf8 help_argument help_name help_help help_about placed in_order digits script_text begin_text begin_1 begin_2 begin_3 middle root_text block_text block_begins block_ends options_text flags_text flag_text flag_line front_text conflicts_text help_text line_end positionals_text below_text children_text below_1 below_2 below_3 nested_begins nested_1 nested_2 nested_3 nested_4 nested_5 nested_6 nested_7 arms_text arm_ends functions_text sorted_functions function_text function_1 function_2 function_3 function_4 function_5 entry_text entries_text entries_end end_text end_1 end_2 end_3 end_4 end_5
+unfolding zsh_escaped_help encode_utf8 help_argument help_name help_help help_about placed in_order digits script_text begin_text compdef_begins autoloads body_begins body_ends root_text block_text block_begins block_ends options_text flags_text flag_text flag_line front_text conflicts_text help_text line_end positionals_text below_text children_text command_begins state_begins state_ends nested_begins case_state set_words set_context context_command case_line case_line_in nested_ends arms_text arm_ends functions_text sorted_functions function_text unless_defined function_begins commands_begin describe_begins describe_ends entry_text entries_text entries_end end_text if_called then_call else_define defined_for if_ends
 whole = refl

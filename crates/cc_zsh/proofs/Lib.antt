@@ -1,6 +1,7 @@
 pub mod ArmSteps
 pub mod Examples
 pub mod FunctionOrder
+pub mod NestedTexts
 pub mod PositionalBytes
 pub mod ShownValues
 pub mod Stack

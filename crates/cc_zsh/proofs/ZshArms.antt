@@ -15,7 +15,7 @@ use Rattle.cc_quote.specs.Tokens.{is_word}
 use Rattle.cc_quote.specs.Tokens.Piece.{bare}
 use Rattle.cc_quote.proofs.PosixCutting.{IsOther, IsKept-IsOther, tokens_from, bare_run, double_run}
 use Rattle.cc_visits.specs.Visits.{Keyed, keyed, keys_below, longer_path, paths_below}
-use Rattle.cc_zsh.specs.Nested.{block_text, nested_1, nested_2, nested_3, nested_4, nested_5, nested_6, nested_7, place_text, context_text, nested_begins, nested_text, nested_line, arm_ends, arm_text, arms_text}
+use Rattle.cc_zsh.specs.Nested.{block_text, case_state, set_words, set_context, context_command, case_line, case_line_in, nested_ends, place_text, context_text, nested_begins, nested_text, nested_line, arm_ends, arm_text, arms_text}
 use Rattle.cc_zsh.specs.ZshReader.{Block, Path, State, arm_word, is_line, next, next_arm, read, text_after}
 use Rattle.cc_zsh.specs.ZshReader.State.{after_block, after_nested, at_arms, at_block, between_arms, after_arms, malformed}
 use Rattle.cc_zsh.proofs.ZshLastBytes.{before-last}
@@ -39,36 +39,36 @@ frame_read : (node : Node) (outer : List Path) (blocks : List Block) (path : Pat
     (rest : List ℕ) → IsOther node.name → IsOther (context_text node) →
     reading (after_block outer blocks path) between (nested_begins node ++ rest)
     ≡ reading (between_arms outer blocks path) between rest
-unfolding nested_begins nested_1 nested_2 nested_3 nested_4 nested_5 nested_6 sign byte_of cut is_word is_line text_after next read
+unfolding nested_begins case_state set_words set_context context_command case_line case_line_in sign byte_of cut is_word is_line text_after next read
 frame_read node outer blocks path rest name context =
     let place : List ℕ = place_text node in
     let other : IsOther place = decimal_other (suc (length (positionals node))) in
-    let r5 : List ℕ = place ++ (nested_6 ++ rest) in
-    let r4 : List ℕ = place ++ (nested_5 ++ r5) in
-    let r3 : List ℕ = context_text node ++ (nested_4 ++ r4) in
-    let r2 : List ℕ = place ++ (nested_3 ++ r3) in
+    let r5 : List ℕ = place ++ (case_line_in ++ rest) in
+    let r4 : List ℕ = place ++ (case_line ++ r5) in
+    let r3 : List ℕ = context_text node ++ (context_command ++ r4) in
+    let r2 : List ℕ = place ++ (set_context ++ r3) in
     ap (reading (after_block outer blocks path) between)
-    (regroup_frame nested_1 node.name nested_2 place nested_3 (context_text node) nested_4 place
-    nested_5 place nested_6 rest)
+    (regroup_frame case_state node.name set_words place set_context (context_text node) context_command place
+    case_line place case_line_in rest)
     ∙ ap (read (at_arms outer blocks path))
-    (bare_run node.name (nested_2 ++ r2) [] (codes "(") name)
+    (bare_run node.name (set_words ++ r2) [] (codes "(") name)
     ∙ ap (read (at_arms outer blocks path))
-    (bare_run place (nested_3 ++ r3) [] (codes "words=($line[") other)
+    (bare_run place (set_context ++ r3) [] (codes "words=($line[") other)
     ∙ ap (read (at_arms outer blocks path))
-    (double_run (context_text node) (nested_4 ++ r4) (bare (codes "curcontext=") ∷ [])
+    (double_run (context_text node) (context_command ++ r4) (bare (codes "curcontext=") ∷ [])
     (codes "${curcontext%:*:*}:") (IsKept-IsOther (context_text node) context))
     ∙ ap (read (at_arms outer blocks path))
-    (double_run place (nested_5 ++ r5) (bare (codes "curcontext=") ∷ [])
+    (double_run place (case_line ++ r5) (bare (codes "curcontext=") ∷ [])
     (fold (λ t b. t ++ b ∷ []) (codes "${curcontext%:*:*}:" ++ context_text node)
     (codes "-command-$line["))
     (IsKept-IsOther place other))
     ∙ ap (read (at_arms outer blocks path))
-    (bare_run place (nested_6 ++ rest) [] (codes "$line[") other)
+    (bare_run place (case_line_in ++ rest) [] (codes "$line[") other)
 
 frame_ends : (outer : List Path) (blocks : List Block) (path : Path) (rest : List ℕ) →
-    IsLine rest → reading (between_arms outer blocks path) between (nested_7 ++ rest)
+    IsLine rest → reading (between_arms outer blocks path) between (nested_ends ++ rest)
     ≡ reading (after_nested outer blocks) between rest
-unfolding nested_7 sign byte_of cut is_word arm_word text_after next read
+unfolding nested_ends sign byte_of cut is_word arm_word text_after next read
 frame_ends outer blocks path rest (line tail) = refl
 
 -- ---- one arm
@@ -155,11 +155,11 @@ nested_read node (more child under later) name context reads up outer blocks pat
     let arms : List ℕ = arms_text node (more child under later) in
     let more_blocks : List Block = blocks ++ map block_at
     (paths_below longer_path path node (more child under later)) in
-    line_feed_first (up ∷ outer) blocks path ((nested_begins node ++ (arms ++ nested_7)) ++ (arm_ends ++ rest))
+    line_feed_first (up ∷ outer) blocks path ((nested_begins node ++ (arms ++ nested_ends)) ++ (arm_ends ++ rest))
     ∙ ap (reading (after_block (up ∷ outer) blocks path) between)
-    (regroup_nested (nested_begins node) arms nested_7 (arm_ends ++ rest))
-    ∙ frame_read node (up ∷ outer) blocks path (arms ++ (nested_7 ++ (arm_ends ++ rest))) name context
-    ∙ reads (up ∷ outer) blocks path (nested_7 ++ (arm_ends ++ rest))
+    (regroup_nested (nested_begins node) arms nested_ends (arm_ends ++ rest))
+    ∙ frame_read node (up ∷ outer) blocks path (arms ++ (nested_ends ++ (arm_ends ++ rest))) name context
+    ∙ reads (up ∷ outer) blocks path (nested_ends ++ (arm_ends ++ rest))
     ∙ frame_ends (up ∷ outer) more_blocks path (arm_ends ++ rest) (ends_line rest)
     ∙ nested_ends_arm up outer more_blocks rest
 
@@ -262,8 +262,8 @@ root_nested_read node none name context h blocks path rest l e = absurd (let k :
 root_nested_read node (more child under later) name context h blocks path rest l e =
     let arms : List ℕ = arms_text node (more child under later) in
     ap (reading (after_block [] blocks path) between)
-    (regroup_nested (nested_begins node) arms nested_7 rest)
-    ∙ frame_read node [] blocks path (arms ++ (nested_7 ++ rest)) name context
-    ∙ arms_read node (more child under later) h [] blocks path (nested_7 ++ rest)
+    (regroup_nested (nested_begins node) arms nested_ends rest)
+    ∙ frame_read node [] blocks path (arms ++ (nested_ends ++ rest)) name context
+    ∙ arms_read node (more child under later) h [] blocks path (nested_ends ++ rest)
     ∙ frame_ends [] (blocks ++ map block_at (paths_below longer_path path node (more child under later)))
     path rest l

@@ -13,7 +13,7 @@ use Rattle.cc_quote.specs.PosixTokens.{sign, byte_of, cut, double}
 use Rattle.cc_quote.specs.PosixTokens.Place.{between, in_double}
 use Rattle.cc_quote.specs.Tokens.{Token, is_word}
 use Rattle.cc_quote.proofs.PosixCutting.{IsKept-IsOther, tokens_from, double_run}
-use Rattle.cc_zsh.specs.Nested.{unspaced, function_label, block_begins, block_ends, external_text, below_1, below_2, below_3, children_text, below_text, block_text}
+use Rattle.cc_zsh.specs.Nested.{unspaced, function_label, block_begins, block_ends, external_text, command_begins, state_begins, state_ends, children_text, below_text, block_text}
 use Rattle.cc_zsh.specs.Options.{options_text, flags_text}
 use Rattle.cc_zsh.specs.Positionals.{positionals_text}
 use Rattle.cc_zsh.specs.ZshReader.{Block, Path, ZshOption, first_named, is_name_byte, named_function, new_block, next, next_place, option_of, place_after, read, read_option, text_after, with_word, word_of}
@@ -113,20 +113,20 @@ children_read : (node : Node) (outer : List Path) (blocks : List Block) (block :
     reading (in_block outer blocks block) between (children_text node ++ rest)
     ≡ reading (in_block outer blocks (with_function block
     (first_named block.function (Some (95 ∷ function_label (full_name node)))))) between rest
-unfolding children_text below_1 below_2 below_3 sign byte_of cut read
+unfolding children_text command_begins state_begins state_ends sign byte_of cut read
 children_read node outer blocks block rest label name =
     let function : List ℕ = function_label (full_name node) in
     let named : Block = with_function block (first_named block.function (Some (95 ∷ function))) in
-    let after : List ℕ = node.name ++ (below_3 ++ rest) in
+    let after : List ℕ = node.name ++ (state_ends ++ rest) in
     ap (reading (in_block outer blocks block) between)
-    (regroup_children below_1 function below_2 node.name below_3 rest)
+    (regroup_children command_begins function state_begins node.name state_ends rest)
     ∙ ap (read (in_block outer blocks block))
-    (double_run function (below_2 ++ after) [] (codes ":: :_")
+    (double_run function (state_begins ++ after) [] (codes ":: :_")
     (IsKept-IsOther function (name_other function label)))
     ∙ ap (λ s. read s (tokens_from (in_double [] (codes "*::: :->")) after))
     (first_word function outer blocks block)
     ∙ ap (read (in_block outer blocks named))
-    (double_run node.name (below_3 ++ rest) [] (codes "*::: :->")
+    (double_run node.name (state_ends ++ rest) [] (codes "*::: :->")
     (IsKept-IsOther node.name (name_other node.name name)))
     ∙ ap (λ s. read s (tokens_from between rest)) (second_word node.name outer blocks named)
 

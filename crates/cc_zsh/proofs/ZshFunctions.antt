@@ -13,7 +13,7 @@ use Rattle.cc_quote.specs.Tokens.Piece.{bare}
 use Rattle.cc_quote.specs.ZshQuote.{is_help_marked, marked, marks, marks_from, zsh_escaped_help, zsh_unescaped, unmarked}
 use Rattle.cc_quote.proofs.PosixCutting.{tokens_from, bare_run}
 use Rattle.cc_quote.proofs.ZshWords.{marks-kept, marked_unescaped}
-use Rattle.cc_zsh.specs.Functions.{Entry, Function, function_1, function_2, function_3, function_4, function_5, entry_text, entries_end, entries_text, function_text}
+use Rattle.cc_zsh.specs.Functions.{Entry, Function, unless_defined, function_begins, commands_begin, describe_begins, describe_ends, entry_text, entries_end, entries_text, function_text}
 use Rattle.cc_zsh.specs.Nested.{function_label}
 use Rattle.cc_zsh.specs.ZshReader.{Block, Description, Parts, State, entry_from, entry_of, function_name, is_name_byte, next, next_function, read, text_before, with_description, word_of}
 use Rattle.cc_zsh.specs.ZshReader.State.{at_list, between_functions, in_list, malformed}
@@ -134,9 +134,9 @@ module _ (blocks : List Block) (ds : List Description) (label : List ℕ) where
 
   -- the list ends
   end_read : (entries : List Entry) (rest : List ℕ) →
-      listing entries (entries_end ++ (function_4 ++ rest))
+      listing entries (entries_end ++ (describe_begins ++ rest))
       ≡ reading (between_functions blocks (with_description ds label entries)) (in_single [] []) rest
-  unfolding entries_end function_4 sign byte_of cut is_word next next_function function_name text_before read
+  unfolding entries_end describe_begins sign byte_of cut is_word next next_function function_name text_before read
   end_read entries rest = refl
 
   regroup_end : (a b rest : List ℕ) → (a ++ b) ++ rest ≡ a ++ (b ++ rest)
@@ -149,17 +149,17 @@ module _ (blocks : List Block) (ds : List Description) (label : List ℕ) where
   -- from the bracket on
   list_read : (es : List Entry) (rest : List ℕ) → AllByRecursion (λ e. AreNameBytes e.word) es →
       reading (at_list blocks ds label) (in_bare [] (codes "commands=("))
-      (entries_text es ++ (function_4 ++ rest))
+      (entries_text es ++ (describe_begins ++ rest))
       ≡ reading (between_functions blocks (with_description ds label (map entry_row es)))
       (in_single [] []) rest
-  unfolding entries_text function_4 sign byte_of cut is_word next next_function function_name text_before read
+  unfolding entries_text describe_begins sign byte_of cut is_word next next_function function_name text_before read
   list_read [] rest h = refl
   list_read (e ∷ es) rest h =
-      let end : List ℕ = entries_end ++ (function_4 ++ rest) in
+      let end : List ℕ = entries_end ++ (describe_begins ++ rest) in
       ap (reading (at_list blocks ds label) (in_bare [] (codes "commands=(")))
-      (append_assoc (flat_map entry_text (e ∷ es)) entries_end (function_4 ++ rest))
+      (append_assoc (flat_map entry_text (e ∷ es)) entries_end (describe_begins ++ rest))
       ∙ opens (flat_map entry_text (e ∷ es) ++ end) (first_line e es end)
-      ∙ entries_read (e ∷ es) end h (end_line (function_4 ++ rest))
+      ∙ entries_read (e ∷ es) end h (end_line (describe_begins ++ rest))
       ∙ end_read (map entry_row (e ∷ es)) rest
     where
       opens : (text : List ℕ) → IsLine text →
@@ -215,32 +215,32 @@ regroup_function a b c d e f g h i rest = simp append_assoc
 module _ (blocks : List Block) (ds : List Description) where
   -- up to the second label
   first_read : (label rest : List ℕ) → AreNameBytes label →
-      reading (between_functions blocks ds) between (function_1 ++ (label ++ (function_2 ++ rest)))
+      reading (between_functions blocks ds) between (unless_defined ++ (label ++ (function_begins ++ rest)))
       ≡ reading (between_functions blocks ds) (in_bare [] (codes "_")) rest
-  unfolding function_1 function_2 sign byte_of cut next next_function function_name text_before read
+  unfolding unless_defined function_begins sign byte_of cut next next_function function_name text_before read
   first_read label rest h =
       ap (read (between_functions blocks ds))
-      (bare_run label (function_2 ++ rest) [] (codes "$+functions[_") (name_other label h))
+      (bare_run label (function_begins ++ rest) [] (codes "$+functions[_") (name_other label h))
       ∙ ap (λ s. read s (tokens_from between (codes " )) ||\n_" ++ rest)))
       (passed blocks ds ((codes "$+functions[_" ++ label) ++ codes "]")
       (before-other 41 93 (codes "$+functions[_" ++ label) refl))
 
   second_read : (label rest : List ℕ) → AreNameBytes label →
-      reading (between_functions blocks ds) (in_bare [] (codes "_")) (label ++ (function_3 ++ rest))
+      reading (between_functions blocks ds) (in_bare [] (codes "_")) (label ++ (commands_begin ++ rest))
       ≡ reading (at_list blocks ds (95 ∷ label)) (in_bare [] (codes "commands=(")) rest
-  unfolding function_3 sign byte_of cut is_word next read
+  unfolding commands_begin sign byte_of cut is_word next read
   second_read label rest h =
       ap (read (between_functions blocks ds))
-      (bare_run label (function_3 ++ rest) [] (codes "_") (name_other label h))
+      (bare_run label (commands_begin ++ rest) [] (codes "_") (name_other label h))
       ∙ ap (λ s. read s (tokens_from between (codes " {\n    local commands; commands=(" ++ rest)))
       (begins blocks ds (95 ∷ label))
 
   describe_read : (name rest : List ℕ) → NoQuote name →
-      reading (between_functions blocks ds) (in_single [] []) (name ++ (function_5 ++ rest))
+      reading (between_functions blocks ds) (in_single [] []) (name ++ (describe_ends ++ rest))
       ≡ reading (between_functions blocks ds) between rest
-  unfolding function_5 sign byte_of cut next next_function function_name text_before read
+  unfolding describe_ends sign byte_of cut next next_function function_name text_before read
   describe_read name rest h =
-      ap (read (between_functions blocks ds)) (single_run name (function_5 ++ rest) [] [] h)
+      ap (read (between_functions blocks ds)) (single_run name (describe_ends ++ rest) [] [] h)
 
 -- a function is read
 pub function_read : (blocks : List Block) (ds : List Description) (function : Function)
@@ -250,12 +250,12 @@ pub function_read : (blocks : List Block) (ds : List Description) (function : Fu
 unfolding function_text
 function_read blocks ds function rest is =
     let label : List ℕ = function_label function.name in
-    let named : List ℕ = function.name ++ (function_5 ++ rest) in
-    let listed : List ℕ = entries_text function.entries ++ (function_4 ++ named) in
+    let named : List ℕ = function.name ++ (describe_ends ++ rest) in
+    let listed : List ℕ = entries_text function.entries ++ (describe_begins ++ named) in
     ap (reading (between_functions blocks ds) between)
-    (regroup_function function_1 label function_2 label function_3 (entries_text function.entries)
-    function_4 function.name function_5 rest)
-    ∙ first_read blocks ds label (label ++ (function_3 ++ listed)) is.label
+    (regroup_function unless_defined label function_begins label commands_begin (entries_text function.entries)
+    describe_begins function.name describe_ends rest)
+    ∙ first_read blocks ds label (label ++ (commands_begin ++ listed)) is.label
     ∙ second_read blocks ds label listed is.label
     ∙ list_read blocks ds (95 ∷ label) function.entries named is.words
     ∙ describe_read blocks (ds ++ description_of function ∷ []) function.name rest is.name

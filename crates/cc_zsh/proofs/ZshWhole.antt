@@ -15,10 +15,10 @@ use Rattle.cc_quote.specs.Tokens.Piece.{bare}
 use Rattle.cc_quote.proofs.PosixCutting.{IsOther, IsKept-IsOther, tokens_from, bare_word, bare_run, double_run}
 use Rattle.cc_visits.specs.Visits.{longer_path, path_visits, paths_below}
 use Rattle.cc_zsh.specs.Functions.{function_text, tree_functions}
-use Rattle.cc_zsh.specs.Nested.{block_text, nested_begins, nested_1, nested_7, nested_text, arms_text, root_text, context_text}
+use Rattle.cc_zsh.specs.Nested.{block_text, nested_begins, case_state, nested_ends, nested_text, arms_text, root_text, context_text}
 use Rattle.cc_zsh.specs.ZshReader.{Block, Description, State, ended, function_name, is_name_byte, next, next_arm, next_function, read, text_before, zsh_parts}
 use Rattle.cc_zsh.specs.ZshReader.State.{after_block, after_nested, before_blocks, between_functions, in_block}
-use Rattle.cc_zsh.specs.ZshScript.{begin_1, begin_2, begin_3, begin_text, middle, end_1, end_2, end_3, end_4, end_5, end_text, functions_text, script_text, zsh_script}
+use Rattle.cc_zsh.specs.ZshScript.{compdef_begins, autoloads, body_begins, begin_text, body_ends, if_called, then_call, else_define, defined_for, if_ends, end_text, functions_text, script_text, zsh_script}
 use Rattle.cc_zsh.specs.ZshTable.{description_of}
 use Rattle.cc_zsh.proofs.ZshOptionWords.{AreNameBytes}
 use Rattle.cc_zsh.proofs.ZshLines.{reading}
@@ -83,22 +83,22 @@ unfolding sign byte_of cut is_word next read
 begin_tail rest = refl
 
 first_read : (first : ℕ) (rest named : List ℕ) → first == 95 ≡ false →
-    read before_blocks (tokens_from (in_bare [] (first ∷ rest)) (begin_2 ++ named))
+    read before_blocks (tokens_from (in_bare [] (first ∷ rest)) (autoloads ++ named))
     ≡ reading before_blocks (in_bare [] (codes "_")) named
-unfolding begin_2 sign byte_of cut is_word next read
+unfolding autoloads sign byte_of cut is_word next read
 first_read first rest named e =
     ap (λ s. read s (tokens_from between (codes "\nautoload -U is-at-least\n\n_" ++ named)))
     (other_word (first ∷ rest) (first_word first rest e))
 
 second_read : (bin rest : List ℕ) →
-    read before_blocks (tokens_from (in_bare [] (codes "_" ++ bin)) (begin_3 ++ rest))
+    read before_blocks (tokens_from (in_bare [] (codes "_" ++ bin)) (body_begins ++ rest))
     ≡ reading before_blocks between (codes " {\n" ++ (codes "    typeset -A opt_args\n"
     ++ (codes "    typeset -a _arguments_options\n" ++ (codes "    local ret=1\n" ++ (codes "\n"
     ++ (codes "    if is-at-least 5.2; then\n" ++ (codes "        _arguments_options=(-s -S -C)\n"
     ++ (codes "    else\n" ++ (codes "        _arguments_options=(-s -C)\n" ++ (codes "    fi\n"
     ++ (codes "\n" ++ (codes "    local context curcontext=\"$curcontext\" state line\n"
     ++ (codes "    " ++ rest)))))))))))))
-unfolding begin_3 sign byte_of cut is_word next read
+unfolding body_begins sign byte_of cut is_word next read
 second_read bin rest = ap (λ s. read s (tokens_from between (codes " {\n"
     ++ (codes "    typeset -A opt_args\n"
     ++ (codes "    typeset -a _arguments_options\n" ++ (codes "    local ret=1\n" ++ (codes "\n"
@@ -113,16 +113,16 @@ second_read bin rest = ap (λ s. read s (tokens_from between (codes " {\n"
 
 begin_read : (bin rest : List ℕ) → IsBinName bin →
     reading before_blocks between (begin_text bin ++ rest) ≡ reading before_blocks between rest
-unfolding begin_text begin_1 begin_2 begin_3 sign byte_of cut is_word next read
+unfolding begin_text compdef_begins autoloads body_begins sign byte_of cut is_word next read
 begin_read bin rest is =
     let all : List ℕ = is.first ∷ is.rest in
-    let named : List ℕ = bin ++ (begin_3 ++ rest) in
-    ap (reading before_blocks between) (regroup_begin begin_1 bin begin_2 bin begin_3 rest)
-    ∙ ap (λ t. reading before_blocks between (begin_1 ++ (t ++ (begin_2 ++ named)))) is.whole
-    ∙ ap (read before_blocks) (bare_word all (begin_2 ++ named) (name_other all is.bytes))
+    let named : List ℕ = bin ++ (body_begins ++ rest) in
+    ap (reading before_blocks between) (regroup_begin compdef_begins bin autoloads bin body_begins rest)
+    ∙ ap (λ t. reading before_blocks between (compdef_begins ++ (t ++ (autoloads ++ named)))) is.whole
+    ∙ ap (read before_blocks) (bare_word all (autoloads ++ named) (name_other all is.bytes))
     ∙ first_read is.first is.rest named is.no_underscore
-    ∙ ap (λ t. read before_blocks (tokens_from (in_bare [] (codes "_")) (t ++ (begin_3 ++ rest)))) is.whole
-    ∙ ap (read before_blocks) (bare_run all (begin_3 ++ rest) [] (codes "_") (name_other all is.bytes))
+    ∙ ap (λ t. read before_blocks (tokens_from (in_bare [] (codes "_")) (t ++ (body_begins ++ rest)))) is.whole
+    ∙ ap (read before_blocks) (bare_run all (body_begins ++ rest) [] (codes "_") (name_other all is.bytes))
     ∙ second_read all rest
     ∙ begin_tail rest
 
@@ -162,58 +162,58 @@ module _ (blocks : List Block) (ds : List Description) (bin : List ℕ) (h : Are
   function_passed : next functions (bare (codes "_" ++ bin) ∷ []) ≡ functions
   function_passed = passed blocks ds (codes "_" ++ bin) (name_lacks (95 ∷ bin) (underscore, h))
 
-  last_read : reading functions (in_bare [] (codes "_")) (bin ++ (end_4 ++ (bin ++ end_5)))
+  last_read : reading functions (in_bare [] (codes "_")) (bin ++ (defined_for ++ (bin ++ if_ends)))
       ≡ Some (record { blocks = blocks; descriptions = ds })
-  unfolding end_4 end_5 sign byte_of cut next next_function function_name text_before read ended
+  unfolding defined_for if_ends sign byte_of cut next next_function function_name text_before read ended
   last_read =
-      ap (read functions) (bare_run bin (end_4 ++ (bin ++ end_5)) [] (codes "_") other)
-      ∙ ap (λ s. read s (tokens_from between (bin ++ end_5))) function_passed
+      ap (read functions) (bare_run bin (defined_for ++ (bin ++ if_ends)) [] (codes "_") other)
+      ∙ ap (λ s. read s (tokens_from between (bin ++ if_ends))) function_passed
       ∙ by_first bin h other name_passed
     where
       by_first : (name : List ℕ) → AreNameBytes name → IsOther name →
           next functions (bare name ∷ []) ≡ functions →
-          read functions (tokens_from between (name ++ end_5))
+          read functions (tokens_from between (name ++ if_ends))
           ≡ Some (record { blocks = blocks; descriptions = ds })
       by_first [] k o p = refl
       by_first (byte ∷ name) k o p =
-          ap (read functions) (bare_word (byte ∷ name) end_5 o)
+          ap (read functions) (bare_word (byte ∷ name) if_ends o)
           ∙ ap (λ s. read s (tokens_from between (codes "fi\n"))) p
 
   third_read : reading functions (in_bare [] (codes "_"))
-      (bin ++ (end_3 ++ (bin ++ (end_4 ++ (bin ++ end_5)))))
+      (bin ++ (else_define ++ (bin ++ (defined_for ++ (bin ++ if_ends)))))
       ≡ Some (record { blocks = blocks; descriptions = ds })
-  unfolding end_3 sign byte_of cut next next_function function_name text_before read
+  unfolding else_define sign byte_of cut next next_function function_name text_before read
   third_read =
       ap (read functions)
-      (bare_run bin (end_3 ++ (bin ++ (end_4 ++ (bin ++ end_5)))) [] (codes "_") other)
+      (bare_run bin (else_define ++ (bin ++ (defined_for ++ (bin ++ if_ends)))) [] (codes "_") other)
       ∙ ap (λ s. read s (tokens_from between (codes "\"$@\"\nelse\n    compdef _"
-      ++ (bin ++ (end_4 ++ (bin ++ end_5)))))) function_passed
+      ++ (bin ++ (defined_for ++ (bin ++ if_ends)))))) function_passed
       ∙ last_read
 
   end_read : reading functions between (end_text bin)
       ≡ Some (record { blocks = blocks; descriptions = ds })
-  unfolding end_text end_1 end_2 sign byte_of cut next next_function function_name text_before read
+  unfolding end_text if_called then_call sign byte_of cut next next_function function_name text_before read
   end_read =
-      let third : List ℕ = bin ++ (end_3 ++ (bin ++ (end_4 ++ (bin ++ end_5)))) in
-      ap (read functions) (double_run bin (end_2 ++ third) [] (codes "_") (IsKept-IsOther bin other))
+      let third : List ℕ = bin ++ (else_define ++ (bin ++ (defined_for ++ (bin ++ if_ends)))) in
+      ap (read functions) (double_run bin (then_call ++ third) [] (codes "_") (IsKept-IsOther bin other))
       ∙ third_read
 
 -- ---- the whole
 
-middle_line : (rest : List ℕ) → IsLine (middle ++ rest)
-unfolding middle
+middle_line : (rest : List ℕ) → IsLine (body_ends ++ rest)
+unfolding body_ends
 middle_line rest = line _
 
 block_middle : (blocks : List Block) (path : List (List ℕ)) (rest : List ℕ) →
-    reading (after_block [] blocks path) between (middle ++ rest)
+    reading (after_block [] blocks path) between (body_ends ++ rest)
     ≡ reading (between_functions blocks []) between rest
-unfolding middle sign byte_of cut is_word next next_arm next_function function_name text_before read
+unfolding body_ends sign byte_of cut is_word next next_arm next_function function_name text_before read
 block_middle blocks path rest = refl
 
 nested_middle : (blocks : List Block) (rest : List ℕ) →
-    reading (after_nested [] blocks) between (middle ++ rest)
+    reading (after_nested [] blocks) between (body_ends ++ rest)
     ≡ reading (between_functions blocks []) between rest
-unfolding middle sign byte_of cut is_word next next_arm next_function function_name text_before read
+unfolding body_ends sign byte_of cut is_word next next_arm next_function function_name text_before read
 nested_middle blocks rest = refl
 
 -- what is asked of a tree
@@ -230,7 +230,7 @@ tree_blocks root = map block_at (path_visits longer_path [] root)
 nested_or_none : (node : Node) (children : Forest) (rest : List ℕ) → IsOther node.name →
     IsOther (context_text node) → AreReadable node children → (blocks : List Block) →
     reading (after_block [] blocks []) between
-    (nested_text node children (arms_text node children) ++ (middle ++ rest))
+    (nested_text node children (arms_text node children) ++ (body_ends ++ rest))
     ≡ reading (between_functions (blocks ++ map block_at (paths_below longer_path [] node children)) [])
     between rest
 unfolding paths_below
@@ -238,28 +238,28 @@ nested_or_none node none rest name context h blocks =
     block_middle blocks [] rest
     ∙ ap (λ bs. reading (between_functions bs []) between rest) (sym (append-nil blocks))
 nested_or_none node (more child under later) rest name context h blocks =
-    root_nested_read node (more child under later) name context h blocks [] (middle ++ rest)
+    root_nested_read node (more child under later) name context h blocks [] (body_ends ++ rest)
     (middle_line rest) refl
     ∙ nested_middle (blocks ++ map block_at (paths_below longer_path [] node (more child under later))) rest
 
 begins_line : (node : Node) (arms rest : List ℕ) →
-    IsLine ((nested_begins node ++ (arms ++ nested_7)) ++ rest)
-unfolding nested_begins nested_1
+    IsLine ((nested_begins node ++ (arms ++ nested_ends)) ++ rest)
+unfolding nested_begins case_state
 begins_line node arms rest = line _
 
 nested_line : (node : Node) (children : Forest) (arms rest : List ℕ) →
-    IsLine (nested_text node children arms ++ (middle ++ rest))
+    IsLine (nested_text node children arms ++ (body_ends ++ rest))
 nested_line node none arms rest = middle_line rest
-nested_line node (more child under later) arms rest = begins_line node arms (middle ++ rest)
+nested_line node (more child under later) arms rest = begins_line node arms (body_ends ++ rest)
 
 root_read : (root : Tree) (rest : List ℕ) → IsReadableTree root →
-    reading before_blocks between (root_text root ++ (middle ++ rest))
+    reading before_blocks between (root_text root ++ (body_ends ++ rest))
     ≡ reading (between_functions (tree_blocks root) []) between rest
 unfolding root_text
 root_read root rest is =
     let nested : List ℕ = nested_text root.node root.children (arms_text root.node root.children) in
-    ap (reading before_blocks between) (append_assoc (block_text root.node root) nested (middle ++ rest))
-    ∙ root_block_read root.node root (nested ++ (middle ++ rest)) is.node
+    ap (reading before_blocks between) (append_assoc (block_text root.node root) nested (body_ends ++ rest))
+    ∙ root_block_read root.node root (nested ++ (body_ends ++ rest)) is.node
     (nested_line root.node root.children (arms_text root.node root.children) rest)
     ∙ nested_or_none root.node root.children rest
     (name_other root.node.name (plain_name_bytes root.node.name is.node.plain.names.0))
@@ -273,7 +273,7 @@ unfolding zsh_parts posix_tokens script_text functions_text
 parts_read root is =
     let bin : List ℕ = full_name root.node in
     let functions : List ℕ = flat_map function_text (tree_functions root) in
-    begin_read bin (root_text root ++ (middle ++ (functions ++ end_text bin))) is.bin
+    begin_read bin (root_text root ++ (body_ends ++ (functions ++ end_text bin))) is.bin
     ∙ root_read root (functions ++ end_text bin) is
     ∙ functions_read (tree_blocks root) (tree_functions root) [] (end_text bin) is.functions
     ∙ end_read (tree_blocks root) (map description_of (tree_functions root)) bin is.bin_bytes

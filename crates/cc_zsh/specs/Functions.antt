@@ -65,20 +65,20 @@ tree_functions tree = function_of tree.node tree.children ∷ sorted_functions t
 
 -- ---- their texts
 
-unfoldable pub function_1 : List ℕ
-function_1 = codes "(( $+functions[_"
+unfoldable pub unless_defined : List ℕ
+unless_defined = codes "(( $+functions[_"
 
-unfoldable pub function_2 : List ℕ
-function_2 = codes "] )) ||\n_"
+unfoldable pub function_begins : List ℕ
+function_begins = codes "] )) ||\n_"
 
-unfoldable pub function_3 : List ℕ
-function_3 = codes "() {\n    local commands; commands=("
+unfoldable pub commands_begin : List ℕ
+commands_begin = codes "() {\n    local commands; commands=("
 
-unfoldable pub function_4 : List ℕ
-function_4 = codes ")\n    _describe -t commands '"
+unfoldable pub describe_begins : List ℕ
+describe_begins = codes ")\n    _describe -t commands '"
 
-unfoldable pub function_5 : List ℕ
-function_5 = codes " commands' commands \"$@\"\n}\n"
+unfoldable pub describe_ends : List ℕ
+describe_ends = codes " commands' commands \"$@\"\n}\n"
 
 -- a child's name with its description, on a line of its own
 unfoldable pub entry_text : Entry → List ℕ
@@ -97,13 +97,10 @@ unfoldable pub entries_text : List Entry → List ℕ
 entries_text entries =
     if has_entries entries then flat_map entry_text entries ++ entries_end else []
 
--- what stands after the list of a function
-abbrev pub function_back : List ℕ → List ℕ
-function_back name = function_4 ++ (name ++ function_5)
-
 -- a function, with a line feed at its end
 unfoldable pub function_text : Function → List ℕ
 function_text function =
-    function_1 ++ (function_label function.name ++ (function_2
-    ++ (function_label function.name ++ (function_3
-    ++ (entries_text function.entries ++ function_back function.name)))))
+    unless_defined ++ (function_label function.name ++ (function_begins
+    ++ (function_label function.name ++ (commands_begin
+    ++ (entries_text function.entries ++ (describe_begins
+    ++ (function.name ++ describe_ends)))))))

@@ -29,19 +29,19 @@ block_ends = codes "&& ret=0"
 unfoldable pub external_text : List ℕ
 external_text = codes "\"*::external_command:_default\" \\\n"
 
-unfoldable pub below_1 : List ℕ
-below_1 = codes "\":: :_"
+unfoldable pub command_begins : List ℕ
+command_begins = codes "\":: :_"
 
-unfoldable pub below_2 : List ℕ
-below_2 = codes "\" \\\n\"*::: :->"
+unfoldable pub state_begins : List ℕ
+state_begins = codes "\" \\\n\"*::: :->"
 
-unfoldable pub below_3 : List ℕ
-below_3 = codes "\" \\\n"
+unfoldable pub state_ends : List ℕ
+state_ends = codes "\" \\\n"
 
 -- the children: the function that describes them, and the name of the node, at which its arms stand
 unfoldable pub children_text : Node → List ℕ
 children_text node =
-    below_1 ++ (function_label (full_name node) ++ (below_2 ++ (node.name ++ below_3)))
+    command_begins ++ (function_label (full_name node) ++ (state_begins ++ (node.name ++ state_ends)))
 
 -- what stands for the words after the options and positionals: the children, or, where there are
 -- none, commands from outside the tree, where the node allows these
@@ -58,27 +58,27 @@ block_text above tree =
 
 -- ---- the arms of a node's children
 
-unfoldable pub nested_1 : List ℕ
-nested_1 = codes "\n    case $state in\n    ("
+unfoldable pub case_state : List ℕ
+case_state = codes "\n    case $state in\n    ("
 
-unfoldable pub nested_2 : List ℕ
-nested_2 = codes ")\n        words=($line["
+unfoldable pub set_words : List ℕ
+set_words = codes ")\n        words=($line["
 
-unfoldable pub nested_3 : List ℕ
-nested_3 =
+unfoldable pub set_context : List ℕ
+set_context =
     codes "] \"${words[@]}\")\n        (( CURRENT += 1 ))\n        curcontext=\"${curcontext%:*:*}:"
 
-unfoldable pub nested_4 : List ℕ
-nested_4 = codes "-command-$line["
+unfoldable pub context_command : List ℕ
+context_command = codes "-command-$line["
 
-unfoldable pub nested_5 : List ℕ
-nested_5 = codes "]:\"\n        case $line["
+unfoldable pub case_line : List ℕ
+case_line = codes "]:\"\n        case $line["
 
-unfoldable pub nested_6 : List ℕ
-nested_6 = codes "] in\n            "
+unfoldable pub case_line_in : List ℕ
+case_line_in = codes "] in\n            "
 
-unfoldable pub nested_7 : List ℕ
-nested_7 = codes "        esac\n    ;;\nesac"
+unfoldable pub nested_ends : List ℕ
+nested_ends = codes "        esac\n    ;;\nesac"
 
 -- the place of the word that names a child: after the positionals
 abbrev pub place_text : Node → List ℕ
@@ -88,29 +88,23 @@ place_text node = decimal (suc (length (positionals node)))
 abbrev pub context_text : Node → List ℕ
 context_text node = unspaced (codes "-") (full_name node)
 
--- what the arms begin with, where the place of the word is this text; from the context on
-abbrev pub nested_back : List ℕ → Node → List ℕ
-nested_back place node =
-    context_text node ++ (nested_4 ++ (place ++ (nested_5 ++ (place ++ nested_6))))
-
--- the whole
-abbrev pub nested_at : List ℕ → Node → List ℕ
-nested_at place node =
-    nested_1 ++ (node.name ++ (nested_2 ++ (place ++ (nested_3 ++ nested_back place node))))
-
--- what the arms begin with
+-- what the arms begin with: the words from the child's name on, the context in which zsh looks up
+-- its styles, and the choice by the child's name
 unfoldable pub nested_begins : Node → List ℕ
-nested_begins node = nested_at (place_text node) node
+nested_begins node =
+    case_state ++ (node.name ++ (set_words ++ (place_text node ++ (set_context
+    ++ (context_text node ++ (context_command ++ (place_text node ++ (case_line
+    ++ (place_text node ++ case_line_in)))))))))
 
 -- the arms of a node, where it has children
 abbrev pub nested_text : Node → Forest → List ℕ → List ℕ
 nested_text node children arms =
-    if has_nodes children then nested_begins node ++ (arms ++ nested_7) else []
+    if has_nodes children then nested_begins node ++ (arms ++ nested_ends) else []
 
 -- the same on a line of its own
 abbrev pub nested_line : Node → Forest → List ℕ → List ℕ
 nested_line node children arms =
-    if has_nodes children then line_feed ∷ (nested_begins node ++ (arms ++ nested_7)) else []
+    if has_nodes children then line_feed ∷ (nested_begins node ++ (arms ++ nested_ends)) else []
 
 unfoldable pub arm_ends : List ℕ
 arm_ends = codes "\n;;\n"

@@ -4,7 +4,7 @@ use Rattle.std.specs.List.{flat_map}
 use Rattle.cc_arg.specs.declared.arg.Arg.{Arg}
 use Rattle.cc_command.specs.ArgumentLists.{positionals}
 use Rattle.cc_command.specs.Tree.{Tree, has_nodes}
-use Rattle.cc_base.specs.Bytes.{backslash, single_quote}
+use Rattle.cc_base.specs.Bytes.{backslash, close_bracket, colon, open_bracket, single_quote}
 use Rattle.cc_quote.specs.ZshQuote.{zsh_escaped_value}
 use Rattle.cc_zsh.specs.Options.{line_end}
 use Rattle.cc_zsh.specs.Values.{range, value_text}
@@ -31,7 +31,7 @@ count_text has_children argument =
 
 -- `[`, `]` and `:` after a backslash, and a quote as `'\''`
 abbrev pub is_bracket_or_colon : ℕ → Bool
-is_bracket_or_colon byte = byte == 91 || byte == 93 || byte == 58
+is_bracket_or_colon byte = byte == open_bracket || byte == close_bracket || byte == colon
 
 abbrev pub positional_byte : ℕ → List ℕ
 positional_byte byte =
@@ -50,16 +50,12 @@ abbrev pub positional_help : Option (List ℕ) → List ℕ
 positional_help None = []
 positional_help (Some help) = codes " -- " ++ positional_escaped help
 
--- what stands after the id of a positional
-abbrev pub positional_back : Arg → List ℕ
-positional_back argument =
-    positional_help argument.help ++ (codes ":" ++ (value_text argument ++ line_end))
-
 -- a positional of a node, where it is told whether the node has children
 unfoldable pub positional_text : Bool → Arg → List ℕ
 positional_text has_children argument =
     codes "'" ++ (count_text has_children argument
-    ++ (codes ":" ++ (argument.id ++ positional_back argument)))
+    ++ (codes ":" ++ (argument.id ++ (positional_help argument.help
+    ++ (codes ":" ++ (value_text argument ++ line_end))))))
 
 -- whether a positional takes all words that follow, to the end
 abbrev pub takes_all : Bool → Arg → Bool

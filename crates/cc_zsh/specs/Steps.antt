@@ -3,7 +3,7 @@ use Rattle.std.specs.Prelude.{ℕ, List, [], ◌∷◌, ◌++◌, if◌then◌el
 use Rattle.cc_command.specs.Tree.{Tree, has_nodes}
 use Rattle.cc_base.specs.Bytes.{line_feed}
 use Rattle.cc_visits.specs.Visits.{Keyed, Step, enter, leave}
-use Rattle.cc_zsh.specs.Nested.{arm_ends, block_text, nested_7, nested_begins}
+use Rattle.cc_zsh.specs.Nested.{arm_ends, block_text, nested_ends, nested_begins}
 
 -- the key of a node is the name by which it is reached
 abbrev pub last_name : List ℕ → List ℕ → List ℕ
@@ -16,7 +16,7 @@ nested_opens tree =
 
 -- what they end with
 unfoldable pub nested_closes : Tree → List ℕ
-nested_closes tree = if has_nodes tree.children then nested_7 else []
+nested_closes tree = if has_nodes tree.children then nested_ends else []
 
 -- the word of an arm, the block of its node, and what the arms of its children begin with
 unfoldable pub enter_text : Keyed (List ℕ) → List ℕ

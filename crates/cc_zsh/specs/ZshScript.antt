@@ -6,14 +6,14 @@ use Rattle.cc_command.specs.Tree.{Tree}
 use Rattle.cc_zsh.specs.Functions.{function_text, tree_functions}
 use Rattle.cc_zsh.specs.Nested.{root_text}
 
-unfoldable pub begin_1 : List ℕ
-begin_1 = codes "#compdef "
+unfoldable pub compdef_begins : List ℕ
+compdef_begins = codes "#compdef "
 
-unfoldable pub begin_2 : List ℕ
-begin_2 = codes "\n\nautoload -U is-at-least\n\n_"
+unfoldable pub autoloads : List ℕ
+autoloads = codes "\n\nautoload -U is-at-least\n\n_"
 
-unfoldable pub begin_3 : List ℕ
-begin_3 =
+unfoldable pub body_begins : List ℕ
+body_begins =
     codes "() {\n"
     ++ codes "    typeset -A opt_args\n"
     ++ codes "    typeset -a _arguments_options\n"
@@ -30,34 +30,33 @@ begin_3 =
 
 -- what a script begins with
 unfoldable pub begin_text : List ℕ → List ℕ
-begin_text bin_name = begin_1 ++ (bin_name ++ (begin_2 ++ (bin_name ++ begin_3)))
+begin_text bin_name = compdef_begins ++ (bin_name ++ (autoloads ++ (bin_name ++ body_begins)))
 
--- between the nodes and the functions
-unfoldable pub middle : List ℕ
-middle = codes "\n}\n\n"
+-- between the blocks and the functions
+unfoldable pub body_ends : List ℕ
+body_ends = codes "\n}\n\n"
 
-unfoldable pub end_1 : List ℕ
-end_1 = codes "\nif [ \"$funcstack[1]\" = \"_"
+unfoldable pub if_called : List ℕ
+if_called = codes "\nif [ \"$funcstack[1]\" = \"_"
 
-unfoldable pub end_2 : List ℕ
-end_2 = codes "\" ]; then\n    _"
+unfoldable pub then_call : List ℕ
+then_call = codes "\" ]; then\n    _"
 
-unfoldable pub end_3 : List ℕ
-end_3 = codes " \"$@\"\nelse\n    compdef _"
+unfoldable pub else_define : List ℕ
+else_define = codes " \"$@\"\nelse\n    compdef _"
 
-unfoldable pub end_4 : List ℕ
-end_4 = codes " "
+unfoldable pub defined_for : List ℕ
+defined_for = codes " "
 
-unfoldable pub end_5 : List ℕ
-end_5 = codes "\nfi\n"
+unfoldable pub if_ends : List ℕ
+if_ends = codes "\nfi\n"
 
--- where the function is not being called, it is made known to zsh
-abbrev pub defined_text : List ℕ → List ℕ
-defined_text bin_name = end_3 ++ (bin_name ++ (end_4 ++ (bin_name ++ end_5)))
-
--- what a script ends with
+-- what a script ends with: the function is called where zsh is loading it to call it, and else made
+-- known to zsh
 unfoldable pub end_text : List ℕ → List ℕ
-end_text bin_name = end_1 ++ (bin_name ++ (end_2 ++ (bin_name ++ defined_text bin_name)))
+end_text bin_name =
+    if_called ++ (bin_name ++ (then_call ++ (bin_name ++ (else_define
+    ++ (bin_name ++ (defined_for ++ (bin_name ++ if_ends)))))))
 
 -- all functions of a tree
 unfoldable pub functions_text : Tree → List ℕ
@@ -65,7 +64,7 @@ functions_text root = flat_map function_text (tree_functions root)
 
 unfoldable pub script_text : List ℕ → Tree → List ℕ
 script_text bin_name root =
-    begin_text bin_name ++ (root_text root ++ (middle
+    begin_text bin_name ++ (root_text root ++ (body_ends
     ++ (functions_text root ++ end_text bin_name)))
 
 -- the script of a tree

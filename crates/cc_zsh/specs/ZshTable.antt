@@ -5,6 +5,7 @@ use Rattle.cc_arg.specs.declared.arg.Arg.{Arg}
 use Rattle.cc_arg.specs.declared.names.ShownName.{ShownName}
 use Rattle.cc_arg.specs.declared.names.ShownName.TheVariants.{Short, Long}
 use Rattle.cc_arg.specs.ShownNames.{shown_names}
+use Rattle.cc_base.specs.Bytes.{underscore}
 use Rattle.cc_command.specs.declared.node.Node.{Node}
 use Rattle.cc_command.specs.ArgumentLists.{flags, options}
 use Rattle.cc_command.specs.Tree.{Tree}
@@ -67,4 +68,4 @@ all_shown_at root = map shown_at (path_visits longer_path [] root)
 -- a function that describes the children of a node
 abbrev pub description_of : Function → Description
 description_of function =
-    record { label = 95 ∷ function_label function.name; entries = map entry_row function.entries }
+    record { label = underscore ∷ function_label function.name; entries = map entry_row function.entries }

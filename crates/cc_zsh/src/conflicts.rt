@@ -13,8 +13,7 @@ use cc_arg::{Arg, conflicting_ids};
 use cc_base::{Error, Sink, Text, put_all, put_separator};
 use cc_command::{Command, first_with};
 
-/// Writes the names of the arguments that are in conflict with an argument of a command that has
-/// this one above it, in brackets, where there are such arguments.
+/// `above` is the command above this one: there the conflicts of a global argument are looked up.
 pub(crate) fn write_conflicts<W: Sink>(
     above: &Command,
     command: &Command,
@@ -42,7 +41,6 @@ fn looked_up<'a>(above: &'a Command, command: &'a Command, argument: &Arg) -> &'
     }
 }
 
-// Writes the names of those that are found in brackets.
 #[tactic(auto, unfolding(crate::specs::Conflicts::conflicts_text))]
 fn write_found<W: Sink>(arguments: &[Arg], ids: &[Text], sink: &mut W) -> Result<(), Error>
     ensures { Writes W.taken W.failed result sink.old sink.new
@@ -79,8 +77,7 @@ fn write_words<W: Sink>(arguments: &[Arg], ids: &[Text], sink: &mut W) -> Result
     Ok(())
 }
 
-// Writes the names of the first argument with the id, where there is one. `begun` tells whether a
-// name was written before.
+// `begun` tells whether a name was written before.
 fn write_first<W: Sink>(
     arguments: &[Arg],
     id: &Text,

@@ -10,12 +10,15 @@ ghost use Rattle.cc_base.specs.Writes.{Writes};
 ghost use Rattle.cc_command.specs.Names.{visible_names};
 ghost use Rattle.cc_command.specs.Tree.{forest_of};
 ghost use Rattle.cc_flat.specs.Flat.{HasItsChildren, children_at, tree_at};
-ghost use Rattle.cc_zsh.specs.Functions.{entries_of, entries_text, entry, entry_text, function_back, function_below, function_of, function_text, functions_below, is_again, once_after, sorted_functions};
+ghost use Rattle.cc_zsh.specs.Functions.{entries_of, entries_text, entry, entry_text, function_below, function_of, function_text, functions_below, is_again, once_after, sorted_functions};
 ghost use Rattle.cc_zsh.specs.Named.{AreListed, function_named, functions_by};
 ghost use Rattle.cc_zsh.specs.ZshScript.{functions_text};
 
 use crate::names::write_label;
-use crate::texts::{entries_end, function_1, function_2, function_3, function_4, function_5};
+use crate::pieces::put_around;
+use crate::texts::{
+    commands_begin, describe_begins, describe_ends, entries_end, function_begins, unless_defined,
+};
 use cc_base::{Error, Sink, put_all};
 use cc_command::{Command, full_name};
 use cc_flat::Flat;
@@ -30,8 +33,7 @@ pub(crate) struct Named<'a> {
     command: &'a Command,
 }
 
-/// Writes the functions of all commands: the root's, then the others in the order of the bytes of
-/// their full names, each full name once.
+/// Each full name has one function, since commands that share one would define it twice.
 #[tactic(auto, unfolding(crate::specs::ZshScript::functions_text))]
 pub(crate) fn write_functions<W: Sink>(
     alloc: Global,
@@ -42,19 +44,10 @@ pub(crate) fn write_functions<W: Sink>(
     ensures { Writes W.taken W.failed result sink.old sink.new
         (functions_text (tree_at flat.now 0)) }
 {
-    write_of(flat.command(0), sink)?;
+    write_function(&with_full_name(flat.command(0)), sink)?;
     write_sorted(alloc, flat, sink)
 }
 
-fn write_of<W: Sink>(command: &Command, sink: &mut W) -> Result<(), Error>
-    ensures { Writes W.taken W.failed result sink.old sink.new
-        (function_text (function_of command.now.node command.now.children)) }
-{
-    let named = with_full_name(command);
-    write_function(&named, sink)
-}
-
-// Writes the functions of the commands below the root.
 #[tactic(auto, unfolding(crate::specs::Functions::sorted_functions))]
 fn write_sorted<W: Sink>(alloc: Global, flat: &Flat<'_>, sink: &mut W) -> Result<(), Error>
     requires { 0 < length flat.now }
@@ -144,7 +137,7 @@ fn push_children(stack: &mut Vec<usize>, flat: &Flat<'_>, number: usize) -> Resu
     Ok(())
 }
 
-// Writes the functions of some commands: of neighbours with one full name the first alone.
+// Commands with one full name are neighbours here, so it is enough to look at the last.
 fn write_once<W: Sink>(commands: &[Named<'_>], sink: &mut W) -> Result<(), Error>
     ensures { Writes W.taken W.failed result sink.old sink.new
         (flat_map function_text (once_after None (map function_named commands.now))) }
@@ -175,24 +168,16 @@ fn write_function<W: Sink>(command: &Named<'_>, sink: &mut W) -> Result<(), Erro
     ensures { Writes W.taken W.failed result sink.old sink.new
         (function_text (function_named command.now)) }
 {
-    put_all(sink, function_1().as_bytes())?;
+    put_all(sink, unless_defined().as_bytes())?;
     write_label(command.name, sink)?;
-    put_all(sink, function_2().as_bytes())?;
+    put_all(sink, function_begins().as_bytes())?;
     write_label(command.name, sink)?;
-    put_all(sink, function_3().as_bytes())?;
+    put_all(sink, commands_begin().as_bytes())?;
     write_entries(command.command, sink)?;
-    write_back(command.name, sink)
+    put_around(describe_begins(), command.name, describe_ends(), sink)
 }
 
-fn write_back<W: Sink>(name: &str, sink: &mut W) -> Result<(), Error>
-    ensures { Writes W.taken W.failed result sink.old sink.new (function_back name.now) }
-{
-    put_all(sink, function_4().as_bytes())?;
-    put_all(sink, name.as_bytes())?;
-    put_all(sink, function_5().as_bytes())
-}
-
-// Writes the visible names of a command's children with their descriptions, where there are any.
+// Where there are none, the brackets of the list stay on one line.
 #[tactic(auto, unfolding(crate::specs::Functions::entries_text), using(crate::proofs::ArmSteps::has_entries_of))]
 fn write_entries<W: Sink>(command: &Command, sink: &mut W) -> Result<(), Error>
     ensures { Writes W.taken W.failed result sink.old sink.new
@@ -225,15 +210,12 @@ fn write_child<W: Sink>(child: &Command, sink: &mut W) -> Result<(), Error>
     Ok(())
 }
 
-// Writes a name with the description of its command.
 #[tactic(auto, unfolding(crate::specs::Functions::entry_text))]
 fn write_entry<W: Sink>(name: &str, child: &Command, sink: &mut W) -> Result<(), Error>
     ensures { Writes W.taken W.failed result sink.old sink.new
         (entry_text (entry child.now.node name.now)) }
 {
-    put_all(sink, "\n'".as_bytes())?;
-    put_all(sink, name.as_bytes())?;
-    put_all(sink, ":".as_bytes())?;
+    put_around("\n'", name, ":", sink)?;
     put_escaped(&ZshHelpEscape, child.get_about().unwrap_or(""), sink)?;
     put_all(sink, "' \\".as_bytes())
 }

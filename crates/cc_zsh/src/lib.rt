@@ -8,6 +8,7 @@ mod keys;
 mod names;
 mod nested;
 mod options;
+mod pieces;
 mod positionals;
 mod texts;
 mod values;

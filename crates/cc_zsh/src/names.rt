@@ -9,7 +9,6 @@ use cc_base::{Error, Sink, put_all};
 use cc_quote::{Escape, put_escaped};
 use memchr::memchr;
 
-/// Writes a short as it is typed.
 pub(crate) fn write_short<W: Sink>(short: char, sink: &mut W) -> Result<(), Error>
     ensures { Writes W.taken W.failed result sink.old sink.new (short_word short) }
 {
@@ -18,7 +17,6 @@ pub(crate) fn write_short<W: Sink>(short: char, sink: &mut W) -> Result<(), Erro
     put_all(sink, short.encode_utf8(&mut buffer).as_bytes())
 }
 
-/// Writes a long as it is typed.
 pub(crate) fn write_long<W: Sink>(long: &str, sink: &mut W) -> Result<(), Error>
     ensures { Writes W.taken W.failed result sink.old sink.new (long_word long.now) }
 {
@@ -26,7 +24,7 @@ pub(crate) fn write_long<W: Sink>(long: &str, sink: &mut W) -> Result<(), Error>
     put_all(sink, long.as_bytes())
 }
 
-/// Writes the name of the function that describes the children of the command with this full name.
+/// The name of the function begins with a `_`, which stands in the text before each place of it.
 pub(crate) fn write_label<W: Sink>(name: &str, sink: &mut W) -> Result<(), Error>
     ensures { Writes W.taken W.failed result sink.old sink.new (function_label name.now) }
 {
@@ -34,7 +32,6 @@ pub(crate) fn write_label<W: Sink>(name: &str, sink: &mut W) -> Result<(), Error
     put_all(sink, "_commands".as_bytes())
 }
 
-/// Writes the full name with dashes.
 pub(crate) fn write_dashed<W: Sink>(name: &str, sink: &mut W) -> Result<(), Error>
     ensures { Writes W.taken W.failed result sink.old sink.new (unspaced (codes "-") name.now) }
 {

@@ -7,16 +7,17 @@ ghost use Rattle.cc_base.specs.Writes.{Writes};
 ghost use Rattle.cc_command.specs.ArgumentLists.{positionals};
 ghost use Rattle.cc_flat.specs.Flat.{tree_at};
 ghost use Rattle.cc_visits.specs.Meaning.{step_of, visit_of};
-ghost use Rattle.cc_zsh.specs.Nested.{arms_text, below_text, block_text, children_text, nested_at, nested_back, nested_begins, place_text, root_text};
+ghost use Rattle.cc_zsh.specs.Nested.{arms_text, below_text, block_text, children_text, nested_begins, place_text, root_text};
 ghost use Rattle.cc_zsh.specs.Steps.{enter_text, leave_text, nested_closes, nested_opens, step_text};
 
 use crate::keys::LastNames;
 use crate::names::{write_dashed, write_label};
 use crate::options::{write_flags, write_options};
+use crate::pieces::put_around;
 use crate::positionals::write_positionals;
 use crate::texts::{
-    arm_ends, below_1, below_2, below_3, block_begins, block_ends, external_text, nested_1,
-    nested_2, nested_3, nested_4, nested_5, nested_6, nested_7,
+    arm_ends, block_begins, block_ends, case_line, case_line_in, case_state, command_begins,
+    context_command, external_text, nested_ends, set_context, set_words, state_begins, state_ends,
 };
 use cc_base::{Error, Sink, put_all};
 use cc_command::{Command, full_name};
@@ -24,7 +25,6 @@ use cc_flat::Flat;
 use cc_visits::{PathStep, PathSteps, Visit};
 use std::alloc::{AllocError, Global};
 
-/// Writes what is offered at the root and at all commands below it.
 #[tactic(auto, unfolding(crate::specs::Nested::root_text))]
 pub(crate) fn write_root<W: Sink>(alloc: Global, flat: &Flat<'_>, sink: &mut W) -> Result<(), Error>
     requires { 0 < length flat.now }
@@ -37,10 +37,9 @@ pub(crate) fn write_root<W: Sink>(alloc: Global, flat: &Flat<'_>, sink: &mut W) 
     }
     write_nested_begins(alloc, root, sink)?;
     write_arms(alloc, flat, sink)?;
-    put_all(sink, nested_7().as_bytes())
+    put_all(sink, nested_ends().as_bytes())
 }
 
-// Writes the arms of all commands below the root.
 #[tactic(auto, using(crate::proofs::ArmSteps::steps_texts))]
 fn write_arms<W: Sink>(alloc: Global, flat: &Flat<'_>, sink: &mut W) -> Result<(), Error>
     requires { 0 < length flat.now }
@@ -66,7 +65,6 @@ fn write_steps<W: Sink>(
     Ok(())
 }
 
-// Writes what stands where a command is entered or left.
 fn write_step<W: Sink>(alloc: Global, step: &PathStep<'_>, sink: &mut W) -> Result<(), Error>
     ensures { Writes W.taken W.failed result sink.old sink.new (step_text (step_of step.now)) }
 {
@@ -76,15 +74,12 @@ fn write_step<W: Sink>(alloc: Global, step: &PathStep<'_>, sink: &mut W) -> Resu
     }
 }
 
-// Writes the word of an arm, the block of its command, and what the arms of its children begin
-// with.
+// The arms of the children follow; `write_leave` ends the arm.
 #[tactic(auto, unfolding(crate::specs::Steps::enter_text))]
 fn write_enter<W: Sink>(alloc: Global, visit: &Visit<'_>, sink: &mut W) -> Result<(), Error>
     ensures { Writes W.taken W.failed result sink.old sink.new (enter_text (visit_of visit.now)) }
 {
-    put_all(sink, "(".as_bytes())?;
-    put_all(sink, visit.key.as_str().as_bytes())?;
-    put_all(sink, ")\n".as_bytes())?;
+    put_around("(", visit.key.as_str(), ")\n", sink)?;
     write_block(visit.above, visit.command, sink)?;
     write_nested_opens(alloc, visit.command, sink)
 }
@@ -100,7 +95,6 @@ fn write_nested_opens<W: Sink>(alloc: Global, command: &Command, sink: &mut W) -
     write_nested_begins(alloc, command, sink)
 }
 
-// Writes what the arms of the children end with, and what an arm ends with.
 #[tactic(auto, unfolding(crate::specs::Steps::leave_text))]
 fn write_leave<W: Sink>(command: &Command, sink: &mut W) -> Result<(), Error>
     ensures { Writes W.taken W.failed result sink.old sink.new (leave_text command.now) }
@@ -116,10 +110,9 @@ fn write_nested_closes<W: Sink>(command: &Command, sink: &mut W) -> Result<(), E
     if !command.has_subcommands() {
         return Ok(());
     }
-    put_all(sink, nested_7().as_bytes())
+    put_all(sink, nested_ends().as_bytes())
 }
 
-// Writes what is offered at a command that has this one above it.
 #[tactic(auto, unfolding(crate::specs::Nested::block_text))]
 fn write_block<W: Sink>(above: &Command, command: &Command, sink: &mut W) -> Result<(), Error>
     ensures { Writes W.taken W.failed result sink.old sink.new
@@ -133,7 +126,6 @@ fn write_block<W: Sink>(above: &Command, command: &Command, sink: &mut W) -> Res
     put_all(sink, block_ends().as_bytes())
 }
 
-// Writes what stands for the words after the options and positionals.
 #[tactic(auto, unfolding(crate::specs::Nested::below_text))]
 fn write_below<W: Sink>(command: &Command, sink: &mut W) -> Result<(), Error>
     ensures { Writes W.taken W.failed result sink.old sink.new (below_text command.now) }
@@ -151,21 +143,24 @@ fn write_below<W: Sink>(command: &Command, sink: &mut W) -> Result<(), Error>
 fn write_children<W: Sink>(command: &Command, sink: &mut W) -> Result<(), Error>
     ensures { Writes W.taken W.failed result sink.old sink.new (children_text command.now.node) }
 {
-    put_all(sink, below_1().as_bytes())?;
+    put_all(sink, command_begins().as_bytes())?;
     write_label(full_name(command), sink)?;
-    put_all(sink, below_2().as_bytes())?;
-    put_all(sink, command.get_name().as_bytes())?;
-    put_all(sink, below_3().as_bytes())
+    put_around(state_begins(), command.get_name(), state_ends(), sink)
 }
 
-// Writes what the arms of a command's children begin with.
 #[tactic(auto, unfolding(crate::specs::Nested::nested_begins))]
 fn write_nested_begins<W: Sink>(alloc: Global, command: &Command, sink: &mut W) -> Result<(), Error>
     ensures { Writes W.taken W.failed result sink.old sink.new
         (nested_begins command.now.node) }
 {
     let place = place(alloc, command)?;
-    write_nested_at(place.as_str(), command, sink)
+    put_around(case_state(), command.get_name(), set_words(), sink)?;
+    put_all(sink, place.as_bytes())?;
+    put_all(sink, set_context().as_bytes())?;
+    write_dashed(full_name(command), sink)?;
+    put_all(sink, context_command().as_bytes())?;
+    put_around(place.as_str(), case_line(), place.as_str(), sink)?;
+    put_all(sink, case_line_in().as_bytes())
 }
 
 // The place of the word that names a child: after the positionals.
@@ -180,28 +175,4 @@ fn place(alloc: Global, command: &Command) -> Result<String, AllocError>
         place += 1;
     }
     format!(in alloc; "{place}")
-}
-
-fn write_nested_at<W: Sink>(place: &str, command: &Command, sink: &mut W) -> Result<(), Error>
-    ensures { Writes W.taken W.failed result sink.old sink.new
-        (nested_at place.now command.now.node) }
-{
-    put_all(sink, nested_1().as_bytes())?;
-    put_all(sink, command.get_name().as_bytes())?;
-    put_all(sink, nested_2().as_bytes())?;
-    put_all(sink, place.as_bytes())?;
-    put_all(sink, nested_3().as_bytes())?;
-    write_nested_back(place, command, sink)
-}
-
-fn write_nested_back<W: Sink>(place: &str, command: &Command, sink: &mut W) -> Result<(), Error>
-    ensures { Writes W.taken W.failed result sink.old sink.new
-        (nested_back place.now command.now.node) }
-{
-    write_dashed(full_name(command), sink)?;
-    put_all(sink, nested_4().as_bytes())?;
-    put_all(sink, place.as_bytes())?;
-    put_all(sink, nested_5().as_bytes())?;
-    put_all(sink, place.as_bytes())?;
-    put_all(sink, nested_6().as_bytes())
 }

@@ -13,7 +13,6 @@ use cc_base::{Error, Sink, put_all};
 use cc_command::Command;
 use cc_quote::{ZshHelpEscape, put_escaped};
 
-/// Writes the options of a command that has this one above it.
 #[tactic(auto, unfolding(crate::specs::Options::options_text))]
 pub(crate) fn write_options<W: Sink>(
     above: &Command,
@@ -29,7 +28,6 @@ pub(crate) fn write_options<W: Sink>(
     Ok(())
 }
 
-/// Writes the flags of a command that has this one above it.
 #[tactic(auto, unfolding(crate::specs::Options::flags_text))]
 pub(crate) fn write_flags<W: Sink>(
     above: &Command,
@@ -45,7 +43,6 @@ pub(crate) fn write_flags<W: Sink>(
     Ok(())
 }
 
-// Writes an option under each of its names.
 #[tactic(auto, unfolding(crate::specs::Options::option_text))]
 fn write_option<W: Sink>(
     above: &Command,
@@ -62,7 +59,6 @@ fn write_option<W: Sink>(
     Ok(())
 }
 
-// Writes a flag under each of its names.
 #[tactic(auto, unfolding(crate::specs::Options::flag_text))]
 fn write_flag<W: Sink>(
     above: &Command,
@@ -115,7 +111,6 @@ fn write_flag_line<W: Sink>(
     put_all(sink, line_end().as_bytes())
 }
 
-// Writes a name as it is typed.
 fn write_name<W: Sink>(name: &ShownName<'_>, sink: &mut W) -> Result<(), Error>
     ensures { Writes W.taken W.failed result sink.old sink.new (name_word name.now) }
 {
@@ -135,7 +130,6 @@ fn value_sign(name: &ShownName<'_>) -> &'static str
     }
 }
 
-// Writes what stands before a name: the names of the arguments in conflict, and a star.
 #[tactic(auto, unfolding(crate::specs::Options::front_text))]
 fn write_front<W: Sink>(
     above: &Command,
@@ -161,7 +155,7 @@ fn star(argument: &Arg) -> &'static str
     }
 }
 
-// Writes the help, or nothing, in square brackets.
+// The brackets stand where there is no help, too.
 #[tactic(auto, unfolding(crate::specs::Options::help_text))]
 fn write_help<W: Sink>(argument: &Arg, sink: &mut W) -> Result<(), Error>
     ensures { Writes W.taken W.failed result sink.old sink.new (help_text argument.now) }

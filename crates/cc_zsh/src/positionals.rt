@@ -7,17 +7,16 @@ ghost use Rattle.memchr.specs.Find.{IsFirstByte};
 ghost use Rattle.cc_base.specs.Writes.{Writes};
 ghost use Rattle.cc_command.specs.ArgumentLists.{positionals};
 ghost use Rattle.cc_zsh.specs.Options.{line_end};
-ghost use Rattle.cc_zsh.specs.Positionals.{count_text, is_left_out, is_positional_escaped, positional_back, positional_byte, positional_escaped, positional_help, positional_text, positionals_text, rest_text, shown_positionals, takes_all, takes_rest, takes_several};
+ghost use Rattle.cc_zsh.specs.Positionals.{count_text, is_left_out, is_positional_escaped, positional_byte, positional_escaped, positional_help, positional_text, positionals_text, rest_text, shown_positionals, takes_all, takes_rest, takes_several};
 ghost use Rattle.cc_zsh.specs.Values.{value_text};
 
 use crate::texts::line_end;
 use crate::values::{range, write_value};
 use cc_arg::Arg;
-use cc_base::{Error, Sink, put_all};
+use cc_base::{Error, Sink, as_error, put_all, put_pieces};
 use cc_command::Command;
 use cc_quote::{Escape, ZshValueEscape, put_escaped};
 
-/// Writes the positionals of a command.
 #[tactic(auto, unfolding(crate::specs::Positionals::positionals_text))]
 pub(crate) fn write_positionals<W: Sink>(command: &Command, sink: &mut W) -> Result<(), Error>
     ensures { Writes W.taken W.failed result sink.old sink.new (positionals_text command.now) }
@@ -25,7 +24,6 @@ pub(crate) fn write_positionals<W: Sink>(command: &Command, sink: &mut W) -> Res
     write_shown(command.has_subcommands(), command, sink)
 }
 
-// Writes those that are shown, where it is told whether the command has children.
 fn write_shown<W: Sink>(has_children: bool, command: &Command, sink: &mut W) -> Result<(), Error>
     ensures { Writes W.taken W.failed result sink.old sink.new
         (flat_map (positional_text has_children)
@@ -77,22 +75,13 @@ fn write_positional<W: Sink>(has_children: bool, argument: &Arg, sink: &mut W) -
 {
     put_all(sink, "'".as_bytes())?;
     write_count(has_children, argument, sink)?;
-    put_all(sink, ":".as_bytes())?;
-    put_all(sink, argument.get_id().as_bytes())?;
-    write_back(argument, sink)
-}
-
-// Writes its help, and what its value may be.
-fn write_back<W: Sink>(argument: &Arg, sink: &mut W) -> Result<(), Error>
-    ensures { Writes W.taken W.failed result sink.old sink.new (positional_back argument.now) }
-{
+    as_error(put_pieces(sink, &[":".as_bytes(), argument.get_id().as_bytes()]))?;
     write_help(argument.get_help(), sink)?;
     put_all(sink, ":".as_bytes())?;
     write_value(argument, sink)?;
     put_all(sink, line_end().as_bytes())
 }
 
-// Writes how many words a positional takes.
 #[tactic(auto, unfolding(crate::specs::Positionals::count_text))]
 fn write_count<W: Sink>(has_children: bool, argument: &Arg, sink: &mut W) -> Result<(), Error>
     ensures { Writes W.taken W.failed result sink.old sink.new
@@ -107,7 +96,6 @@ fn write_count<W: Sink>(has_children: bool, argument: &Arg, sink: &mut W) -> Res
     put_all(sink, ":".as_bytes())
 }
 
-// Writes what stands for the rest of the words, or for those up to a terminator.
 fn write_rest<W: Sink>(terminator: Option<&str>, sink: &mut W) -> Result<(), Error>
     ensures { Writes W.taken W.failed result sink.old sink.new
         (rest_text (option_copied terminator.entry)) }
@@ -120,7 +108,6 @@ fn write_rest<W: Sink>(terminator: Option<&str>, sink: &mut W) -> Result<(), Err
     put_all(sink, ":".as_bytes())
 }
 
-// Writes the help of a positional, where there is one.
 fn write_help<W: Sink>(help: Option<&str>, sink: &mut W) -> Result<(), Error>
     ensures { Writes W.taken W.failed result sink.old sink.new
         (positional_help (option_copied help.entry)) }

@@ -1,21 +1,21 @@
 //! The fixed texts of a script, as the definitions have them.
 
 ghost use Rattle.std.specs.Prelude.{◌≡◌};
-ghost use Rattle.cc_zsh.specs.Functions.{entries_end, function_1, function_2, function_3, function_4, function_5};
-ghost use Rattle.cc_zsh.specs.Nested.{arm_ends, below_1, below_2, below_3, block_begins, block_ends, external_text, nested_1, nested_2, nested_3, nested_4, nested_5, nested_6, nested_7};
+ghost use Rattle.cc_zsh.specs.Functions.{entries_end, unless_defined, function_begins, commands_begin, describe_begins, describe_ends};
+ghost use Rattle.cc_zsh.specs.Nested.{arm_ends, command_begins, state_begins, state_ends, block_begins, block_ends, external_text, case_state, set_words, set_context, context_command, case_line, case_line_in, nested_ends};
 ghost use Rattle.cc_zsh.specs.Options.{line_end};
-ghost use Rattle.cc_zsh.specs.ZshScript.{begin_1, begin_2, begin_3, end_1, end_2, end_3, end_4, end_5, middle};
+ghost use Rattle.cc_zsh.specs.ZshScript.{compdef_begins, autoloads, body_begins, if_called, then_call, else_define, defined_for, if_ends, body_ends};
 
-#[tactic(auto, unfolding(crate::specs::ZshScript::begin_1))]
-pub(crate) fn begin_1() -> &'static str
-    ensures { result.now ≡ begin_1 }
+#[tactic(auto, unfolding(crate::specs::ZshScript::compdef_begins))]
+pub(crate) fn compdef_begins() -> &'static str
+    ensures { result.now ≡ compdef_begins }
 {
     "#compdef "
 }
 
-#[tactic(auto, unfolding(crate::specs::ZshScript::begin_2))]
-pub(crate) fn begin_2() -> &'static str
-    ensures { result.now ≡ begin_2 }
+#[tactic(auto, unfolding(crate::specs::ZshScript::autoloads))]
+pub(crate) fn autoloads() -> &'static str
+    ensures { result.now ≡ autoloads }
 {
     "
 
@@ -24,9 +24,9 @@ autoload -U is-at-least
 _"
 }
 
-#[tactic(auto, unfolding(crate::specs::ZshScript::begin_3))]
-pub(crate) fn begin_3() -> &'static str
-    ensures { result.now ≡ begin_3 }
+#[tactic(auto, unfolding(crate::specs::ZshScript::body_begins))]
+pub(crate) fn body_begins() -> &'static str
+    ensures { result.now ≡ body_begins }
 {
     "() {
     typeset -A opt_args
@@ -43,9 +43,9 @@ pub(crate) fn begin_3() -> &'static str
     "
 }
 
-#[tactic(auto, unfolding(crate::specs::ZshScript::middle))]
-pub(crate) fn middle() -> &'static str
-    ensures { result.now ≡ middle }
+#[tactic(auto, unfolding(crate::specs::ZshScript::body_ends))]
+pub(crate) fn body_ends() -> &'static str
+    ensures { result.now ≡ body_ends }
 {
     "
 }
@@ -53,41 +53,41 @@ pub(crate) fn middle() -> &'static str
 "
 }
 
-#[tactic(auto, unfolding(crate::specs::ZshScript::end_1))]
-pub(crate) fn end_1() -> &'static str
-    ensures { result.now ≡ end_1 }
+#[tactic(auto, unfolding(crate::specs::ZshScript::if_called))]
+pub(crate) fn if_called() -> &'static str
+    ensures { result.now ≡ if_called }
 {
     "
 if [ \"$funcstack[1]\" = \"_"
 }
 
-#[tactic(auto, unfolding(crate::specs::ZshScript::end_2))]
-pub(crate) fn end_2() -> &'static str
-    ensures { result.now ≡ end_2 }
+#[tactic(auto, unfolding(crate::specs::ZshScript::then_call))]
+pub(crate) fn then_call() -> &'static str
+    ensures { result.now ≡ then_call }
 {
     "\" ]; then
     _"
 }
 
-#[tactic(auto, unfolding(crate::specs::ZshScript::end_3))]
-pub(crate) fn end_3() -> &'static str
-    ensures { result.now ≡ end_3 }
+#[tactic(auto, unfolding(crate::specs::ZshScript::else_define))]
+pub(crate) fn else_define() -> &'static str
+    ensures { result.now ≡ else_define }
 {
     " \"$@\"
 else
     compdef _"
 }
 
-#[tactic(auto, unfolding(crate::specs::ZshScript::end_4))]
-pub(crate) fn end_4() -> &'static str
-    ensures { result.now ≡ end_4 }
+#[tactic(auto, unfolding(crate::specs::ZshScript::defined_for))]
+pub(crate) fn defined_for() -> &'static str
+    ensures { result.now ≡ defined_for }
 {
     " "
 }
 
-#[tactic(auto, unfolding(crate::specs::ZshScript::end_5))]
-pub(crate) fn end_5() -> &'static str
-    ensures { result.now ≡ end_5 }
+#[tactic(auto, unfolding(crate::specs::ZshScript::if_ends))]
+pub(crate) fn if_ends() -> &'static str
+    ensures { result.now ≡ if_ends }
 {
     "
 fi
@@ -125,81 +125,81 @@ pub(crate) fn external_text() -> &'static str
 "
 }
 
-#[tactic(auto, unfolding(crate::specs::Nested::below_1))]
-pub(crate) fn below_1() -> &'static str
-    ensures { result.now ≡ below_1 }
+#[tactic(auto, unfolding(crate::specs::Nested::command_begins))]
+pub(crate) fn command_begins() -> &'static str
+    ensures { result.now ≡ command_begins }
 {
     "\":: :_"
 }
 
-#[tactic(auto, unfolding(crate::specs::Nested::below_2))]
-pub(crate) fn below_2() -> &'static str
-    ensures { result.now ≡ below_2 }
+#[tactic(auto, unfolding(crate::specs::Nested::state_begins))]
+pub(crate) fn state_begins() -> &'static str
+    ensures { result.now ≡ state_begins }
 {
     "\" \\
 \"*::: :->"
 }
 
-#[tactic(auto, unfolding(crate::specs::Nested::below_3))]
-pub(crate) fn below_3() -> &'static str
-    ensures { result.now ≡ below_3 }
+#[tactic(auto, unfolding(crate::specs::Nested::state_ends))]
+pub(crate) fn state_ends() -> &'static str
+    ensures { result.now ≡ state_ends }
 {
     "\" \\
 "
 }
 
-#[tactic(auto, unfolding(crate::specs::Nested::nested_1))]
-pub(crate) fn nested_1() -> &'static str
-    ensures { result.now ≡ nested_1 }
+#[tactic(auto, unfolding(crate::specs::Nested::case_state))]
+pub(crate) fn case_state() -> &'static str
+    ensures { result.now ≡ case_state }
 {
     "
     case $state in
     ("
 }
 
-#[tactic(auto, unfolding(crate::specs::Nested::nested_2))]
-pub(crate) fn nested_2() -> &'static str
-    ensures { result.now ≡ nested_2 }
+#[tactic(auto, unfolding(crate::specs::Nested::set_words))]
+pub(crate) fn set_words() -> &'static str
+    ensures { result.now ≡ set_words }
 {
     ")
         words=($line["
 }
 
-#[tactic(auto, unfolding(crate::specs::Nested::nested_3))]
-pub(crate) fn nested_3() -> &'static str
-    ensures { result.now ≡ nested_3 }
+#[tactic(auto, unfolding(crate::specs::Nested::set_context))]
+pub(crate) fn set_context() -> &'static str
+    ensures { result.now ≡ set_context }
 {
     "] \"${words[@]}\")
         (( CURRENT += 1 ))
         curcontext=\"${curcontext%:*:*}:"
 }
 
-#[tactic(auto, unfolding(crate::specs::Nested::nested_4))]
-pub(crate) fn nested_4() -> &'static str
-    ensures { result.now ≡ nested_4 }
+#[tactic(auto, unfolding(crate::specs::Nested::context_command))]
+pub(crate) fn context_command() -> &'static str
+    ensures { result.now ≡ context_command }
 {
     "-command-$line["
 }
 
-#[tactic(auto, unfolding(crate::specs::Nested::nested_5))]
-pub(crate) fn nested_5() -> &'static str
-    ensures { result.now ≡ nested_5 }
+#[tactic(auto, unfolding(crate::specs::Nested::case_line))]
+pub(crate) fn case_line() -> &'static str
+    ensures { result.now ≡ case_line }
 {
     "]:\"
         case $line["
 }
 
-#[tactic(auto, unfolding(crate::specs::Nested::nested_6))]
-pub(crate) fn nested_6() -> &'static str
-    ensures { result.now ≡ nested_6 }
+#[tactic(auto, unfolding(crate::specs::Nested::case_line_in))]
+pub(crate) fn case_line_in() -> &'static str
+    ensures { result.now ≡ case_line_in }
 {
     "] in
             "
 }
 
-#[tactic(auto, unfolding(crate::specs::Nested::nested_7))]
-pub(crate) fn nested_7() -> &'static str
-    ensures { result.now ≡ nested_7 }
+#[tactic(auto, unfolding(crate::specs::Nested::nested_ends))]
+pub(crate) fn nested_ends() -> &'static str
+    ensures { result.now ≡ nested_ends }
 {
     "        esac
     ;;
@@ -215,40 +215,40 @@ pub(crate) fn arm_ends() -> &'static str
 "
 }
 
-#[tactic(auto, unfolding(crate::specs::Functions::function_1))]
-pub(crate) fn function_1() -> &'static str
-    ensures { result.now ≡ function_1 }
+#[tactic(auto, unfolding(crate::specs::Functions::unless_defined))]
+pub(crate) fn unless_defined() -> &'static str
+    ensures { result.now ≡ unless_defined }
 {
     "(( $+functions[_"
 }
 
-#[tactic(auto, unfolding(crate::specs::Functions::function_2))]
-pub(crate) fn function_2() -> &'static str
-    ensures { result.now ≡ function_2 }
+#[tactic(auto, unfolding(crate::specs::Functions::function_begins))]
+pub(crate) fn function_begins() -> &'static str
+    ensures { result.now ≡ function_begins }
 {
     "] )) ||
 _"
 }
 
-#[tactic(auto, unfolding(crate::specs::Functions::function_3))]
-pub(crate) fn function_3() -> &'static str
-    ensures { result.now ≡ function_3 }
+#[tactic(auto, unfolding(crate::specs::Functions::commands_begin))]
+pub(crate) fn commands_begin() -> &'static str
+    ensures { result.now ≡ commands_begin }
 {
     "() {
     local commands; commands=("
 }
 
-#[tactic(auto, unfolding(crate::specs::Functions::function_4))]
-pub(crate) fn function_4() -> &'static str
-    ensures { result.now ≡ function_4 }
+#[tactic(auto, unfolding(crate::specs::Functions::describe_begins))]
+pub(crate) fn describe_begins() -> &'static str
+    ensures { result.now ≡ describe_begins }
 {
     ")
     _describe -t commands '"
 }
 
-#[tactic(auto, unfolding(crate::specs::Functions::function_5))]
-pub(crate) fn function_5() -> &'static str
-    ensures { result.now ≡ function_5 }
+#[tactic(auto, unfolding(crate::specs::Functions::describe_ends))]
+pub(crate) fn describe_ends() -> &'static str
+    ensures { result.now ≡ describe_ends }
 {
     " commands' commands \"$@\"
 }

@@ -17,7 +17,6 @@ pub(crate) fn range(argument: &Arg) -> ValueRange
     argument.get_num_args().unwrap_or(ValueRange::new(1, 1))
 }
 
-/// Writes the values of an option, as many as it takes at least.
 #[tactic(auto, unfolding(crate::specs::Values::values_text))]
 pub(crate) fn write_values<W: Sink>(argument: &Arg, sink: &mut W) -> Result<(), Error>
     ensures { Writes W.taken W.failed result sink.old sink.new (values_text argument.now) }
@@ -30,7 +29,6 @@ pub(crate) fn write_values<W: Sink>(argument: &Arg, sink: &mut W) -> Result<(), 
     write_times(least, argument, sink)
 }
 
-// Writes a value as often as told.
 fn write_times<W: Sink>(count: usize, argument: &Arg, sink: &mut W) -> Result<(), Error>
     ensures { Writes W.taken W.failed result sink.old sink.new
         (times count (one_value argument.now)) }
@@ -43,7 +41,6 @@ fn write_times<W: Sink>(count: usize, argument: &Arg, sink: &mut W) -> Result<()
     Ok(())
 }
 
-// Writes one value.
 #[tactic(auto, unfolding(crate::specs::Values::one_value))]
 fn write_one<W: Sink>(argument: &Arg, sink: &mut W) -> Result<(), Error>
     ensures { Writes W.taken W.failed result sink.old sink.new (one_value argument.now) }
@@ -64,7 +61,6 @@ fn first_name(names: &[Text]) -> &str
     }
 }
 
-/// Writes what a value of an argument may be.
 #[tactic(auto, unfolding(crate::specs::Values::value_text))]
 pub(crate) fn write_value<W: Sink>(argument: &Arg, sink: &mut W) -> Result<(), Error>
     ensures { Writes W.taken W.failed result sink.old sink.new (value_text argument.now) }
@@ -75,7 +71,6 @@ pub(crate) fn write_value<W: Sink>(argument: &Arg, sink: &mut W) -> Result<(), E
     }
 }
 
-// Writes the values that are shown.
 #[tactic(auto, unfolding(crate::specs::Values::list_text))]
 fn write_list<W: Sink>(values: &[PossibleValue], sink: &mut W) -> Result<(), Error>
     ensures { Writes W.taken W.failed result sink.old sink.new (list_text values.now) }
@@ -107,7 +102,6 @@ fn write_described_list<W: Sink>(values: &[PossibleValue], sink: &mut W) -> Resu
     put_all(sink, "))".as_bytes())
 }
 
-// Writes the values that are shown with their helps.
 fn write_described<W: Sink>(values: &[PossibleValue], sink: &mut W) -> Result<(), Error>
     ensures { Writes W.taken W.failed result sink.old sink.new
         (joined (codes "\n") (map described_text (shown_values values.now))) }
@@ -123,7 +117,6 @@ fn write_described<W: Sink>(values: &[PossibleValue], sink: &mut W) -> Result<()
     Ok(())
 }
 
-// Writes a value with its help.
 #[tactic(auto, unfolding(crate::specs::Values::described_text))]
 fn write_described_value<W: Sink>(value: &PossibleValue, sink: &mut W) -> Result<(), Error>
     ensures { Writes W.taken W.failed result sink.old sink.new (described_text value.now) }
@@ -143,7 +136,6 @@ fn write_named_list<W: Sink>(values: &[PossibleValue], sink: &mut W) -> Result<(
     put_all(sink, ")".as_bytes())
 }
 
-// Writes the names of the values that are shown.
 fn write_named<W: Sink>(values: &[PossibleValue], sink: &mut W) -> Result<(), Error>
     ensures { Writes W.taken W.failed result sink.old sink.new
         (joined (codes " ") (map named_text (shown_values values.now))) }

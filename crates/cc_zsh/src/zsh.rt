@@ -5,11 +5,15 @@ ghost use Rattle.cc_base.specs.Writes.{Writes};
 ghost use Rattle.cc_command.specs.Names.{full_name};
 ghost use Rattle.cc_flat.specs.Flat.{tree_at};
 ghost use Rattle.cc_zsh.specs.ZshReads.{ZshReads};
-ghost use Rattle.cc_zsh.specs.ZshScript.{begin_text, defined_text, end_text, script_text, zsh_script};
+ghost use Rattle.cc_zsh.specs.ZshScript.{begin_text, end_text, zsh_script};
 
 use crate::functions::write_functions;
 use crate::nested::write_root;
-use crate::texts::{begin_1, begin_2, begin_3, end_1, end_2, end_3, end_4, end_5, middle};
+use crate::pieces::put_around;
+use crate::texts::{
+    autoloads, body_begins, body_ends, compdef_begins, defined_for, else_define, if_called,
+    if_ends, then_call,
+};
 use cc_base::{Error, Sink, put_all};
 use cc_command::{Command, full_name};
 use cc_flat::Flat;
@@ -42,36 +46,21 @@ impl Generator for Zsh {
         sink: &mut W,
     ) -> Result<(), Error> {
         // Building a built command changes nothing, so every node has its full name.
-        let built = command.is_built();
-        prove!(built);
+        prove!(command.is_built());
         let flat = Flat::new(alloc, command)?;
         write_script(alloc, &flat, sink)
     }
 }
 
-// Writes the script of the tree that the list holds.
+#[tactic(auto, unfolding(crate::specs::ZshScript::script_text))]
 fn write_script<W: Sink>(alloc: Global, flat: &Flat<'_>, sink: &mut W) -> Result<(), Error>
     requires { 0 < length flat.now }
     ensures { Writes W.taken W.failed result sink.old sink.new (zsh_script (tree_at flat.now 0)) }
 {
-    write_parts(alloc, flat, full_name(flat.command(0)), sink)
-}
-
-// Writes the frame, in it the block of the root with all nested ones, then the functions.
-#[tactic(auto, unfolding(crate::specs::ZshScript::script_text))]
-fn write_parts<W: Sink>(
-    alloc: Global,
-    flat: &Flat<'_>,
-    bin_name: &str,
-    sink: &mut W,
-) -> Result<(), Error>
-    requires { 0 < length flat.now }
-    ensures { Writes W.taken W.failed result sink.old sink.new
-        (script_text bin_name.now (tree_at flat.now 0)) }
-{
+    let bin_name = full_name(flat.command(0));
     write_begin(bin_name, sink)?;
     write_root(alloc, flat, sink)?;
-    put_all(sink, middle().as_bytes())?;
+    put_all(sink, body_ends().as_bytes())?;
     write_functions(alloc, flat, sink)?;
     write_end(bin_name, sink)
 }
@@ -80,31 +69,18 @@ fn write_parts<W: Sink>(
 fn write_begin<W: Sink>(bin_name: &str, sink: &mut W) -> Result<(), Error>
     ensures { Writes W.taken W.failed result sink.old sink.new (begin_text bin_name.now) }
 {
-    put_all(sink, begin_1().as_bytes())?;
-    put_all(sink, bin_name.as_bytes())?;
-    put_all(sink, begin_2().as_bytes())?;
-    put_all(sink, bin_name.as_bytes())?;
-    put_all(sink, begin_3().as_bytes())
+    put_all(sink, compdef_begins().as_bytes())?;
+    put_around(bin_name, autoloads(), bin_name, sink)?;
+    put_all(sink, body_begins().as_bytes())
 }
 
 #[tactic(auto, unfolding(crate::specs::ZshScript::end_text))]
 fn write_end<W: Sink>(bin_name: &str, sink: &mut W) -> Result<(), Error>
     ensures { Writes W.taken W.failed result sink.old sink.new (end_text bin_name.now) }
 {
-    put_all(sink, end_1().as_bytes())?;
-    put_all(sink, bin_name.as_bytes())?;
-    put_all(sink, end_2().as_bytes())?;
-    put_all(sink, bin_name.as_bytes())?;
-    write_defined(bin_name, sink)
-}
-
-// Writes the rest of the end: where the function is not being called, it is made known to zsh.
-fn write_defined<W: Sink>(bin_name: &str, sink: &mut W) -> Result<(), Error>
-    ensures { Writes W.taken W.failed result sink.old sink.new (defined_text bin_name.now) }
-{
-    put_all(sink, end_3().as_bytes())?;
-    put_all(sink, bin_name.as_bytes())?;
-    put_all(sink, end_4().as_bytes())?;
-    put_all(sink, bin_name.as_bytes())?;
-    put_all(sink, end_5().as_bytes())
+    put_all(sink, if_called().as_bytes())?;
+    put_around(bin_name, then_call(), bin_name, sink)?;
+    put_all(sink, else_define().as_bytes())?;
+    put_around(bin_name, defined_for(), bin_name, sink)?;
+    put_all(sink, if_ends().as_bytes())
 }

@@ -9,4 +9,4 @@ returns g c =
     let root : Tree = c.args.command.now in
     let at : Tree = tree_at c.in_ok-flat.flat 0 in
     let is : at ≡ root = search rules in
-    generated g.W.Sink.taken g.W.Sink.failed root at c.write_script.result c.args.sink.now c.write_script.new.sink c.is_built-built.ensures.stays c.requires.ready is c.write_script.ensures
+    generated g.W.Sink.taken g.W.Sink.failed root at c.write_script.result c.args.sink.now c.write_script.new.sink c.is_built.ensures.stays c.requires.ready is c.write_script.ensures
