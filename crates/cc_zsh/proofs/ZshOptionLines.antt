@@ -12,7 +12,7 @@ use Rattle.cc_command.proofs.PlainParts.{IsPlainArgument, IsPlainNode}
 use Rattle.cc_quote.specs.QuotedWord.{line_feeds_as_spaces}
 use Rattle.cc_quote.specs.ZshQuote.{is_help_marked, marked, zsh_escaped_help}
 use Rattle.cc_zsh.specs.Conflicts.{excluded, conflict_words, conflicts_text, short_word, long_word}
-use Rattle.cc_zsh.specs.Options.{is_repeated, repeated_text, help_text, front_text, line_end, name_word, option_line, flag_line, option_text, flag_text, options_text, flags_text}
+use Rattle.cc_zsh.specs.Options.{is_repeated, repeated_text, help_text, front_text, line_end, name_word, argument_line, argument_text, options_text, flags_text}
 use Rattle.cc_zsh.specs.Values.{values_text}
 use Rattle.cc_zsh.specs.ZshReader.{Bracket}
 use Rattle.cc_zsh.specs.ZshReader.Bracket.{alone, after_plus, after_equals}
@@ -119,29 +119,29 @@ module _ (above node : Node) (above_plain : AllByRecursion IsPlainArgument above
       (line_of name bracket values v dashed)
 
   option_adds_one : (name : ShownName) → IsDashedName name →
-      Adds (option_line above node argument name)
+      Adds (argument_line true above node argument name)
       (option_row above node argument (bracket_after name) (name_word name) ∷ [])
-  unfolding option_line
+  unfolding argument_line
   option_adds_one (Short short) = adds_one (short_word short) after_plus (values_text argument)
       (escaped_values argument is.value_names)
   option_adds_one (Long long) = adds_one (long_word long) after_equals (values_text argument)
       (escaped_values argument is.value_names)
 
   flag_adds_one : (name : ShownName) → IsDashedName name →
-      Adds (flag_line above node argument name)
+      Adds (argument_line false above node argument name)
       (option_row above node argument alone (name_word name) ∷ [])
-  unfolding flag_line
+  unfolding argument_line
   flag_adds_one name = adds_one (name_word name) alone [] (escaped_same [] tt)
 
-  option_adds : Adds (option_text above node argument) (option_rows above node argument)
-  unfolding option_text
-  option_adds = adds_map IsDashedName (option_line above node argument)
+  option_adds : Adds (argument_text true above node argument) (option_rows above node argument)
+  unfolding argument_text
+  option_adds = adds_map IsDashedName (argument_line true above node argument)
       (λ name. option_row above node argument (bracket_after name) (name_word name))
       option_adds_one (shown_names argument) (names_dashed argument is)
 
-  flag_adds : Adds (flag_text above node argument) (flag_rows above node argument)
-  unfolding flag_text
-  flag_adds = adds_map IsDashedName (flag_line above node argument)
+  flag_adds : Adds (argument_text false above node argument) (flag_rows above node argument)
+  unfolding argument_text
+  flag_adds = adds_map IsDashedName (argument_line false above node argument)
       (λ name. option_row above node argument alone (name_word name))
       flag_adds_one (shown_names argument) (names_dashed argument is)
 
@@ -152,7 +152,7 @@ pub node_adds : (above node : Node) → AllByRecursion IsPlainArgument above.arg
 unfolding options_text flags_text
 node_adds above node above_plain is = adds_append (options_text above node) (flags_text above node)
     (flat_map (option_rows above node) (options node)) (flat_map (flag_rows above node) (flags node))
-    (adds_flat_map IsPlainArgument (option_text above node) (option_rows above node)
+    (adds_flat_map IsPlainArgument (argument_text true above node) (option_rows above node)
     (option_adds above node above_plain is.arguments) (options node) is.options)
-    (adds_flat_map IsPlainArgument (flag_text above node) (flag_rows above node)
+    (adds_flat_map IsPlainArgument (argument_text false above node) (flag_rows above node)
     (flag_adds above node above_plain is.arguments) (flags node) is.flags)

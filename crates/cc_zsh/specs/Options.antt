@@ -47,31 +47,27 @@ name_word (Short short) = short_word short
 name_word (Long long) = long_word long
 
 -- how the value of an option may follow its name: a short at once, a long after `=`, and either as
--- the next word
-abbrev pub value_sign : ShownName → List ℕ
-value_sign (Short _) = codes "+"
-value_sign (Long _) = codes "="
+-- the next word; nothing follows the name of a flag
+abbrev pub value_sign : Bool → ShownName → List ℕ
+value_sign false _ = []
+value_sign true (Short _) = codes "+"
+value_sign true (Long _) = codes "="
 
--- an option under one of its names, and a flag
-unfoldable pub option_line : Node → Node → Arg → ShownName → List ℕ
-option_line above node argument name =
-    front_text above node argument ++ (name_word name ++ (value_sign name
-    ++ (help_text argument ++ (values_text argument ++ line_end))))
+-- an argument under one of its names, where it is told whether it is an option, which takes values,
+-- or a flag
+unfoldable pub argument_line : Bool → Node → Node → Arg → ShownName → List ℕ
+argument_line is_option above node argument name =
+    front_text above node argument ++ (name_word name ++ (value_sign is_option name
+    ++ (help_text argument ++ ((if is_option then values_text argument else []) ++ line_end))))
 
-unfoldable pub flag_line : Node → Node → Arg → ShownName → List ℕ
-flag_line above node argument name =
-    front_text above node argument ++ (name_word name ++ (help_text argument ++ line_end))
-
--- an option under each of its shown names, shorts first; a flag likewise
-unfoldable pub option_text : Node → Node → Arg → List ℕ
-option_text above node argument = flat_map (option_line above node argument) (shown_names argument)
-
-unfoldable pub flag_text : Node → Node → Arg → List ℕ
-flag_text above node argument = flat_map (flag_line above node argument) (shown_names argument)
+-- an argument under each of its shown names, shorts first
+unfoldable pub argument_text : Bool → Node → Node → Arg → List ℕ
+argument_text is_option above node argument =
+    flat_map (argument_line is_option above node argument) (shown_names argument)
 
 -- the options and the flags of a node that has this node above it
 unfoldable pub options_text : Node → Node → List ℕ
-options_text above node = flat_map (option_text above node) (options node)
+options_text above node = flat_map (argument_text true above node) (options node)
 
 unfoldable pub flags_text : Node → Node → List ℕ
-flags_text above node = flat_map (flag_text above node) (flags node)
+flags_text above node = flat_map (argument_text false above node) (flags node)

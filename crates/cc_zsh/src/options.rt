@@ -1,8 +1,9 @@
 //! The lines of a command's options and flags.
 
-ghost use Rattle.std.specs.Prelude.{◌≡◌, ◌++◌, unwrap_or};
+ghost use Rattle.std.specs.Prelude.{◌≡◌, ◌++◌, [], if◌then◌else◌, unwrap_or};
 ghost use Rattle.cc_base.specs.Writes.{Writes};
-ghost use Rattle.cc_zsh.specs.Options.{flag_line, flag_text, flags_text, front_text, help_text, name_word, option_line, option_text, options_text, repeated_text, value_sign};
+ghost use Rattle.cc_zsh.specs.Options.{argument_line, argument_text, flags_text, front_text, help_text, name_word, options_text, repeated_text, value_sign};
+ghost use Rattle.cc_zsh.specs.Values.{values_text};
 
 use crate::conflicts::write_conflicts;
 use crate::names::{write_long, write_short};
@@ -23,7 +24,7 @@ pub(crate) fn write_options<W: Sink>(
         (options_text above.now.node command.now.node) }
 {
     for option in command.get_opts() {
-        write_option(above, command, option, sink)?;
+        write_argument(true, above, command, option, sink)?;
     }
     Ok(())
 }
@@ -38,45 +39,31 @@ pub(crate) fn write_flags<W: Sink>(
         (flags_text above.now.node command.now.node) }
 {
     for flag in command.get_flags() {
-        write_flag(above, command, flag, sink)?;
+        write_argument(false, above, command, flag, sink)?;
     }
     Ok(())
 }
 
-#[tactic(auto, unfolding(crate::specs::Options::option_text))]
-fn write_option<W: Sink>(
+#[tactic(auto, unfolding(crate::specs::Options::argument_text))]
+fn write_argument<W: Sink>(
+    is_option: bool,
     above: &Command,
     command: &Command,
     argument: &Arg,
     sink: &mut W,
 ) -> Result<(), Error>
     ensures { Writes W.taken W.failed result sink.old sink.new
-        (option_text above.now.node command.now.node argument.now) }
+        (argument_text is_option above.now.node command.now.node argument.now) }
 {
     for name in shown_names(argument) {
-        write_option_line(above, command, argument, &name, sink)?;
+        write_line(is_option, above, command, argument, &name, sink)?;
     }
     Ok(())
 }
 
-#[tactic(auto, unfolding(crate::specs::Options::flag_text))]
-fn write_flag<W: Sink>(
-    above: &Command,
-    command: &Command,
-    argument: &Arg,
-    sink: &mut W,
-) -> Result<(), Error>
-    ensures { Writes W.taken W.failed result sink.old sink.new
-        (flag_text above.now.node command.now.node argument.now) }
-{
-    for name in shown_names(argument) {
-        write_flag_line(above, command, argument, &name, sink)?;
-    }
-    Ok(())
-}
-
-#[tactic(auto, unfolding(crate::specs::Options::option_line))]
-fn write_option_line<W: Sink>(
+#[tactic(auto, unfolding(crate::specs::Options::argument_line))]
+fn write_line<W: Sink>(
+    is_option: bool,
     above: &Command,
     command: &Command,
     argument: &Arg,
@@ -84,31 +71,24 @@ fn write_option_line<W: Sink>(
     sink: &mut W,
 ) -> Result<(), Error>
     ensures { Writes W.taken W.failed result sink.old sink.new
-        (option_line above.now.node command.now.node argument.now name.now) }
+        (argument_line is_option above.now.node command.now.node argument.now name.now) }
 {
     write_front(above, command, argument, sink)?;
     write_name(name, sink)?;
-    put_all(sink, value_sign(name).as_bytes())?;
+    put_all(sink, value_sign(is_option, name).as_bytes())?;
     write_help(argument, sink)?;
-    write_values(argument, sink)?;
+    write_option_values(is_option, argument, sink)?;
     put_all(sink, line_end().as_bytes())
 }
 
-#[tactic(auto, unfolding(crate::specs::Options::flag_line))]
-fn write_flag_line<W: Sink>(
-    above: &Command,
-    command: &Command,
-    argument: &Arg,
-    name: &ShownName<'_>,
-    sink: &mut W,
-) -> Result<(), Error>
+fn write_option_values<W: Sink>(is_option: bool, argument: &Arg, sink: &mut W) -> Result<(), Error>
     ensures { Writes W.taken W.failed result sink.old sink.new
-        (flag_line above.now.node command.now.node argument.now name.now) }
+        (if is_option then values_text argument.now else []) }
 {
-    write_front(above, command, argument, sink)?;
-    write_name(name, sink)?;
-    write_help(argument, sink)?;
-    put_all(sink, line_end().as_bytes())
+    if !is_option {
+        return Ok(());
+    }
+    write_values(argument, sink)
 }
 
 fn write_name<W: Sink>(name: &ShownName<'_>, sink: &mut W) -> Result<(), Error>
@@ -121,9 +101,12 @@ fn write_name<W: Sink>(name: &ShownName<'_>, sink: &mut W) -> Result<(), Error>
 }
 
 // How the value of an option may follow its name.
-fn value_sign(name: &ShownName<'_>) -> &'static str
-    ensures { result.now ≡ value_sign name.now }
+fn value_sign(is_option: bool, name: &ShownName<'_>) -> &'static str
+    ensures { result.now ≡ value_sign is_option name.now }
 {
+    if !is_option {
+        return "";
+    }
     match name {
         ShownName::Short(_) => "+",
         ShownName::Long(_) => "=",
