@@ -106,15 +106,15 @@ slash_safe (long ∷ longs) = (refl, tt)
 
 -- the word of these names
 abbrev spec_of : List ℕ → List (List ℕ) → Bool → List ℕ
-spec_of shorts longs takes = first_short shorts longs ++ (first_long longs ++ (cond takes (codes "=") []))
+spec_of shorts longs takes = first_short shorts longs ++ first_long longs ++ cond takes (codes "=") []
 
 spec_named : (shorts : List ℕ) (longs : List (List ℕ)) (takes : Bool) → AllByRecursion IsShortName shorts → AllByRecursion IsName longs → (no_names shorts && no_names longs) ≡ false → IsName (spec_of shorts longs takes)
 spec_named [] [] takes h k e = absurd (cc)
 spec_named [] (long ∷ longs) takes h (k, ks) e = named long (cond takes (codes "=") []) k (equals_safe takes)
-spec_named (short ∷ shorts) [] takes (h, hs) k e = named (encode_utf8 short ++ []) (cond takes (codes "=") []) (named (encode_utf8 short) [] h tt) (equals_safe takes)
+spec_named (short ∷ shorts) [] takes (h, hs) k e = named ((encode_utf8 short ++ []) ++ []) (cond takes (codes "=") []) (named (encode_utf8 short ++ []) [] (named (encode_utf8 short) [] h tt) tt) (equals_safe takes)
 spec_named (short ∷ shorts) (long ∷ longs) takes (h, hs) (k, ks) e =
-    named (encode_utf8 short ++ codes "/") (long ++ cond takes (codes "=") []) (named (encode_utf8 short) (codes "/") h (slash_safe (long ∷ longs)))
-    (safe_append long (cond takes (codes "=") []) (name_safe long k) (equals_safe takes))
+    named ((encode_utf8 short ++ codes "/") ++ long) (cond takes (codes "=") [])
+    (named (encode_utf8 short ++ codes "/") long (named (encode_utf8 short) (codes "/") h (slash_safe (long ∷ longs))) (name_safe long k)) (equals_safe takes)
 
 -- a plain argument that is no positional
 record IsSpecified (argument : Arg) : Type 0 where

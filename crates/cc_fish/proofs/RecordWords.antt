@@ -103,13 +103,15 @@ help_adds None = adds_none
 help_adds (Some help) = adds_operand (codes "-d") (single_quoted (line_feeds_as_spaces help)) (line_feeds_as_spaces help) (option_spelled _ refl) (single_quoted_spelled (line_feeds_as_spaces help))
 
 abbrev pub names_words : Arg → List (List ℕ)
-names_words argument = flat_map short_words (shown_shorts argument) ++ (flat_map long_words (shown_longs argument) ++ help_words argument.help)
+names_words argument = flat_map short_words (shown_shorts argument) ++ flat_map long_words (shown_longs argument) ++ help_words argument.help
 
 pub names_adds : (argument : Arg) → IsPlainArgument argument → Adds (names_text argument) (names_words argument)
 unfolding names_text
 names_adds argument is =
-    adds_append _ _ _ _ (adds_flat_map IsShortName short_text short_words short_adds (shown_shorts argument) (plain_shorts argument is))
-    (adds_append _ _ _ _ (adds_flat_map IsName long_text long_words long_adds (shown_longs argument) (plain_longs argument is)) (help_adds argument.help))
+    adds_append _ _ _ _
+    (adds_append _ _ _ _ (adds_flat_map IsShortName short_text short_words short_adds (shown_shorts argument) (plain_shorts argument is))
+    (adds_flat_map IsName long_text long_words long_adds (shown_longs argument) (plain_longs argument is)))
+    (help_adds argument.help)
 
 -- ---- listed values
 
@@ -126,7 +128,8 @@ value_once : (value : PossibleValue) (word : List ℕ) → advance (Some (in_dou
 unfolding value_text fish_quoted_for_eval fish_help_for_eval_of
 value_once value word =
     let help : List ℕ = single_quoted (line_feeds_as_spaces (unwrap_or value.help [])) in
-    advance-append (double_escaped (fish_quoted value.name)) (codes "\\t" ++ double_escaped help) (Some (in_double word))
+    ap (advance (Some (in_double word))) (append_assoc (double_escaped (fish_quoted value.name)) (codes "\\t") (double_escaped help))
+    ∙ advance-append (double_escaped (fish_quoted value.name)) (codes "\\t" ++ double_escaped help) (Some (in_double word))
     ∙ ap (λ place. advance place (codes "\\t" ++ double_escaped help)) (double_read (fish_quoted value.name) word)
     ∙ tab_once (word ++ fish_quoted value.name) help
     ∙ ap (λ t. Some (in_double t)) (simp append_assoc)
@@ -258,12 +261,14 @@ part_adds (Some values) hint =
     adds_offer (ascii.double_quote ∷ (raw ++ ascii.double_quote ∷ [])) once (in_doubles raw once (values_once (shown_of values) false []))
 part_adds None hint = hint_adds hint
 
-abbrev pub values_words : Arg → List (List ℕ)
-values_words argument = part_words (possible_values argument) argument.value_hint
+abbrev pub values_words : Bool → Arg → List (List ℕ)
+values_words true argument = part_words (possible_values argument) argument.value_hint
+values_words false argument = []
 
-pub values_adds : (argument : Arg) → Adds (values_text true argument) (values_words argument)
+pub values_adds : (takes : Bool) (argument : Arg) → Adds (values_text takes argument) (values_words takes argument)
 unfolding values_text
-values_adds argument = part_adds (possible_values argument) argument.value_hint
+values_adds true argument = part_adds (possible_values argument) argument.value_hint
+values_adds false argument = adds_none
 
 -- ---- a child's name
 

@@ -82,11 +82,11 @@ names_read : (bin_name : List ℕ) (argument : Arg) (when : Option Condition) (w
     → record_from an_option (at bin_name when) (names_words argument ++ words) ≡ record_from an_option (flag_record bin_name when argument) words
 names_read bin_name argument when words =
     let front : Record = at bin_name when in
+    let shorts : List (List ℕ) = flat_map short_words (shown_shorts argument) in
     let longs : List (List ℕ) = flat_map long_words (shown_longs argument) in
     let help : List (List ℕ) = help_words argument.help in
-    ap (record_from an_option front) (append_assoc (flat_map short_words (shown_shorts argument)) (longs ++ help) words)
-    ∙ shorts_read (shown_shorts argument) front ((longs ++ help) ++ words)
-    ∙ ap (record_from an_option (record front { shorts = short_names argument })) (append_assoc longs help words)
+    ap (record_from an_option front) (append_assoc (shorts ++ longs) help words ∙ append_assoc shorts longs (help ++ words))
+    ∙ shorts_read (shown_shorts argument) front (longs ++ (help ++ words))
     ∙ longs_read (shown_longs argument) (record front { shorts = short_names argument }) (help ++ words)
     ∙ help_read argument.help (record front { shorts = short_names argument; longs = shown_longs argument }) words refl
 
@@ -112,14 +112,24 @@ abbrev offering : Record → List (List ℕ) → Option (List (List ℕ)) → Op
 offering read words offered =
     elim (option_map (λ offers. record read { offered = Some offers }) offered) as (λ x. Option Record) [ Some next ↦ record_from an_option next words | None ↦ None ]
 
-values_read : (bin_name : List ℕ) (argument : Arg) (when : Option Condition)
-    → record_from an_option (flag_record bin_name when argument) (values_words argument) ≡ Some (option_record bin_name when argument)
-values_read bin_name argument when = by (possible_values argument)
+option_read : (bin_name : List ℕ) (argument : Arg) (when : Option Condition)
+    → record_from an_option (flag_record bin_name when argument) (values_words true argument) ≡ Some (option_record bin_name when argument)
+option_read bin_name argument when = by (possible_values argument)
   where
     by : (values : Option (List PossibleValue)) → record_from an_option (flag_record bin_name when argument) (part_words values argument.value_hint)
         ≡ Some (record (flag_record bin_name when argument) { marks = value_marks (option_map shown_of values) argument.value_hint; offered = value_offers (option_map shown_of values) argument.value_hint })
     by (Some values) = ap (offering (record (flag_record bin_name when argument) { marks = record { required = true; no_files = true; files = false } }) []) (values_twice (shown_of values))
     by None = hint_read argument.value_hint bin_name when argument
+
+-- the record of an argument that takes values, or takes none
+abbrev argument_record : Bool → List ℕ → Option Condition → Arg → Record
+argument_record true bin_name when argument = option_record bin_name when argument
+argument_record false bin_name when argument = flag_record bin_name when argument
+
+values_read : (takes : Bool) (bin_name : List ℕ) (argument : Arg) (when : Option Condition)
+    → record_from an_option (flag_record bin_name when argument) (values_words takes argument) ≡ Some (argument_record takes bin_name when argument)
+values_read true bin_name argument when = option_read bin_name argument when
+values_read false bin_name argument when = refl
 
 name_offered : (name : List ℕ) → IsName name → offered_of name ≡ Some (name ∷ [])
 unfolding fish_commands
@@ -194,23 +204,18 @@ record_yields bin_name path children text words read is adds h =
           (front_read bin_name path children words (name_safe bin_name is.command) is.names is.excluded ∙ h);
     }
 
-flag_yields : (bin_name : List ℕ) (path : List (List ℕ)) (children : Forest) → IsAt bin_name path children → (argument : Arg) → IsPlainArgument argument
-    → Yields (argument_text (path_front bin_name path children) false argument) (flag_record bin_name (condition_at bin_name path children) argument ∷ [])
-unfolding argument_text values_text
-flag_yields bin_name path children is argument plain =
-    record_yields bin_name path children (names_text argument) (names_words argument) _ is (names_adds argument plain)
-    (ap (record_from an_option (at bin_name (condition_at bin_name path children))) (sym (append-nil (names_words argument))) ∙ names_read bin_name argument (condition_at bin_name path children) [])
-
-option_yields : (bin_name : List ℕ) (path : List (List ℕ)) (children : Forest) → IsAt bin_name path children → (argument : Arg) → IsPlainArgument argument
-    → Yields (argument_text (path_front bin_name path children) true argument) (option_record bin_name (condition_at bin_name path children) argument ∷ [])
+argument_yields : (bin_name : List ℕ) (path : List (List ℕ)) (children : Forest) → IsAt bin_name path children → (takes : Bool) (argument : Arg) → IsPlainArgument argument
+    → Yields (argument_text (path_front bin_name path children) takes argument) (argument_record takes bin_name (condition_at bin_name path children) argument ∷ [])
 unfolding argument_text
-option_yields bin_name path children is argument plain =
-    let front : List ℕ = path_front bin_name path children in
-    let one : Yields (front ++ ((names_text argument ++ values_text true argument) ++ line_feed ∷ [])) (option_record bin_name (condition_at bin_name path children) argument ∷ []) =
-    record_yields bin_name path children (names_text argument ++ values_text true argument) (names_words argument ++ values_words argument) (option_record bin_name (condition_at bin_name path children) argument) is
-    (adds_append (names_text argument) (values_text true argument) (names_words argument) (values_words argument) (names_adds argument plain) (values_adds argument))
-    (names_read bin_name argument (condition_at bin_name path children) (values_words argument) ∙ values_read bin_name argument (condition_at bin_name path children)) in
-    rw (← append_assoc (names_text argument) (values_text true argument) (line_feed ∷ [])) one
+argument_yields bin_name path children is takes argument plain =
+    let when : Option Condition = condition_at bin_name path children in
+    subst (λ t. Yields t (argument_record takes bin_name when argument ∷ [])) (regrouped (path_front bin_name path children) (names_text argument) (values_text takes argument))
+    (record_yields bin_name path children (names_text argument ++ values_text takes argument) (names_words argument ++ values_words takes argument) (argument_record takes bin_name when argument) is
+    (adds_append _ _ _ _ (names_adds argument plain) (values_adds takes argument))
+    (names_read bin_name argument when (values_words takes argument) ∙ values_read takes bin_name argument when))
+  where
+    regrouped : (front names values : List ℕ) → front ++ ((names ++ values) ++ line_feed ∷ []) ≡ front ++ names ++ values ++ line_feed ∷ []
+    regrouped front names values = simp append_assoc
 
 child_yields : (bin_name : List ℕ) (path : List (List ℕ)) (children : Forest) → IsAt bin_name path children → (no_files : Bool) (about : Option (List ℕ)) (name : List ℕ) → IsPlainName name
     → Yields (child_text (path_front bin_name path children) no_files about name) (child_record bin_name (condition_at bin_name path children) no_files about name ∷ [])
@@ -224,10 +229,11 @@ child_yields bin_name path children is no_files about name plain =
     record_yields bin_name path children (mark ++ (offer ++ help_text about)) (cond no_files (codes "-f" ∷ []) [] ++ (codes "-a" ∷ name ∷ help_words about)) _ is
     (adds_append _ _ _ _ (no_files_mark_adds no_files) (adds_append _ _ _ _ (child_offer_adds name named) (help_adds about)))
     (child_words_read bin_name no_files about name (condition_at bin_name path children) named) in
-    subst (λ t. Yields (front ++ t) (child_record bin_name (condition_at bin_name path children) no_files about name ∷ [])) (regrouped mark name (help_text about)) one
+    subst (λ t. Yields t (child_record bin_name (condition_at bin_name path children) no_files about name ∷ [])) (regrouped front mark name (help_text about)) one
   where
-    regrouped : (mark name help : List ℕ) → (mark ++ ((codes " -a \"" ++ (name ++ codes "\"")) ++ help)) ++ line_feed ∷ [] ≡ mark ++ (codes " -a \"" ++ (name ++ (codes "\"" ++ (help ++ line_feed ∷ []))))
-    regrouped mark name help = simp append_assoc
+    regrouped : (front mark name help : List ℕ) → front ++ ((mark ++ ((codes " -a \"" ++ (name ++ codes "\"")) ++ help)) ++ line_feed ∷ [])
+        ≡ front ++ mark ++ codes " -a \"" ++ name ++ codes "\"" ++ help ++ line_feed ∷ []
+    regrouped front mark name help = simp append_assoc
 
 children_yield : (bin_name : List ℕ) (path : List (List ℕ)) (children : Forest) → IsAt bin_name path children → (no_files : Bool) (siblings : Forest) → IsTrue (is_plain_forest siblings)
     → Yields (children_text (path_front bin_name path children) no_files siblings) (child_records bin_name (condition_at bin_name path children) no_files siblings)
@@ -247,7 +253,7 @@ node_yields bin_name path tree is plain =
     let when : Option Condition = condition_at bin_name path tree.children in
     let node = plain_node tree.node plain.node in
     yields_append _ _ _ _
-    (yields_map IsPlainArgument (argument_text front true) (option_record bin_name when) (option_yields bin_name path tree.children is) (options tree.node) node.options)
     (yields_append _ _ _ _
-    (yields_map IsPlainArgument (argument_text front false) (flag_record bin_name when) (flag_yields bin_name path tree.children is) (flags tree.node) node.flags)
-    (children_yield bin_name path tree.children is (not (has_positionals tree.node)) tree.children plain.children))
+    (yields_map IsPlainArgument (argument_text front true) (option_record bin_name when) (argument_yields bin_name path tree.children is true) (options tree.node) node.options)
+    (yields_map IsPlainArgument (argument_text front false) (flag_record bin_name when) (argument_yields bin_name path tree.children is false) (flags tree.node) node.flags))
+    (children_yield bin_name path tree.children is (not (has_positionals tree.node)) tree.children plain.children)

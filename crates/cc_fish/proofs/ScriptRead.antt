@@ -115,8 +115,9 @@ hold_node bin_name when tree =
     let of_options : List Record = map (option_record bin_name when) (options tree.node) in
     let of_flags : List Record = map (flag_record bin_name when) (flags tree.node) in
     let of_children : List Record = child_records bin_name when (not (has_positionals tree.node)) tree.children in
-    hold_append path of_options (of_flags ++ of_children) (hold_map path (option_record bin_name when) (λ argument. refl) (options tree.node))
-    (hold_append path of_flags of_children (hold_map path (flag_record bin_name when) (λ argument. refl) (flags tree.node)) (hold_children bin_name when (not (has_positionals tree.node)) tree.children))
+    hold_append path (of_options ++ of_flags) of_children
+    (hold_append path of_options of_flags (hold_map path (option_record bin_name when) (λ argument. refl) (options tree.node)) (hold_map path (flag_record bin_name when) (λ argument. refl) (flags tree.node)))
+    (hold_children bin_name when (not (has_positionals tree.node)) tree.children)
 
 -- a condition is that of its path
 condition_at-path : (bin_name : List ℕ) (path : List (List ℕ)) (children : Forest) → condition_path (condition_at bin_name path children) ≡ path

@@ -47,11 +47,11 @@ key_condition function (byte ∷ bytes) children =
 
 abbrev pub condition_text : Option (List ℕ) → List ℕ
 condition_text None = []
-condition_text (Some text) = codes " -n \"" ++ (text ++ codes "\"")
+condition_text (Some text) = codes " -n \"" ++ text ++ codes "\""
 
 -- what each record of a node begins with
 unfoldable pub front_text : List ℕ → Option (List ℕ) → List ℕ
-front_text bin_name when = codes "complete -c " ++ (bin_name ++ condition_text when)
+front_text bin_name when = codes "complete -c " ++ bin_name ++ condition_text when
 
 -- ---- the names and the help of an argument
 
@@ -63,17 +63,17 @@ long_text long = codes " -l " ++ long
 
 abbrev pub help_text : Option (List ℕ) → List ℕ
 help_text None = []
-help_text (Some help) = codes " -d '" ++ (fish_escaped help ++ codes "'")
+help_text (Some help) = codes " -d '" ++ fish_escaped help ++ codes "'"
 
 unfoldable pub names_text : Arg → List ℕ
 names_text argument =
-    flat_map short_text (shown_shorts argument) ++ (flat_map long_text (shown_longs argument) ++ help_text argument.help)
+    flat_map short_text (shown_shorts argument) ++ flat_map long_text (shown_longs argument) ++ help_text argument.help
 
 -- ---- what an option's value may be
 
 -- a value that is listed: its name, a tab and its help or nothing, quoted for two readings
 unfoldable pub value_text : PossibleValue → List ℕ
-value_text value = fish_quoted_for_eval value.name ++ (codes "\\t" ++ fish_help_for_eval_of (unwrap_or value.help []))
+value_text value = fish_quoted_for_eval value.name ++ codes "\\t" ++ fish_help_for_eval_of (unwrap_or value.help [])
 
 -- the values of a list that are shown, each on a line of its own
 unfoldable pub value_lines : List PossibleValue → List ℕ
@@ -83,7 +83,7 @@ unfoldable pub list_begin : List ℕ
 list_begin = codes " -r -f -a \""
 
 unfoldable pub listed_text : List PossibleValue → List ℕ
-listed_text values = list_begin ++ (value_lines values ++ codes "\"")
+listed_text values = list_begin ++ value_lines values ++ codes "\""
 
 unfoldable pub hint_text : ValueHint → List ℕ
 hint_text Unknown = codes " -r"
@@ -111,12 +111,12 @@ values_text false argument = []
 
 -- the record of an argument that takes values, or takes none
 unfoldable pub argument_text : List ℕ → Bool → Arg → List ℕ
-argument_text front takes argument = front ++ (names_text argument ++ (values_text takes argument ++ line_feed ∷ []))
+argument_text front takes argument = front ++ names_text argument ++ values_text takes argument ++ line_feed ∷ []
 
 -- the record of a child's name, which marks no files where the node has no positional
 unfoldable pub child_text : List ℕ → Bool → Option (List ℕ) → List ℕ → List ℕ
 child_text front no_files about name =
-    front ++ ((if no_files then codes " -f" else []) ++ (codes " -a \"" ++ (name ++ (codes "\"" ++ (help_text about ++ line_feed ∷ [])))))
+    front ++ (if no_files then codes " -f" else []) ++ codes " -a \"" ++ name ++ codes "\"" ++ help_text about ++ line_feed ∷ []
 
 abbrev pub children_text : List ℕ → Bool → Forest → List ℕ
 children_text front no_files none = []
@@ -134,7 +134,7 @@ below_text front tree = children_text front (not (has_positionals tree.node)) tr
 
 -- the records of a node: its options, its flags, its children's visible names
 unfoldable pub node_text : List ℕ → Tree → List ℕ
-node_text front tree = options_text front tree.node ++ (flags_text front tree.node ++ below_text front tree)
+node_text front tree = options_text front tree.node ++ flags_text front tree.node ++ below_text front tree
 
 -- the records of a visit
 unfoldable pub visit_text : List ℕ → List ℕ → Keyed (List ℕ) → List ℕ
@@ -161,8 +161,8 @@ first_long (long ∷ longs) = long
 -- what `argparse` is told of an argument: short, slash and long, and `=` where it takes values
 abbrev pub spec_word : Arg → List ℕ
 spec_word argument =
-    first_short (shown_shorts argument) (shown_longs argument) ++
-    (first_long (shown_longs argument) ++ (if takes_values argument then codes "=" else []))
+    first_short (shown_shorts argument) (shown_longs argument) ++ first_long (shown_longs argument)
+    ++ (if takes_values argument then codes "=" else [])
 
 unfoldable pub spec_text : Arg → List ℕ
 spec_text argument = space ∷ spec_word argument

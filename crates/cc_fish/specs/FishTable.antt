@@ -143,8 +143,8 @@ child_records bin_name when no_files (more node below rest) =
 -- the records of a node: its options, its flags, its children's visible names
 abbrev pub node_records : List ℕ → Option Condition → Tree → List Record
 node_records bin_name when tree =
-    map (option_record bin_name when) (options tree.node) ++
-    (map (flag_record bin_name when) (flags tree.node) ++ child_records bin_name when (not (has_positionals tree.node)) tree.children)
+    map (option_record bin_name when) (options tree.node) ++ map (flag_record bin_name when) (flags tree.node)
+    ++ child_records bin_name when (not (has_positionals tree.node)) tree.children
 
 -- the records at a visible path of a program
 abbrev pub table : List ℕ → Keyed (List (List ℕ)) → List Record
