@@ -1,14 +1,26 @@
-//! The generator.
+//! The generator, and the whole script: its frame, in it the cases and the arms.
 
-ghost use Rattle.std.specs.Prelude.{◌++◌, codes};
+ghost use Rattle.std.specs.Prelude.{◌++◌, ◌∷◌, codes, map, flat_map};
+ghost use Rattle.cc_base.specs.Sorting.{in_order};
+ghost use Rattle.cc_base.specs.Writes.{Writes};
+ghost use Rattle.cc_command.specs.Names.{full_name};
+ghost use Rattle.cc_bash.specs.Arms.{arm_below, arm_of, node_arm};
+ghost use Rattle.cc_bash.specs.CaseTable.{case_below, node_cases};
 ghost use Rattle.cc_bash.specs.Labels.{shared_label};
+ghost use Rattle.cc_bash.specs.Nodes.{labelled_of};
 ghost use Rattle.cc_bash.specs.Reads.{BashReads};
+ghost use Rattle.cc_bash.specs.Script.{arm_text, bash_script, case_text, head_text, tail_text};
 ghost use Rattle.cc_bash.specs.Script.{tree_script};
 
+use crate::arms::{sort_nodes, write_arm, write_arms};
+use crate::cases::{sorted_cases, write_cases};
 use crate::clash::shared_label;
-use crate::nodes::{labelled_nodes, replaced};
-use crate::script::write_script;
-use cc_base::{Error, Sink};
+use crate::nodes::{LabelledNode, labelled_nodes, replaced};
+use crate::texts::{
+    arms_begin, arms_end, cases_begin, function_begins, function_head, otherwise, script_ends,
+    sorted, unsorted,
+};
+use cc_base::{Error, Sink, as_error, put_all, put_pieces};
 use cc_command::{Command, full_name};
 use cc_flat::Flat;
 use cc_lists::Generator;
@@ -48,4 +60,85 @@ impl Generator for Bash {
         }
         write_script(alloc, command, root.as_str(), nodes, sink)
     }
+}
+
+// The root has this label, and below it are these nodes.
+fn write_script<W: Sink>(
+    alloc: Global,
+    command: &Command,
+    root: &str,
+    nodes: Vec<LabelledNode<'_>>,
+    sink: &mut W,
+) -> Result<(), Error>
+    ensures { Writes W.taken W.failed result sink.old sink.new
+        (bash_script root.now (full_name command.now.node)
+        (in_order case_below (flat_map node_cases (map labelled_of nodes.entry.items)))
+        (arm_of root.now 1 command.now
+        ∷ map node_arm (in_order arm_below (map labelled_of nodes.entry.items)))) }
+{
+    write_head(root, sink)?;
+    write_table(alloc, &nodes, sink)?;
+    put_all(sink, arms_begin().as_bytes())?;
+    // the root's path has one name
+    write_arm(alloc, root, 1, command, sink)?;
+    write_sorted_arms(alloc, nodes, sink)?;
+    write_tail(root, full_name(command), sink)
+}
+
+#[tactic(auto, unfolding(crate::specs::Script::head_text))]
+fn write_head<W: Sink>(label: &str, sink: &mut W) -> Result<(), Error>
+    ensures { Writes W.taken W.failed result sink.old sink.new (head_text label.now) }
+{
+    let pieces = [
+        function_begins().as_bytes(),
+        label.as_bytes(),
+        function_head().as_bytes(),
+        label.as_bytes(),
+        cases_begin().as_bytes(),
+    ];
+    as_error(put_pieces(sink, &pieces))
+}
+
+fn write_table<W: Sink>(
+    alloc: Global,
+    nodes: &[LabelledNode<'_>],
+    sink: &mut W,
+) -> Result<(), Error>
+    ensures { Writes W.taken W.failed result sink.old sink.new
+        (flat_map case_text
+        (in_order case_below (flat_map node_cases (map labelled_of nodes.now)))) }
+{
+    let cases = sorted_cases(alloc, nodes)?;
+    as_error(write_cases(&cases, sink))
+}
+
+fn write_sorted_arms<W: Sink>(
+    alloc: Global,
+    mut nodes: Vec<LabelledNode<'_>>,
+    sink: &mut W,
+) -> Result<(), Error>
+    ensures { Writes W.taken W.failed result sink.old sink.new
+        (flat_map arm_text
+        (map node_arm (in_order arm_below (map labelled_of nodes.entry.items)))) }
+{
+    sort_nodes(&mut nodes)?;
+    write_arms(alloc, &nodes, sink)
+}
+
+#[tactic(auto, unfolding(crate::specs::Script::tail_text))]
+fn write_tail<'a, W: Sink>(label: &'a str, bin: &'a str, sink: &mut W) -> Result<(), Error>
+    ensures { Writes W.taken W.failed result sink.old sink.new (tail_text label.now bin.now) }
+{
+    let pieces = [
+        arms_end().as_bytes(),
+        label.as_bytes(),
+        unsorted().as_bytes(),
+        bin.as_bytes(),
+        otherwise().as_bytes(),
+        label.as_bytes(),
+        sorted().as_bytes(),
+        bin.as_bytes(),
+        script_ends().as_bytes(),
+    ];
+    as_error(put_pieces(sink, &pieces))
 }

@@ -7,7 +7,6 @@ mod cases;
 mod clash;
 mod details;
 mod nodes;
-mod script;
 mod texts;
 mod words;
 

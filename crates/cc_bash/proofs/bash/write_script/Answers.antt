@@ -4,7 +4,7 @@ use Rattle.cc_bash.specs.Labels.{Labelled}
 use Rattle.cc_bash.specs.Nodes.{labelled_of}
 use Rattle.cc_bash.specs.Texts.{arms_begin}
 use Rattle.cc_bash.proofs.WholeScript.{script_pieces}
-use Rattle.cc_bash.proofs.script.write_script.Goals as goal
+use Rattle.cc_bash.proofs.bash.write_script.Goals as goal
 
 pub returns : goal.returns
 returns g c =
