@@ -60,17 +60,8 @@ fn push_cases<'a, 'b>(
 {
     let from = node.parent.as_str();
     let to = node.label.as_str();
-    cases.push(Case {
-        from,
-        word: node.command.get_name(),
-        to,
-    })?;
-    for alias in node.command.get_visible_aliases() {
-        cases.push(Case {
-            from,
-            word: alias.as_str(),
-            to,
-        })?;
+    for word in node.command.get_name_and_visible_aliases() {
+        cases.push(Case { from, word, to })?;
     }
     Ok(())
 }

@@ -190,9 +190,8 @@ fn write_names<W: Sink>(command: &Command, begun: &mut bool, sink: &mut W) -> Re
         (words_after begun.old (visible_names command.now.node)) }
     ensures begun { OnOk result (begun.new ≡ true) }
 {
-    put_word("", command.get_name(), begun, sink)?;
-    for alias in command.get_visible_aliases() {
-        put_word("", alias.as_str(), begun, sink)?;
+    for name in command.get_name_and_visible_aliases() {
+        put_word("", name, begun, sink)?;
     }
     Ok(())
 }
