@@ -24,10 +24,10 @@ pub(crate) fn sort_nodes(nodes: &mut Vec<LabelledNode<'_>>) -> Result<(), AllocE
     ensures { OnOk result (map labelled_of nodes.new.items
         ≡ in_order arm_below (map labelled_of nodes.old.items)) }
 {
-    nodes.sort_by(|one, other| compared(one, other))
+    nodes.sort_by(|one, other| compare_sort_texts(one, other))
 }
 
-fn compared(one: &LabelledNode<'_>, other: &LabelledNode<'_>) -> Ordering
+fn compare_sort_texts(one: &LabelledNode<'_>, other: &LabelledNode<'_>) -> Ordering
     ensures { result ≡ slice_cmp nat_cmp one.now.sort_text other.now.sort_text }
 {
     one.sort_text.as_str().cmp(other.sort_text.as_str())

@@ -67,7 +67,7 @@ fn labelled_pending<'a>(
     let mut nodes = Vec::new(alloc);
     while let Some(pending) = stack.pop() {
         let number = pending.number;
-        let node = labelled(alloc, flat.command(number), pending)?;
+        let node = labelled_node(alloc, flat.command(number), pending)?;
         push_children(
             &mut stack,
             alloc,
@@ -81,7 +81,7 @@ fn labelled_pending<'a>(
     Ok(nodes)
 }
 
-fn labelled<'a>(
+fn labelled_node<'a>(
     alloc: Global,
     command: &'a Command,
     pending: Pending,
