@@ -19,6 +19,18 @@ path_row : asked_name (Some (codes "/usr/bin/fish")) ≡ Some (codes "fish")
 unfolding path_file_stem path_file_name rsplit_once split_last_component trim_trailing
 path_row = refl
 
+unknown_path_row : asked_name (Some (codes "/bin/tcsh")) ≡ Some (codes "tcsh")
+unfolding path_file_stem path_file_name rsplit_once split_last_component trim_trailing
+unknown_path_row = refl
+
+pwsh_row : asked_name (Some (codes "/usr/bin/pwsh")) ≡ Some (codes "pwsh")
+unfolding path_file_stem path_file_name rsplit_once split_last_component trim_trailing
+pwsh_row = refl
+
+powershell_row : asked_name (Some (codes "powershell.exe")) ≡ Some (codes "powershell")
+unfolding path_file_stem path_file_name rsplit_once split_last_component trim_trailing
+powershell_row = refl
+
 extension_row : asked_name (Some (codes "powershell_ise.exe")) ≡ Some (codes "powershell_ise")
 unfolding path_file_stem path_file_name rsplit_once split_last_component trim_trailing
 extension_row = refl
