@@ -16,6 +16,7 @@ pub use Rattle.cc_base.specs.Writes
 pub use Rattle.cc_base.specs.declared.error.Error
 pub use Rattle.cc_base.specs.declared.failures.Failures
 -- quoted words
+pub use Rattle.cc_quote.specs.BashDouble
 pub use Rattle.cc_quote.specs.ElvishQuote
 pub use Rattle.cc_quote.specs.ElvishTokens
 pub use Rattle.cc_quote.specs.FishEscapes
@@ -30,6 +31,7 @@ pub use Rattle.cc_quote.specs.QuotedWord
 pub use Rattle.cc_quote.specs.Signs
 pub use Rattle.cc_quote.specs.Tokens
 pub use Rattle.cc_quote.specs.ZshQuote
+pub use Rattle.cc_quote.specs.ZshReply
 -- the command tree
 pub use Rattle.cc_arg.specs.Action
 pub use Rattle.cc_arg.specs.Aliases
