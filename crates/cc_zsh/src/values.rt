@@ -6,6 +6,7 @@ ghost use Rattle.cc_base.specs.Joined.{joined};
 ghost use Rattle.cc_base.specs.Writes.{Writes};
 ghost use Rattle.cc_zsh.specs.Values.{described_list, described_text, first_name, hint_text, is_described, list_text, named_list, named_text, one_value, range, shown_values, times, value_text, values_text};
 
+use crate::pieces::put_around;
 use cc_arg::{Arg, PossibleValue, ValueHint, ValueRange, possible_values};
 use cc_base::{Error, Sink, Text, put_all, put_separator};
 use cc_quote::{ZshHelpEscape, ZshValueEscape, put_escaped};
@@ -45,9 +46,7 @@ fn write_times<W: Sink>(count: usize, argument: &Arg, sink: &mut W) -> Result<()
 fn write_one<W: Sink>(argument: &Arg, sink: &mut W) -> Result<(), Error>
     ensures { Writes W.taken W.failed result sink.old sink.new (one_value argument.now) }
 {
-    put_all(sink, ":".as_bytes())?;
-    put_all(sink, first_name(argument.get_value_names()).as_bytes())?;
-    put_all(sink, ":".as_bytes())?;
+    put_around(":", first_name(argument.get_value_names()), ":", sink)?;
     write_value(argument, sink)
 }
 
