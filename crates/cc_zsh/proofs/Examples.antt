@@ -21,7 +21,7 @@ use Rattle.cc_zsh.specs.Nested.{arm_ends, arms_text, command_begins, state_begin
 use Rattle.cc_zsh.specs.Options.{flags_text, front_text, help_text, line_end, argument_line, argument_text, options_text}
 use Rattle.cc_zsh.specs.Positionals.{count_text, positional_escaped, positional_text, positionals_text}
 use Rattle.cc_zsh.specs.Values.{described_list, described_text, hint_text, list_text, named_list, named_text, one_value, value_text, values_text}
-use Rattle.cc_zsh.specs.ZshScript.{compdef_begins, autoloads, body_begins, begin_text, if_called, then_call, else_define, defined_for, if_ends, end_text, functions_text, body_ends, script_text, zsh_script}
+use Rattle.cc_zsh.specs.ZshScript.{compdef_begins, autoloads, body_begins, begin_text, if_called, then_call, else_define, if_ends, end_text, functions_text, body_ends, script_text, zsh_script}
 
 -- ---- single lines
 
@@ -248,5 +248,5 @@ whole : zsh_script app ≡
     ++ codes "else\n"
     ++ codes "    compdef _app app\n"
     ++ codes "fi\n"
-unfolding zsh_escaped_help encode_utf8 help_argument help_name help_help help_about placed in_order digits script_text begin_text compdef_begins autoloads body_begins body_ends root_text block_text block_begins block_ends options_text flags_text argument_text argument_line front_text conflicts_text help_text line_end positionals_text below_text children_text command_begins state_begins state_ends nested_begins case_state set_words set_context context_command case_line case_line_in nested_ends arms_text arm_ends functions_text sorted_functions function_text unless_defined function_begins commands_begin describe_begins describe_ends entry_text entries_text entries_end end_text if_called then_call else_define defined_for if_ends
+unfolding zsh_escaped_help encode_utf8 help_argument help_name help_help help_about placed in_order digits script_text begin_text compdef_begins autoloads body_begins body_ends root_text block_text block_begins block_ends options_text flags_text argument_text argument_line front_text conflicts_text help_text line_end positionals_text below_text children_text command_begins state_begins state_ends nested_begins case_state set_words set_context context_command case_line case_line_in nested_ends arms_text arm_ends functions_text sorted_functions function_text unless_defined function_begins commands_begin describe_begins describe_ends entry_text entries_text entries_end end_text if_called then_call else_define if_ends
 whole = refl

@@ -18,7 +18,7 @@ use Rattle.cc_zsh.specs.Functions.{function_text, tree_functions}
 use Rattle.cc_zsh.specs.Nested.{block_text, nested_begins, case_state, nested_ends, nested_text, arms_text, root_text, context_text}
 use Rattle.cc_zsh.specs.ZshReader.{Block, Description, State, ended, function_name, is_name_byte, next, next_arm, next_function, read, text_before, zsh_parts}
 use Rattle.cc_zsh.specs.ZshReader.State.{after_block, after_nested, before_blocks, between_functions, in_block}
-use Rattle.cc_zsh.specs.ZshScript.{compdef_begins, autoloads, body_begins, begin_text, body_ends, if_called, then_call, else_define, defined_for, if_ends, end_text, functions_text, script_text, zsh_script}
+use Rattle.cc_zsh.specs.ZshScript.{compdef_begins, autoloads, body_begins, begin_text, body_ends, if_called, then_call, else_define, if_ends, end_text, functions_text, script_text, zsh_script}
 use Rattle.cc_zsh.specs.ZshTable.{description_of}
 use Rattle.cc_zsh.proofs.ZshOptionWords.{AreNameBytes}
 use Rattle.cc_zsh.proofs.ZshLines.{reading}
@@ -162,11 +162,11 @@ module _ (blocks : List Block) (ds : List Description) (bin : List ℕ) (h : Are
   function_passed : next functions (bare (codes "_" ++ bin) ∷ []) ≡ functions
   function_passed = passed blocks ds (codes "_" ++ bin) (name_lacks (95 ∷ bin) (underscore, h))
 
-  last_read : reading functions (in_bare [] (codes "_")) (bin ++ (defined_for ++ (bin ++ if_ends)))
+  last_read : reading functions (in_bare [] (codes "_")) (bin ++ (codes " " ++ (bin ++ if_ends)))
       ≡ Some (record { blocks = blocks; descriptions = ds })
-  unfolding defined_for if_ends sign byte_of cut next next_function function_name text_before read ended
+  unfolding if_ends sign byte_of cut next next_function function_name text_before read ended
   last_read =
-      ap (read functions) (bare_run bin (defined_for ++ (bin ++ if_ends)) [] (codes "_") other)
+      ap (read functions) (bare_run bin (codes " " ++ (bin ++ if_ends)) [] (codes "_") other)
       ∙ ap (λ s. read s (tokens_from between (bin ++ if_ends))) function_passed
       ∙ by_first bin h other name_passed
     where
@@ -180,21 +180,21 @@ module _ (blocks : List Block) (ds : List Description) (bin : List ℕ) (h : Are
           ∙ ap (λ s. read s (tokens_from between (codes "fi\n"))) p
 
   third_read : reading functions (in_bare [] (codes "_"))
-      (bin ++ (else_define ++ (bin ++ (defined_for ++ (bin ++ if_ends)))))
+      (bin ++ (else_define ++ (bin ++ (codes " " ++ (bin ++ if_ends)))))
       ≡ Some (record { blocks = blocks; descriptions = ds })
   unfolding else_define sign byte_of cut next next_function function_name text_before read
   third_read =
       ap (read functions)
-      (bare_run bin (else_define ++ (bin ++ (defined_for ++ (bin ++ if_ends)))) [] (codes "_") other)
+      (bare_run bin (else_define ++ (bin ++ (codes " " ++ (bin ++ if_ends)))) [] (codes "_") other)
       ∙ ap (λ s. read s (tokens_from between (codes "\"$@\"\nelse\n    compdef _"
-      ++ (bin ++ (defined_for ++ (bin ++ if_ends)))))) function_passed
+      ++ (bin ++ (codes " " ++ (bin ++ if_ends)))))) function_passed
       ∙ last_read
 
   end_read : reading functions between (end_text bin)
       ≡ Some (record { blocks = blocks; descriptions = ds })
   unfolding end_text if_called then_call sign byte_of cut next next_function function_name text_before read
   end_read =
-      let third : List ℕ = bin ++ (else_define ++ (bin ++ (defined_for ++ (bin ++ if_ends)))) in
+      let third : List ℕ = bin ++ (else_define ++ (bin ++ (codes " " ++ (bin ++ if_ends)))) in
       ap (read functions) (double_run bin (then_call ++ third) [] (codes "_") (IsKept-IsOther bin other))
       ∙ third_read
 

@@ -45,9 +45,6 @@ then_call = codes "\" ]; then\n    _"
 unfoldable pub else_define : List ℕ
 else_define = codes " \"$@\"\nelse\n    compdef _"
 
-unfoldable pub defined_for : List ℕ
-defined_for = codes " "
-
 unfoldable pub if_ends : List ℕ
 if_ends = codes "\nfi\n"
 
@@ -56,7 +53,7 @@ if_ends = codes "\nfi\n"
 unfoldable pub end_text : List ℕ → List ℕ
 end_text bin_name =
     if_called ++ (bin_name ++ (then_call ++ (bin_name ++ (else_define
-    ++ (bin_name ++ (defined_for ++ (bin_name ++ if_ends)))))))
+    ++ (bin_name ++ (codes " " ++ (bin_name ++ if_ends)))))))
 
 -- all functions of a tree
 unfoldable pub functions_text : Tree → List ℕ

@@ -4,7 +4,7 @@ ghost use Rattle.std.specs.Prelude.{◌≡◌};
 ghost use Rattle.cc_zsh.specs.Functions.{entries_end, unless_defined, function_begins, commands_begin, describe_begins, describe_ends};
 ghost use Rattle.cc_zsh.specs.Nested.{arm_ends, command_begins, state_begins, state_ends, block_begins, block_ends, external_text, case_state, set_words, set_context, context_command, case_line, case_line_in, nested_ends};
 ghost use Rattle.cc_zsh.specs.Options.{line_end};
-ghost use Rattle.cc_zsh.specs.ZshScript.{compdef_begins, autoloads, body_begins, if_called, then_call, else_define, defined_for, if_ends, body_ends};
+ghost use Rattle.cc_zsh.specs.ZshScript.{compdef_begins, autoloads, body_begins, if_called, then_call, else_define, if_ends, body_ends};
 
 #[tactic(auto, unfolding(crate::specs::ZshScript::compdef_begins))]
 pub(crate) fn compdef_begins() -> &'static str
@@ -76,13 +76,6 @@ pub(crate) fn else_define() -> &'static str
     " \"$@\"
 else
     compdef _"
-}
-
-#[tactic(auto, unfolding(crate::specs::ZshScript::defined_for))]
-pub(crate) fn defined_for() -> &'static str
-    ensures { result.now ≡ defined_for }
-{
-    " "
 }
 
 #[tactic(auto, unfolding(crate::specs::ZshScript::if_ends))]

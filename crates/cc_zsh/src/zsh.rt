@@ -11,8 +11,7 @@ use crate::functions::write_functions;
 use crate::nested::write_root;
 use crate::pieces::put_around;
 use crate::texts::{
-    autoloads, body_begins, body_ends, compdef_begins, defined_for, else_define, if_called,
-    if_ends, then_call,
+    autoloads, body_begins, body_ends, compdef_begins, else_define, if_called, if_ends, then_call,
 };
 use cc_base::{Error, Sink, put_all};
 use cc_command::{Command, full_name};
@@ -81,6 +80,6 @@ fn write_end<W: Sink>(bin_name: &str, sink: &mut W) -> Result<(), Error>
     put_all(sink, if_called().as_bytes())?;
     put_around(bin_name, then_call(), bin_name, sink)?;
     put_all(sink, else_define().as_bytes())?;
-    put_around(bin_name, defined_for(), bin_name, sink)?;
+    put_around(bin_name, " ", bin_name, sink)?;
     put_all(sink, if_ends().as_bytes())
 }
