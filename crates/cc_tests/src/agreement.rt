@@ -1,14 +1,17 @@
 //! The bash script of a command beside what live completion offers, by the calls of `cc_agreement`.
 
-use crate::checks::{is, same};
+use crate::checks::{holds, is, same};
 use crate::fixtures::{CLASHING, tree};
+use crate::sinks::{BROKEN, ZERO, kind_of, narrow_sink, state_of};
+use crate::written::script;
 use cc_agreement::{bash_script_and_candidates, has_no_hidden_alias};
 use clap_complete::Error;
-use clap_complete::aot::Collected;
+use clap_complete::aot::{Bash, Collected, Sink};
 use clap_complete::command::Command;
 use clap_complete::engine::{Completers, CompletionCandidate, MemoryFolder};
 use std::alloc::{AllocError, Global};
 use std::fmt::Write;
+use std::io::ErrorKind;
 use std::process::Abort;
 
 // `app`, called `a` too, with a child `run`, shown as `r` too and called `go`, that has an option
@@ -47,10 +50,10 @@ fn a_hidden_alias_of_a_command_below_is_found(rt: HostRuntime) {
 }
 
 // What the call returns under the bin name `app`, with nothing lent and no folders.
-fn called(
+fn called<W: Sink>(
     alloc: Global,
     command: &mut Command,
-    sink: &mut Collected,
+    sink: &mut W,
     words: Vec<String>,
     index: usize,
 ) -> Result<Vec<CompletionCandidate>, Error> {
@@ -188,4 +191,58 @@ fn a_shared_label_fails_before_the_index_is_looked_at(rt: HostRuntime) {
     let (error, written) = failure(&rt, CLASHING, 1);
     assert!(rt; matches!(error, Some(Error::LabelClash(_))));
     same(&rt, written, 0);
+}
+
+// How the call for an empty word ends over a writer that takes `room` bytes of this kind: the kind
+// of the write that failed, and the state of the writer.
+fn end_of(
+    alloc: Global,
+    command: &mut Command,
+    room: usize,
+    kind: Option<ErrorKind>,
+    whole: &str,
+) -> Result<(Option<ErrorKind>, (u64, usize, bool)), Error> {
+    let words = line_of(alloc, &[])?;
+    let mut sink = narrow_sink(alloc, room, kind);
+    let failed = kind_of(called(alloc, command, &mut sink, words, 1));
+    let state = state_of(&sink, whole);
+    drop(sink);
+    Ok((failed, state))
+}
+
+// Whether a writer with too little room is reported as it is to be, and one with room enough gets
+// the whole script.
+fn reports_each(
+    alloc: Global,
+    command: &mut Command,
+    kind: Option<ErrorKind>,
+    reported: Option<ErrorKind>,
+    whole: &str,
+) -> Result<bool, Error> {
+    let length = whole.len();
+    for room in [0, 1, length / 2, length.saturating_sub(1)] {
+        if end_of(alloc, command, room, kind, whole)? != (reported, (1, room, true)) {
+            return Ok(false);
+        }
+    }
+    Ok(end_of(alloc, command, length, kind, whole)? == (None, (0, length, true)))
+}
+
+// Fails unless that is so of the script of `CALLED`.
+fn reports<R: Abort + AllocGlobal>(rt: &R, kind: Option<ErrorKind>, reported: Option<ErrorKind>) {
+    let whole = script(rt, Bash, CALLED).expect(rt, "no script");
+    let mut command = tree(rt, CALLED);
+    let reports = reports_each(rt.alloc(), &mut command, kind, reported, whole.as_str());
+    drop(command);
+    holds(rt, reports);
+}
+
+#[test]
+fn a_writer_that_fails_is_reported(rt: HostRuntime) {
+    reports(&rt, BROKEN, BROKEN);
+}
+
+#[test]
+fn a_writer_that_takes_nothing_more_is_reported(rt: HostRuntime) {
+    reports(&rt, None, ZERO);
 }

@@ -10,10 +10,10 @@ use std::alloc::{AllocError, Global};
 use std::io::{self, ErrorKind, Write};
 use std::process::Abort;
 
-// A writer that takes one byte a call, and fails once it holds `room` bytes; with no kind it then
-// takes nothing.
+/// A writer that takes one byte a call, and fails once it holds `room` bytes; with no kind it then
+/// takes nothing.
 #[derive(Drop)]
-struct Narrow {
+pub(crate) struct Narrow {
     held: Vec<u8>,
     room: usize,
     kind: Option<ErrorKind>,
@@ -60,7 +60,7 @@ impl Write for Measured {
     }
 }
 
-fn narrow_sink(alloc: Global, room: usize, kind: Option<ErrorKind>) -> Counted<Narrow> {
+pub(crate) fn narrow_sink(alloc: Global, room: usize, kind: Option<ErrorKind>) -> Counted<Narrow> {
     let held = Vec::new(alloc);
     Counted::new(Narrow { held, room, kind })
 }
@@ -95,16 +95,16 @@ fn one_byte_a_call_is_the_same_script(rt: HostRuntime) {
     }
 }
 
-// The kind of the write that failed, if one did.
-fn kind_of(written: Result<(), Error>) -> Option<ErrorKind> {
+/// The kind of the write that failed, if one did.
+pub(crate) fn kind_of<T: Drop>(written: Result<T, Error>) -> Option<ErrorKind> {
     match written {
         Err(Error::Write(kind)) => Some(kind),
         _ => None,
     }
 }
 
-// How many writes to a narrow writer failed, how much it took, and whether `whole` begins with it.
-fn state_of(sink: &Counted<Narrow>, whole: &str) -> (u64, usize, bool) {
+/// How many writes to a narrow writer failed, how much it took, and whether `whole` begins with it.
+pub(crate) fn state_of(sink: &Counted<Narrow>, whole: &str) -> (u64, usize, bool) {
     let held = sink.get_ref().held.as_slice();
     (
         sink.failures(),
@@ -130,11 +130,11 @@ fn end_of(
     Ok((kind, state))
 }
 
-const BROKEN: Option<ErrorKind> = Some(ErrorKind::BrokenPipe);
+pub(crate) const BROKEN: Option<ErrorKind> = Some(ErrorKind::BrokenPipe);
 
 const ROOMY: (usize, Option<ErrorKind>) = (usize::MAX, None);
 
-const ZERO: Option<ErrorKind> = Some(ErrorKind::WriteZero);
+pub(crate) const ZERO: Option<ErrorKind> = Some(ErrorKind::WriteZero);
 
 // Whether a writer with too little room, for each such room, is reported as it is to be, and a call
 // with room enough then writes the whole script.
