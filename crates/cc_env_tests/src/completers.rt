@@ -1,8 +1,11 @@
-//! Completers that hold any character, as the shells read them in their registrations.
+//! Completers that hold any character, or any of a plain path, as the shells read them in their
+//! registrations.
 
 use cc_adapters::{Builtin, EnvCompleter};
 use cc_base::{Collected, Error};
-use cc_quote::{bash_double_word, fish_double, fish_word, posix_word};
+use cc_quote::{
+    bash_double_word, elvish_word, fish_double, fish_word, posix_word, powershell_word,
+};
 use std::alloc::{AllocError, Global};
 use std::process::Abort;
 
@@ -19,6 +22,30 @@ fn zsh_reads_any_character_of_a_completer(rt: HostRuntime) {
 #[test]
 fn fish_reads_any_character_of_a_completer(rt: HostRuntime) {
     reads_each(&rt, Builtin::Fish);
+}
+
+#[test]
+fn elvish_reads_any_character_of_a_plain_path(rt: HostRuntime) {
+    reads_each_of_paths(&rt, Builtin::Elvish);
+}
+
+#[test]
+fn powershell_reads_any_character_of_a_plain_path(rt: HostRuntime) {
+    reads_each_of_paths(&rt, Builtin::Powershell);
+}
+
+// The characters of plain paths. A completer with any other is quoted as for a POSIX shell, in the
+// registrations of these two shells too, which may read it otherwise.
+const OF_PATHS: &str = "ABCDEFGHIJKLMNOPQRSTUVWXYZabcdefghijklmnopqrstuvwxyz0123456789/._-";
+
+// Fails unless the shell reads each character of a plain path, and all of them.
+fn reads_each_of_paths<R: Abort + AllocGlobal>(rt: &R, shell: Builtin) {
+    for character in OF_PATHS.chars() {
+        let mut text = String::new(rt.alloc());
+        text.push(character).expect(rt, "no text");
+        reads(rt, shell, text.as_str());
+    }
+    reads(rt, shell, OF_PATHS);
 }
 
 // Fails unless the shell reads each ASCII character but NUL, a line feed among them, and a
@@ -50,6 +77,8 @@ fn registration(alloc: Global, shell: Builtin, completer: &str) -> Result<String
 fn read_completer(alloc: Global, shell: Builtin, text: &str) -> Result<Option<String>, Error> {
     match shell {
         Builtin::Bash => Ok(word(bash_double_word(alloc, after(text, "V=\"bash\" \\\n        "))?)),
+        Builtin::Elvish => Ok(word(elvish_word(alloc, after(text, "V=\"elvish\" "))?)),
+        Builtin::Powershell => Ok(word(powershell_word(alloc, after(text, "\n& "))?)),
         Builtin::Zsh => Ok(word(posix_word(alloc, after(text, "V=\"zsh\" \\\n        "))?)),
         _ => read_twice(alloc, after(text, " --arguments ")),
     }
