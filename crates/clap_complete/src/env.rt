@@ -2,4 +2,5 @@
 
 pub use cc_adapters::{Bash, Builtin, Elvish, EnvCompleter, Fish, Names, Powershell, Shells, Zsh};
 pub use cc_env::EnvValues;
+pub use cc_registrations::is_plain_path;
 pub use cc_requests::CompleteEnv;
