@@ -6,6 +6,7 @@ use cc_base::{Collected, Error};
 use cc_quote::{
     bash_double_word, elvish_word, fish_double, fish_word, posix_word, powershell_word,
 };
+use cc_registrations::is_plain_path;
 use std::alloc::{AllocError, Global};
 use std::process::Abort;
 
@@ -46,6 +47,15 @@ fn reads_each_of_paths<R: Abort + AllocGlobal>(rt: &R, shell: Builtin) {
         reads(rt, shell, text.as_str());
     }
     reads(rt, shell, OF_PATHS);
+}
+
+#[test]
+fn some_completers_are_plain_paths(rt: HostRuntime) {
+    assert!(rt; is_plain_path("/w/./app"));
+    assert!(rt; is_plain_path("my_app-2"));
+    assert!(rt; !is_plain_path(""));
+    assert!(rt; !is_plain_path("/path with a space/c"));
+    assert!(rt; !is_plain_path("a+b"));
 }
 
 // Fails unless the shell reads each ASCII character but NUL, a line feed among them, and a

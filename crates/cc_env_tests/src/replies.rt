@@ -49,6 +49,16 @@ fn bash_and_elvish_read_values(rt: HostRuntime) {
 fn no_word_at_the_index(rt: HostRuntime) {
     refuses(&rt, &Bash, TESTED, "1", &["app"]);
     refuses(&rt, &Bash, TESTED, "99999999999999999999", &["app", ""]);
+    refuses(&rt, &Elvish, TESTED, "99999999999999999999", &["app", ""]);
+    refuses(&rt, &Zsh, TESTED, "99999999999999999999", &["app", ""]);
+}
+
+#[test]
+fn no_word_at_all(rt: HostRuntime) {
+    refuses(&rt, &Bash, TESTED, "0", &[]);
+    refuses(&rt, &Elvish, TESTED, "0", &[]);
+    refuses(&rt, &Zsh, TESTED, "0", &[]);
+    refuses(&rt, &Zsh, TESTED, "1", &[]);
     refuses(&rt, &Fish, TESTED, "0", &[]);
     refuses(&rt, &Powershell, TESTED, "0", &[]);
 }
