@@ -29,10 +29,10 @@ fn no_word_at_the_index(rt: HostRuntime) {
     );
 }
 
-// An index text that is no number is read as 0, the program's name.
+// An index text that is no `usize` is read as 0, the program's name.
 #[test]
 fn an_index_that_is_no_number(rt: HostRuntime) {
-    for index in ["one", "", "-1", "1 "] {
+    for index in ["one", "", "-1", "1 ", "99999999999999999999"] {
         without_word(&rt, "bash", index);
         without_word(&rt, "elvish", index);
         without_word(&rt, "zsh", index);

@@ -185,6 +185,10 @@ fn elvish_and_powershell_read_the_completer_between_single_quotes(rt: HostRuntim
         "/path with a space/c",
         "\n& '/path with a space/c' -- $args\n",
     );
+    let odd = "/o'p $x\\y\nz";
+    let quoted = "=\"elvish\" '/o'\\''p $x\\y\nz' -- $@words";
+    calls(&rt, "elvish", odd, quoted);
+    calls(&rt, "powershell", odd, "\n& '/o'\\''p $x\\y\nz' -- $args\n");
 }
 
 // Fails unless the registration of a completer holds this part.
