@@ -193,25 +193,27 @@ fn a_shared_label_fails_before_the_index_is_looked_at(rt: HostRuntime) {
     same(&rt, written, 0);
 }
 
-// How the call for an empty word ends over a writer that takes `room` bytes of this kind: the kind
-// of the write that failed, and the state of the writer.
+// How the call for an empty word ends over a writer that takes `room` bytes of this kind: whether it
+// succeeds, the kind of the write that failed, and the state of the writer.
 fn end_of(
     alloc: Global,
     command: &mut Command,
     room: usize,
     kind: Option<ErrorKind>,
     whole: &str,
-) -> Result<(Option<ErrorKind>, (u64, usize, bool)), Error> {
+) -> Result<(bool, Option<ErrorKind>, (u64, usize, bool)), Error> {
     let words = line_of(alloc, &[])?;
     let mut sink = narrow_sink(alloc, room, kind);
-    let failed = kind_of(called(alloc, command, &mut sink, words, 1));
+    let returned = called(alloc, command, &mut sink, words, 1);
+    let succeeds = returned.is_ok();
+    let failed = kind_of(returned);
     let state = state_of(&sink, whole);
     drop(sink);
-    Ok((failed, state))
+    Ok((succeeds, failed, state))
 }
 
-// Whether a writer with too little room is reported as it is to be, and one with room enough gets
-// the whole script.
+// Whether a writer with too little room is reported as it is to be, and the call succeeds over one
+// with room enough, which gets the whole script.
 fn reports_each(
     alloc: Global,
     command: &mut Command,
@@ -221,11 +223,11 @@ fn reports_each(
 ) -> Result<bool, Error> {
     let length = whole.len();
     for room in [0, 1, length / 2, length.saturating_sub(1)] {
-        if end_of(alloc, command, room, kind, whole)? != (reported, (1, room, true)) {
+        if end_of(alloc, command, room, kind, whole)? != (false, reported, (1, room, true)) {
             return Ok(false);
         }
     }
-    Ok(end_of(alloc, command, length, kind, whole)? == (None, (0, length, true)))
+    Ok(end_of(alloc, command, length, kind, whole)? == (true, None, (0, length, true)))
 }
 
 // Fails unless that is so of the script of `CALLED`.
