@@ -1,8 +1,11 @@
 //! A bash script whose possible values are read back too.
 
-ghost use Rattle.std.specs.Prelude.{Some};
+ghost use Rattle.std.specs.Prelude.{◌≡◌, ◌&&◌, IfOk, Some};
 ghost use Rattle.std.specs.String.{string_bytes};
 ghost use Rattle.clap_complete.specs.Built.{built_under};
+ghost use Rattle.clap_complete.specs.Plain.{is_plain_tree};
+ghost use Rattle.clap_complete.specs.PlainName.{is_plain_name};
+ghost use Rattle.clap_complete.specs.Quiet.{is_quiet_tree};
 ghost use Rattle.cc_caller.specs.QuietScript.{TakesQuiet};
 
 use clap_complete::aot::{Bash, Sink};
@@ -21,8 +24,10 @@ pub fn write_bash_if_quiet<W: Sink>(
     bin_name: String,
     sink: &mut W,
 ) -> Result<bool, Error>
-    ensures { TakesQuiet result (W.taken sink.old) (W.taken sink.new)
+    ensures takes { TakesQuiet result (W.taken sink.old) (W.taken sink.new)
         (built_under (Some (string_bytes bin_name)) command.old) }
+    ensures writes { IfOk result (λ done. done ≡ (is_plain_tree command.old
+        && is_quiet_tree command.old && is_plain_name (string_bytes bin_name))) }
 {
     if !command.is_plain() || !command.has_quiet_values() || !is_plain_name(bin_name.as_str()) {
         return Ok(false);

@@ -2,9 +2,11 @@
 //! whose contract says which names it completes a word with.
 #![tactic(auto)]
 
-ghost use Rattle.std.specs.Prelude.{Some};
+ghost use Rattle.std.specs.Prelude.{◌≡◌, ◌&&◌, IfOk, Some};
 ghost use Rattle.std.specs.String.{string_bytes};
 ghost use Rattle.clap_complete.specs.Built.{built_under};
+ghost use Rattle.clap_complete.specs.Plain.{is_plain_tree};
+ghost use Rattle.clap_complete.specs.PlainName.{is_plain_name};
 ghost use Rattle.cc_caller.specs.PlainScript.{TakesPlain};
 
 mod bash;
@@ -27,8 +29,10 @@ pub fn write_if_plain<W: Sink>(
     bin_name: String,
     sink: &mut W,
 ) -> Result<bool, Error>
-    ensures { TakesPlain result (W.taken sink.old) (W.taken sink.new)
+    ensures takes { TakesPlain result (W.taken sink.old) (W.taken sink.new)
         (built_under (Some (string_bytes bin_name)) command.old) }
+    ensures writes { IfOk result (λ done. done ≡ (is_plain_tree command.old
+        && is_plain_name (string_bytes bin_name))) }
 {
     if !command.is_plain() || !is_plain_name(bin_name.as_str()) {
         return Ok(false);
