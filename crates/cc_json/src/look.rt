@@ -6,6 +6,8 @@ ghost use Rattle.std.specs.Option.{option_map};
 ghost use Rattle.std.specs.Str.{bytes_eq};
 ghost use Rattle.cc_json.specs.Seen.{items_view, view};
 ghost use Rattle.cc_json.specs.Keys.{has_only};
+ghost use Rattle.json.specs.Find.{get_member};
+ghost use Rattle.json.specs.Value.{members_view, value_view};
 ghost use Rattle.serde_json.specs.Find.{as_array, as_bool, as_null, as_number, as_str, as_u64, get};
 
 use crate::number::whole;
@@ -55,7 +57,29 @@ pub fn items<'v, 't>(value: &'v Value<'t>) -> Option<&'v Vec<Value<'t>>>
 pub fn member<'v, 't>(value: &'v Value<'t>, key: &str) -> Option<&'v Value<'t>>
     ensures { option_map (λ found. view found.now) result ≡ get key.now (view value.now) }
 {
-    value.get(key)
+    match value {
+        Value::Object(members) => last_member(members, key),
+        _ => None,
+    }
+}
+
+// The value of the last member with that key.
+fn last_member<'v, 't>(
+    members: &'v Vec<(&'t str, Value<'t>)>,
+    key: &str,
+) -> Option<&'v Value<'t>>
+    ensures { option_map (λ found. value_view found.now) result
+        ≡ get_member key.now (members_view members.now.items) }
+{
+    let mut left = members.len();
+    while left > 0 {
+        left -= 1;
+        let member = &members[left];
+        if is_same(member.0, key) {
+            return Some(&member.1);
+        }
+    }
+    None
 }
 
 /// Whether the value is an object with no key but these.
@@ -78,5 +102,13 @@ fn have_only_keys(members: &[(&str, Value<'_>)], keys: &[&str]) -> bool
 fn is_among(keys: &[&str], key: &str) -> bool
     ensures { result ≡ list_any (λ known. bytes_eq known.now key.now) keys.now }
 {
-    keys.iter().any(|known| *known == key)
+    keys.iter().any(|known| is_same(*known, key))
+}
+
+// Most keys differ in length, and comparing the bytes is a call.
+#[inline(always)]
+fn is_same(known: &str, key: &str) -> bool
+    ensures { result ≡ bytes_eq known.now key.now }
+{
+    known.len() == key.len() && known == key
 }
