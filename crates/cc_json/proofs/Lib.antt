@@ -1,2 +1,3 @@
+pub mod Digits
 pub mod Found
 pub mod Readings

@@ -64,10 +64,7 @@ pub fn member<'v, 't>(value: &'v Value<'t>, key: &str) -> Option<&'v Value<'t>>
 }
 
 // The value of the last member with that key.
-fn last_member<'v, 't>(
-    members: &'v Vec<(&'t str, Value<'t>)>,
-    key: &str,
-) -> Option<&'v Value<'t>>
+fn last_member<'v, 't>(members: &'v Vec<(&'t str, Value<'t>)>, key: &str) -> Option<&'v Value<'t>>
     ensures { option_map (λ found. value_view found.now) result
         ≡ get_member key.now (members_view members.now.items) }
 {
