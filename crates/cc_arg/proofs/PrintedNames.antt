@@ -2,7 +2,7 @@
 use Rattle.std.proofs.Common.{◌≡◌, ◌∙◌, ap, sym, refl, ℕ, suc, ◌-◌, ◌≤◌, List, [], ◌∷◌, ◌++◌, map, replicate, length, Bool, true, codes, arith, max}
 use Rattle.std.specs.Prelude.{flat_map}
 use Rattle.cc_base.specs.Joined.{joined, joined_after}
-use Rattle.cc_arg.specs.declared.arg.Arg.{Arg}
+use Rattle.cc_arg.specs.declared.parts.ArgParts.{ArgParts as Arg}
 use Rattle.cc_arg.specs.Arguments.{range_of}
 use Rattle.cc_arg.specs.Printed.{further, is_optional, names_for, placeholder, printed_names}
 

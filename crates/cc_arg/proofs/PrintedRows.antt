@@ -3,7 +3,7 @@ use Rattle.std.specs.Prelude.{◌≡◌, [], ◌∷◌, true, Some, refl, codes}
 use Rattle.std.specs.Char.{encode_utf8}
 use Rattle.cc_arg.specs.Arguments.{new_arg}
 use Rattle.cc_arg.specs.Printed.{printed, printed_behind, printed_names, printed_values}
-use Rattle.cc_arg.specs.declared.arg.Arg.{Arg}
+use Rattle.cc_arg.specs.declared.parts.ArgParts.{ArgParts as Arg}
 use Rattle.cc_arg.specs.declared.action.ArgAction.TheVariants.{Count}
 
 abbrev option : Arg

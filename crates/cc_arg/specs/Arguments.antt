@@ -1,6 +1,6 @@
 -- What an argument is as it is made, and what it counts as where nothing was given.
 use Rattle.std.specs.Prelude.{ℕ, List, [], length, max, Bool, false, if◌then◌else◌, Option, Some, None, unwrap_or, is_some, ◌||◌, ◌&&◌, not, ◌==◌, nat_lt, ◌^◌, ◌-◌}
-use Rattle.cc_arg.specs.declared.arg.Arg.{Arg}
+use Rattle.cc_arg.specs.declared.parts.ArgParts.{ArgParts as Arg}
 use Rattle.cc_arg.specs.declared.range.ValueRange.{ValueRange}
 use Rattle.cc_arg.specs.declared.action.ArgAction.{ArgAction}
 use Rattle.cc_arg.specs.declared.action.ArgAction.TheVariants.{Set, Append, SetTrue}

@@ -10,12 +10,14 @@ ghost use Rattle.cc_arg.specs.Arguments.{takes_values, filled, possible_values};
 
 use crate::action::ArgAction;
 use crate::aliases::{LongAndVisibleAliases, ShortAndVisibleAliases};
-use crate::possible_value::{PossibleValue, copy_of_given};
+use crate::parts::ArgParts;
+use crate::possible_value::PossibleValue;
 use crate::range::ValueRange;
 use crate::value_hint::ValueHint;
 use cc_base::{Error, Items, Text};
 use cc_candidates::{ArgValueCandidates, ArgValueCompleter};
-use std::alloc::{AllocError, Global};
+use std::alloc::Global;
+use std::marker::Model;
 
 /// An argument of a command. It is a positional where it has neither a short nor a long, and else
 /// an option or a flag, as it takes values or not.
@@ -25,32 +27,25 @@ use std::alloc::{AllocError, Global};
 /// where the short (long) is set.
 #[derive(Drop)]
 pub struct Arg {
-    id: Text,
-    short: Option<char>,
-    short_aliases: Items<char>,
-    visible_short_aliases: Items<char>,
-    long: Option<Text>,
-    aliases: Items<Text>,
-    visible_aliases: Items<Text>,
-    help: Option<Text>,
-    action: Option<ArgAction>,
-    num_args: Option<ValueRange>,
-    value_names: Items<Text>,
-    possible_values: Option<Items<PossibleValue>>,
-    value_hint: ValueHint,
-    value_terminator: Option<Text>,
-    help_heading: Option<Text>,
-    value_delimiter: Option<char>,
-    completer: Option<ArgValueCompleter>,
-    candidates: Option<ArgValueCandidates>,
-    index: Option<usize>,
-    display_order: Option<usize>,
-    conflicts: Items<Text>,
-    required: bool,
-    last: bool,
-    global: bool,
-    hide: bool,
-    allow_hyphen_values: bool,
+    parts: ArgParts,
+}
+
+impl Model for Arg {
+    ghost use Rattle.cc_arg.specs.declared.parts.ArgParts.{ArgParts};
+
+    ghost Value = { ArgParts };
+
+    ghost view = { λ argument. argument.parts };
+}
+
+impl From<ArgParts> for Arg {
+    ghost use Rattle.std.specs.Prelude.{◌≡◌};
+
+    ghost from_gives = { λ parts argument. argument ≡ parts };
+
+    fn from(parts: ArgParts) -> Arg {
+        Arg { parts }
+    }
 }
 
 impl Arg {
@@ -58,41 +53,14 @@ impl Arg {
     pub fn new(alloc: Global, id: String) -> Arg
         ensures { result ≡ new_arg (string_bytes id) }
     {
-        Arg {
-            id: Text::from(id),
-            short: None,
-            short_aliases: Items::new(alloc),
-            visible_short_aliases: Items::new(alloc),
-            long: None,
-            aliases: Items::new(alloc),
-            visible_aliases: Items::new(alloc),
-            help: None,
-            action: None,
-            num_args: None,
-            value_names: Items::new(alloc),
-            possible_values: None,
-            value_hint: ValueHint::Unknown,
-            value_terminator: None,
-            help_heading: None,
-            value_delimiter: None,
-            completer: None,
-            candidates: None,
-            index: None,
-            display_order: None,
-            conflicts: Items::new(alloc),
-            required: false,
-            last: false,
-            global: false,
-            hide: false,
-            allow_hyphen_values: false,
-        }
+        Arg::from(ArgParts::new(alloc, Text::from(id)))
     }
 
     /// Sets the short, the `c` of `-c`.
     pub fn short(mut self, short: char) -> Arg
         ensures { result ≡ record self { short = Some short } }
     {
-        self.short = Some(short);
+        self.parts.short = Some(short);
         self
     }
 
@@ -100,7 +68,7 @@ impl Arg {
     pub fn long(mut self, long: String) -> Arg
         ensures { result ≡ record self { long = Some (string_bytes long) } }
     {
-        self.long = Some(Text::from(long));
+        self.parts.long = Some(Text::from(long));
         self
     }
 
@@ -110,7 +78,7 @@ impl Arg {
             arg ≡ record self { short_aliases = self.short_aliases ++ alias ∷ [] }) }
         ensures memory { IfErr result (λ error. error ≡ Error.Memory) }
     {
-        let added = self.short_aliases.push(alias);
+        let added = self.parts.short_aliases.push(alias);
         Ok(added.map(|()| self)?)
     }
 
@@ -120,7 +88,7 @@ impl Arg {
             record self { visible_short_aliases = self.visible_short_aliases ++ alias ∷ [] }) }
         ensures memory { IfErr result (λ error. error ≡ Error.Memory) }
     {
-        let added = self.visible_short_aliases.push(alias);
+        let added = self.parts.visible_short_aliases.push(alias);
         Ok(added.map(|()| self)?)
     }
 
@@ -130,7 +98,7 @@ impl Arg {
             arg ≡ record self { aliases = self.aliases ++ string_bytes alias ∷ [] }) }
         ensures memory { IfErr result (λ error. error ≡ Error.Memory) }
     {
-        let added = self.aliases.push(Text::from(alias));
+        let added = self.parts.aliases.push(Text::from(alias));
         Ok(added.map(|()| self)?)
     }
 
@@ -140,7 +108,7 @@ impl Arg {
             record self { visible_aliases = self.visible_aliases ++ string_bytes alias ∷ [] }) }
         ensures memory { IfErr result (λ error. error ≡ Error.Memory) }
     {
-        let added = self.visible_aliases.push(Text::from(alias));
+        let added = self.parts.visible_aliases.push(Text::from(alias));
         Ok(added.map(|()| self)?)
     }
 
@@ -148,7 +116,7 @@ impl Arg {
     pub fn help(mut self, help: String) -> Arg
         ensures { result ≡ record self { help = Some (string_bytes help) } }
     {
-        self.help = Some(Text::from(help));
+        self.parts.help = Some(Text::from(help));
         self
     }
 
@@ -156,7 +124,7 @@ impl Arg {
     pub fn action(mut self, action: ArgAction) -> Arg
         ensures { result ≡ record self { action = Some action } }
     {
-        self.action = Some(action);
+        self.parts.action = Some(action);
         self
     }
 
@@ -164,7 +132,7 @@ impl Arg {
     pub fn num_args(mut self, range: ValueRange) -> Arg
         ensures { result ≡ record self { num_args = Some range } }
     {
-        self.num_args = Some(range);
+        self.parts.num_args = Some(range);
         self
     }
 
@@ -174,7 +142,7 @@ impl Arg {
             arg ≡ record self { value_names = self.value_names ++ string_bytes name ∷ [] }) }
         ensures memory { IfErr result (λ error. error ≡ Error.Memory) }
     {
-        let added = self.value_names.push(Text::from(name));
+        let added = self.parts.value_names.push(Text::from(name));
         Ok(added.map(|()| self)?)
     }
 
@@ -182,7 +150,7 @@ impl Arg {
     pub fn value_parser(mut self, values: Vec<PossibleValue>) -> Arg
         ensures { result ≡ record self { possible_values = Some values.items } }
     {
-        self.possible_values = Some(Items::from(values));
+        self.parts.possible_values = Some(Items::from(values));
         self
     }
 
@@ -190,7 +158,7 @@ impl Arg {
     pub fn value_hint(mut self, hint: ValueHint) -> Arg
         ensures { result ≡ record self { value_hint = hint } }
     {
-        self.value_hint = hint;
+        self.parts.value_hint = hint;
         self
     }
 
@@ -198,7 +166,7 @@ impl Arg {
     pub fn value_terminator(mut self, terminator: String) -> Arg
         ensures { result ≡ record self { value_terminator = Some (string_bytes terminator) } }
     {
-        self.value_terminator = Some(Text::from(terminator));
+        self.parts.value_terminator = Some(Text::from(terminator));
         self
     }
 
@@ -206,7 +174,7 @@ impl Arg {
     pub fn index(mut self, index: usize) -> Arg
         ensures { result ≡ record self { index = Some index } }
     {
-        self.index = Some(index);
+        self.parts.index = Some(index);
         self
     }
 
@@ -217,7 +185,7 @@ impl Arg {
             arg ≡ record self { conflicts = self.conflicts ++ string_bytes id ∷ [] }) }
         ensures memory { IfErr result (λ error. error ≡ Error.Memory) }
     {
-        let added = self.conflicts.push(Text::from(id));
+        let added = self.parts.conflicts.push(Text::from(id));
         Ok(added.map(|()| self)?)
     }
 
@@ -225,7 +193,7 @@ impl Arg {
     pub fn required(mut self, required: bool) -> Arg
         ensures { result ≡ record self { required = required } }
     {
-        self.required = required;
+        self.parts.required = required;
         self
     }
 
@@ -233,7 +201,7 @@ impl Arg {
     pub fn last(mut self, last: bool) -> Arg
         ensures { result ≡ record self { last = last } }
     {
-        self.last = last;
+        self.parts.last = last;
         self
     }
 
@@ -241,7 +209,7 @@ impl Arg {
     pub fn global(mut self, global: bool) -> Arg
         ensures { result ≡ record self { global = global } }
     {
-        self.global = global;
+        self.parts.global = global;
         self
     }
 
@@ -249,7 +217,7 @@ impl Arg {
     pub fn help_heading(mut self, heading: String) -> Arg
         ensures { result ≡ record self { help_heading = Some (string_bytes heading) } }
     {
-        self.help_heading = Some(Text::from(heading));
+        self.parts.help_heading = Some(Text::from(heading));
         self
     }
 
@@ -257,7 +225,7 @@ impl Arg {
     pub fn value_delimiter(mut self, delimiter: char) -> Arg
         ensures { result ≡ record self { value_delimiter = Some delimiter } }
     {
-        self.value_delimiter = Some(delimiter);
+        self.parts.value_delimiter = Some(delimiter);
         self
     }
 
@@ -265,7 +233,7 @@ impl Arg {
     pub fn display_order(mut self, order: usize) -> Arg
         ensures { result ≡ record self { display_order = Some order } }
     {
-        self.display_order = Some(order);
+        self.parts.display_order = Some(order);
         self
     }
 
@@ -273,7 +241,7 @@ impl Arg {
     pub fn allow_hyphen_values(mut self, allow: bool) -> Arg
         ensures { result ≡ record self { allow_hyphen_values = allow } }
     {
-        self.allow_hyphen_values = allow;
+        self.parts.allow_hyphen_values = allow;
         self
     }
 
@@ -282,7 +250,7 @@ impl Arg {
     pub fn add(mut self, completer: ArgValueCompleter) -> Arg
         ensures { result ≡ record self { completer = Some completer } }
     {
-        self.completer = Some(completer);
+        self.parts.completer = Some(completer);
         self
     }
 
@@ -291,7 +259,7 @@ impl Arg {
     pub fn add_candidates(mut self, candidates: ArgValueCandidates) -> Arg
         ensures { result ≡ record self { candidates = Some candidates } }
     {
-        self.candidates = Some(candidates);
+        self.parts.candidates = Some(candidates);
         self
     }
 
@@ -299,7 +267,7 @@ impl Arg {
     pub fn hide(mut self, hide: bool) -> Arg
         ensures { result ≡ record self { hide = hide } }
     {
-        self.hide = hide;
+        self.parts.hide = hide;
         self
     }
 
@@ -307,28 +275,28 @@ impl Arg {
     pub fn get_id(&self) -> &str
         ensures { result.now ≡ self.now.id }
     {
-        self.id.as_str()
+        self.parts.id.as_str()
     }
 
     /// The short.
     pub fn get_short(&self) -> Option<char>
         ensures { result ≡ self.now.short }
     {
-        self.short
+        self.parts.short
     }
 
     /// The shorts that are shown besides the short.
     pub fn get_visible_short_aliases(&self) -> &[char]
         ensures { result.now ≡ self.now.visible_short_aliases }
     {
-        self.visible_short_aliases.as_slice()
+        self.parts.visible_short_aliases.as_slice()
     }
 
     /// The shorts that work and are not shown.
     pub fn get_short_aliases(&self) -> &[char]
         ensures { result.now ≡ self.now.short_aliases }
     {
-        self.short_aliases.as_slice()
+        self.parts.short_aliases.as_slice()
     }
 
     /// The short, then its visible aliases; `None` without a short.
@@ -336,8 +304,8 @@ impl Arg {
         ensures { option_map shorts_left result
             ≡ option_map (λ short. short ∷ self.now.visible_short_aliases) self.now.short }
     {
-        let short = self.short?;
-        let aliases = self.visible_short_aliases.as_slice();
+        let short = self.parts.short?;
+        let aliases = self.parts.visible_short_aliases.as_slice();
         Some(ShortAndVisibleAliases::new(short, aliases))
     }
 
@@ -345,7 +313,7 @@ impl Arg {
     pub fn get_long(&self) -> Option<&str>
         ensures { option_copied result ≡ self.now.long }
     {
-        match &self.long {
+        match &self.parts.long {
             Some(long) => Some(long.as_str()),
             None => None,
         }
@@ -355,14 +323,14 @@ impl Arg {
     pub fn get_visible_aliases(&self) -> &[Text]
         ensures { result.now ≡ self.now.visible_aliases }
     {
-        self.visible_aliases.as_slice()
+        self.parts.visible_aliases.as_slice()
     }
 
     /// The longs that work and are not shown.
     pub fn get_aliases(&self) -> &[Text]
         ensures { result.now ≡ self.now.aliases }
     {
-        self.aliases.as_slice()
+        self.parts.aliases.as_slice()
     }
 
     /// The long, then its visible aliases; `None` without a long.
@@ -371,7 +339,7 @@ impl Arg {
             ≡ option_map (λ long. long ∷ self.now.visible_aliases) self.now.long }
     {
         let long = self.get_long()?;
-        let aliases = self.visible_aliases.as_slice();
+        let aliases = self.parts.visible_aliases.as_slice();
         Some(LongAndVisibleAliases::new(long, aliases))
     }
 
@@ -379,7 +347,7 @@ impl Arg {
     pub fn get_help(&self) -> Option<&str>
         ensures { option_copied result ≡ self.now.help }
     {
-        match &self.help {
+        match &self.parts.help {
             Some(help) => Some(help.as_str()),
             None => None,
         }
@@ -389,35 +357,35 @@ impl Arg {
     pub fn get_action(&self) -> ArgAction
         ensures { result ≡ unwrap_or self.now.action ArgAction.Set }
     {
-        self.action.unwrap_or(ArgAction::Set)
+        self.parts.action.unwrap_or(ArgAction::Set)
     }
 
     /// How many values one use takes, where it was said or the argument is built.
     pub fn get_num_args(&self) -> Option<ValueRange>
         ensures { result ≡ self.now.num_args }
     {
-        self.num_args
+        self.parts.num_args
     }
 
     /// The names of the values.
     pub fn get_value_names(&self) -> &[Text]
         ensures { result.now ≡ self.now.value_names }
     {
-        self.value_names.as_slice()
+        self.parts.value_names.as_slice()
     }
 
     /// What the values are.
     pub fn get_value_hint(&self) -> ValueHint
         ensures { result ≡ self.now.value_hint }
     {
-        self.value_hint
+        self.parts.value_hint
     }
 
     /// The word that ends the values.
     pub fn get_value_terminator(&self) -> Option<&str>
         ensures { option_copied result ≡ self.now.value_terminator }
     {
-        match &self.value_terminator {
+        match &self.parts.value_terminator {
             Some(terminator) => Some(terminator.as_str()),
             None => None,
         }
@@ -427,7 +395,7 @@ impl Arg {
     pub fn get_help_heading(&self) -> Option<&str>
         ensures { option_copied result ≡ self.now.help_heading }
     {
-        match &self.help_heading {
+        match &self.parts.help_heading {
             Some(heading) => Some(heading.as_str()),
             None => None,
         }
@@ -437,77 +405,77 @@ impl Arg {
     pub fn get_value_delimiter(&self) -> Option<char>
         ensures { result ≡ self.now.value_delimiter }
     {
-        self.value_delimiter
+        self.parts.value_delimiter
     }
 
     /// Whether words that begin with `-` are taken as values.
     pub fn is_allow_hyphen_values_set(&self) -> bool
         ensures { result ≡ self.now.allow_hyphen_values }
     {
-        self.allow_hyphen_values
+        self.parts.allow_hyphen_values
     }
 
     /// The number of the completer that is asked for values.
     pub fn get_completer(&self) -> Option<ArgValueCompleter>
         ensures { result ≡ self.now.completer }
     {
-        self.completer
+        self.parts.completer
     }
 
     /// The number of the list that values are taken from.
     pub fn get_candidates(&self) -> Option<ArgValueCandidates>
         ensures { result ≡ self.now.candidates }
     {
-        self.candidates
+        self.parts.candidates
     }
 
     /// The index of a positional, counted from 1, where it was set or the command is built.
     pub fn get_index(&self) -> Option<usize>
         ensures { result ≡ self.now.index }
     {
-        self.index
+        self.parts.index
     }
 
     /// The display order; 999 where none was given.
     pub fn get_display_order(&self) -> usize
         ensures { result ≡ unwrap_or self.now.display_order 999 }
     {
-        self.display_order.unwrap_or(999)
+        self.parts.display_order.unwrap_or(999)
     }
 
     /// Whether the argument has to be given.
     pub fn is_required_set(&self) -> bool
         ensures { result ≡ self.now.required }
     {
-        self.required
+        self.parts.required
     }
 
     /// Whether the argument is given only after `--`.
     pub fn is_last_set(&self) -> bool
         ensures { result ≡ self.now.last }
     {
-        self.last
+        self.parts.last
     }
 
     /// Whether a build propagates the argument to the commands below.
     pub fn is_global_set(&self) -> bool
         ensures { result ≡ self.now.global }
     {
-        self.global
+        self.parts.global
     }
 
     /// Whether the argument is left out of help texts.
     pub fn is_hide_set(&self) -> bool
         ensures { result ≡ self.now.hide }
     {
-        self.hide
+        self.parts.hide
     }
 
     /// Whether the argument has neither a short nor a long.
     pub fn is_positional(&self) -> bool
         ensures { result ≡ is_positional self.now }
     {
-        self.short.is_none() && self.long.is_none()
+        self.parts.short.is_none() && self.parts.long.is_none()
     }
 
     /// Whether the argument takes values, by the range that was given, else by the one that a
@@ -523,108 +491,31 @@ impl Arg {
         ensures equal { IfOk result (λ copy. copy ≡ self.now) }
         ensures memory { IfErr result (λ error. error ≡ Error.Memory) }
     {
-        let mut copy = self.without_texts(alloc, self.id.try_clone(alloc)?);
-        let copied = self.copy_texts_to(&mut copy, alloc);
-        Ok(copied.map(|()| copy)?)
-    }
-
-    // A copy under this id, with no other text and no list.
-    fn without_texts(&self, alloc: Global, id: Text) -> Arg
-        ensures { result ≡ record self.now {
-          id = id;
-          short_aliases = [];
-          visible_short_aliases = [];
-          long = None;
-          aliases = [];
-          visible_aliases = [];
-          help = None;
-          value_names = [];
-          possible_values = None;
-          value_terminator = None;
-          help_heading = None;
-          conflicts = [];
-        } }
-    {
-        Arg {
-            id,
-            short: self.short,
-            short_aliases: Items::new(alloc),
-            visible_short_aliases: Items::new(alloc),
-            long: None,
-            aliases: Items::new(alloc),
-            visible_aliases: Items::new(alloc),
-            help: None,
-            action: self.action,
-            num_args: self.num_args,
-            value_names: Items::new(alloc),
-            possible_values: None,
-            value_hint: self.value_hint,
-            value_terminator: None,
-            help_heading: None,
-            value_delimiter: self.value_delimiter,
-            completer: self.completer,
-            candidates: self.candidates,
-            index: self.index,
-            display_order: self.display_order,
-            conflicts: Items::new(alloc),
-            required: self.required,
-            last: self.last,
-            global: self.global,
-            hide: self.hide,
-            allow_hyphen_values: self.allow_hyphen_values,
-        }
-    }
-
-    // Gives a copy the texts and lists that it lacks.
-    fn copy_texts_to(&self, copy: &mut Arg, alloc: Global) -> Result<(), AllocError>
-        ensures ok { OnOk result (copy.new ≡ record copy.old {
-          short_aliases = self.now.short_aliases;
-          visible_short_aliases = self.now.visible_short_aliases;
-          long = self.now.long;
-          aliases = self.now.aliases;
-          visible_aliases = self.now.visible_aliases;
-          help = self.now.help;
-          value_names = self.now.value_names;
-          possible_values = self.now.possible_values;
-          value_terminator = self.now.value_terminator;
-          help_heading = self.now.help_heading;
-          conflicts = self.now.conflicts;
-        }) }
-    {
-        copy.short_aliases = Items::copy_of(alloc, self.short_aliases.as_slice())?;
-        copy.visible_short_aliases = Items::copy_of(alloc, self.visible_short_aliases.as_slice())?;
-        copy.long = Text::copy_of_some(alloc, self.get_long())?;
-        copy.aliases = Items::copy_of_texts(alloc, self.aliases.as_slice())?;
-        copy.visible_aliases = Items::copy_of_texts(alloc, self.visible_aliases.as_slice())?;
-        copy.help = Text::copy_of_some(alloc, self.get_help())?;
-        copy.value_names = Items::copy_of_texts(alloc, self.value_names.as_slice())?;
-        copy.possible_values = copy_of_given(alloc, &self.possible_values)?;
-        copy.value_terminator = Text::copy_of_some(alloc, self.get_value_terminator())?;
-        copy.help_heading = Text::copy_of_some(alloc, self.get_help_heading())?;
-        copy.conflicts = Items::copy_of_texts(alloc, self.conflicts.as_slice())?;
-        Ok(())
+        Ok(Arg {
+            parts: self.parts.try_clone(alloc)?,
+        })
     }
 
     // The range that counts: the given one, or the one that the action and the value names imply.
     pub(crate) fn counted_range(&self) -> ValueRange
         ensures { result ≡ range_of self.now }
     {
-        if let Some(range) = self.num_args {
+        if let Some(range) = self.parts.num_args {
             return range;
         }
-        if let Some(action) = self.action
+        if let Some(action) = self.parts.action
             && !action.takes_values()
         {
             return ValueRange::exactly(0);
         }
-        ValueRange::exactly(self.value_names.as_slice().len().max(1))
+        ValueRange::exactly(self.parts.value_names.as_slice().len().max(1))
     }
 
     // The action that counts: the given one, or the one that the range and the kind imply.
     pub(crate) fn counted_action(&self) -> ArgAction
         ensures { result ≡ action_of self.now }
     {
-        if let Some(action) = self.action {
+        if let Some(action) = self.parts.action {
             return action;
         }
         let greatest = self.counted_range().max_values();
@@ -645,7 +536,7 @@ pub fn possible_values(argument: &Arg) -> Option<&[PossibleValue]>
     if !argument.takes_values() {
         return None;
     }
-    match &argument.possible_values {
+    match &argument.parts.possible_values {
         Some(values) => Some(values.as_slice()),
         None => None,
     }
@@ -656,7 +547,7 @@ pub fn possible_values(argument: &Arg) -> Option<&[PossibleValue]>
 pub fn conflicting_ids(argument: &Arg) -> &[Text]
     ensures { result.now ≡ argument.now.conflicts }
 {
-    argument.conflicts.as_slice()
+    argument.parts.conflicts.as_slice()
 }
 
 // Filling in is done by free functions, so that `clap_complete` need not re-export them.
@@ -667,8 +558,8 @@ pub fn fill(argument: &mut Arg)
 {
     let range = argument.counted_range();
     let action = argument.counted_action();
-    argument.num_args = Some(range);
-    argument.action = Some(action);
+    argument.parts.num_args = Some(range);
+    argument.parts.action = Some(action);
 }
 
 /// Sets the index where the argument has none, as building a command does for a positional.
@@ -676,7 +567,7 @@ pub fn fill_index(argument: &mut Arg, index: usize)
     ensures { argument.new ≡
         record argument.old { index = Some (unwrap_or argument.old.index index) } }
 {
-    argument.index = Some(argument.index.unwrap_or(index));
+    argument.parts.index = Some(argument.parts.index.unwrap_or(index));
 }
 
 /// Sets the display order where the argument has none, as adding it to a command does.
@@ -684,5 +575,5 @@ pub fn fill_display_order(argument: &mut Arg, order: usize)
     ensures { argument.new ≡
         record argument.old { display_order = Some (unwrap_or argument.old.display_order order) } }
 {
-    argument.display_order = Some(argument.display_order.unwrap_or(order));
+    argument.parts.display_order = Some(argument.parts.display_order.unwrap_or(order));
 }

@@ -5,7 +5,7 @@ use Rattle.std.specs.Char.{encode_utf8}
 use Rattle.std.specs.Fmt.{digits}
 use Rattle.cc_arg.specs.Arguments.{new_arg}
 use Rattle.cc_arg.specs.PossibleValues.{new_possible_value}
-use Rattle.cc_arg.specs.declared.arg.Arg.{Arg}
+use Rattle.cc_arg.specs.declared.parts.ArgParts.{ArgParts as Arg}
 use Rattle.cc_base.specs.Sorting.{placed, in_order}
 use Rattle.cc_command.specs.Built.{built_under}
 use Rattle.cc_command.specs.Generated.{help_argument, version_argument}

@@ -3,7 +3,7 @@ use Rattle.std.proofs.Common.{codes, ◌≡◌, ℕ, Bool, false, ◌||◌, List
 use Rattle.std.proofs.lemmas.Bool.{cases_Bool}
 use Rattle.cc_base.specs.Joined.{has_texts}
 use Rattle.cc_base.proofs.JoinedTexts.{has_texts_append, joined_append}
-use Rattle.cc_arg.specs.declared.arg.Arg.{Arg}
+use Rattle.cc_arg.specs.declared.parts.ArgParts.{ArgParts as Arg}
 use Rattle.cc_arg.specs.Arguments.{is_positional}
 use Rattle.cc_command.specs.Tree.{Forest, Tree}
 use Rattle.cc_bash.specs.Arms.{long_words, short_words, sibling_names, value_names, words_at}

@@ -1,7 +1,7 @@
 -- What the code's nodes, its stack, its cases and its parts of the words stand for.
 use Rattle.std.specs.Prelude.{ℕ, suc, ◌<◌, ◌≤◌, List, [], ◌∷◌, length, map, if◌then◌else◌}
 use Rattle.std.specs.List.{All}
-use Rattle.cc_arg.specs.declared.arg.Arg.{Arg}
+use Rattle.cc_arg.specs.declared.parts.ArgParts.{ArgParts as Arg}
 use Rattle.cc_arg.specs.Arguments.{is_positional}
 use Rattle.cc_command.specs.Tree.{Tree}
 use Rattle.cc_flat.specs.Flat.{Entry, tree_at}

@@ -2,7 +2,7 @@
 use Rattle.std.proofs.Common.{◌≡◌, ℕ, zero, suc, ◌+◌, ◌<◌, List, [], ◌∷◌, ◌++◌, length, get_or, cond, not, ◌&&◌, ◌||◌, ◌==◌, Some, refl, ap, ◌∙◌, sym, arith, add-zero, zero-add, true, false}
 use Rattle.std.specs.List.{list_any}
 use Rattle.std.proofs.lemmas.Bool.Decides.{nat_tests}
-use Rattle.cc_arg.specs.declared.arg.Arg.{Arg}
+use Rattle.cc_arg.specs.declared.parts.ArgParts.{ArgParts as Arg}
 use Rattle.cc_command.specs.declared.node.Node.{Node}
 use Rattle.cc_command.specs.Texts.{help_name}
 use Rattle.cc_command.specs.Tree.{Forest, none, more, join, has_nodes, Tree, forest_of, forest_size}

@@ -2,7 +2,7 @@
 use Rattle.std.proofs.Common.{ℕ, suc, List, [], Bool, true, false, cond, ◌&&◌, IsTrue, Option, Some, refl}
 use Rattle.std.specs.List.{list_all}
 use Rattle.cc_base.proofs.Booleans.{both_true}
-use Rattle.cc_arg.specs.declared.arg.Arg.{Arg}
+use Rattle.cc_arg.specs.declared.parts.ArgParts.{ArgParts as Arg}
 use Rattle.cc_command.specs.declared.node.Node.{Node}
 use Rattle.cc_command.specs.Tree.{Forest, none, more, join, Tree}
 use Rattle.cc_command.specs.Names.{full_name, joined_name}

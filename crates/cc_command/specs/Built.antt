@@ -1,6 +1,6 @@
 -- The tree that building makes.
 use Rattle.std.specs.Prelude.{ℕ, suc, List, [], ◌∷◌, ◌++◌, Bool, true, not, if◌then◌else◌, ◌&&◌, Option, Some, is_some, map, filter}
-use Rattle.cc_arg.specs.declared.arg.Arg.{Arg}
+use Rattle.cc_arg.specs.declared.parts.ArgParts.{ArgParts as Arg}
 use Rattle.cc_arg.specs.Arguments.{filled, is_positional}
 use Rattle.cc_command.specs.declared.node.Node.{Node}
 use Rattle.cc_command.specs.Tree.{Forest, none, more, join, Tree}

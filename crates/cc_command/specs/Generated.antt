@@ -1,6 +1,6 @@
 -- What building adds to a tree: the arguments `help` and `version`, and the child `help`.
 use Rattle.std.specs.Prelude.{ℕ, suc, List, [], ◌∷◌, ◌++◌, Bool, true, false, not, if◌then◌else◌, ◌&&◌, Option, Some, is_some}
-use Rattle.cc_arg.specs.declared.arg.Arg.{Arg}
+use Rattle.cc_arg.specs.declared.parts.ArgParts.{ArgParts as Arg}
 use Rattle.cc_arg.specs.declared.action.ArgAction.TheVariants.{Help, Version}
 use Rattle.cc_arg.specs.Arguments.{new_arg}
 use Rattle.cc_command.specs.declared.node.Node.{Node}

@@ -1,7 +1,7 @@
 -- What the iterators over a command's names and arguments have left.
 use Rattle.std.specs.Prelude.{ℕ, List, ◌++◌, filter}
 use Rattle.std.specs.Option.{option_to_list, option_copied}
-use Rattle.cc_arg.specs.declared.arg.Arg.{Arg}
+use Rattle.cc_arg.specs.declared.parts.ArgParts.{ArgParts as Arg}
 use Rattle.cc_arg.specs.Arguments.{is_positional}
 use Rattle.cc_command.specs.ArgumentLists.{is_option, is_flag}
 use Rattle.cc_command.specs.declared.command.iterators.Options.{Options}

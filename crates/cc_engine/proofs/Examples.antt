@@ -3,7 +3,7 @@ use Rattle.std.proofs.Common.{◌≡◌, ℕ, List, [], ◌∷◌, Some, codes, 
 use Rattle.std.specs.Path.{path_file_name, path_join, split_last_component, trim_trailing}
 use Rattle.std.specs.Str.{chars}
 use Rattle.cc_arg.specs.declared.action.ArgAction.TheVariants.{SetTrue}
-use Rattle.cc_arg.specs.declared.arg.Arg.{Arg}
+use Rattle.cc_arg.specs.declared.parts.ArgParts.{ArgParts as Arg}
 use Rattle.cc_arg.specs.declared.value_hint.ValueHint.{ValueHint}
 use Rattle.cc_arg.specs.declared.value_hint.ValueHint.TheVariants.{FilePath}
 use Rattle.cc_arg.specs.Arguments.{exactly, new_arg}

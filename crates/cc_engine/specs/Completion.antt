@@ -2,7 +2,7 @@
 -- is made of their answers.
 use Rattle.std.specs.Prelude.{ℕ, List, [], ◌++◌, map, take, drop, get_or, ◌≡◌, ◌⊎◌, ◌&&◌, nat_le, nat_lt, Bool, false, true, Contains, Option, Some, None, if◌then◌else◌}
 use Rattle.std.specs.List.{list_any, AllByRecursion}
-use Rattle.cc_arg.specs.declared.arg.Arg.{Arg}
+use Rattle.cc_arg.specs.declared.parts.ArgParts.{ArgParts as Arg}
 use Rattle.cc_base.specs.declared.error.Error.{Error}
 use Rattle.cc_base.specs.declared.error.Error.TheVariants.{Memory, NoCompletion}
 use Rattle.cc_command.specs.Built.{built_tree}

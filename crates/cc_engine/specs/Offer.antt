@@ -1,6 +1,6 @@
 -- Which lists the words before the index leave open to the word there.
 use Rattle.std.specs.Prelude.{ℕ, List, Bool, false, true, not, ◌&&◌, nat_le, Option, Some, None, if◌then◌else◌}
-use Rattle.cc_arg.specs.declared.arg.Arg.{Arg}
+use Rattle.cc_arg.specs.declared.parts.ArgParts.{ArgParts as Arg}
 use Rattle.cc_arg.specs.Arguments.{range_of}
 use Rattle.cc_walk.specs.declared.state.Pending.{Pending}
 use Rattle.cc_walk.specs.declared.state.Pending.TheVariants.{Nothing, OptionOpen, PositionalRun, PlaceMoved}

@@ -6,7 +6,7 @@ use Rattle.std.proofs.lemmas.Bool.Decides.{nat_tests}
 use Rattle.std.proofs.lemmas.Str.{encode_ascii}
 use Rattle.cc_base.specs.Bytes.{dash, underscore}
 use Rattle.cc_base.proofs.Members.{AllByRecursion-weaker}
-use Rattle.cc_arg.specs.declared.arg.Arg.{Arg}
+use Rattle.cc_arg.specs.declared.parts.ArgParts.{ArgParts as Arg}
 use Rattle.cc_arg.specs.ShownNames.{with_aliases, shown_shorts, shown_longs}
 use Rattle.cc_command.specs.Names.{visible_names}
 use Rattle.cc_command.specs.Plain.{passes_if_some, is_plain_forest}

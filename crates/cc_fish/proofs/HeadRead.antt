@@ -1,7 +1,7 @@
 -- The head has no record.
 use Rattle.std.proofs.Common.{◌≡◌, ℕ, Bool, true, false, List, [], ◌∷◌, ◌++◌, refl, ap, ◌∙◌, append_assoc, inr, Option, Some, None, cond, codes, not, ◌&&◌, ◌||◌, filter, is_some, encode_utf8}
 use Rattle.std.specs.List.{AllByRecursion}
-use Rattle.cc_arg.specs.declared.arg.Arg.{Arg}
+use Rattle.cc_arg.specs.declared.parts.ArgParts.{ArgParts as Arg}
 use Rattle.cc_arg.specs.Arguments.{is_positional, takes_values}
 use Rattle.cc_arg.specs.ShownNames.{with_aliases, shown_shorts, shown_longs}
 use Rattle.cc_command.specs.Tree.{Forest, none, more, Tree, has_nodes}

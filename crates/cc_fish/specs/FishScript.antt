@@ -1,6 +1,6 @@
 -- The text of a fish script.
 use Rattle.std.specs.Prelude.{ℕ, List, [], ◌∷◌, ◌++◌, if◌then◌else◌, Bool, true, false, not, Option, Some, None, codes, encode_utf8, filter, flat_map, map, unwrap_or}
-use Rattle.cc_arg.specs.declared.arg.Arg.{Arg}
+use Rattle.cc_arg.specs.declared.parts.ArgParts.{ArgParts as Arg}
 use Rattle.cc_arg.specs.declared.possible_value.PossibleValue.{PossibleValue}
 use Rattle.cc_arg.specs.declared.value_hint.ValueHint.{ValueHint}
 use Rattle.cc_arg.specs.declared.value_hint.ValueHint.TheVariants.{Unknown, AnyPath, FilePath, DirPath, ExecutablePath, CommandName, CommandString, Username, Hostname}

@@ -3,7 +3,7 @@ use Rattle.std.proofs.Common.{◌≡◌, ℕ, List, [], ◌∷◌, ◌++◌, Boo
 use Rattle.std.specs.Prelude.{codes}
 use Rattle.std.specs.List.{flat_map}
 use Rattle.std.proofs.lemmas.List.Elements.{filter-append}
-use Rattle.cc_arg.specs.declared.arg.Arg.{Arg}
+use Rattle.cc_arg.specs.declared.parts.ArgParts.{ArgParts as Arg}
 use Rattle.cc_candidates.specs.Beginning.{begins}
 use Rattle.cc_arg.specs.ShownNames.{shown_longs}
 use Rattle.cc_gather.specs.Options.{long_candidate, long_candidates, hidden_candidates, longs, longs_beginning, hidden_beginning}

@@ -1,6 +1,6 @@
 -- What a word asks of the options.
 use Rattle.std.specs.Prelude.{ℕ, List, [], ◌∷◌, ◌++◌, ◌-◌, ◌==◌, filter, find, length, take, Option, Some, None, codes, chars, if◌then◌else◌}
-use Rattle.cc_arg.specs.declared.arg.Arg.{Arg}
+use Rattle.cc_arg.specs.declared.parts.ArgParts.{ArgParts as Arg}
 use Rattle.cc_candidates.specs.declared.candidate.CompletionCandidate.{CompletionCandidate}
 use Rattle.cc_candidates.specs.Beginning.{begins}
 use Rattle.cc_gather.specs.Numbers.{is_number}

@@ -1,7 +1,7 @@
 -- The shorts and the longs of a command's arguments.
 use Rattle.std.specs.Prelude.{ℕ, List, [], ◌∷◌, ◌++◌, Option, Some, None}
 use Rattle.std.specs.List.{flat_map}
-use Rattle.cc_arg.specs.declared.arg.Arg.{Arg}
+use Rattle.cc_arg.specs.declared.parts.ArgParts.{ArgParts as Arg}
 
 -- the aliases, then the name that was given first; nothing where there is no such name
 abbrev pub aliases_then : {A : Type 0} → List A → Option A → List A

@@ -4,7 +4,7 @@ use Rattle.std.proofs.Common.{codes, flat_map, refl, ap, ◌∙◌, inl, inr}
 use Rattle.std.specs.List.{AllByRecursion}
 use Rattle.std.proofs.lemmas.Bool.Decides.{eqb_tells}
 use Rattle.cc_base.proofs.Members.{AllByRecursion-weaker, AllByRecursion-append, AllByRecursion-map}
-use Rattle.cc_arg.specs.declared.arg.Arg.{Arg}
+use Rattle.cc_arg.specs.declared.parts.ArgParts.{ArgParts as Arg}
 use Rattle.cc_command.specs.ArgumentLists.{options, flags}
 use Rattle.cc_command.specs.Names.{full_name}
 use Rattle.cc_command.specs.Plain.{is_plain_tree}

@@ -2,7 +2,7 @@
 use Rattle.std.proofs.Common.{◌≡◌, Bool, true, false, List, ◌++◌, flat_map, ap₂, ◌∙◌}
 use Rattle.std.proofs.lemmas.List.Concat.{flat_map-append}
 use Rattle.std.proofs.lemmas.List.Folds.{flat_map-map}
-use Rattle.cc_arg.specs.declared.arg.Arg.{Arg}
+use Rattle.cc_arg.specs.declared.parts.ArgParts.{ArgParts as Arg}
 use Rattle.cc_command.specs.ArgumentLists.{options, flags}
 use Rattle.cc_command.specs.Tree.{Tree}
 use Rattle.cc_tables.specs.NushellScript.{argument_lines, line_text, node_lines, offer_line}

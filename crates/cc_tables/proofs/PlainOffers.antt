@@ -8,7 +8,7 @@ use Rattle.std.proofs.lemmas.Bool.Decides.{nat_tests}
 use Rattle.std.proofs.lemmas.Str.{encode_ascii}
 use Rattle.cc_base.proofs.Members.{AllByRecursion-weaker, AllByRecursion-append, AllByRecursion-map}
 use Rattle.cc_base.proofs.Members.{AllByRecursion-flat_map}
-use Rattle.cc_arg.specs.declared.arg.Arg.{Arg}
+use Rattle.cc_arg.specs.declared.parts.ArgParts.{ArgParts as Arg}
 use Rattle.cc_arg.specs.ShownNames.{shown_names, shown_shorts, shown_longs}
 use Rattle.cc_arg.specs.declared.names.ShownName.TheVariants.{Short as ShownShort}
 use Rattle.cc_arg.specs.declared.names.ShownName.TheVariants.{Long as ShownLong}

@@ -2,7 +2,7 @@
 use Rattle.std.proofs.Common.{◌≡◌, List, [], ◌∷◌, Some, None, codes, map, flat_map, refl}
 use Rattle.std.proofs.Common.{encode_utf8_all}
 use Rattle.std.specs.Char.{encode_utf8}
-use Rattle.cc_arg.specs.declared.arg.Arg.{Arg}
+use Rattle.cc_arg.specs.declared.parts.ArgParts.{ArgParts as Arg}
 use Rattle.cc_arg.specs.Arguments.{new_arg}
 use Rattle.cc_quote.specs.PowershellQuote.{sign_before, powershell_signs}
 use Rattle.cc_quote.specs.PowershellTokens.{powershell_tokens}

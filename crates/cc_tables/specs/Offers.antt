@@ -1,7 +1,7 @@
 -- What a table offers at a node.
 use Rattle.std.specs.Prelude.{ℕ, List, [], ◌++◌, map, codes, encode_utf8, unwrap_or}
 use Rattle.std.specs.List.{flat_map}
-use Rattle.cc_arg.specs.declared.arg.Arg.{Arg}
+use Rattle.cc_arg.specs.declared.parts.ArgParts.{ArgParts as Arg}
 use Rattle.cc_arg.specs.declared.names.ShownName.{ShownName}
 use Rattle.cc_arg.specs.declared.names.ShownName.TheVariants.{Short as ShownShort}
 use Rattle.cc_arg.specs.declared.names.ShownName.TheVariants.{Long as ShownLong}

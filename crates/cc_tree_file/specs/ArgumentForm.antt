@@ -3,7 +3,7 @@ use Rattle.std.specs.Prelude.{ℕ, List, [], ◌∷◌, ◌++◌, Option, Some, 
 use Rattle.serde_json.specs.Data.{Data}
 use Rattle.serde_json.specs.Find.{as_bool, as_str, get}
 use Rattle.cc_arg.specs.Arguments.{new_arg}
-use Rattle.cc_arg.specs.declared.arg.Arg.{Arg}
+use Rattle.cc_arg.specs.declared.parts.ArgParts.{ArgParts as Arg}
 use Rattle.cc_json.specs.Keys.{has_only}
 use Rattle.cc_tree_file.specs.PossibleValueForm.{possible_values_of}
 use Rattle.cc_tree_file.specs.TreeForm.{◌>>=◌, action_of, character_of, characters_of}

@@ -5,7 +5,7 @@ use Rattle.std.specs.Str.{bytes_eq}
 use Rattle.serde_json.specs.Data.{Data, array, object}
 use Rattle.serde_json.specs.Data.{Items, item, no_items, Members, member, no_members}
 use Rattle.serde_json.specs.Find.{as_array, as_bool, as_str, get}
-use Rattle.cc_arg.specs.declared.arg.Arg.{Arg}
+use Rattle.cc_arg.specs.declared.parts.ArgParts.{ArgParts as Arg}
 use Rattle.cc_command.specs.Made.{new_tree, with_argument, with_child, with_root}
 use Rattle.cc_command.specs.Tree.{Tree}
 use Rattle.cc_json.specs.Keys.{has_only}

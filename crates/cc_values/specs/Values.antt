@@ -2,7 +2,7 @@
 use Rattle.std.specs.Prelude.{◌≡◌, ℕ, List, [], ◌++◌, map, filter, Bool, true, false, Option, Some, None, unwrap_or}
 use Rattle.std.specs.Ordering.{is_lt}
 use Rattle.cc_base.specs.Sorting.{in_order}
-use Rattle.cc_arg.specs.declared.arg.Arg.{Arg}
+use Rattle.cc_arg.specs.declared.parts.ArgParts.{ArgParts as Arg}
 use Rattle.cc_arg.specs.declared.possible_value.PossibleValue.{PossibleValue}
 use Rattle.cc_arg.specs.declared.value_hint.ValueHint.{ValueHint}
 use Rattle.cc_arg.specs.declared.value_hint.ValueHint.TheVariants.{AnyPath, FilePath, DirPath, ExecutablePath}

@@ -2,7 +2,7 @@
 use Rattle.std.proofs.Common.{◌≡◌, ◌++◌, ◌==◌, ℕ, List, [], ◌∷◌, length, true, false, Some, None, refl, ap, ◌∙◌, sym, eqb-true, arith, append_assoc}
 use Rattle.std.specs.Prelude.{chars, IsUtf8, encode_utf8}
 use Rattle.std.proofs.lemmas.Str.{chars_past_char, encodes-chars, chars-nil}
-use Rattle.cc_arg.specs.declared.arg.Arg.{Arg}
+use Rattle.cc_arg.specs.declared.parts.ArgParts.{ArgParts as Arg}
 use Rattle.cc_walk.specs.Words.{EndsWith}
 use Rattle.cc_walk.specs.Signs.{character_value, cluster_sign, last_sign, value_argument, value_character}
 use Rattle.cc_walk.specs.declared.sign.ValueCharacter.{ValueCharacter}

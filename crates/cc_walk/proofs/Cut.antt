@@ -3,7 +3,7 @@ use Rattle.std.proofs.Common.{◌≡◌, ◌<◌, ◌≤◌, ◌+◌, ℕ, suc, 
 use Rattle.std.specs.List.{All}
 use Rattle.std.proofs.lemmas.Bool.{cases_Bool, ltb-true, lt-ltb}
 use Rattle.std.proofs.lemmas.List.Elements.{All-head, All-tail}
-use Rattle.cc_arg.specs.declared.arg.Arg.{Arg}
+use Rattle.cc_arg.specs.declared.parts.ArgParts.{ArgParts as Arg}
 use Rattle.cc_walk.specs.Blocks.{AreBlocks, BeginsWithNoFollower, BeginsWithNoValues, Block, Dashes, Flag, Follows, IsValueAt, Opened, Values, state_after, after_block, follows, is_value, join, place_after}
 use Rattle.cc_walk.specs.Lookup.{allows_hyphens_at, greatest, limit}
 use Rattle.cc_walk.specs.Machine.{closed_step, open_step, option_state, run, step, value_state}

@@ -2,7 +2,7 @@
 use Rattle.std.proofs.Common.{◌≡◌, ◌&&◌, ℕ, List, [], ◌∷◌, Bool, true, false, eqb, Option, Some, None, refl, inl, inr, not, codes}
 use Rattle.std.specs.Prelude.{bytes_eq, find, chars}
 use Rattle.std.proofs.lemmas.Bool.{cases_Bool}
-use Rattle.cc_arg.specs.declared.arg.Arg.{Arg}
+use Rattle.cc_arg.specs.declared.parts.ArgParts.{ArgParts as Arg}
 use Rattle.cc_walk.specs.declared.sign.ValueCharacter.{ValueCharacter}
 use Rattle.cc_arg.specs.Arguments.{takes_values}
 use Rattle.cc_walk.specs.declared.sign.Sign.{Sign}

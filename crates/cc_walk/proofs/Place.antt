@@ -1,7 +1,7 @@
 -- A step moves the place by one at most.
 use Rattle.std.proofs.Common.{◌≤◌, ◌+◌, ℕ, suc, Bool, true, false, ltb, inl, inr, arith, List, Option, Some, None}
 use Rattle.std.proofs.lemmas.Bool.{cases_Bool}
-use Rattle.cc_arg.specs.declared.arg.Arg.{Arg}
+use Rattle.cc_arg.specs.declared.parts.ArgParts.{ArgParts as Arg}
 use Rattle.cc_walk.specs.Blocks.{follows}
 use Rattle.cc_walk.specs.Lookup.{allows_hyphens_at, limit}
 use Rattle.cc_walk.specs.Machine.{Stand, closed_step, entered, open_step, run_length, stand_step, step, value_state}

@@ -1,7 +1,7 @@
 -- Where words lead, on small trees.
 use Rattle.std.proofs.Common.{◌≡◌, ℕ, List, [], ◌∷◌, Some, codes, true, false, refl}
 use Rattle.std.specs.Str.{chars}
-use Rattle.cc_arg.specs.declared.arg.Arg.{Arg}
+use Rattle.cc_arg.specs.declared.parts.ArgParts.{ArgParts as Arg}
 use Rattle.cc_arg.specs.Arguments.{exactly, new_arg}
 use Rattle.cc_command.specs.Tree.{Tree}
 use Rattle.cc_command.specs.Made.{new_tree, with_argument, with_child}

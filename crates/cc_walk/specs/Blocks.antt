@@ -1,7 +1,7 @@
 -- The blocks: a cut of the words after the last descent, and what is pending after them.
 use Rattle.std.specs.Prelude.{ℕ, suc, List, [], ◌∷◌, ◌++◌, ◌≡◌, ◌+◌, ◌<◌, ◌≤◌, ◌||◌, ◌⊎◌, length, Bool, true, false, nat_lt, if◌then◌else◌}
 use Rattle.std.specs.List.{All}
-use Rattle.cc_arg.specs.declared.arg.Arg.{Arg}
+use Rattle.cc_arg.specs.declared.parts.ArgParts.{ArgParts as Arg}
 use Rattle.cc_walk.specs.declared.sign.Sign.{Sign}
 use Rattle.cc_walk.specs.declared.sign.Sign.TheVariants.{Escape, Opens, Unknown, Closed, Plain}
 use Rattle.cc_walk.specs.declared.state.Pending.TheVariants.{Nothing, OptionOpen, PositionalRun, PlaceMoved}

@@ -1,6 +1,6 @@
 -- The same walk, word by word.
 use Rattle.std.specs.Prelude.{ℕ, suc, List, [], ◌∷◌, ◌+◌, Bool, true, false, nat_lt, Option, Some, None, if◌then◌else◌}
-use Rattle.cc_arg.specs.declared.arg.Arg.{Arg}
+use Rattle.cc_arg.specs.declared.parts.ArgParts.{ArgParts as Arg}
 use Rattle.cc_command.specs.Tree.{Tree}
 use Rattle.cc_command.specs.Names.{find_child}
 use Rattle.cc_walk.specs.declared.sign.Sign.{Sign}

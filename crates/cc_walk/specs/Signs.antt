@@ -1,6 +1,6 @@
 -- What a word is to a node with these arguments, whatever stands before it.
 use Rattle.std.specs.Prelude.{ℕ, List, [], ◌∷◌, ◌&&◌, Bool, not, Option, Some, None, find, encode_utf8_all, if◌then◌else◌}
-use Rattle.cc_arg.specs.declared.arg.Arg.{Arg}
+use Rattle.cc_arg.specs.declared.parts.ArgParts.{ArgParts as Arg}
 use Rattle.cc_arg.specs.Arguments.{takes_values}
 use Rattle.cc_walk.specs.declared.sign.Sign.{Sign}
 use Rattle.cc_walk.specs.declared.sign.Sign.TheVariants.{Escape, Opens, Unknown, Closed, Plain}

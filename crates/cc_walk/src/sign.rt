@@ -18,7 +18,7 @@ pub struct ArgRef<'a> {
 }
 
 impl<'a> Model for ArgRef<'a> {
-    ghost use Rattle.cc_arg.specs.declared.arg.Arg.{Arg};
+    ghost use Rattle.cc_arg.specs.declared.parts.ArgParts.{ArgParts as Arg};
 
     ghost Value = { Arg };
 

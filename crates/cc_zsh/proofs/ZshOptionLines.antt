@@ -2,7 +2,7 @@
 use Rattle.std.proofs.Common.{◌≡◌, ℕ, Bool, true, false, cond, List, [], ◌∷◌, ◌++◌, flat_map, unwrap_or, codes, refl, sym, ◌∙◌, ap, subst, append_assoc}
 use Rattle.std.specs.List.{AllByRecursion}
 use Rattle.std.specs.Option.{option_to_list}
-use Rattle.cc_arg.specs.declared.arg.Arg.{Arg}
+use Rattle.cc_arg.specs.declared.parts.ArgParts.{ArgParts as Arg}
 use Rattle.cc_arg.specs.declared.names.ShownName.{ShownName}
 use Rattle.cc_arg.specs.declared.names.ShownName.TheVariants.{Short, Long}
 use Rattle.cc_arg.specs.ShownNames.{shown_names}

@@ -1,7 +1,7 @@
 -- The lines of a node's options and flags.
 use Rattle.std.specs.Prelude.{ℕ, List, [], ◌++◌, Bool, true, false, if◌then◌else◌, unwrap_or, codes}
 use Rattle.std.specs.List.{flat_map}
-use Rattle.cc_arg.specs.declared.arg.Arg.{Arg}
+use Rattle.cc_arg.specs.declared.parts.ArgParts.{ArgParts as Arg}
 use Rattle.cc_arg.specs.declared.action.ArgAction.{ArgAction}
 use Rattle.cc_arg.specs.declared.action.ArgAction.TheVariants.{Set, Append, Count}
 use Rattle.cc_arg.specs.declared.names.ShownName.{ShownName}

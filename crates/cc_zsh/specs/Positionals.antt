@@ -1,7 +1,7 @@
 -- The lines of a node's positionals.
 use Rattle.std.specs.Prelude.{ℕ, List, [], ◌∷◌, ◌++◌, ◌==◌, ◌&&◌, ◌||◌, nat_lt, Bool, false, not, if◌then◌else◌, Option, Some, None, is_some, codes}
 use Rattle.std.specs.List.{flat_map}
-use Rattle.cc_arg.specs.declared.arg.Arg.{Arg}
+use Rattle.cc_arg.specs.declared.parts.ArgParts.{ArgParts as Arg}
 use Rattle.cc_command.specs.ArgumentLists.{positionals}
 use Rattle.cc_command.specs.Tree.{Tree, has_nodes}
 use Rattle.cc_base.specs.Bytes.{backslash, close_bracket, colon, open_bracket, single_quote}

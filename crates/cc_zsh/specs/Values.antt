@@ -2,7 +2,7 @@
 use Rattle.std.specs.Prelude.{ℕ, zero, suc, Bool, List, [], ◌∷◌, ◌++◌, if◌then◌else◌, not, ◌&&◌, Option, Some, None, is_some, unwrap_or, codes, filter, map}
 use Rattle.std.specs.List.{list_any}
 use Rattle.cc_base.specs.Joined.{joined}
-use Rattle.cc_arg.specs.declared.arg.Arg.{Arg}
+use Rattle.cc_arg.specs.declared.parts.ArgParts.{ArgParts as Arg}
 use Rattle.cc_arg.specs.declared.possible_value.PossibleValue.{PossibleValue}
 use Rattle.cc_arg.specs.declared.range.ValueRange.{ValueRange}
 use Rattle.cc_arg.specs.declared.value_hint.ValueHint.{ValueHint}

@@ -40,7 +40,7 @@ pub use Rattle.cc_arg.specs.PossibleValues
 pub use Rattle.cc_arg.specs.Printed
 pub use Rattle.cc_arg.specs.ShownNames
 pub use Rattle.cc_arg.specs.declared.action.ArgAction
-pub use Rattle.cc_arg.specs.declared.arg.Arg
+pub use Rattle.cc_arg.specs.declared.parts.ArgParts
 pub use Rattle.cc_arg.specs.declared.names.ShownName
 pub use Rattle.cc_arg.specs.declared.possible_value.PossibleValue
 pub use Rattle.cc_arg.specs.declared.range.ValueRange

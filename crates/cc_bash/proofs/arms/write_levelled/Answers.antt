@@ -1,5 +1,5 @@
 use Rattle.std.proofs.Common.{◌≡◌, List, rules}
-use Rattle.cc_arg.specs.declared.arg.Arg.{Arg}
+use Rattle.cc_arg.specs.declared.parts.ArgParts.{ArgParts as Arg}
 use Rattle.cc_base.proofs.WrittenTexts.{writes_same, writes_then}
 use Rattle.cc_bash.specs.Texts.{arm_ends}
 use Rattle.cc_bash.proofs.ArmTexts.{arm_parts}

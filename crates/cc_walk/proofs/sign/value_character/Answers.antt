@@ -1,6 +1,6 @@
 use Rattle.std.proofs.Common.{ℕ, List, sym, ◌∙◌, ap, subst, Some}
 use Rattle.std.proofs.lemmas.Str.{IsUtf8-past_char}
-use Rattle.cc_arg.specs.declared.arg.Arg.{Arg}
+use Rattle.cc_arg.specs.declared.parts.ArgParts.{ArgParts as Arg}
 use Rattle.cc_walk.specs.Words.{EndsWith}
 use Rattle.cc_walk.specs.declared.sign.ValueCharacter.{ValueCharacter}
 use Rattle.cc_walk.proofs.Cluster.{ends_more, past_end, past_found, past_none}
