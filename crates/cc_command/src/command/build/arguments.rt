@@ -88,10 +88,11 @@ fn finished(node: &Node, alloc: Global, given: Vec<Arg>) -> Result<Items<Arg>, A
     let mut arguments = given;
     push_help(&mut arguments, alloc, node)?;
     push_version(&mut arguments, alloc, node)?;
-    Ok(Items::from(filled_in(alloc, arguments)?))
+    fill_in(&mut arguments);
+    Ok(Items::from(arguments))
 }
 
-// A node's own arguments, then those that it inherits.
+// A node's own arguments, then those that it inherits, with room for `help` and `version`.
 pub(super) fn given_arguments(
     node: &Node,
     alloc: Global,
@@ -155,7 +156,7 @@ fn push_version(arguments: &mut Vec<Arg>, alloc: Global, node: &Node) -> Result<
 fn copies_of(alloc: Global, arguments: &[Arg]) -> Result<Vec<Arg>, AllocError>
     ensures ok { IfOk result (λ copies. copies.items ≡ arguments.now) }
 {
-    let mut copies = Vec::new(alloc);
+    let mut copies = Vec::with_capacity(alloc, arguments.len().saturating_add(2))?;
     for argument in arguments {
         copies.push(copy_of(alloc, argument)?)?;
     }
@@ -204,21 +205,19 @@ fn has_id(arguments: &[Arg], id: &str) -> bool
     arguments.iter().any(|argument| argument.get_id() == id)
 }
 
-// The arguments, each with its range and its action, and with an index where it is a positional.
-fn filled_in(alloc: Global, arguments: Vec<Arg>) -> Result<Vec<Arg>, AllocError>
-    ensures ok { IfOk result (λ done. done.items ≡ indexed 1 (map filled arguments.items)) }
+// Gives each argument its range and its action, and an index where it is a positional without one.
+fn fill_in(arguments: &mut [Arg])
+    ensures ok { arguments.new ≡ indexed 1 (map filled arguments.old) }
 {
     let mut placed = 0;
-    let mut done = Vec::with_capacity(alloc, arguments.len())?;
-    for mut argument in arguments {
-        fill(&mut argument);
-        if lacks_index(&argument) {
-            placed += 1;
-            fill_index(&mut argument, placed);
+    for argument in arguments.iter_mut() {
+        fill(argument);
+        if !lacks_index(argument) {
+            continue;
         }
-        done.push(argument)?;
+        placed += 1;
+        fill_index(argument, placed);
     }
-    Ok(done)
 }
 
 fn lacks_index(argument: &Arg) -> bool
