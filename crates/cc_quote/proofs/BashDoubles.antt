@@ -1,8 +1,9 @@
 -- What an escaped text between two `"` of bash is read as.
 use Rattle.std.specs.Prelude.{⊤}
-use Rattle.std.proofs.Common.{subst, ◌≡◌, ◌==◌, ℕ, Bool, true, false, cond, ◌<◌, List, [], ◌∷◌, ◌++◌, map, Some, codes, refl, sym, ◌∙◌, ap, arith, append_assoc, append-nil}
+use Rattle.std.proofs.Common.{subst, ◌≡◌, ◌==◌, ℕ, Bool, true, false, cond, List, [], ◌∷◌, ◌++◌, map, Some, codes, refl, sym, ◌∙◌, ap, arith, append_assoc, append-nil}
 use Rattle.std.proofs.lemmas.Bool.Decides.{Decides-eqb, nat_tests}
-use Rattle.cc_quote.specs.BashDouble.{bash_double_from, bash_double_signs, bash_double_of, is_double_marked, bash_doubled_byte, bash_doubled}
+use Rattle.cc_quote.specs.BashDouble.{bash_double_from, bash_double_signs, bash_double_of, is_double_marked, bash_doubled}
+use Rattle.cc_quote.specs.Escapes.{marked_byte}
 use Rattle.cc_quote.specs.PosixTokens.{Sign, sign, byte_of}
 use Rattle.cc_quote.specs.PosixTokens.Sign.{blank, line_feed, single_quote, double_quote, backslash, special, other}
 use Rattle.cc_quote.specs.PosixQuote.{next_place, word_after, ended, posix_word_from, posix_word_of}
@@ -65,7 +66,7 @@ marked_cases byte P h a b c d = by_tests (byte == 92) (byte == 34) (byte == 36) 
 
 -- an escaped byte
 doubled_word_byte : (byte : ℕ) (rest word : List ℕ)
-    → posix_word_from InDouble word (map sign (bash_doubled_byte byte ++ rest)) ≡ posix_word_from InDouble (word ++ byte ∷ []) (map sign rest)
+    → posix_word_from InDouble word (map sign (marked_byte is_double_marked byte ++ rest)) ≡ posix_word_from InDouble (word ++ byte ∷ []) (map sign rest)
 unfolding posix_word_from next_place word_after sign byte_of
 doubled_word_byte byte rest word = by_test (is_double_marked byte) refl
   where
@@ -75,7 +76,7 @@ doubled_word_byte byte rest word = by_test (is_double_marked byte) refl
     by_test false e = kept_word (sign byte) (map sign rest) word (kept byte e (sign byte) refl) ∙ ap (λ b. posix_word_from InDouble (word ++ b ∷ []) (map sign rest)) (byte_of-sign byte)
 
 doubled_byte : (byte : ℕ) (rest word : List ℕ)
-    → bash_double_from InDouble word (map sign (bash_doubled_byte byte ++ rest)) ≡ bash_double_from InDouble (word ++ byte ∷ []) (map sign rest)
+    → bash_double_from InDouble word (map sign (marked_byte is_double_marked byte ++ rest)) ≡ bash_double_from InDouble (word ++ byte ∷ []) (map sign rest)
 unfolding bash_double_from next_place word_after sign byte_of
 doubled_byte byte rest word = by_test (is_double_marked byte) refl
   where
@@ -89,7 +90,7 @@ doubled_byte byte rest word = by_test (is_double_marked byte) refl
 doubled_word : (text rest word : List ℕ) → posix_word_from InDouble word (map sign (bash_doubled text ++ rest)) ≡ posix_word_from InDouble (word ++ text) (map sign rest)
 doubled_word [] rest word = ap (λ w. posix_word_from InDouble w (map sign rest)) (sym (append-nil word))
 doubled_word (byte ∷ text) rest word =
-    ap (λ t. posix_word_from InDouble word (map sign t)) (append_assoc (bash_doubled_byte byte) (bash_doubled text) rest)
+    ap (λ t. posix_word_from InDouble word (map sign t)) (append_assoc (marked_byte is_double_marked byte) (bash_doubled text) rest)
     ∙ doubled_word_byte byte (bash_doubled text ++ rest) word
     ∙ doubled_word text rest (word ++ byte ∷ [])
     ∙ ap (λ w. posix_word_from InDouble w (map sign rest)) (append_assoc word (byte ∷ []) text)
@@ -97,7 +98,7 @@ doubled_word (byte ∷ text) rest word =
 doubled : (text rest word : List ℕ) → bash_double_from InDouble word (map sign (bash_doubled text ++ rest)) ≡ bash_double_from InDouble (word ++ text) (map sign rest)
 doubled [] rest word = ap (λ w. bash_double_from InDouble w (map sign rest)) (sym (append-nil word))
 doubled (byte ∷ text) rest word =
-    ap (λ t. bash_double_from InDouble word (map sign t)) (append_assoc (bash_doubled_byte byte) (bash_doubled text) rest)
+    ap (λ t. bash_double_from InDouble word (map sign t)) (append_assoc (marked_byte is_double_marked byte) (bash_doubled text) rest)
     ∙ doubled_byte byte (bash_doubled text ++ rest) word
     ∙ doubled text rest (word ++ byte ∷ [])
     ∙ ap (λ w. bash_double_from InDouble w (map sign rest)) (append_assoc word (byte ∷ []) text)
@@ -114,10 +115,3 @@ doubled_is_word text rest = doubled_word text (34 ∷ 32 ∷ rest) [] ∙ ap (λ
 
 pub doubled_reads_back : (text : List ℕ) → bash_double_of (codes "\"" ++ bash_doubled text ++ codes "\"") ≡ Some (text, [])
 doubled_reads_back text = doubled_reads text []
-
--- what the escape leaves as it is, and that it escapes characters of one byte alone
-pub doubled_kept : (byte : ℕ) → is_double_marked byte ≡ false → bash_doubled_byte byte ≡ byte ∷ []
-doubled_kept byte h = grind (arith, nat_tests)
-
-pub doubled_low : (byte : ℕ) → is_double_marked byte ≡ true → byte < 128
-doubled_low byte h = grind (arith, nat_tests)

@@ -3,7 +3,9 @@ use Rattle.std.proofs.Common.{◌≡◌, ℕ, Bool, true, false, not, ◌||◌, 
 use Rattle.std.proofs.lemmas.Bool.Decides.{Decides-eqb}
 use Rattle.std.proofs.lemmas.List.{map-append}
 use Rattle.cc_base.specs.Bytes.{line_feed, space, single_quote}
-use Rattle.cc_quote.specs.ElvishQuote.{elvish_escaped_byte, elvish_escaped}
+use Rattle.cc_quote.specs.ElvishQuote.{elvish_escaped, elvish_replacement}
+use Rattle.cc_quote.specs.Escapes.{escaped_byte as written}
+use Rattle.memchr.specs.Find.{is_byte2}
 use Rattle.cc_quote.specs.ElvishTokens.{is_bare, IsBare, IsBareWord}
 use Rattle.cc_quote.specs.QuotedWord.{space_for_line_feed, line_feeds_as_spaces}
 use Rattle.cc_quote.specs.Signs.{Sign, blank, quote, other, is_blank, sign, HasNoQuote}
@@ -42,6 +44,9 @@ bare_word (byte ∷ run) rest h =
 
 -- ---- within quotes
 
+abbrev elvish_escaped_byte : ℕ → List ℕ
+elvish_escaped_byte = written (is_byte2 single_quote line_feed) elvish_replacement
+
 module _ {A : Type 0} (reading : List ℕ → List Sign → A) (reads : ReadsQuoted reading) where
   -- the escape of a byte is read as that byte, a line feed as a space
   escaped_byte : (byte : ℕ) (rest text : List ℕ)
@@ -50,7 +55,7 @@ module _ {A : Type 0} (reading : List ℕ → List Sign → A) (reads : ReadsQuo
   escaped_byte byte rest text = by_tests (byte == single_quote) (byte == line_feed) refl refl
     where
       by_tests : (q l : Bool) → byte == single_quote ≡ q → byte == line_feed ≡ l
-          → reading text (map sign (cond q (single_quote ∷ single_quote ∷ []) (cond l (space ∷ []) (byte ∷ [])) ++ rest)) ≡ reading (text ++ cond l space byte ∷ []) (map sign rest)
+          → reading text (map sign (cond (q || l) (cond q (single_quote ∷ single_quote ∷ []) (space ∷ [])) (byte ∷ []) ++ rest)) ≡ reading (text ++ cond l space byte ∷ []) (map sign rest)
       by_tests true true e f =
           let as_quote : byte ≡ 39 = (Decides-eqb byte 39).0 e in
           let as_line_feed : byte ≡ 10 = (Decides-eqb byte 10).0 f in

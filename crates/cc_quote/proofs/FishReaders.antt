@@ -4,8 +4,10 @@ use Rattle.std.proofs.lemmas.Bool.{cases_Bool}
 use Rattle.std.proofs.lemmas.Bool.Decides.{nat_tests}
 use Rattle.std.specs.List.{list_all}
 use Rattle.cc_quote.specs.QuotedWord.{line_feeds_as_spaces}
-use Rattle.cc_quote.specs.FishQuote.{FishPlace, fish_sign, next_place, advance, fish_word_from, fish_word_of, fish_double_from, fish_double_of, is_fish_safe, double_byte, double_escaped, single_quoted, fish_quoted, fish_quoted_for_eval, fish_help_for_eval_of, fish_escaped, ReadsTwice}
+use Rattle.cc_quote.specs.Escapes.{marked_byte}
+use Rattle.cc_quote.specs.FishQuote.{FishPlace, fish_sign, next_place, advance, fish_word_from, fish_word_of, fish_double_from, fish_double_of, is_fish_safe, is_double_marked, double_escaped, single_quoted, fish_quoted, fish_quoted_for_eval, fish_help_for_eval_of, fish_escaped, ReadsTwice}
 use Rattle.cc_quote.specs.FishQuote.FishPlace.{bare, in_double}
+use Rattle.cc_quote.proofs.FishEscaped.{fish_escaped_composed}
 use Rattle.cc_quote.proofs.FishWords.{safe_sign, safe_bytes, single_quoted_read, fish_quoted_read}
 
 pub option_cases : {A : Type 0} (option : Option A) → ((value : A) × (option ≡ Some value)) ⊎ (option ≡ None)
@@ -42,14 +44,14 @@ fish_quoted_reads_back (byte ∷ text) = elim (cases_Bool (list_all is_fish_safe
   | inr unsafe ↦ rw unsafe (single_quoted_reads_back (byte ∷ text))
 ]
 
-double_byte_from : (byte : ℕ) (word rest : List ℕ) → fish_double_from (in_double word) (double_byte byte ++ rest) ≡ fish_double_from (in_double (word ++ byte ∷ [])) rest
+double_byte_from : (byte : ℕ) (word rest : List ℕ) → fish_double_from (in_double word) (marked_byte is_double_marked byte ++ rest) ≡ fish_double_from (in_double (word ++ byte ∷ [])) rest
 unfolding fish_sign
 double_byte_from byte word rest = grind (arith, nat_tests)
 
 pub double_from : (text word rest : List ℕ) → fish_double_from (in_double word) (double_escaped text ++ rest) ≡ fish_double_from (in_double (word ++ text)) rest
 double_from [] word rest = rw append-nil
 double_from (byte ∷ text) word rest =
-    ap (fish_double_from (in_double word)) (append_assoc (double_byte byte) (double_escaped text) rest)
+    ap (fish_double_from (in_double word)) (append_assoc (marked_byte is_double_marked byte) (double_escaped text) rest)
     ∙ double_byte_from byte word (double_escaped text ++ rest)
     ∙ double_from text (word ++ byte ∷ []) rest
     ∙ ap (λ whole. fish_double_from (in_double whole) rest) (append_assoc word (byte ∷ []) text)
@@ -79,5 +81,5 @@ help_for_eval_reads_twice help = record {
 
 -- a description between `'`
 pub fish_escaped_reads_back : (text : List ℕ) → fish_word_of (codes "'" ++ fish_escaped text ++ codes "'") ≡ Some (line_feeds_as_spaces text, [])
-unfolding fish_escaped
-fish_escaped_reads_back text = single_quoted_reads_back (line_feeds_as_spaces text)
+fish_escaped_reads_back text =
+    ap (λ escaped. fish_word_of (codes "'" ++ escaped ++ codes "'")) (fish_escaped_composed text) ∙ single_quoted_reads_back (line_feeds_as_spaces text)

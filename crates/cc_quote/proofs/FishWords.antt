@@ -3,7 +3,8 @@ use Rattle.std.proofs.Common.{◌≡◌, ℕ, true, false, List, [], ◌∷◌, 
 use Rattle.std.proofs.lemmas.Bool.{cases_Bool, ne_eqb, and_parts}
 use Rattle.std.proofs.lemmas.Bool.Decides.{nat_tests}
 use Rattle.std.specs.List.{list_all, AllByRecursion}
-use Rattle.cc_quote.specs.FishQuote.{FishPlace, fish_sign, next_place, advance, is_fish_safe, single_byte, single_escaped, double_byte, double_escaped, single_quoted, fish_quoted}
+use Rattle.cc_quote.specs.Escapes.{marked_byte}
+use Rattle.cc_quote.specs.FishQuote.{FishPlace, fish_sign, next_place, advance, is_fish_safe, is_single_marked, single_escaped, is_double_marked, double_escaped, single_quoted, fish_quoted}
 use Rattle.cc_quote.specs.FishQuote.FishSign.{other}
 use Rattle.cc_quote.specs.FishQuote.FishPlace.{bare, in_single, in_double}
 
@@ -22,15 +23,15 @@ unfolding fish_sign is_fish_safe
 safe_sign byte h = rw (safe_is_not byte 32 h refl, safe_is_not byte 9 h refl, safe_is_not byte 10 h refl, safe_is_not byte 39 h refl, safe_is_not byte 34 h refl, safe_is_not byte 92 h refl, safe_is_not byte 36 h refl, safe_is_not byte 35 h refl)
 
 -- no byte that needs no quotes is escaped between `"`
-pub safe_double : (byte : ℕ) → is_fish_safe byte ≡ true → double_byte byte ≡ byte ∷ []
+pub safe_double : (byte : ℕ) → is_fish_safe byte ≡ true → marked_byte is_double_marked byte ≡ byte ∷ []
 unfolding is_fish_safe
 safe_double byte h = rw (safe_is_not byte 92 h refl, safe_is_not byte 34 h refl, safe_is_not byte 36 h refl)
 
-single_byte_read : (byte : ℕ) (word rest : List ℕ) → advance (Some (in_single word)) (single_byte byte ++ rest) ≡ advance (Some (in_single (word ++ byte ∷ []))) rest
+single_byte_read : (byte : ℕ) (word rest : List ℕ) → advance (Some (in_single word)) (marked_byte is_single_marked byte ++ rest) ≡ advance (Some (in_single (word ++ byte ∷ []))) rest
 unfolding fish_sign
 single_byte_read byte word rest = grind (arith, nat_tests)
 
-double_byte_read : (byte : ℕ) (word rest : List ℕ) → advance (Some (in_double word)) (double_byte byte ++ rest) ≡ advance (Some (in_double (word ++ byte ∷ []))) rest
+double_byte_read : (byte : ℕ) (word rest : List ℕ) → advance (Some (in_double word)) (marked_byte is_double_marked byte ++ rest) ≡ advance (Some (in_double (word ++ byte ∷ []))) rest
 unfolding fish_sign
 double_byte_read byte word rest = grind (arith, nat_tests)
 

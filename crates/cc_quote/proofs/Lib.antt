@@ -21,7 +21,6 @@ pub mod PowershellCutting
 pub mod PowershellSearch
 pub mod PowershellSigns
 pub mod PowershellWords
-pub mod Runs
 pub mod WithinQuotes
 pub mod WordReading
 mod ZshExamples

@@ -4,9 +4,11 @@ use Rattle.std.specs.Char.{encode_utf8}
 use Rattle.std.specs.List.{list_all}
 use Rattle.std.proofs.lemmas.Bool.{and_parts}
 use Rattle.std.proofs.lemmas.Bool.Decides.{Decides-eqb, nat_tests}
+use Rattle.memchr.specs.Find.{is_byte}
+use Rattle.cc_quote.specs.Escapes.{escaped_byte as written}
 use Rattle.cc_quote.specs.PosixTokens.{Sign, sign, byte_of}
 use Rattle.cc_quote.specs.PosixTokens.Sign.{blank, line_feed, single_quote, double_quote, backslash, special, other}
-use Rattle.cc_quote.specs.PosixQuote.{next_place, word_after, ended, posix_word_from, posix_word_of, is_posix_safe, is_posix_safe_word, posix_escaped_byte, posix_escaped, posix_quoted}
+use Rattle.cc_quote.specs.PosixQuote.{next_place, word_after, ended, posix_word_from, posix_word_of, is_posix_safe, is_posix_safe_word, posix_escaped, posix_quoted}
 use Rattle.cc_quote.specs.declared.posix.Place.{Place}
 use Rattle.cc_quote.specs.declared.posix.Place.TheVariants.{Before, BeforeEscaped, Bare, BareEscaped, InSingle, InDouble, InDoubleEscaped}
 use Rattle.cc_quote.proofs.Characters.{AreHigh, IsCharacter, character}
@@ -178,6 +180,9 @@ safe_reads (byte ∷ text) h =
     ∙ bare_run text [] (byte ∷ []) parts.1
 
 -- a byte between `'`
+abbrev pub posix_escaped_byte : ℕ → List ℕ
+posix_escaped_byte = written (is_byte 39) (λ _. codes "'\\''")
+
 escaped_byte : (byte : ℕ) (rest word : List ℕ) → posix_word_from InSingle word (map sign (posix_escaped_byte byte ++ rest)) ≡ posix_word_from InSingle (word ++ byte ∷ []) (map sign rest)
 unfolding posix_word_from next_place word_after sign byte_of
 escaped_byte byte rest word = by_test (byte == 39) refl

@@ -1,41 +1,40 @@
 -- What zsh's escapes are read as.
-use Rattle.std.proofs.Common.{◌≡◌, ◌≢◌, ◌==◌, ℕ, ◌<◌, Bool, true, false, cond, suc, get_or, length, List, [], ◌∷◌, ◌++◌, map, flat_map, Option, Some, None, option_map, refl, sym, ◌∙◌, ap, arith, append_assoc, append-nil}
+use Rattle.std.proofs.Common.{◌≡◌, ◌≢◌, ◌==◌, ℕ, ◌<◌, Bool, true, false, cond, suc, get_or, length, List, [], ◌∷◌, ◌++◌, map, Option, Some, None, option_map, codes, refl, sym, ◌∙◌, ap, arith, append_assoc, append-nil}
 use Rattle.std.proofs.lemmas.Bool.Decides.{Decides-eqb, nat_tests}
-use Rattle.std.proofs.lemmas.List.Concat.{flat_map-append}
+use Rattle.std.proofs.lemmas.List.Folds.{flat_map-map}
 use Rattle.std.specs.Char.{encode_utf8}
 use Rattle.std.specs.List.{AllByRecursion}
 use Rattle.cc_base.specs.Bytes.{backslash}
-use Rattle.cc_quote.specs.PosixQuote.{posix_escaped_byte}
+use Rattle.cc_quote.specs.Escapes.{escaped_byte, marked_byte, marked}
+use Rattle.cc_quote.specs.PosixQuote.{posix_escaped, posix_word_of}
 use Rattle.cc_quote.specs.QuotedWord.{space_for_line_feed, line_feeds_as_spaces}
-use Rattle.cc_quote.specs.ZshQuote.{Mark, marks_from, marks, unmarked, zsh_unescaped, is_help_marked, is_value_marked, marked_byte, marked, zsh_escaped_help, zsh_escaped_value, ReadsUnescaped, zsh_help_byte, zsh_value_byte, is_help_escaped, is_value_escaped}
+use Rattle.cc_quote.specs.ZshQuote.{Mark, marks_from, marks, unmarked, zsh_unescaped, is_help_marked, is_value_marked, zsh_escaped_help, zsh_escaped_value, zsh_help_replacement, zsh_replacement, ReadsUnescaped, is_help_escaped, is_value_escaped}
 use Rattle.cc_quote.specs.ZshQuote.Mark.{kept, escaped}
 use Rattle.cc_quote.proofs.Characters.{AreHigh, IsCharacter, character}
 use Rattle.cc_quote.proofs.Characters.IsCharacter.{low, high}
-use Rattle.cc_quote.proofs.PosixWords.{quoted_reads}
+use Rattle.cc_quote.proofs.ByteEscapes.{composed, same_bytes}
+use Rattle.cc_quote.proofs.PosixWords.{posix_escaped_byte, quoted_reads}
 
--- ---- byte by byte
+-- ---- quotes and backslashes at once
 
-pub help_by_bytes : (text : List ℕ) → zsh_escaped_help text ≡ flat_map zsh_help_byte text
+help_byte : (byte : ℕ) → escaped_byte is_help_escaped zsh_help_replacement byte ≡ posix_escaped (marked_byte is_help_marked (space_for_line_feed byte))
+help_byte byte = grind (arith, nat_tests)
+
+pub help_composed : (text : List ℕ) → zsh_escaped_help text ≡ posix_escaped (marked is_help_marked (line_feeds_as_spaces text))
 unfolding zsh_escaped_help
-help_by_bytes [] = refl
-help_by_bytes (byte ∷ text) = flat_map-append posix_escaped_byte (marked_byte is_help_marked (space_for_line_feed byte)) (marked is_help_marked (line_feeds_as_spaces text)) ∙ ap (λ bytes. zsh_help_byte byte ++ bytes) (help_by_bytes text)
+help_composed text =
+    same_bytes (escaped_byte is_help_escaped zsh_help_replacement) (λ byte. posix_escaped (marked_byte is_help_marked (space_for_line_feed byte))) help_byte text
+    ∙ composed (λ byte. marked_byte is_help_marked (space_for_line_feed byte)) posix_escaped_byte text
+    ∙ ap posix_escaped (sym (flat_map-map (marked_byte is_help_marked) space_for_line_feed text))
 
-pub value_by_bytes : (text : List ℕ) → zsh_escaped_value text ≡ flat_map zsh_value_byte text
+value_byte : (byte : ℕ) → escaped_byte is_value_escaped zsh_replacement byte ≡ posix_escaped (marked_byte is_value_marked byte)
+value_byte byte = grind (arith, nat_tests)
+
+pub value_composed : (text : List ℕ) → zsh_escaped_value text ≡ posix_escaped (marked is_value_marked text)
 unfolding zsh_escaped_value
-value_by_bytes [] = refl
-value_by_bytes (byte ∷ text) = flat_map-append posix_escaped_byte (marked_byte is_value_marked byte) (marked is_value_marked text) ∙ ap (λ bytes. zsh_value_byte byte ++ bytes) (value_by_bytes text)
-
-pub help_kept : (b : ℕ) → is_help_escaped b ≡ false → zsh_help_byte b ≡ b ∷ []
-help_kept b h = grind (arith, nat_tests)
-
-pub help_low : (b : ℕ) → is_help_escaped b ≡ true → b < 128
-help_low b h = grind (arith, nat_tests)
-
-pub value_kept : (b : ℕ) → is_value_escaped b ≡ false → zsh_value_byte b ≡ b ∷ []
-value_kept b h = grind (arith, nat_tests)
-
-pub value_low : (b : ℕ) → is_value_escaped b ≡ true → b < 128
-value_low b h = grind (arith, nat_tests)
+value_composed text =
+    same_bytes (escaped_byte is_value_escaped zsh_replacement) (λ byte. posix_escaped (marked_byte is_value_marked byte)) value_byte text
+    ∙ composed (marked_byte is_value_marked) posix_escaped_byte text
 
 -- ---- backslashes
 
@@ -87,19 +86,17 @@ module _ (is_marked : ℕ → Bool) (backslash_marked : is_marked 92 ≡ true) w
 
 -- a description that was escaped is read as it, with line feeds as spaces
 pub help_reads_unescaped : (text : List ℕ) → ReadsUnescaped (zsh_escaped_help text) (line_feeds_as_spaces text)
-unfolding zsh_escaped_help
 help_reads_unescaped text = record {
   between = marked is_help_marked (line_feeds_as_spaces text);
-  word = quoted_reads (marked is_help_marked (line_feeds_as_spaces text));
+  word = ap (λ quoted. posix_word_of (codes "'" ++ quoted ++ codes "'")) (help_composed text) ∙ quoted_reads (marked is_help_marked (line_feeds_as_spaces text));
   unescaped = marked_unescaped is_help_marked refl (line_feeds_as_spaces text);
 }
 
 -- so is a value
 pub value_reads_unescaped : (text : List ℕ) → ReadsUnescaped (zsh_escaped_value text) text
-unfolding zsh_escaped_value
 value_reads_unescaped text = record {
   between = marked is_value_marked text;
-  word = quoted_reads (marked is_value_marked text);
+  word = ap (λ quoted. posix_word_of (codes "'" ++ quoted ++ codes "'")) (value_composed text) ∙ quoted_reads (marked is_value_marked text);
   unescaped = marked_unescaped is_value_marked refl text;
 }
 

@@ -1,7 +1,7 @@
 -- Texts between two `"` of bash.
-use Rattle.std.specs.Prelude.{ℕ, Bool, true, false, List, [], ◌∷◌, Option, Some, None, map, ◌==◌, ◌||◌, if◌then◌else◌}
-use Rattle.std.specs.List.{flat_map}
+use Rattle.std.specs.Prelude.{ℕ, Bool, true, false, List, [], ◌∷◌, Option, Some, None, map, ◌==◌, ◌||◌}
 use Rattle.cc_base.specs.Bytes as ascii
+use Rattle.cc_quote.specs.Escapes.{marked}
 use Rattle.cc_quote.specs.PosixQuote.{next_place, word_after}
 use Rattle.cc_quote.specs.PosixTokens.{Sign, sign, byte_of}
 use Rattle.cc_quote.specs.PosixTokens.Sign.{double_quote}
@@ -42,11 +42,6 @@ is_double_marked byte =
     byte == ascii.backslash || byte == ascii.double_quote || byte == ascii.dollar
     || byte == ascii.backtick
 
--- a byte between `"`
-abbrev pub bash_doubled_byte : ℕ → List ℕ
-bash_doubled_byte byte =
-    if is_double_marked byte then ascii.backslash ∷ byte ∷ [] else byte ∷ []
-
 -- a text between `"`
 abbrev pub bash_doubled : List ℕ → List ℕ
-bash_doubled text = flat_map bash_doubled_byte text
+bash_doubled text = marked is_double_marked text

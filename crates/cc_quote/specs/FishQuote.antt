@@ -1,9 +1,11 @@
 -- Words as fish spells them, and how a text is quoted for it.
 use Rattle.std.specs.Prelude.{◌≡◌, ℕ, Bool, true, false, List, [], ◌∷◌, ◌++◌, Option, Some, None, codes, ◌==◌, ◌||◌, if◌then◌else◌}
 use Rattle.std.specs.Char.{is_ascii_alphanumeric}
-use Rattle.std.specs.List.{flat_map, list_all, list_any}
+use Rattle.std.specs.List.{list_all, list_any}
 use Rattle.cc_base.specs.Bytes as ascii
+use Rattle.cc_quote.specs.Escapes.{backslashed, escaped_by, marked}
 use Rattle.cc_quote.specs.QuotedWord.{line_feeds_as_spaces}
+use Rattle.memchr.specs.Find.{is_byte3}
 
 -- ---- how a word is read
 
@@ -141,26 +143,22 @@ abbrev pub is_fish_safe_word : List ℕ → Bool
 is_fish_safe_word [] = false
 is_fish_safe_word (byte ∷ bytes) = list_all is_fish_safe (byte ∷ bytes)
 
--- a byte between `'`: `\` and `'` stand after a backslash
-abbrev pub single_byte : ℕ → List ℕ
-single_byte byte =
-    if byte == ascii.backslash || byte == ascii.single_quote then ascii.backslash ∷ byte ∷ []
-    else byte ∷ []
+-- `\` and `'`, which stand after a backslash between `'`
+abbrev pub is_single_marked : ℕ → Bool
+is_single_marked byte = byte == ascii.backslash || byte == ascii.single_quote
 
 -- a text between `'`
 abbrev pub single_escaped : List ℕ → List ℕ
-single_escaped text = flat_map single_byte text
+single_escaped text = marked is_single_marked text
 
--- a byte between `"`: `\`, `"` and `$` stand after a backslash
-abbrev pub double_byte : ℕ → List ℕ
-double_byte byte =
-    if byte == ascii.backslash || byte == ascii.double_quote || byte == ascii.dollar
-    then ascii.backslash ∷ byte ∷ []
-    else byte ∷ []
+-- `\`, `"` and `$`, which stand after a backslash between `"`
+abbrev pub is_double_marked : ℕ → Bool
+is_double_marked byte =
+    byte == ascii.backslash || byte == ascii.double_quote || byte == ascii.dollar
 
 -- a text between `"`
 abbrev pub double_escaped : List ℕ → List ℕ
-double_escaped text = flat_map double_byte text
+double_escaped text = marked is_double_marked text
 
 -- a text in `'`
 abbrev pub single_quoted : List ℕ → List ℕ
@@ -178,9 +176,16 @@ fish_quoted_for_eval text = double_escaped (fish_quoted text)
 unfoldable pub fish_help_for_eval_of : List ℕ → List ℕ
 fish_help_for_eval_of help = double_escaped (single_quoted (line_feeds_as_spaces help))
 
--- a description between `'`, with line feeds as spaces
+-- what stands for a byte that is escaped in a description: a space for a line feed, and any other
+-- after a backslash
+abbrev pub description_replacement : ℕ → List ℕ
+description_replacement byte = if byte == ascii.line_feed then codes " " else backslashed byte
+
+-- a description between `'`
 unfoldable pub fish_escaped : List ℕ → List ℕ
-fish_escaped text = single_escaped (line_feeds_as_spaces text)
+fish_escaped text =
+    escaped_by (is_byte3 ascii.backslash ascii.single_quote ascii.line_feed)
+    description_replacement text
 
 -- what stands between `"` is read as the text that spells it there, and that text as one word
 pub record ReadsTwice (quoted word : List ℕ) : Type 0 where

@@ -17,8 +17,9 @@ use Rattle.std.specs.Prelude.{
   if◌then◌else◌,
 }
 use Rattle.std.specs.Char.{is_ascii_alphanumeric}
-use Rattle.std.specs.List.{flat_map, list_all, list_any}
+use Rattle.std.specs.List.{list_all, list_any}
 use Rattle.cc_base.specs.Bytes.{single_quote as single_quote_byte}
+use Rattle.cc_quote.specs.Escapes.{replaced}
 use Rattle.cc_quote.specs.PosixTokens.{Sign, sign, byte_of}
 use Rattle.cc_quote.specs.PosixTokens.Sign.{
   blank,
@@ -117,13 +118,9 @@ unfoldable pub is_posix_safe_word : List ℕ → Bool
 is_posix_safe_word [] = false
 is_posix_safe_word (byte ∷ bytes) = list_all is_posix_safe (byte ∷ bytes)
 
--- a byte between `'`: for a `'` the quotes close, it follows a backslash, and they open again
-abbrev pub posix_escaped_byte : ℕ → List ℕ
-posix_escaped_byte byte = if byte == single_quote_byte then codes "'\\''" else byte ∷ []
-
--- a text between `'`
+-- a text between `'`: for a `'` the quotes close, it follows a backslash, and they open again
 abbrev pub posix_escaped : List ℕ → List ℕ
-posix_escaped text = flat_map posix_escaped_byte text
+posix_escaped text = replaced single_quote_byte (codes "'\\''") text
 
 -- a text as one word
 unfoldable pub posix_quoted : List ℕ → List ℕ

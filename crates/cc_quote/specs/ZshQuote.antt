@@ -1,10 +1,9 @@
 -- How a text is escaped between `'` for the lists of zsh's completion, and how the backslashes are taken
 -- off again.
 use Rattle.std.specs.Prelude.{◌≡◌, ℕ, Bool, true, false, List, [], ◌∷◌, ◌++◌, Option, Some, None, option_map, codes, ◌==◌, ◌||◌, if◌then◌else◌}
-use Rattle.std.specs.List.{flat_map}
 use Rattle.cc_base.specs.Bytes.{backslash, backtick, dollar, line_feed, single_quote, space}
-use Rattle.cc_quote.specs.PosixQuote.{posix_escaped, posix_word_of}
-use Rattle.cc_quote.specs.QuotedWord.{space_for_line_feed, line_feeds_as_spaces}
+use Rattle.cc_quote.specs.Escapes.{backslashed, escaped_by}
+use Rattle.cc_quote.specs.PosixQuote.{posix_word_of}
 
 -- ---- how backslashes are read
 
@@ -51,21 +50,29 @@ is_help_marked byte =
 abbrev pub is_value_marked : ℕ → Bool
 is_value_marked byte = is_help_marked byte || byte == 40 || byte == 41 || byte == space
 
--- a byte, after a backslash where the test holds
-abbrev pub marked_byte : (ℕ → Bool) → ℕ → List ℕ
-marked_byte is_marked byte = if is_marked byte then backslash ∷ byte ∷ [] else byte ∷ []
+-- whether a byte of a value is escaped: one that is marked, or `'`
+abbrev pub is_value_escaped : ℕ → Bool
+is_value_escaped byte = is_value_marked byte || byte == single_quote
 
--- a text with a backslash before each byte for which the test holds
-abbrev pub marked : (ℕ → Bool) → List ℕ → List ℕ
-marked is_marked text = flat_map (marked_byte is_marked) text
+-- whether one of a description is, or is a line feed
+abbrev pub is_help_escaped : ℕ → Bool
+is_help_escaped byte = is_help_marked byte || byte == single_quote || byte == line_feed
 
--- a description between `'`, with line feeds as spaces
+-- what stands for a byte that is escaped: `'\''` for `'`, and any other after a backslash
+abbrev pub zsh_replacement : ℕ → List ℕ
+zsh_replacement byte = if byte == single_quote then codes "'\\''" else backslashed byte
+
+-- the same in a description, and a space for a line feed
+abbrev pub zsh_help_replacement : ℕ → List ℕ
+zsh_help_replacement byte = if byte == line_feed then codes " " else zsh_replacement byte
+
+-- a description between `'`
 unfoldable pub zsh_escaped_help : List ℕ → List ℕ
-zsh_escaped_help text = posix_escaped (marked is_help_marked (line_feeds_as_spaces text))
+zsh_escaped_help text = escaped_by is_help_escaped zsh_help_replacement text
 
 -- a value between `'`
 unfoldable pub zsh_escaped_value : List ℕ → List ℕ
-zsh_escaped_value text = posix_escaped (marked is_value_marked text)
+zsh_escaped_value text = escaped_by is_value_escaped zsh_replacement text
 
 -- what stands between two `'` is read as the text that it spells, and without the backslashes that is
 -- the other text
@@ -73,21 +80,3 @@ pub record ReadsUnescaped (quoted text : List ℕ) : Type 0 where
   pub between : List ℕ
   pub word : posix_word_of (codes "'" ++ quoted ++ codes "'") ≡ Some (between, [])
   pub unescaped : zsh_unescaped between ≡ Some text
-
--- ---- byte by byte
-
--- what stands for a byte of a description
-abbrev pub zsh_help_byte : ℕ → List ℕ
-zsh_help_byte byte = posix_escaped (marked_byte is_help_marked (space_for_line_feed byte))
-
--- what stands for a byte of a value
-abbrev pub zsh_value_byte : ℕ → List ℕ
-zsh_value_byte byte = posix_escaped (marked_byte is_value_marked byte)
-
--- whether something else stands for a byte of a value: for one that is marked, and for `'`
-abbrev pub is_value_escaped : ℕ → Bool
-is_value_escaped byte = is_value_marked byte || byte == single_quote
-
--- the same of a description, where it does for a line feed too
-abbrev pub is_help_escaped : ℕ → Bool
-is_help_escaped byte = is_help_marked byte || byte == single_quote || byte == line_feed

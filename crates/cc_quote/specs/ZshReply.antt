@@ -1,7 +1,7 @@
 -- A value and its help as zsh's completion takes them apart at a colon.
 use Rattle.std.specs.Prelude.{ℕ, Bool, List, ◌==◌, ◌||◌}
 use Rattle.cc_base.specs.Bytes.{backslash, colon}
-use Rattle.cc_quote.specs.ZshQuote.{marked}
+use Rattle.cc_quote.specs.Escapes.{marked}
 
 -- `\` and `:`, which stand after a backslash in a value
 abbrev pub is_reply_value_marked : ℕ → Bool

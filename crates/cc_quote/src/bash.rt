@@ -1,21 +1,20 @@
 //! Texts between two `"` of bash.
 
-ghost use Rattle.std.specs.Prelude.{◌≡◌, [], ◌++◌, true, codes, map, IfOk, IfErr, Some};
+ghost use Rattle.std.specs.Prelude.{◌≡◌, [], ◌++◌, codes, map, IfOk, IfErr, Some};
 ghost use Rattle.std.specs.String.{string_bytes};
 ghost use Rattle.cc_quote.specs.BashDouble.{
   bash_double_from,
   bash_double_of,
   bash_doubled,
-  bash_doubled_byte,
   closes_double,
   is_double_marked,
 };
+ghost use Rattle.cc_quote.specs.Escapes.{backslashed};
 ghost use Rattle.cc_quote.specs.PosixTokens.{sign};
 ghost use Rattle.cc_quote.specs.QuotedWord.{contents};
 ghost use Rattle.cc_quote.specs.declared.posix.Place.TheVariants.{InDouble};
-ghost use Rattle.memchr.specs.Find.{IsFirstByte};
 
-use crate::escape::{Escape, push_escaped};
+use crate::escape::{ByteEscape, push_escaped};
 use crate::posix::{Place, next_place, push_added};
 use crate::word::split_first;
 use cc_base::Error;
@@ -24,41 +23,19 @@ use std::alloc::{AllocError, Global};
 /// bash's escape of a text between two `"`: a backslash before `\`, `"`, `$` and a backtick.
 pub struct BashDouble;
 
-impl Escape for BashDouble {
-    ghost escaped = { λ _ text. bash_doubled text };
+impl ByteEscape for BashDouble {
+    ghost escapes = { λ _. is_double_marked };
 
-    fn split<'a>(&self, text: &'a str) -> Option<(&'a str, &'static str, &'a str)> {
-        let bytes = text.as_bytes();
-        let Some(at) = find_marked(bytes) else {
-            return None;
-        };
-        let replacement = marked(bytes[at]);
-        Some((&text[..at], replacement, &text[at + 1..]))
-    }
-}
+    ghost replacement = { λ _. backslashed };
 
-// The place of the first byte that is escaped.
-fn find_marked(bytes: &[u8]) -> Option<usize>
-    ensures { IsFirstByte is_double_marked bytes.now result }
-{
-    for at in 0..bytes.len() {
-        if matches!(bytes[at], b'\\' | b'"' | b'$' | b'`') {
-            return Some(at);
+    fn replacement(&self, byte: u8) -> Option<&'static str> {
+        match byte {
+            b'\\' => Some("\\\\"),
+            b'"' => Some("\\\""),
+            b'$' => Some("\\$"),
+            b'`' => Some("\\`"),
+            _ => None,
         }
-    }
-    None
-}
-
-// What stands for a byte that is escaped.
-fn marked(byte: u8) -> &'static str
-    requires { is_double_marked byte ≡ true }
-    ensures { result.now ≡ bash_doubled_byte byte }
-{
-    match byte {
-        b'\\' => "\\\\",
-        b'"' => "\\\"",
-        b'$' => "\\$",
-        _ => "\\`",
     }
 }
 

@@ -3,12 +3,12 @@
 ghost use Rattle.std.specs.Prelude.{◌≡◌, [], ◌++◌, map, codes, true, IfOk, IfErr, Some};
 ghost use Rattle.std.specs.String.{string_bytes};
 ghost use Rattle.cc_base.specs.Bytes.{line_feed, single_quote};
-ghost use Rattle.cc_quote.specs.ElvishQuote.{elvish_escaped, elvish_escaped_byte, elvish_word_of};
+ghost use Rattle.cc_quote.specs.ElvishQuote.{elvish_escaped, elvish_replacement, elvish_word_of};
 ghost use Rattle.cc_quote.specs.QuotedWord.{contents, line_feeds_as_spaces, quoted, word_from};
 ghost use Rattle.cc_quote.specs.Signs.{sign};
 ghost use Rattle.memchr.specs.Find.{is_byte2};
 
-use crate::escape::{Escape, push_escaped};
+use crate::escape::{ByteEscape, push_escaped};
 use crate::word::bare_word;
 use cc_base::Error;
 use memchr::memchr2;
@@ -17,25 +17,22 @@ use std::alloc::{AllocError, Global};
 /// Elvish's escape of a text between two `'`: each `'` as `''`, and each line feed as a space.
 pub struct ElvishEscape;
 
-impl Escape for ElvishEscape {
-    ghost escaped = { λ _ text. elvish_escaped text };
+impl ByteEscape for ElvishEscape {
+    ghost escapes = { λ _. is_byte2 single_quote line_feed };
 
-    fn split<'a>(&self, text: &'a str) -> Option<(&'a str, &'static str, &'a str)> {
-        let bytes = text.as_bytes();
-        let Some(at) = memchr2(b'\'', b'\n', bytes) else {
-            return None;
-        };
-        let replacement = replacement(bytes[at]);
-        Some((&text[..at], replacement, &text[at + 1..]))
+    ghost replacement = { λ _. elvish_replacement };
+
+    fn replacement(&self, byte: u8) -> Option<&'static str> {
+        match byte {
+            b'\'' => Some("''"),
+            b'\n' => Some(" "),
+            _ => None,
+        }
     }
-}
 
-// What stands for a byte that is escaped.
-fn replacement(escaped: u8) -> &'static str
-    requires { is_byte2 single_quote line_feed escaped ≡ true }
-    ensures { result.now ≡ elvish_escaped_byte escaped }
-{
-    if escaped == b'\'' { "''" } else { " " }
+    fn find(&self, bytes: &[u8]) -> Option<usize> {
+        memchr2(b'\'', b'\n', bytes)
+    }
 }
 
 /// The text as it stands between two `'` in Elvish: each `'` as `''`, and each line feed as a

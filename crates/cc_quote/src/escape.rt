@@ -1,11 +1,14 @@
 //! Escapes by runs: what needs no escape is passed on unchanged, up to the next escape.
 
-ghost use Rattle.std.specs.Prelude.{◌≡◌, ◌++◌, ℕ, List, IfErr, OnOk, MatchOption};
+ghost use Rattle.std.specs.Prelude.{◌≡◌, ◌<◌, ◌++◌, ℕ, List, Bool, IfErr, IsSome, OnOk, MatchOption};
+ghost use Rattle.std.specs.Option.{option_copied};
 ghost use Rattle.std.specs.String.{string_bytes};
 ghost use Rattle.cc_base.specs.Writes.{IsWrite, Writes, as_write};
-ghost use Rattle.cc_quote.specs.Escapes.{IsFirstEscape};
+ghost use Rattle.cc_quote.specs.Escapes.{IsFirstEscape, escaped_by, replacement_by};
+ghost use Rattle.memchr.specs.Find.{IsFirstByte, is_byte};
 
 use cc_base::{Error, Sink, put_piece};
+use memchr::memchr;
 use std::alloc::AllocError;
 use std::io::ErrorKind;
 
@@ -19,6 +22,69 @@ pub trait Escape {
     fn split<'a>(&self, text: &'a str) -> Option<(&'a str, &'static str, &'a str)>
         ensures { MatchOption result (escaped self.now text.now ≡ text.now)
             (λ cut. IsFirstEscape (escaped self.now) text.now cut.0.now cut.1.now cut.2.now) };
+}
+
+/// An escape that puts a text in place of each byte of a set of ASCII bytes.
+pub trait ByteEscape {
+    // whether a byte is escaped, and what stands for one that is
+    ghost escapes: { Self → ℕ → Bool };
+
+    ghost replacement: { Self → ℕ → List ℕ };
+
+    /// What stands for the byte; `None` where it is not escaped.
+    fn replacement(&self, byte: u8) -> Option<&'static str>
+        ensures text { option_copied result
+            ≡ replacement_by (escapes self.now) (replacement self.now) byte }
+        ensures ascii { IsSome result → byte < 128 };
+
+    /// The place of the first byte that is escaped.
+    fn find(&self, bytes: &[u8]) -> Option<usize>
+        ensures { IsFirstByte (escapes self.now) bytes.now result }
+    {
+        for at in 0..bytes.len() {
+            if self.replacement(bytes[at]).is_some() {
+                return Some(at);
+            }
+        }
+        None
+    }
+}
+
+impl<E: ByteEscape> Escape for E {
+    ghost escaped = { λ escape text. escaped_by (E.escapes escape) (E.replacement escape) text };
+
+    fn split<'a>(&self, text: &'a str) -> Option<(&'a str, &'static str, &'a str)> {
+        let bytes = text.as_bytes();
+        let at = self.find(bytes)?;
+        let replacement = self.replacement(bytes[at])?;
+        Some((&text[..at], replacement, &text[at + 1..]))
+    }
+}
+
+/// The escape that puts a text in place of one ASCII byte.
+#[derive(Clone, Copy)]
+pub struct Replace {
+    pub byte: u8,
+    pub by: &'static str,
+    ghost ascii: { byte < 128 },
+}
+
+impl ByteEscape for Replace {
+    ghost escapes = { λ escape. is_byte escape.byte };
+
+    ghost replacement = { λ escape _. escape.by.now };
+
+    fn replacement(&self, byte: u8) -> Option<&'static str> {
+        if byte == self.byte {
+            Some(self.by)
+        } else {
+            None
+        }
+    }
+
+    fn find(&self, bytes: &[u8]) -> Option<usize> {
+        memchr(self.byte, bytes)
+    }
 }
 
 /// Writes the escaped text. Allocates nothing, and fails with `Write` where a put failed.

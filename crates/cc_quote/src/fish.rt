@@ -1,20 +1,15 @@
 //! Texts as fish quotes them, for one reading and for two.
 
-ghost use Rattle.std.specs.Prelude.{◌≡◌, [], ◌++◌, true, codes, IfOk, IfErr, Some};
+ghost use Rattle.std.specs.Prelude.{◌≡◌, [], ◌++◌, codes, IfOk, IfErr, Some};
 ghost use Rattle.std.specs.List.{list_all};
 ghost use Rattle.std.specs.String.{string_bytes};
 ghost use Rattle.cc_base.specs.Writes.{Writes};
 ghost use Rattle.cc_base.specs.Bytes.{backslash, line_feed, single_quote};
-ghost use Rattle.memchr.specs.Find.{IsFirstByte, is_byte2, is_byte3};
-ghost use Rattle.cc_quote.specs.FishEscapes.{
-  description_byte,
-  eval_byte,
-  help_byte,
-  is_eval_byte,
-  is_help_byte,
-};
+ghost use Rattle.memchr.specs.Find.{is_byte3};
+ghost use Rattle.cc_quote.specs.Escapes.{backslashed};
+ghost use Rattle.cc_quote.specs.FishEscapes.{eval_byte, help_byte, is_eval_byte, is_help_byte};
 ghost use Rattle.cc_quote.specs.FishQuote.{
-  double_escaped,
+  description_replacement,
   fish_escaped,
   fish_help_for_eval_of,
   fish_quoted,
@@ -22,13 +17,12 @@ ghost use Rattle.cc_quote.specs.FishQuote.{
   fish_word_of,
   is_fish_safe,
   is_fish_safe_word,
-  single_byte,
-  single_escaped,
+  is_single_marked,
   ReadsTwice,
 };
 ghost use Rattle.cc_quote.specs.QuotedWord.{line_feeds_as_spaces};
 
-use crate::escape::{Escape, push_escaped, put_escaped};
+use crate::escape::{ByteEscape, Escape, push_escaped, put_escaped};
 use cc_base::{Error, Sink, put_all};
 use memchr::{memchr2, memchr3};
 use std::alloc::{AllocError, Global};
@@ -37,133 +31,77 @@ use std::alloc::{AllocError, Global};
 /// a space.
 pub struct FishEscape;
 
-impl Escape for FishEscape {
-    ghost escaped = { λ _ text. fish_escaped text };
+impl ByteEscape for FishEscape {
+    ghost escapes = { λ _. is_byte3 backslash single_quote line_feed };
 
-    fn split<'a>(&self, text: &'a str) -> Option<(&'a str, &'static str, &'a str)> {
-        let bytes = text.as_bytes();
-        let Some(at) = memchr3(b'\\', b'\'', b'\n', bytes) else {
-            return None;
-        };
-        let replacement = in_description(bytes[at]);
-        Some((&text[..at], replacement, &text[at + 1..]))
+    ghost replacement = { λ _. description_replacement };
+
+    fn replacement(&self, byte: u8) -> Option<&'static str> {
+        if byte == b'\n' {
+            return Some(" ");
+        }
+        SingleEscape.replacement(byte)
     }
-}
 
-// What stands for a byte that is escaped in a description.
-fn in_description(escaped: u8) -> &'static str
-    requires { is_byte3 backslash single_quote line_feed escaped ≡ true }
-    ensures { result.now ≡ description_byte escaped }
-{
-    match escaped {
-        b'\\' => "\\\\",
-        b'\'' => "\\'",
-        _ => " ",
+    fn find(&self, bytes: &[u8]) -> Option<usize> {
+        memchr3(b'\\', b'\'', b'\n', bytes)
     }
 }
 
 // The escape of a text between two `'` for one reading: `\` as `\\` and `'` as `\'`.
 struct SingleEscape;
 
-impl Escape for SingleEscape {
-    ghost escaped = { λ _ text. single_escaped text };
+impl ByteEscape for SingleEscape {
+    ghost escapes = { λ _. is_single_marked };
 
-    fn split<'a>(&self, text: &'a str) -> Option<(&'a str, &'static str, &'a str)> {
-        let bytes = text.as_bytes();
-        let Some(at) = memchr2(b'\\', b'\'', bytes) else {
-            return None;
-        };
-        let replacement = in_single(bytes[at]);
-        Some((&text[..at], replacement, &text[at + 1..]))
+    ghost replacement = { λ _. backslashed };
+
+    fn replacement(&self, byte: u8) -> Option<&'static str> {
+        match byte {
+            b'\\' => Some("\\\\"),
+            b'\'' => Some("\\'"),
+            _ => None,
+        }
     }
-}
 
-// What stands for a byte that is escaped between two `'`.
-fn in_single(escaped: u8) -> &'static str
-    requires { is_byte2 backslash single_quote escaped ≡ true }
-    ensures { result.now ≡ single_byte escaped }
-{
-    if escaped == b'\\' { "\\\\" } else { "\\'" }
+    fn find(&self, bytes: &[u8]) -> Option<usize> {
+        memchr2(b'\\', b'\'', bytes)
+    }
 }
 
 // The escape of a text between two `'` that stand between two `"`.
 struct EvalEscape;
 
-impl Escape for EvalEscape {
-    ghost escaped = { λ _ text. double_escaped (single_escaped text) };
+impl ByteEscape for EvalEscape {
+    ghost escapes = { λ _. is_eval_byte };
 
-    fn split<'a>(&self, text: &'a str) -> Option<(&'a str, &'static str, &'a str)> {
-        let bytes = text.as_bytes();
-        let Some(at) = find_for_eval(bytes) else {
-            return None;
-        };
-        let replacement = for_eval(bytes[at]);
-        Some((&text[..at], replacement, &text[at + 1..]))
+    ghost replacement = { λ _. eval_byte };
+
+    fn replacement(&self, byte: u8) -> Option<&'static str> {
+        match byte {
+            b'\\' => Some("\\\\\\\\"),
+            b'\'' => Some("\\\\'"),
+            b'"' => Some("\\\""),
+            b'$' => Some("\\$"),
+            _ => None,
+        }
     }
 }
 
 // The same with each line feed as a space.
 struct HelpEscape;
 
-impl Escape for HelpEscape {
-    ghost escaped = { λ _ text. double_escaped (single_escaped (line_feeds_as_spaces text)) };
+impl ByteEscape for HelpEscape {
+    ghost escapes = { λ _. is_help_byte };
 
-    fn split<'a>(&self, text: &'a str) -> Option<(&'a str, &'static str, &'a str)> {
-        let bytes = text.as_bytes();
-        let Some(at) = find_in_help(bytes) else {
-            return None;
-        };
-        let replacement = in_help(bytes[at]);
-        Some((&text[..at], replacement, &text[at + 1..]))
-    }
-}
+    ghost replacement = { λ _. help_byte };
 
-// The place of the first byte that is escaped for two readings.
-fn find_for_eval(bytes: &[u8]) -> Option<usize>
-    ensures { IsFirstByte is_eval_byte bytes.now result }
-{
-    for at in 0..bytes.len() {
-        if matches!(bytes[at], b'\\' | b'\'' | b'"' | b'$') {
-            return Some(at);
+    fn replacement(&self, byte: u8) -> Option<&'static str> {
+        if byte == b'\n' {
+            return Some(" ");
         }
+        EvalEscape.replacement(byte)
     }
-    None
-}
-
-// The place of the first byte that is escaped for two readings, or is a line feed.
-fn find_in_help(bytes: &[u8]) -> Option<usize>
-    ensures { IsFirstByte is_help_byte bytes.now result }
-{
-    for at in 0..bytes.len() {
-        if matches!(bytes[at], b'\\' | b'\'' | b'"' | b'$' | b'\n') {
-            return Some(at);
-        }
-    }
-    None
-}
-
-// What stands for a byte that is escaped for two readings.
-fn for_eval(escaped: u8) -> &'static str
-    requires { is_eval_byte escaped ≡ true }
-    ensures { result.now ≡ eval_byte escaped }
-{
-    match escaped {
-        b'\\' => "\\\\\\\\",
-        b'\'' => "\\\\'",
-        b'"' => "\\\"",
-        _ => "\\$",
-    }
-}
-
-// The same, and a space for a line feed.
-fn in_help(escaped: u8) -> &'static str
-    requires { is_help_byte escaped ≡ true }
-    ensures { result.now ≡ help_byte escaped }
-{
-    if escaped == b'\n' {
-        return " ";
-    }
-    for_eval(escaped)
 }
 
 // Whether a text that is not empty is made of ASCII letters, digits and `/ _ - . , + = : @`.
@@ -281,7 +219,7 @@ fn quoted_help(alloc: Global, help: &str) -> Result<String, AllocError>
 
 /// The text as it stands between two `'` in fish: `\` as `\\`, `'` as `\'`, and each line feed as a
 /// space. Fails with `Memory` alone.
-#[tactic(auto, using(crate::proofs::FishReaders::fish_escaped_reads_back))]
+#[tactic(auto, unfolding(crate::specs::FishQuote::fish_escaped), using(crate::proofs::FishReaders::fish_escaped_reads_back))]
 pub fn fish_escape(alloc: Global, text: &str) -> Result<String, Error>
     ensures escaped { IfOk result (λ escaped. string_bytes escaped ≡ fish_escaped text.now) }
 

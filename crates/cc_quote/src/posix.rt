@@ -30,25 +30,10 @@ ghost use Rattle.cc_quote.specs.PosixTokenWords.{ReadsFirstToken};
 ghost use Rattle.cc_quote.specs.PosixTokens.{sign};
 ghost use Rattle.cc_quote.specs.QuotedWord.{contents};
 
-use crate::escape::{Escape, push_escaped};
+use crate::escape::{Replace, push_escaped};
 use crate::word::split_first;
 use cc_base::Error;
-use memchr::memchr;
 use std::alloc::{AllocError, Global};
-
-// The escape of a text between two `'`: each `'` as `'\''`.
-struct PosixEscape;
-
-impl Escape for PosixEscape {
-    ghost escaped = { λ _ text. posix_escaped text };
-
-    fn split<'a>(&self, text: &'a str) -> Option<(&'a str, &'static str, &'a str)> {
-        let Some(at) = memchr(b'\'', text.as_bytes()) else {
-            return None;
-        };
-        Some((&text[..at], "'\\''", &text[at + 1..]))
-    }
-}
 
 /// The text as one word of a posix shell: as it is where it is not empty and made of ASCII letters,
 /// digits and `+ - . / : @ _`; else between `'`, with each `'` as `'\''`. Fails with `Memory`
@@ -74,7 +59,11 @@ fn in_quotes(alloc: Global, text: &str) -> Result<String, AllocError>
         (λ quoted. string_bytes quoted ≡ codes "'" ++ posix_escaped text.now ++ codes "'") }
 {
     let mut quoted = String::from_str(alloc, "'")?;
-    push_escaped(&PosixEscape, text, &mut quoted)?;
+    let escape = Replace {
+        byte: b'\'',
+        by: "'\\''",
+    };
+    push_escaped(&escape, text, &mut quoted)?;
     quoted.push_str("'")?;
     Ok(quoted)
 }

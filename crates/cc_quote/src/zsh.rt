@@ -4,10 +4,9 @@
 ghost use Rattle.std.specs.Prelude.{◌≡◌, [], ◌++◌, ◌∷◌, true, option_map, encode_utf8, IfOk, IfErr, MatchOption, Some};
 ghost use Rattle.std.specs.String.{string_bytes};
 ghost use Rattle.cc_quote.specs.QuotedWord.{line_feeds_as_spaces};
-ghost use Rattle.cc_quote.specs.ZshQuote.{is_help_escaped, is_value_escaped, zsh_escaped_help, zsh_escaped_value, zsh_help_byte, zsh_unescaped, zsh_value_byte, ReadsUnescaped};
-ghost use Rattle.memchr.specs.Find.{IsFirstByte};
+ghost use Rattle.cc_quote.specs.ZshQuote.{is_help_escaped, is_value_escaped, zsh_escaped_help, zsh_escaped_value, zsh_help_replacement, zsh_replacement, zsh_unescaped, ReadsUnescaped};
 
-use crate::escape::{Escape, push_escaped};
+use crate::escape::{ByteEscape, push_escaped};
 use crate::word::split_first;
 use cc_base::Error;
 use std::alloc::{AllocError, Global};
@@ -16,16 +15,27 @@ use std::alloc::{AllocError, Global};
 /// as `'\''`, and each line feed as a space.
 pub struct ZshHelpEscape;
 
-impl Escape for ZshHelpEscape {
-    ghost escaped = { λ _ text. zsh_escaped_help text };
+impl ByteEscape for ZshHelpEscape {
+    ghost escapes = { λ _. is_help_escaped };
 
-    fn split<'a>(&self, text: &'a str) -> Option<(&'a str, &'static str, &'a str)> {
-        let bytes = text.as_bytes();
-        let Some(at) = find_in_help(bytes) else {
+    ghost replacement = { λ _. zsh_help_replacement };
+
+    fn replacement(&self, byte: u8) -> Option<&'static str> {
+        // All that are escaped come before the lower-case letters, of which most texts are made.
+        if byte > b'`' {
             return None;
-        };
-        let replacement = in_help(bytes[at]);
-        Some((&text[..at], replacement, &text[at + 1..]))
+        }
+        match byte {
+            b'\\' => Some("\\\\"),
+            b'[' => Some("\\["),
+            b']' => Some("\\]"),
+            b':' => Some("\\:"),
+            b'$' => Some("\\$"),
+            b'`' => Some("\\`"),
+            b'\'' => Some("'\\''"),
+            b'\n' => Some(" "),
+            _ => None,
+        }
     }
 }
 
@@ -33,90 +43,25 @@ impl Escape for ZshHelpEscape {
 /// space, and `'` as `'\''`.
 pub struct ZshValueEscape;
 
-impl Escape for ZshValueEscape {
-    ghost escaped = { λ _ text. zsh_escaped_value text };
+impl ByteEscape for ZshValueEscape {
+    ghost escapes = { λ _. is_value_escaped };
 
-    fn split<'a>(&self, text: &'a str) -> Option<(&'a str, &'static str, &'a str)> {
-        let bytes = text.as_bytes();
-        let Some(at) = find_in_value(bytes) else {
-            return None;
-        };
-        let replacement = in_value(bytes[at]);
-        Some((&text[..at], replacement, &text[at + 1..]))
-    }
-}
+    ghost replacement = { λ _. zsh_replacement };
 
-// The place of the first byte of a description that is escaped.
-fn find_in_help(bytes: &[u8]) -> Option<usize>
-    ensures { IsFirstByte is_help_escaped bytes.now result }
-{
-    for at in 0..bytes.len() {
-        // All that are escaped come before the lower-case letters, of which most texts are made.
-        if bytes[at] > b'`' {
-            continue;
+    fn replacement(&self, byte: u8) -> Option<&'static str> {
+        match byte {
+            b'(' => Some("\\("),
+            b')' => Some("\\)"),
+            b' ' => Some("\\ "),
+            b'\n' => None,
+            _ => ZshHelpEscape.replacement(byte),
         }
-        if matches!(
-            bytes[at],
-            b'\\' | b'[' | b']' | b':' | b'$' | b'`' | b'\'' | b'\n'
-        ) {
-            return Some(at);
-        }
-    }
-    None
-}
-
-// The place of the first byte of a value that is escaped.
-fn find_in_value(bytes: &[u8]) -> Option<usize>
-    ensures { IsFirstByte is_value_escaped bytes.now result }
-{
-    for at in 0..bytes.len() {
-        // All that are escaped come before the lower-case letters, of which most texts are made.
-        if bytes[at] > b'`' {
-            continue;
-        }
-        if matches!(
-            bytes[at],
-            b'\\' | b'[' | b']' | b':' | b'$' | b'`' | b'(' | b')' | b' ' | b'\''
-        ) {
-            return Some(at);
-        }
-    }
-    None
-}
-
-// What stands for a byte of a description that is escaped.
-fn in_help(escaped: u8) -> &'static str
-    requires { is_help_escaped escaped ≡ true }
-    ensures { result.now ≡ zsh_help_byte escaped }
-{
-    match escaped {
-        b'\\' => "\\\\",
-        b'[' => "\\[",
-        b']' => "\\]",
-        b':' => "\\:",
-        b'$' => "\\$",
-        b'`' => "\\`",
-        b'\'' => "'\\''",
-        _ => " ",
-    }
-}
-
-// What stands for a byte of a value that is escaped.
-fn in_value(escaped: u8) -> &'static str
-    requires { is_value_escaped escaped ≡ true }
-    ensures { result.now ≡ zsh_value_byte escaped }
-{
-    match escaped {
-        b'(' => "\\(",
-        b')' => "\\)",
-        b' ' => "\\ ",
-        _ => in_help(escaped),
     }
 }
 
 /// The text as a description between two `'` in zsh: a backslash before `\ [ ] : $` and a backtick,
 /// `'` as `'\''`, and each line feed as a space. Fails with `Memory` alone.
-#[tactic(auto, using(crate::proofs::ZshWords::help_reads_unescaped))]
+#[tactic(auto, unfolding(crate::specs::ZshQuote::zsh_escaped_help), using(crate::proofs::ZshWords::help_reads_unescaped))]
 pub fn zsh_escape_help(alloc: Global, text: &str) -> Result<String, Error>
     ensures escaped { IfOk result (λ escaped. string_bytes escaped ≡ zsh_escaped_help text.now) }
 
@@ -132,7 +77,7 @@ pub fn zsh_escape_help(alloc: Global, text: &str) -> Result<String, Error>
 
 /// The text as a value between two `'` in zsh: a backslash before `\ [ ] : $ ( )`, a backtick and a
 /// space, and `'` as `'\''`. Fails with `Memory` alone.
-#[tactic(auto, using(crate::proofs::ZshWords::value_reads_unescaped))]
+#[tactic(auto, unfolding(crate::specs::ZshQuote::zsh_escaped_value), using(crate::proofs::ZshWords::value_reads_unescaped))]
 pub fn zsh_escape_value(alloc: Global, text: &str) -> Result<String, Error>
     ensures escaped { IfOk result (λ escaped. string_bytes escaped ≡ zsh_escaped_value text.now) }
 

@@ -1,13 +1,12 @@
 //! A value and its help as zsh's completion takes them apart at a colon.
 
-ghost use Rattle.std.specs.Prelude.{◌≡◌, true, IfOk, IfErr, Some};
+ghost use Rattle.std.specs.Prelude.{◌≡◌, IfOk, IfErr, Some};
 ghost use Rattle.std.specs.String.{string_bytes};
-ghost use Rattle.cc_base.specs.Bytes.{backslash, colon};
-ghost use Rattle.cc_quote.specs.ZshQuote.{marked_byte, zsh_unescaped};
-ghost use Rattle.cc_quote.specs.ZshReply.{is_reply_value_marked, zsh_replied_help, zsh_replied_value};
-ghost use Rattle.memchr.specs.Find.{is_byte2};
+ghost use Rattle.cc_quote.specs.Escapes.{backslashed};
+ghost use Rattle.cc_quote.specs.ZshQuote.{zsh_unescaped};
+ghost use Rattle.cc_quote.specs.ZshReply.{is_reply_help_marked, is_reply_value_marked, zsh_replied_help, zsh_replied_value};
 
-use crate::escape::{Escape, push_escaped};
+use crate::escape::{ByteEscape, push_escaped};
 use cc_base::Error;
 use memchr::{memchr, memchr2};
 use std::alloc::Global;
@@ -15,39 +14,39 @@ use std::alloc::Global;
 /// zsh's escape of a value before a colon: `\` as `\\` and `:` as `\:`.
 pub struct ZshReplyValue;
 
-impl Escape for ZshReplyValue {
-    ghost escaped = { λ _ text. zsh_replied_value text };
+impl ByteEscape for ZshReplyValue {
+    ghost escapes = { λ _. is_reply_value_marked };
 
-    fn split<'a>(&self, text: &'a str) -> Option<(&'a str, &'static str, &'a str)> {
-        let bytes = text.as_bytes();
-        let Some(at) = memchr2(b'\\', b':', bytes) else {
-            return None;
-        };
-        let replacement = in_value(bytes[at]);
-        Some((&text[..at], replacement, &text[at + 1..]))
+    ghost replacement = { λ _. backslashed };
+
+    fn replacement(&self, byte: u8) -> Option<&'static str> {
+        match byte {
+            b'\\' => Some("\\\\"),
+            b':' => Some("\\:"),
+            _ => None,
+        }
+    }
+
+    fn find(&self, bytes: &[u8]) -> Option<usize> {
+        memchr2(b'\\', b':', bytes)
     }
 }
 
 /// zsh's escape of a help after a colon: `\` as `\\`.
 pub struct ZshReplyHelp;
 
-impl Escape for ZshReplyHelp {
-    ghost escaped = { λ _ text. zsh_replied_help text };
+impl ByteEscape for ZshReplyHelp {
+    ghost escapes = { λ _. is_reply_help_marked };
 
-    fn split<'a>(&self, text: &'a str) -> Option<(&'a str, &'static str, &'a str)> {
-        let Some(at) = memchr(b'\\', text.as_bytes()) else {
-            return None;
-        };
-        Some((&text[..at], "\\\\", &text[at + 1..]))
+    ghost replacement = { λ _. backslashed };
+
+    fn replacement(&self, byte: u8) -> Option<&'static str> {
+        if byte == b'\\' { Some("\\\\") } else { None }
     }
-}
 
-// What stands for a byte of a value that is escaped.
-fn in_value(byte: u8) -> &'static str
-    requires { is_byte2 backslash colon byte ≡ true }
-    ensures { result.now ≡ marked_byte is_reply_value_marked byte }
-{
-    if byte == b'\\' { "\\\\" } else { "\\:" }
+    fn find(&self, bytes: &[u8]) -> Option<usize> {
+        memchr(b'\\', bytes)
+    }
 }
 
 /// The value as it stands before a colon: `\` as `\\` and `:` as `\:`. Fails with `Memory` alone.

@@ -1,7 +1,0 @@
-use Rattle.memchr.specs.Find.{Nowhere, Passes}
-use Rattle.cc_quote.specs.FishEscapes.{is_eval_byte}
-use Rattle.cc_quote.proofs.fish.find_for_eval.Given as goal
-
--- none of the bytes so far
-abbrev pub invariant-loop-at : goal.invariant-loop-at
-invariant-loop-at l = Nowhere (Passes is_eval_byte l.bytes) 0 l.at
