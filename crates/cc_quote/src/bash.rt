@@ -14,7 +14,7 @@ ghost use Rattle.cc_quote.specs.PosixTokens.{sign};
 ghost use Rattle.cc_quote.specs.QuotedWord.{contents};
 ghost use Rattle.cc_quote.specs.declared.posix.Place.TheVariants.{InDouble};
 
-use crate::escape::{ByteEscape, push_escaped};
+use crate::escape::{ByteEscape, escape_text};
 use crate::posix::{Place, next_place, push_added};
 use crate::word::split_first;
 use cc_base::Error;
@@ -51,9 +51,7 @@ pub fn bash_double(alloc: Global, text: &str) -> Result<String, Error>
         ≡ Some (text.now, [])) }
     ensures memory { IfErr result (λ error. error ≡ Error.Memory) }
 {
-    let mut escaped = String::new(alloc);
-    push_escaped(&BashDouble, text, &mut escaped)?;
-    Ok(escaped)
+    Ok(escape_text(alloc, &BashDouble, text)?)
 }
 
 /// What a text that begins with `"` spells up to the `"` that closes it, as `posix_word` reads it

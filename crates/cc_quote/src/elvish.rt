@@ -8,7 +8,7 @@ ghost use Rattle.cc_quote.specs.QuotedWord.{contents, line_feeds_as_spaces, quot
 ghost use Rattle.cc_quote.specs.Signs.{sign};
 ghost use Rattle.memchr.specs.Find.{is_byte2};
 
-use crate::escape::{ByteEscape, push_escaped};
+use crate::escape::{ByteEscape, escape_text};
 use crate::word::bare_word;
 use cc_base::Error;
 use memchr::memchr2;
@@ -47,9 +47,7 @@ pub fn elvish_escape(alloc: Global, text: &str) -> Result<String, Error>
         ≡ Some (line_feeds_as_spaces text.now, [])) }
     ensures memory { IfErr result (λ error. error ≡ Error.Memory) }
 {
-    let mut escaped = String::new(alloc);
-    push_escaped(&ElvishEscape, text, &mut escaped)?;
-    Ok(escaped)
+    Ok(escape_text(alloc, &ElvishEscape, text)?)
 }
 
 /// The word that a text begins with, and what follows it. A word that begins with `'` goes to its

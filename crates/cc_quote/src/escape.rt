@@ -1,6 +1,6 @@
 //! Escapes by runs: what needs no escape is passed on unchanged, up to the next escape.
 
-ghost use Rattle.std.specs.Prelude.{◌≡◌, ◌<◌, ◌++◌, ℕ, List, Bool, IfErr, IsSome, OnOk, MatchOption};
+ghost use Rattle.std.specs.Prelude.{◌≡◌, ◌<◌, ◌++◌, ℕ, List, Bool, IfErr, IfOk, IsSome, OnOk, MatchOption};
 ghost use Rattle.std.specs.Option.{option_copied};
 ghost use Rattle.std.specs.String.{string_bytes};
 ghost use Rattle.cc_base.specs.Writes.{IsWrite, Writes, as_write};
@@ -9,7 +9,7 @@ ghost use Rattle.memchr.specs.Find.{IsFirstByte, is_byte};
 
 use cc_base::{Error, Sink, put_piece};
 use memchr::memchr;
-use std::alloc::AllocError;
+use std::alloc::{AllocError, Global};
 use std::io::ErrorKind;
 
 /// How a shell escapes a text within quotes.
@@ -129,4 +129,14 @@ pub fn push_escaped<E: Escape>(escape: &E, text: &str, made: &mut String) -> Res
         rest = next;
     }
     made.push_str(rest)
+}
+
+/// The escaped text. Fails where memory runs out.
+pub fn escape_text<E: Escape>(alloc: Global, escape: &E, text: &str) -> Result<String, AllocError>
+    ensures { IfOk result (λ made. string_bytes made ≡ E.escaped escape.now text.now) }
+{
+    let mut made = String::with_capacity(alloc, text.len())?;
+    push_escaped(escape, text, &mut made)?;
+    made.shrink_to_fit();
+    Ok(made)
 }

@@ -22,7 +22,7 @@ ghost use Rattle.cc_quote.specs.FishQuote.{
 };
 ghost use Rattle.cc_quote.specs.QuotedWord.{line_feeds_as_spaces};
 
-use crate::escape::{ByteEscape, Escape, push_escaped, put_escaped};
+use crate::escape::{ByteEscape, Escape, escape_text, push_escaped, put_escaped};
 use cc_base::{Error, Sink, put_all};
 use memchr::{memchr2, memchr3};
 use std::alloc::{AllocError, Global};
@@ -229,9 +229,7 @@ pub fn fish_escape(alloc: Global, text: &str) -> Result<String, Error>
         ≡ Some (line_feeds_as_spaces text.now, [])) }
     ensures memory { IfErr result (λ error. error ≡ Error.Memory) }
 {
-    let mut escaped = String::new(alloc);
-    push_escaped(&FishEscape, text, &mut escaped)?;
-    Ok(escaped)
+    Ok(escape_text(alloc, &FishEscape, text)?)
 }
 
 /// Writes what `fish_quote_for_eval` makes of the text.

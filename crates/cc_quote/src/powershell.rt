@@ -41,7 +41,7 @@ ghost use Rattle.cc_quote.specs.QuotedWord.{
   IsWithoutQuotes,
 };
 
-use crate::escape::{Escape, push_escaped};
+use crate::escape::{Escape, escape_text};
 use crate::word::bare_word;
 use cc_base::Error;
 use memchr::memchr3_iter;
@@ -130,9 +130,7 @@ pub fn powershell_escape(alloc: Global, text: &str) -> Result<String, Error>
         ≡ Some (line_feeds_as_spaces text.now, [])) }
     ensures memory { IfErr result (λ error. error ≡ Error.Memory) }
 {
-    let mut escaped = String::new(alloc);
-    push_escaped(&PowershellEscape, text, &mut escaped)?;
-    Ok(escaped)
+    Ok(escape_text(alloc, &PowershellEscape, text)?)
 }
 
 /// The word that a text begins with, and what follows it. A word that begins with a quote, which is

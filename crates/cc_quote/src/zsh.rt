@@ -6,7 +6,7 @@ ghost use Rattle.std.specs.String.{string_bytes};
 ghost use Rattle.cc_quote.specs.QuotedWord.{line_feeds_as_spaces};
 ghost use Rattle.cc_quote.specs.ZshQuote.{is_help_escaped, is_value_escaped, zsh_escaped_help, zsh_escaped_value, zsh_help_replacement, zsh_replacement, zsh_unescaped, ReadsUnescaped};
 
-use crate::escape::{ByteEscape, push_escaped};
+use crate::escape::{ByteEscape, escape_text};
 use crate::word::split_first;
 use cc_base::Error;
 use std::alloc::{AllocError, Global};
@@ -70,9 +70,7 @@ pub fn zsh_escape_help(alloc: Global, text: &str) -> Result<String, Error>
         (λ escaped. ReadsUnescaped (string_bytes escaped) (line_feeds_as_spaces text.now)) }
     ensures memory { IfErr result (λ error. error ≡ Error.Memory) }
 {
-    let mut escaped = String::new(alloc);
-    push_escaped(&ZshHelpEscape, text, &mut escaped)?;
-    Ok(escaped)
+    Ok(escape_text(alloc, &ZshHelpEscape, text)?)
 }
 
 /// The text as a value between two `'` in zsh: a backslash before `\ [ ] : $ ( )`, a backtick and a
@@ -86,9 +84,7 @@ pub fn zsh_escape_value(alloc: Global, text: &str) -> Result<String, Error>
         (λ escaped. ReadsUnescaped (string_bytes escaped) text.now) }
     ensures memory { IfErr result (λ error. error ≡ Error.Memory) }
 {
-    let mut escaped = String::new(alloc);
-    push_escaped(&ZshValueEscape, text, &mut escaped)?;
-    Ok(escaped)
+    Ok(escape_text(alloc, &ZshValueEscape, text)?)
 }
 
 /// The text without its escaping backslashes: each keeps the next character, a backslash too. `None`

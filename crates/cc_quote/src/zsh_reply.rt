@@ -6,7 +6,7 @@ ghost use Rattle.cc_quote.specs.Escapes.{backslashed};
 ghost use Rattle.cc_quote.specs.ZshQuote.{zsh_unescaped};
 ghost use Rattle.cc_quote.specs.ZshReply.{is_reply_help_marked, is_reply_value_marked, zsh_replied_help, zsh_replied_value};
 
-use crate::escape::{ByteEscape, push_escaped};
+use crate::escape::{ByteEscape, escape_text};
 use cc_base::Error;
 use memchr::{memchr, memchr2};
 use std::alloc::Global;
@@ -59,9 +59,7 @@ pub fn zsh_reply_value(alloc: Global, value: &str) -> Result<String, Error>
         (λ escaped. zsh_unescaped (string_bytes escaped) ≡ Some value.now) }
     ensures memory { IfErr result (λ error. error ≡ Error.Memory) }
 {
-    let mut escaped = String::new(alloc);
-    push_escaped(&ZshReplyValue, value, &mut escaped)?;
-    Ok(escaped)
+    Ok(escape_text(alloc, &ZshReplyValue, value)?)
 }
 
 /// The help as it stands after a colon: `\` as `\\`. Fails with `Memory` alone.
@@ -74,7 +72,5 @@ pub fn zsh_reply_help(alloc: Global, help: &str) -> Result<String, Error>
         (λ escaped. zsh_unescaped (string_bytes escaped) ≡ Some help.now) }
     ensures memory { IfErr result (λ error. error ≡ Error.Memory) }
 {
-    let mut escaped = String::new(alloc);
-    push_escaped(&ZshReplyHelp, help, &mut escaped)?;
-    Ok(escaped)
+    Ok(escape_text(alloc, &ZshReplyHelp, help)?)
 }
