@@ -135,7 +135,7 @@ globals-pushed [] other local = ap (λ b. cond b (other ∷ []) []) local
 globals-pushed (x ∷ xs) other local = ap (λ ys. cond x.global (x ∷ ys) ys) (globals-pushed xs other local)
 
 -- what is not global adds nothing to what is propagated
-globals-with_missing : (xs others : List Arg) → AreLocal others → globals (with_missing xs others) ≡ globals xs
+pub globals-with_missing : (xs others : List Arg) → AreLocal others → globals (with_missing xs others) ≡ globals xs
 globals-with_missing xs [] local = refl
 globals-with_missing xs (other ∷ others) local =
     globals-with_missing (cond (has_id xs other.id) xs (xs ++ other ∷ [])) others local.1 ∙
@@ -144,7 +144,7 @@ globals-with_missing xs (other ∷ others) local =
       | false ↦ globals-pushed xs other local.0
     ]
 
-AreLocal-generated : (node : Node) → AreLocal (generated_arguments node)
+pub AreLocal-generated : (node : Node) → AreLocal (generated_arguments node)
 unfolding help_argument version_argument
 AreLocal-generated node =
     elim node.disable_help_flag as (λ b. AreLocal (cond b [] (help_argument ∷ []) ++ generated_version node)) [

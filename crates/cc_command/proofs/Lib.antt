@@ -7,5 +7,6 @@ pub mod NameBytes
 pub mod PlainBuilt
 pub mod PlainNames
 pub mod PlainParts
+pub mod PutIn
 pub mod QuietBuilt
 pub mod SiblingNames

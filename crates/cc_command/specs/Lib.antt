@@ -1,3 +1,4 @@
+pub mod Additions
 pub mod ArgumentLists
 pub mod Built
 pub mod Generated

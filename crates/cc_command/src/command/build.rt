@@ -1,26 +1,32 @@
 //! Building a command: what is missing is added and filled in, all the way down.
 
-ghost use Rattle.std.specs.Prelude.{◌≡◌, [], Some, IfOk, IfErr, IsTrue, OnOk, OnErr};
+ghost use Rattle.std.specs.Prelude.{◌≡◌, ◌++◌, [], Some, IfOk, IfErr, IsTrue, OnOk, OnErr};
 ghost use Rattle.std.specs.Result.{IsOk};
 ghost use Rattle.std.specs.String.{string_bytes};
-ghost use Rattle.cc_command.specs.Tree.{forest_of, join};
-ghost use Rattle.cc_command.specs.Generated.{help_child};
-ghost use Rattle.cc_command.specs.Names.{joined_name};
-ghost use Rattle.cc_command.specs.Built.{built_below, built_forest, built_tree, built_under};
+ghost use Rattle.std.specs.Vec.Iter.{into_iter_items};
+ghost use Rattle.cc_command.specs.Tree.{forest_of};
+ghost use Rattle.cc_command.specs.Names.{full_name, joined_name};
+ghost use Rattle.cc_command.specs.Built.{built_tree, built_under, globals};
+ghost use Rattle.cc_command.specs.Additions.{AreAfter, AreBuiltBy, AreOfTreeAfter, IsBuiltBy};
+ghost use Rattle.cc_command.specs.Additions.{Suit, SuitTree};
 ghost use Rattle.cc_command.specs.PlainName.{is_plain_name};
 ghost use Rattle.cc_command.specs.Plain.{is_plain_tree};
 ghost use Rattle.cc_command.specs.Quiet.{is_quiet_tree};
 
+mod additions;
 mod arguments;
 mod help;
+mod place;
 mod texts;
 
 use crate::command::Command;
-use crate::command::build::arguments::{built_node, given_arguments, globals};
-use crate::command::build::help::{help_command, needs_help_child};
+use crate::command::build::additions::{Addition, addition_to};
+use crate::command::build::arguments::push_globals;
+use crate::command::build::place::{finish, put_before};
 use cc_arg::Arg;
 use cc_base::{Error, Text};
 use std::alloc::{AllocError, Global};
+use std::vec::IntoIter;
 
 impl Command {
     /// Builds the command and all below it: gives each child the global arguments of its parent
@@ -46,52 +52,67 @@ impl Command {
             return Ok(());
         }
         let bin_name = Text::copy_of_some(alloc, self.get_bin_name())?;
-        *self = self.built_below(alloc, &[], bin_name)?;
+        build_under(self, alloc, bin_name)?;
         Ok(())
     }
 
-    // `inherited` is what the parent propagates.
-    #[cycle(build)]
-    fn built_below(
+    // Puts what building adds to the command and all below it after the other additions.
+    #[cycle(additions)]
+    fn push_additions(
         &self,
+        additions: &mut Vec<Addition>,
         alloc: Global,
         inherited: &[Arg],
         bin_name: Option<Text>,
-    ) -> Result<Command, AllocError>
-        ensures ok { IfOk result (λ command.
-            command ≡ built_below inherited.now bin_name self.now) }
+    ) -> Result<(), AllocError>
+        ensures ok { OnOk result (AreOfTreeAfter
+            inherited.now bin_name self.now additions.old.items additions.new.items) }
     {
-        let name = match &bin_name {
-            Some(name) => name.as_str(),
-            None => self.node.name.as_str(),
-        };
-        let given = given_arguments(&self.node, alloc, inherited)?;
-        let globals = globals(alloc, &given)?;
-        let children = self.built_children(alloc, &globals, name)?;
-        let node = built_node(&self.node, alloc, given, bin_name)?;
-        Ok(Command { node, children })
+        let addition = addition_to(self, alloc, inherited, bin_name)?;
+        if self.children.is_empty() {
+            additions.push(addition)?;
+            return Ok(());
+        }
+        let name = Text::copy_of(alloc, self.name_with(&addition))?;
+        let globals = self.globals_with(alloc, &addition)?;
+        additions.push(addition)?;
+        push_additions_to(&self.children, additions, alloc, &globals, name.as_str())?;
+        Ok(())
     }
 
-    // `name` is the command's full name, and `globals` is what it propagates.
-    #[cycle(build)]
-    fn built_children(
-        &self,
-        alloc: Global,
-        globals: &[Arg],
-        name: &str,
-    ) -> Result<Vec<Command>, AllocError>
-        ensures ok { IfOk result (λ built. forest_of built.items
-            ≡ join (built_forest globals.now name.now self.now.children)
-            (help_child name.now self.now.node self.now.children)) }
+    // The command's full name under its new bin name.
+    fn name_with<'a>(&'a self, addition: &'a Addition) -> &'a str
+        ensures { result.now
+            ≡ full_name (record self.now.node { bin_name = addition.now.bin_name }) }
     {
-        let mut children = built_siblings(&self.children, alloc, globals, name)?;
-        let lacks_help = needs_help_child(&self.node, &self.children);
-        if !lacks_help {
-            return Ok(children);
+        match &addition.bin_name {
+            Some(name) => name.as_str(),
+            None => self.node.name.as_str(),
         }
-        children.reserve_exact(1)?;
-        children.push(help_command(&self.children, alloc, name)?)?;
-        Ok(children)
+    }
+
+    // Copies of what the command propagates: the flags that building adds are not global.
+    fn globals_with(&self, alloc: Global, addition: &Addition) -> Result<Vec<Arg>, AllocError>
+        ensures { IfOk result (λ kept. kept.items
+            ≡ globals (self.now.node.arguments ++ addition.now.arguments.items)) }
+    {
+        let mut kept = Vec::new(alloc);
+        push_globals(&mut kept, alloc, self.node.arguments.as_slice())?;
+        push_globals(&mut kept, alloc, &addition.arguments)?;
+        Ok(kept)
+    }
+
+    // Puts in the additions to the command and all below it.
+    #[cycle(built)]
+    fn put_in(&mut self, alloc: Global, additions: &mut IntoIter<Addition>)
+        requires suit { SuitTree self.old (into_iter_items additions.old) }
+        ensures ok { IsBuiltBy
+            self.old (into_iter_items additions.old) self.new (into_iter_items additions.new) }
+    {
+        let addition = additions.next().unwrap();
+        put_in_all(&mut self.children, alloc, additions);
+        put_before(&mut self.children, addition.children);
+        finish(&mut self.node, alloc, addition.arguments, addition.bin_name);
     }
 }
 
@@ -111,26 +132,52 @@ pub fn build_as(command: &mut Command, alloc: Global, bin_name: String) -> Resul
     ensures err { OnErr result (command.new ≡ command.old) }
     ensures memory { IfErr result (λ error. error ≡ Error.Memory) }
 {
-    *command = command.built_below(alloc, &[], Some(Text::from(bin_name)))?;
+    build_under(command, alloc, Some(Text::from(bin_name)))?;
     Ok(())
 }
 
-#[cycle(build)]
-fn built_siblings(
+// First everything is allocated, then it is put in by steps that cannot fail.
+fn build_under(
+    command: &mut Command,
+    alloc: Global,
+    bin_name: Option<Text>,
+) -> Result<(), AllocError>
+    ensures ok { OnOk result (command.new ≡ built_under bin_name command.old) }
+    ensures err { OnErr result (command.new ≡ command.old) }
+{
+    let mut additions = Vec::new(alloc);
+    command.push_additions(&mut additions, alloc, &[], bin_name)?;
+    command.put_in(alloc, &mut additions.into_iter());
+    Ok(())
+}
+
+#[cycle(additions)]
+fn push_additions_to(
     siblings: &[Command],
+    additions: &mut Vec<Addition>,
     alloc: Global,
     inherited: &[Arg],
     parent: &str,
-) -> Result<Vec<Command>, AllocError>
-    ensures ok { IfOk result (λ built.
-        forest_of built.items ≡ built_forest inherited.now parent.now (forest_of siblings.now)) }
+) -> Result<(), AllocError>
+    ensures ok { OnOk result (AreAfter inherited.now parent.now (forest_of siblings.now)
+        additions.old.items additions.new.items) }
 {
-    let mut built = Vec::with_capacity(alloc, siblings.len())?;
     for sibling in siblings {
         let bin_name = joined_name(alloc, parent, sibling.node.name.as_str())?;
-        built.push(sibling.built_below(alloc, inherited, Some(bin_name))?)?;
+        sibling.push_additions(additions, alloc, inherited, Some(bin_name))?;
     }
-    Ok(built)
+    Ok(())
+}
+
+#[cycle(built)]
+fn put_in_all(siblings: &mut [Command], alloc: Global, additions: &mut IntoIter<Addition>)
+    requires suit { Suit (forest_of siblings.old) (into_iter_items additions.old) }
+    ensures ok { AreBuiltBy (forest_of siblings.old) (into_iter_items additions.old)
+        (forest_of siblings.new) (into_iter_items additions.new) }
+{
+    for sibling in siblings.iter_mut() {
+        sibling.put_in(alloc, additions);
+    }
 }
 
 fn joined_name(alloc: Global, parent: &str, name: &str) -> Result<Text, AllocError>

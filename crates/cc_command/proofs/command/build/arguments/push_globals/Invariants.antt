@@ -1,7 +1,7 @@
 use Rattle.std.proofs.Common.{◌≡◌, ◌++◌, drop}
 use Rattle.cc_command.specs.Built.{globals}
-use Rattle.cc_command.proofs.command.build.arguments.globals.Given as goal
+use Rattle.cc_command.proofs.command.build.arguments.push_globals.Given as goal
 
 -- what is kept and what is left make the whole
 abbrev pub invariant-loop-argument : goal.invariant-loop-argument
-invariant-loop-argument l = l.kept.items ++ globals (drop l.argument-index l.arguments) ≡ globals l.arguments
+invariant-loop-argument l = l.kept.items ++ globals (drop l.argument-index l.arguments) ≡ l.fn.kept.items ++ globals l.arguments

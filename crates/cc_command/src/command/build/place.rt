@@ -1,0 +1,46 @@
+//! Putting in what was allocated: steps that cannot fail.
+
+ghost use Rattle.std.specs.Prelude.{◌≡◌, ◌++◌, length, map, true};
+ghost use Rattle.cc_arg.specs.Arguments.{filled};
+ghost use Rattle.cc_command.specs.Built.{indexed};
+ghost use Rattle.cc_command.specs.Additions.{HasRoom};
+
+use crate::command::build::arguments::fill_in;
+use crate::node::Node;
+use cc_arg::Arg;
+use cc_base::{Items, Text};
+use std::alloc::Global;
+use std::mem;
+
+// Adds the missing arguments, fills in all, names the node and marks it as built.
+pub(super) fn finish(node: &mut Node, alloc: Global, missing: Vec<Arg>, bin_name: Option<Text>)
+    requires room { HasRoom (length node.old.arguments) missing }
+    ensures { node.new ≡ record node.old {
+      bin_name = bin_name;
+      arguments = indexed 1 (map filled (node.old.arguments ++ missing.items));
+      built = true;
+    } }
+{
+    let own = mem::replace(&mut node.arguments, Items::new(alloc));
+    let mut arguments = own.into_vec();
+    put_before(&mut arguments, missing);
+    fill_in(&mut arguments);
+    node.arguments = Items::from(arguments);
+    node.bin_name = bin_name;
+    node.built = true;
+}
+
+// Puts items before those that are added, into the list of those.
+pub(super) fn put_before<T: Drop>(items: &mut Vec<T>, added: Vec<T>)
+    requires room { HasRoom (length items.old.items) added }
+    ensures { items.new.items ≡ items.old.items ++ added.items }
+{
+    if added.is_empty() {
+        return;
+    }
+    let mut whole = added;
+    let count = whole.len();
+    whole.append(items).unwrap();
+    whole.rotate_left(count);
+    *items = whole;
+}
