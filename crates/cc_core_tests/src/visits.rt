@@ -1,4 +1,5 @@
-//! The visits of a small tree in both orders: each key with the node above and the node visited.
+//! The visits of a small tree in both orders: each key with the node above and the node visited; and
+//! its nodes in preorder.
 
 use crate::checks::is;
 use crate::fixtures::{NESTED_AND_LIST, tree};
@@ -114,6 +115,20 @@ fn first_below(alloc: Global, flat: &Flat<'_>) -> Result<String, AllocError> {
     Ok(text)
 }
 
+// The names of the nodes below the root, each with its level.
+fn preorder(alloc: Global, flat: &Flat<'_>) -> Result<String, AllocError> {
+    let mut text = String::new(alloc);
+    if flat.len() == 0 {
+        return Ok(text);
+    }
+    for node in flat.preorder() {
+        let name = node.command.get_name();
+        let level = node.level;
+        write!(text, "{name}={level} ")?;
+    }
+    Ok(text)
+}
+
 #[test]
 fn a_key_of_the_parent_comes_before_the_next_child(rt: HostRuntime) {
     let root = tree(&rt, rt.alloc(), NESTED_AND_LIST);
@@ -147,6 +162,15 @@ fn below_the_root_its_first_child_comes_first(rt: HostRuntime) {
     let root = tree(&rt, rt.alloc(), NESTED_AND_LIST);
     let flat = Flat::new(rt.alloc(), &root).expect(&rt, "no nodes");
     is(&rt, first_below(rt.alloc(), &flat), "app run=app/run ");
+    drop(flat);
+    drop(root);
+}
+
+#[test]
+fn in_preorder_all_below_a_child_comes_before_the_next_child(rt: HostRuntime) {
+    let root = tree(&rt, rt.alloc(), NESTED_AND_LIST);
+    let flat = Flat::new(rt.alloc(), &root).expect(&rt, "no nodes");
+    is(&rt, preorder(rt.alloc(), &flat), "run=2 job=3 list=2 ");
     drop(flat);
     drop(root);
 }

@@ -1,4 +1,6 @@
 pub mod Names
 pub mod Numbering
 pub mod Numbers
+pub mod Places
+mod PreorderExamples
 pub mod Trees

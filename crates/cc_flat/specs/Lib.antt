@@ -1,4 +1,7 @@
 pub mod EntryCode
 pub mod Flat
 pub mod Lookup
+pub mod Nodes
 pub mod Numbered
+pub mod Places
+pub mod Preorder

@@ -92,6 +92,7 @@ impl<'a> Flat<'a> {
         ensures end { result.end ≡ result.start + (entry_at self.now number).child_count }
         ensures numbers { numbers_between result.start result.end ≡ children_at self.now number }
         ensures children { HasItsChildren self.now number }
+        ensures flat { IsFlat self.now }
     {
         let node = &self.nodes[number];
         node.first_child..node.first_child + node.child_count

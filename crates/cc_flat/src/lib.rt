@@ -3,5 +3,7 @@
 
 mod flat;
 mod lookup;
+mod preorder;
 
 pub use crate::flat::Flat;
+pub use crate::preorder::{LevelledNode, Preorder};

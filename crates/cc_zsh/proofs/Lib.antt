@@ -3,8 +3,8 @@ pub mod Examples
 pub mod FunctionOrder
 pub mod NestedTexts
 pub mod PositionalBytes
+pub mod PreorderFunctions
 pub mod ShownValues
-pub mod Stack
 pub mod Unspaced
 pub mod ZshArms
 pub mod ZshBlock

@@ -1,6 +1,6 @@
 //! The functions of a script: each describes the children of a command.
 
-ghost use Rattle.std.specs.Prelude.{◌≡◌, ◌++◌, ◌<◌, None, length, map, reverse, unwrap_or, IfOk, OnOk};
+ghost use Rattle.std.specs.Prelude.{◌≡◌, ◌<◌, None, length, map, unwrap_or, IfOk, OnOk};
 ghost use Rattle.std.specs.List.{flat_map};
 ghost use Rattle.std.specs.Option.{option_copied};
 ghost use Rattle.std.specs.Ordering.{nat_cmp};
@@ -9,9 +9,9 @@ ghost use Rattle.cc_base.specs.Sorting.{in_order};
 ghost use Rattle.cc_base.specs.Writes.{Writes};
 ghost use Rattle.cc_command.specs.Names.{visible_names};
 ghost use Rattle.cc_command.specs.Tree.{forest_of};
-ghost use Rattle.cc_flat.specs.Flat.{HasItsChildren, children_at, tree_at};
+ghost use Rattle.cc_flat.specs.Flat.{tree_at};
 ghost use Rattle.cc_zsh.specs.Functions.{entries_of, entries_text, entry, entry_text, function_below, function_of, function_text, functions_below, is_again, once_after, sorted_functions};
-ghost use Rattle.cc_zsh.specs.Named.{AreListed, function_named, functions_by};
+ghost use Rattle.cc_zsh.specs.Named.{function_named};
 ghost use Rattle.cc_zsh.specs.ZshScript.{functions_text};
 
 use crate::names::write_label;
@@ -83,31 +83,15 @@ fn compared(one: &Named<'_>, other: &Named<'_>) -> Ordering
 }
 
 // The commands below the root: of each child the child itself, then all below it.
-#[tactic(auto, using(crate::proofs::Stack::functions_begin, crate::proofs::Stack::AreListed_begin))]
+#[tactic(auto, using(crate::proofs::PreorderFunctions::functions_in_preorder))]
 fn commands_below<'a>(alloc: Global, flat: &Flat<'a>) -> Result<Vec<Named<'a>>, AllocError>
     requires { 0 < length flat.now }
     ensures { IfOk result (λ found.
         map function_named found.items ≡ functions_below (tree_at flat.now 0).children) }
 {
-    let mut stack = Vec::new(alloc);
-    push_children(&mut stack, flat, 0)?;
-    commands_of(alloc, flat, stack)
-}
-
-// The commands that a stack of numbers stands for, its last item first.
-fn commands_of<'a>(
-    alloc: Global,
-    flat: &Flat<'a>,
-    mut stack: Vec<usize>,
-) -> Result<Vec<Named<'a>>, AllocError>
-    requires { AreListed flat.now stack.items }
-    ensures { IfOk result (λ found.
-        map function_named found.items ≡ functions_by flat.now stack.items) }
-{
     let mut found = Vec::new(alloc);
-    while let Some(number) = stack.pop() {
-        found.push(with_full_name(flat.command(number)))?;
-        push_children(&mut stack, flat, number)?;
+    for node in flat.preorder() {
+        found.push(with_full_name(node.command))?;
     }
     Ok(found)
 }
@@ -119,22 +103,6 @@ fn with_full_name(command: &Command) -> Named<'_>
         name: full_name(command),
         command,
     }
-}
-
-// Adds the children of a node, so that the first child is the last item.
-fn push_children(stack: &mut Vec<usize>, flat: &Flat<'_>, number: usize) -> Result<(), AllocError>
-    requires { number < length flat.now }
-    ensures items { OnOk result (stack.new.items
-        ≡ stack.old.items ++ reverse (children_at flat.now number)) }
-    ensures children { OnOk result (HasItsChildren flat.now number) }
-{
-    let children = flat.children(number);
-    let mut child = children.end;
-    while child > children.start {
-        child -= 1;
-        stack.push(child)?;
-    }
-    Ok(())
 }
 
 // Commands with one full name are neighbours here, so it is enough to look at the last.

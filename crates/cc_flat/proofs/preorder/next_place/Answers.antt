@@ -1,0 +1,22 @@
+use Rattle.std.proofs.Common.{◌+◌, ◌<◌, arith}
+use Rattle.cc_flat.specs.Places.{children_end}
+use Rattle.cc_flat.proofs.Places.{first_child, level_low}
+use Rattle.cc_flat.proofs.preorder.next_place.Goals as goal
+
+pub overflow_add-result : goal.overflow_add-result
+overflow_add-result c =
+    let children = c.children-children.ensures in
+    let low = level_low c.args.flat.now children.flat c.args.place.level c.args.place.number
+    c.requires.listed c.requires.level in
+    omega (arith, low, children.children.after, children.first, c.if-children.true)
+
+pub returns-then-children : goal.returns-then-children
+returns-then-children c =
+    let children = c.children-children.ensures in
+    let low : c.children-children.result.start
+    < children_end c.args.flat.now c.args.place.number =
+    omega (arith, c.if-children.true, children.first, children.end) in
+    let next = first_child c.args.flat.now c.args.place.level (c.args.place.level + 1)
+    c.args.place.number c.children-children.result.start (omega arith) children.children
+    children.first low c.requires.level in
+    (record { listed = omega (arith, low, children.children.within); level = next.0 }, next.1)

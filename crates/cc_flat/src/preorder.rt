@@ -1,0 +1,110 @@
+//! The nodes of a tree in preorder.
+
+ghost use Rattle.std.specs.Prelude.{◌≡◌, ◌<◌, Some, length};
+ghost use Rattle.cc_flat.specs.Flat.{tree_at};
+ghost use Rattle.cc_flat.specs.Places.{BeginsAt, IsAt, later_nodes, nodes_after};
+ghost use Rattle.cc_flat.specs.Preorder.{preorder};
+
+use crate::flat::Flat;
+use cc_command::Command;
+
+/// A node below the root, with everything below it.
+#[derive(Clone, Copy)]
+pub struct LevelledNode<'a> {
+    /// How many names its path has, the root's included.
+    pub level: usize,
+    /// The node.
+    pub command: &'a Command,
+}
+
+// The number of a node, with how many names its path has.
+#[derive(Clone, Copy)]
+pub(crate) struct Place {
+    pub number: usize,
+    pub level: usize,
+}
+
+/// The nodes below the root that are still to come: a node, then all below each of its children in
+/// turn. The walk goes by numbers alone, takes no memory and stays at its end.
+#[derive(Drop)]
+pub struct Preorder<'f, 'a> {
+    flat: &'f Flat<'a>,
+    // where the last node was, at first the root
+    place: Place,
+    ghost at: { IsAt flat.now place },
+}
+
+impl<'a> Flat<'a> {
+    ghost use Rattle.cc_flat.specs.Nodes.{nodes_left};
+
+    /// The nodes below the root: a node, then all below each of its children in turn.
+    pub fn preorder<'f>(&'f self) -> Preorder<'f, 'a>
+        requires { 0 < length self.now }
+        ensures { nodes_left result ≡ preorder 2 (tree_at self.now 0).children }
+    {
+        Preorder {
+            flat: self,
+            place: Place {
+                number: 0,
+                level: 1,
+            },
+        }
+    }
+}
+
+impl<'f, 'a> Iterator for Preorder<'f, 'a> {
+    ghost use Rattle.std.specs.Iterator.{YieldsFirstBy, item_count};
+    ghost use Rattle.cc_flat.specs.Nodes.{levelled_of, nodes_left};
+
+    type Item = LevelledNode<'a>;
+
+    ghost next_gives = { YieldsFirstBy levelled_of nodes_left };
+
+    ghost remaining = { item_count nodes_left };
+
+    fn next(&mut self) -> Option<LevelledNode<'a>> {
+        let flat = self.flat;
+        let place = next_place(flat, self.place)?;
+        *self = Preorder { flat, place };
+        let command = flat.command(place.number);
+        Some(LevelledNode {
+            level: place.level,
+            command,
+        })
+    }
+}
+
+// Where the node after this one is.
+fn next_place(flat: &Flat<'_>, place: Place) -> Option<Place>
+    requires { IsAt flat.now place }
+    ensures { BeginsAt flat.now (nodes_after flat.now place.level place.number) result }
+{
+    let children = flat.children(place.number);
+    if children.start < children.end {
+        return Some(Place {
+            number: children.start,
+            level: place.level + 1,
+        });
+    }
+    later_place(flat, place)
+}
+
+// Where the node after this one and all below it is: the next sibling, or that of the nearest node
+// above it that has one.
+fn later_place(flat: &Flat<'_>, place: Place) -> Option<Place>
+    requires { IsAt flat.now place }
+    ensures { BeginsAt flat.now (later_nodes flat.now place.level place.number) result }
+{
+    let mut number = place.number;
+    let mut level = place.level;
+    while let Some(parent) = flat.parent(number) {
+        let siblings = flat.children(parent);
+        if number + 1 < siblings.end {
+            let number = number + 1;
+            return Some(Place { number, level });
+        }
+        number = parent;
+        level -= 1;
+    }
+    None
+}
