@@ -22,6 +22,16 @@ new_candidate value = record {
 abbrev pub texts_cmp : Option (List ℕ) → Option (List ℕ) → Ordering
 texts_cmp = option_cmp (slice_cmp nat_cmp)
 
+-- candidates by help, then by id, tag, display order and hidden mark
+abbrev pub besides_cmp : CompletionCandidate → CompletionCandidate → Ordering
+besides_cmp one other =
+    ordering_then (ordering_then (ordering_then (ordering_then
+    (texts_cmp one.help other.help)
+    (texts_cmp one.id other.id))
+    (texts_cmp one.tag other.tag))
+    (option_cmp nat_cmp one.display_order other.display_order))
+    (bool_cmp one.hidden other.hidden)
+
 -- candidates by their value, then by help, id, tag, display order and hidden mark
 abbrev pub candidate_cmp : CompletionCandidate → CompletionCandidate → Ordering
 candidate_cmp one other =

@@ -5,7 +5,7 @@ ghost use Rattle.std.specs.Cmp.{partial_order_from_total, partial_equiv_from_equ
 ghost use Rattle.std.specs.Option.{option_copied, option_map};
 ghost use Rattle.std.specs.Ordering.{as_partial_cmp, eq_by_cmp};
 ghost use Rattle.std.specs.String.{string_bytes};
-ghost use Rattle.cc_candidates.specs.Candidate.{candidate_cmp, candidate_cmp_total, new_candidate, texts_cmp};
+ghost use Rattle.cc_candidates.specs.Candidate.{besides_cmp, candidate_cmp, candidate_cmp_total, new_candidate, texts_cmp};
 
 use cc_base::{Error, Text};
 use std::alloc::{AllocError, Global};
@@ -222,9 +222,19 @@ impl Ord for CompletionCandidate {
     ghost matches_eq = { λ a b. refl };
 
     fn cmp(&self, other: &CompletionCandidate) -> Ordering {
-        self.get_value()
-            .cmp(other.get_value())
-            .then(cmp_texts(self.get_help(), other.get_help()))
+        match self.get_value().cmp(other.get_value()) {
+            Ordering::Equal => self.cmp_besides(other),
+            order => order,
+        }
+    }
+}
+
+impl CompletionCandidate {
+    // By what stands beside the value, which few candidates share.
+    fn cmp_besides(&self, other: &CompletionCandidate) -> Ordering
+        ensures { result ≡ besides_cmp self.now other.now }
+    {
+        cmp_texts(self.get_help(), other.get_help())
             .then(cmp_texts(self.get_id(), other.get_id()))
             .then(cmp_texts(self.get_tag(), other.get_tag()))
             .then(self.display_order.cmp(&other.display_order))
