@@ -33,6 +33,10 @@ new_node name = record {
 abbrev pub new_tree : List ℕ → Tree
 new_tree name = record { node = new_node name; children = none }
 
+-- a tree of this node alone, which is not built
+abbrev pub of_node : Node → Tree
+of_node node = record { node = record node { built = false }; children = none }
+
 -- the tree with its root changed so, which is then no longer built
 abbrev pub with_root : (Node → Node) → Tree → Tree
 with_root change tree = record tree { node = record (change tree.node) { built = false } }

@@ -2,7 +2,7 @@
 
 ghost use Rattle.std.specs.Prelude.{◌≡◌};
 ghost use Rattle.std.specs.String.{string_bytes};
-ghost use Rattle.cc_command.specs.Made.{new_tree};
+ghost use Rattle.cc_command.specs.Made.{new_tree, of_node};
 
 mod build;
 mod builders;
@@ -14,6 +14,7 @@ mod plain;
 mod quiet;
 
 pub use crate::command::build::build_as;
+pub use crate::command::builders::{add_argument, add_child};
 pub use crate::command::conflicts::first_with;
 pub use crate::command::getters::{full_name, has_name};
 pub use crate::command::iterators::{Flags, NameAndVisibleAliases, Options, Positionals};
@@ -62,5 +63,17 @@ impl Command {
             node: Node::new(alloc, Text::from(name)),
             children: Vec::new(alloc),
         }
+    }
+}
+
+/// A command of this node alone, which is not built; its list of children allocates from `alloc`. A
+/// free function, so that `clap_complete` need not re-export it.
+pub fn from_node(alloc: Global, mut node: Node) -> Command
+    ensures { result ≡ of_node node }
+{
+    node.built = false;
+    Command {
+        node,
+        children: Vec::new(alloc),
     }
 }

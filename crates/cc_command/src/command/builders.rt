@@ -5,6 +5,7 @@ ghost use Rattle.std.specs.String.{string_bytes};
 ghost use Rattle.cc_command.specs.Made.{ordered_node, with_argument, with_child, with_root};
 
 use crate::command::Command;
+use crate::node::Node;
 use cc_arg::{Arg, fill_display_order};
 use cc_base::{Error, Text};
 use cc_candidates::SubcommandCandidates;
@@ -102,30 +103,22 @@ impl Command {
 
     /// Adds an argument. One that is no positional takes the command's next display order, unless
     /// it has its own; the order is used up all the same.
-    pub fn arg(mut self, mut argument: Arg) -> Result<Command, Error>
+    pub fn arg(mut self, argument: Arg) -> Result<Command, Error>
         ensures ok { IfOk result (λ command.
             command ≡ record self { node = with_argument self.node argument }) }
         ensures memory { IfErr result (λ error. error ≡ Error.Memory) }
     {
-        self.node.built = false;
-        if !argument.is_positional() {
-            fill_display_order(&mut argument, self.node.next_order);
-            self.node.next_order = self.node.next_order.saturating_add(1);
-        }
-        let added = self.node.arguments.push(argument);
+        let added = add_argument(&mut self.node, argument);
         Ok(added.map(|()| self)?)
     }
 
     /// Adds a child. It takes the command's next display order, unless it has its own; the order
     /// is used up all the same.
-    pub fn subcommand(mut self, mut child: Command) -> Result<Command, Error>
+    pub fn subcommand(mut self, child: Command) -> Result<Command, Error>
         ensures ok { IfOk result (λ command. command ≡ with_child self child) }
         ensures memory { IfErr result (λ error. error ≡ Error.Memory) }
     {
-        self.node.built = false;
-        child.fill_display_order(self.node.next_order);
-        self.node.next_order = self.node.next_order.saturating_add(1);
-        let added = push_child(&mut self.children, child);
+        let added = add_child(&mut self, child);
         Ok(added.map(|()| self)?)
     }
 
@@ -192,6 +185,35 @@ impl Command {
     {
         self.node.display_order = Some(self.node.display_order.unwrap_or(order));
     }
+}
+
+// What adds in place is a free function, so that `clap_complete` need not re-export it.
+
+/// Adds an argument to a node, which is then not built. One that is no positional takes the node's
+/// next display order, unless it has its own; the order is used up all the same.
+pub fn add_argument(node: &mut Node, mut argument: Arg) -> Result<(), AllocError>
+    ensures ok { OnOk result (node.new ≡ with_argument node.old argument) }
+    ensures built { node.new.built ≡ false }
+{
+    node.built = false;
+    if !argument.is_positional() {
+        fill_display_order(&mut argument, node.next_order);
+        node.next_order = node.next_order.saturating_add(1);
+    }
+    node.arguments.push(argument)?;
+    Ok(())
+}
+
+/// Adds a child to a command, which is then not built. The child takes the command's next display
+/// order, unless it has its own; the order is used up all the same.
+pub fn add_child(command: &mut Command, mut child: Command) -> Result<(), AllocError>
+    ensures ok { OnOk result (command.new ≡ with_child command.old child) }
+{
+    command.node.built = false;
+    child.fill_display_order(command.node.next_order);
+    command.node.next_order = command.node.next_order.saturating_add(1);
+    push_child(&mut command.children, child)?;
+    Ok(())
 }
 
 // The first child gets room for itself alone, since a `Vec` would begin with room for four, and in
