@@ -1,8 +1,9 @@
 -- What is known of the ids and tags of the candidates so far.
-use Rattle.std.specs.Prelude.{ℕ, suc, List, [], ◌∷◌, Bool, false, Option, Some, None, if◌then◌else◌, option_map}
+use Rattle.std.specs.Prelude.{ℕ, suc, ◌&&◌, List, [], ◌∷◌, Bool, true, false, Option, Some, None, if◌then◌else◌, option_map}
 use Rattle.std.specs.BTreeSet.{BTreeSet, contains}
-use Rattle.std.specs.Ordering.{nat_cmp}
+use Rattle.std.specs.Ordering.{is_lt, nat_cmp}
 use Rattle.std.specs.Cmp.Lexicographic.{slice_cmp}
+use Rattle.cc_candidates.specs.Candidate.{texts_cmp}
 use Rattle.cc_candidates.specs.declared.candidate.CompletionCandidate.{CompletionCandidate}
 use Rattle.cc_gather.specs.Finished.{has_tag}
 
@@ -10,6 +11,11 @@ use Rattle.cc_gather.specs.Finished.{has_tag}
 abbrev pub is_seen : BTreeSet (List ℕ) → Option (List ℕ) → Bool
 is_seen seen None = false
 is_seen seen (Some id) = contains (slice_cmp nat_cmp) seen id
+
+-- each id comes after the one before it, the first after this one
+abbrev pub ascend_from : Option (List ℕ) → List CompletionCandidate → Bool
+ascend_from last [] = true
+ascend_from last (c ∷ cs) = is_lt (texts_cmp last c.id) && ascend_from c.id cs
 
 -- the elements with a mark
 abbrev pub marked : {X : Type 0} → List Bool → List X → List X

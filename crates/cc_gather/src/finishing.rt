@@ -10,7 +10,7 @@ ghost use Rattle.std.specs.Str.{bytes_eq};
 ghost use Rattle.cc_candidates.specs.Candidate.{texts_cmp};
 ghost use Rattle.cc_gather.specs.Finished.{finished, first_of_ids, grouped, is_shown, place_of, shown, share, AreShown, Differ, ShareNone};
 ghost use Rattle.cc_gather.specs.Placed.{with_places, placed_cmp, placed_cmp_total};
-ghost use Rattle.cc_gather.specs.Seen.{is_seen, marked};
+ghost use Rattle.cc_gather.specs.Seen.{ascend_from, is_seen, marked};
 
 use cc_base::TextRef;
 use cc_candidates::CompletionCandidate;
@@ -94,15 +94,44 @@ fn only_shown(mut candidates: Vec<CompletionCandidate>) -> Vec<CompletionCandida
 }
 
 // Those whose id no earlier one has.
+#[tactic(auto, using(crate::proofs::Ascending::ascending_stay))]
 fn first_of_ids(
     alloc: Global,
     candidates: Vec<CompletionCandidate>,
 ) -> Result<Vec<CompletionCandidate>, AllocError>
     ensures { IfOk result (λ kept. kept.items ≡ first_of_ids candidates.items) }
 {
+    if have_ascending_ids(candidates.as_slice()) {
+        return Ok(candidates);
+    }
     let marks = new_ids(alloc, candidates.as_slice())?;
     let kept = marked(alloc, candidates, marks)?;
     Ok(kept)
+}
+
+// Whether each id comes after the one before it, as those of children without aliases do. No two
+// are then the same, which one comparison for each candidate tells.
+fn have_ascending_ids(candidates: &[CompletionCandidate]) -> bool
+    ensures { result ≡ ascend_from None candidates.now }
+{
+    let mut last = None;
+    for candidate in candidates {
+        let id = id_of(candidate);
+        if !last.cmp(&id).is_lt() {
+            return false;
+        }
+        last = id;
+    }
+    true
+}
+
+fn id_of<'a>(candidate: &'a CompletionCandidate) -> Option<TextRef<'a>>
+    ensures { result ≡ candidate.now.id }
+{
+    match candidate.get_id() {
+        Some(id) => Some(TextRef::new(id)),
+        None => None,
+    }
 }
 
 // Marks those whose id no earlier one has.
@@ -110,7 +139,7 @@ fn new_ids(alloc: Global, candidates: &[CompletionCandidate]) -> Result<Vec<bool
     ensures { IfOk result (λ marks. marked marks.items candidates.now ≡ first_of_ids candidates.now) }
 {
     let mut seen = BTreeSet::new(alloc);
-    let mut marks = Vec::new(alloc);
+    let mut marks = Vec::with_capacity(alloc, candidates.len())?;
     for candidate in candidates {
         let new = see(&mut seen, candidate)?;
         marks.push(new)?;
@@ -141,7 +170,7 @@ fn marked(
 ) -> Result<Vec<CompletionCandidate>, AllocError>
     ensures { IfOk result (λ kept. kept.items ≡ marked marks.items candidates.items) }
 {
-    let mut kept = Vec::new(alloc);
+    let mut kept = Vec::with_capacity(alloc, candidates.len())?;
     for (mark, candidate) in marks.into_iter().zip(candidates) {
         if !mark {
             continue;
@@ -219,7 +248,7 @@ fn places(alloc: Global, candidates: &[CompletionCandidate]) -> Result<Vec<usize
     ensures { IfOk result (λ places. places.items ≡ map (λ c. place_of candidates.now c.tag) candidates.now) }
 {
     let mut known = BTreeMap::new(alloc);
-    let mut places = Vec::new(alloc);
+    let mut places = Vec::with_capacity(alloc, candidates.len())?;
     for candidate in candidates {
         let place = place_for(&mut known, candidate, places.len())?;
         places.push(place)?;
@@ -262,7 +291,7 @@ fn with_places(
 ) -> Result<Vec<Placed>, AllocError>
     ensures { IfOk result (λ all. all.items ≡ with_places places.items candidates.items) }
 {
-    let mut all = Vec::new(alloc);
+    let mut all = Vec::with_capacity(alloc, candidates.len())?;
     for (place, candidate) in places.into_iter().zip(candidates) {
         all.push(Placed { place, candidate })?;
     }
@@ -272,7 +301,7 @@ fn with_places(
 fn candidates_of(alloc: Global, all: Vec<Placed>) -> Result<Vec<CompletionCandidate>, AllocError>
     ensures { IfOk result (λ answer. answer.items ≡ map (λ one. one.candidate) all.items) }
 {
-    let mut candidates = Vec::new(alloc);
+    let mut candidates = Vec::with_capacity(alloc, all.len())?;
     for one in all {
         candidates.push(one.candidate)?;
     }
