@@ -56,7 +56,7 @@ impl Command {
         Ok(())
     }
 
-    // Puts what building adds to the command and all below it after the other additions.
+    // Puts what building adds to the command, then to those below it, after the other additions.
     #[cycle(additions)]
     fn push_additions(
         &self,
@@ -73,7 +73,7 @@ impl Command {
             additions.push(addition)?;
             return Ok(());
         }
-        let name = Text::copy_of(alloc, self.name_with(&addition))?;
+        let name = Text::copy_of(alloc, self.full_name_with(&addition))?;
         let globals = self.globals_with(alloc, &addition)?;
         additions.push(addition)?;
         push_additions_to(&self.children, additions, alloc, &globals, name.as_str())?;
@@ -81,7 +81,7 @@ impl Command {
     }
 
     // The command's full name under its new bin name.
-    fn name_with<'a>(&'a self, addition: &'a Addition) -> &'a str
+    fn full_name_with<'a>(&'a self, addition: &'a Addition) -> &'a str
         ensures { result.now
             ≡ full_name (record self.now.node { bin_name = addition.now.bin_name }) }
     {

@@ -1,4 +1,4 @@
-//! The arguments that building adds, and those that it fills in.
+//! The arguments that building adds, and what it fills in.
 
 ghost use Rattle.std.specs.Prelude.{◌≡◌, ◌∷◌, ◌++◌, [], Some, map, length, IfOk, OnOk};
 ghost use Rattle.cc_arg.specs.Arguments.{filled};
@@ -127,6 +127,7 @@ fn push_if_missing(missing: &mut Vec<Arg>, own: &[Arg], argument: Arg) -> Result
         drop(argument);
         return Ok(());
     }
+    // Exactly one, since the list becomes the node's.
     missing.reserve_exact(1)?;
     Ok(missing.push(argument)?)
 }

@@ -12,7 +12,8 @@ use cc_base::{Items, Text};
 use std::alloc::Global;
 use std::mem;
 
-// Adds the missing arguments, fills in all, names the node and marks it as built.
+// Adds the missing arguments, fills in all, names the node and marks it as built. The empty list
+// that takes `alloc` allocates nothing.
 pub(super) fn finish(node: &mut Node, alloc: Global, missing: Vec<Arg>, bin_name: Option<Text>)
     requires room { HasRoom (length node.old.arguments) missing }
     ensures { node.new ≡ record node.old {
@@ -30,7 +31,7 @@ pub(super) fn finish(node: &mut Node, alloc: Global, missing: Vec<Arg>, bin_name
     node.built = true;
 }
 
-// Puts items before those that are added, into the list of those.
+// Moves the items before those that are added, into the list of the latter.
 pub(super) fn put_before<T: Drop>(items: &mut Vec<T>, added: Vec<T>)
     requires room { HasRoom (length items.old.items) added }
     ensures { items.new.items ≡ items.old.items ++ added.items }
