@@ -1,5 +1,5 @@
 -- The condition of a path is read back.
-use Rattle.std.proofs.Common.{◌≡◌, ℕ, true, false, List, [], ◌∷◌, ◌++◌, eqb, refl, ap, ◌∙◌, sym, append_assoc, append-nil, inl, inr, Option, Some, None, map, codes, reverse, flat_map, option_map}
+use Rattle.std.proofs.Common.{◌≡◌, ℕ, true, false, List, [], ◌∷◌, ◌++◌, eqb, refl, ap, ◌∙◌, sym, append_assoc, append-nil, inl, inr, Option, Some, None, map, codes, Bool, cond, reverse, flat_map, option_map}
 use Rattle.std.proofs.lemmas.Bool.Decides.{eqb_tells}
 use Rattle.std.proofs.lemmas.List.{reverse-append, reverse-reverse}
 use Rattle.std.proofs.lemmas.List.Folds.{list_all-append}
@@ -92,14 +92,18 @@ names_read function (next ∷ names) children path name h (k, ks) hs =
 
 -- ---- the first piece
 
-pub function_safe : (bin_name : List ℕ) → IsSafe bin_name → IsSafe (function_name bin_name)
-unfolding is_fish_safe
-function_safe [] h = tt
-function_safe (byte ∷ bytes) (h, hs) = (elim (eqb_tells byte dash) [ inl is ↦ rw is.0 refl | inr differs ↦ rw differs.0 h ], function_safe bytes hs)
-
 pub safe_append : (a b : List ℕ) → IsSafe a → IsSafe b → IsSafe (a ++ b)
 safe_append [] b h k = k
 safe_append (byte ∷ a) b (h, hs) k = (h, safe_append a b hs k)
+
+pub function_safe : (bin_name : List ℕ) → IsSafe bin_name → IsSafe (function_name bin_name)
+unfolding is_fish_safe
+function_safe [] h = tt
+function_safe (byte ∷ bytes) (h, hs) = safe_append (cond (eqb byte dash) (codes "_") (byte ∷ [])) (function_name bytes) (by_test (eqb byte dash)) (function_safe bytes hs)
+  where
+    by_test : (is : Bool) → IsSafe (cond is (codes "_") (byte ∷ []))
+    by_test true = (refl, tt)
+    by_test false = (h, tt)
 
 -- the name of a function
 abbrev function_of : List ℕ → List ℕ → List ℕ

@@ -1,5 +1,5 @@
 -- The words that the text of a record spells.
-use Rattle.std.proofs.Common.{◌≡◌, ℕ, Bool, true, false, List, [], ◌∷◌, ◌++◌, eqb, refl, ap, ◌∙◌, sym, append_assoc, append-nil, inl, inr, Option, Some, None, map, cond, codes, encode_utf8, not, ◌&&◌, unwrap_or, flat_map, filter, option_map, IsTrue, arith}
+use Rattle.std.proofs.Common.{◌≡◌, ℕ, Bool, true, false, List, [], ◌∷◌, ◌++◌, eqb, refl, ap, ◌∙◌, subst, sym, append_assoc, append-nil, inl, inr, Option, Some, None, map, cond, codes, encode_utf8, not, ◌&&◌, unwrap_or, flat_map, filter, option_map, IsTrue, arith}
 use Rattle.std.proofs.lemmas.Bool.{cases_Bool, and_parts}
 use Rattle.std.proofs.lemmas.Bool.Decides.{nat_tests}
 use Rattle.std.specs.Char.{is_ascii_alphanumeric}
@@ -15,9 +15,11 @@ use Rattle.cc_command.proofs.PlainParts.{IsPlainArgument}
 use Rattle.cc_base.specs.Bytes as ascii
 use Rattle.cc_base.specs.Joined.{separator, joined, joined_after}
 use Rattle.cc_quote.specs.QuotedWord.{line_feeds_as_spaces}
-use Rattle.cc_quote.specs.FishQuote.{fish_sign, advance, begins_word, begins_with_word, is_fish_safe, double_byte, double_escaped, single_quoted, fish_quoted, fish_quoted_for_eval, fish_help_for_eval_of, fish_escaped}
+use Rattle.cc_quote.specs.Escapes.{marked_byte}
+use Rattle.cc_quote.specs.FishQuote.{fish_sign, advance, begins_word, begins_with_word, is_fish_safe, is_double_marked, double_escaped, single_quoted, fish_quoted, fish_quoted_for_eval, fish_help_for_eval_of, fish_escaped}
 use Rattle.cc_quote.specs.FishQuote.FishPlace.{bare, in_double}
 use Rattle.cc_quote.specs.FishTokens.{between, in_word, commands_from, fish_commands}
+use Rattle.cc_quote.proofs.FishEscaped.{fish_escaped_composed}
 use Rattle.cc_quote.proofs.FishWords.{safe_sign, safe_bytes, safe_in_double, double_read, single_quoted_read, fish_quoted_read, advance-append}
 use Rattle.cc_quote.proofs.FishCutting.{Spells, word_read, Adds, adds_none, adds_word, adds_append, adds_flat_map, command_read}
 use Rattle.cc_fish.specs.FishScript.{condition_text, short_text, long_text, help_text, value_text, value_lines, list_begin, listed_text, hint_text, value_part, values_text, names_text, front_text}
@@ -31,7 +33,7 @@ use Rattle.cc_fish.proofs.FishNames.{IsName, letter_safe, joiner_safe, name_safe
 abbrev pub is_kept : ℕ → Bool
 is_kept byte = not (eqb byte ascii.double_quote) && (not (eqb byte ascii.backslash) && not (eqb byte ascii.dollar))
 
-kept_byte : (byte : ℕ) → is_kept byte ≡ true → double_byte byte ≡ byte ∷ []
+kept_byte : (byte : ℕ) → is_kept byte ≡ true → marked_byte is_double_marked byte ≡ byte ∷ []
 kept_byte byte h = grind (arith, nat_tests)
 
 kept_escaped : (text : List ℕ) → list_all is_kept text ≡ true → double_escaped text ≡ text
@@ -98,9 +100,10 @@ unfolding fish_sign
 single_quoted_spelled text = record { begins = refl; spells = single_quoted_read text [] }
 
 pub help_adds : (help : Option (List ℕ)) → Adds (help_text help) (help_words help)
-unfolding fish_escaped
 help_adds None = adds_none
-help_adds (Some help) = adds_operand (codes "-d") (single_quoted (line_feeds_as_spaces help)) (line_feeds_as_spaces help) (option_spelled _ refl) (single_quoted_spelled (line_feeds_as_spaces help))
+help_adds (Some help) =
+    subst (λ escaped. Adds (codes " -d '" ++ escaped ++ codes "'") (help_words (Some help))) (sym (fish_escaped_composed help))
+    (adds_operand (codes "-d") (single_quoted (line_feeds_as_spaces help)) (line_feeds_as_spaces help) (option_spelled _ refl) (single_quoted_spelled (line_feeds_as_spaces help)))
 
 abbrev pub names_words : Arg → List (List ℕ)
 names_words argument = flat_map short_words (shown_shorts argument) ++ flat_map long_words (shown_longs argument) ++ help_words argument.help

@@ -152,6 +152,7 @@ fn write_long<W: Sink>(long: &str, sink: &mut W) -> Result<(), ErrorKind>
 }
 
 // The help of an argument, or the about of a child.
+#[tactic(auto, unfolding(cc_quote::specs::FishQuote::fish_escaped))]
 fn write_help<W: Sink>(help: Option<&str>, sink: &mut W) -> Result<(), ErrorKind>
     ensures { Writes W.taken W.failed (as_write result) sink.old sink.new
         (help_text (option_copied help.entry)) }

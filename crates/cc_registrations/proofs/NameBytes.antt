@@ -4,7 +4,7 @@ use Rattle.std.proofs.lemmas.Bool.{ne_eqb, and_parts}
 use Rattle.std.proofs.lemmas.Bool.Decides.{nat_tests}
 use Rattle.std.specs.Char.{is_ascii_alphanumeric}
 use Rattle.std.specs.List.{AllByRecursion, list_all}
-use Rattle.cc_base.proofs.Members.{AllByRecursion-weaker}
+use Rattle.cc_base.proofs.Members.{AllByRecursion-append, AllByRecursion-weaker}
 use Rattle.cc_command.specs.PlainName.{NameByte, foreign, joiner, letter, name_byte, is_joined, is_plain_name}
 use Rattle.cc_command.proofs.NameBytes.{plain_bytes}
 use Rattle.cc_quote.specs.FishQuote.{is_fish_safe, fish_quoted}
@@ -40,11 +40,12 @@ name_no_line_feeds text h = AllByRecursion-weaker (λ byte. name_byte byte ≢ f
 pub underscored_bytes : (text : List ℕ) → AreNameBytes text → AreNameBytes (underscored text)
 unfolding name_byte
 underscored_bytes [] h = tt
-underscored_bytes (byte ∷ text) h = (by_test (byte == 45), underscored_bytes text h.1)
+underscored_bytes (byte ∷ text) h =
+    AllByRecursion-append (λ b. name_byte b ≢ foreign) (cond (byte == 45) (95 ∷ []) (byte ∷ [])) (underscored text) (by_test (byte == 45)) (underscored_bytes text h.1)
   where
-    by_test : (q : Bool) → name_byte (cond q 95 byte) ≢ foreign
-    by_test true = λ e. cc
-    by_test false = h.0
+    by_test : (q : Bool) → AreNameBytes (cond q (95 ∷ []) (byte ∷ []))
+    by_test true = (λ e. cc, tt)
+    by_test false = (h.0, tt)
 
 pub plain_some : (name : List ℕ) → IsTrue (is_plain_name name) → name ≢ []
 unfolding is_plain_name is_joined

@@ -1,12 +1,13 @@
 -- Names and paths in a registration.
-use Rattle.std.specs.Prelude.{ℕ, Bool, false, List, [], ◌∷◌, map, codes, ◌==◌, ◌||◌, if◌then◌else◌}
+use Rattle.std.specs.Prelude.{ℕ, Bool, false, List, [], ◌∷◌, codes, ◌==◌, ◌||◌}
 use Rattle.std.specs.Char.{is_ascii_alphanumeric}
 use Rattle.std.specs.List.{list_all, list_any}
-use Rattle.cc_base.specs.Bytes.{dash, underscore}
+use Rattle.cc_base.specs.Bytes.{dash}
+use Rattle.cc_quote.specs.Escapes.{replaced}
 
 -- a name with `_` for each `-`
 abbrev pub underscored : List ℕ → List ℕ
-underscored name = map (λ byte. if byte == dash then underscore else byte) name
+underscored name = replaced dash (codes "_") name
 
 -- ASCII letters, digits and `/ . _ -`
 unfoldable pub is_path_byte : ℕ → Bool

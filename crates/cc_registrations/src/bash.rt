@@ -8,7 +8,7 @@ ghost use Rattle.cc_registrations.specs.BashRegistration.{function_begins, funct
 ghost use Rattle.cc_registrations.specs.BashRegistration.{registration_ends, registration_front};
 ghost use Rattle.cc_registrations.specs.BashRegistration.{registration_tail, sorted_call, plain_call};
 
-use crate::names::Underscores;
+use crate::names::put_underscored;
 use cc_base::{Error, Sink, put_all};
 use cc_quote::{BashDouble, put_escaped};
 
@@ -55,7 +55,7 @@ fn write_front<W: Sink>(variable: &str, name: &str, sink: &mut W) -> Result<(), 
     ensures write_only { IfErr result IsWrite }
 {
     put_all(sink, function_begins().as_bytes())?;
-    put_escaped(&Underscores, name, sink)?;
+    put_underscored(name, sink)?;
     put_all(sink, function_head().as_bytes())?;
     put_all(sink, variable.as_bytes())?;
     put_all(sink, call_begins().as_bytes())
@@ -79,7 +79,7 @@ fn write_sorted_call<W: Sink>(name: &str, bin: &str, sink: &mut W) -> Result<(),
     ensures write_only { IfErr result IsWrite }
 {
     put_all(sink, call_ends().as_bytes())?;
-    put_escaped(&Underscores, name, sink)?;
+    put_underscored(name, sink)?;
     put_all(sink, name_ends().as_bytes())?;
     put_all(sink, bin.as_bytes())?;
     put_all(sink, otherwise().as_bytes())
@@ -91,7 +91,7 @@ fn write_plain_call<W: Sink>(name: &str, bin: &str, sink: &mut W) -> Result<(), 
     ensures written { Writes W.taken W.failed result sink.old sink.new (plain_call name.now bin.now) }
     ensures write_only { IfErr result IsWrite }
 {
-    put_escaped(&Underscores, name, sink)?;
+    put_underscored(name, sink)?;
     put_all(sink, name_ends().as_bytes())?;
     put_all(sink, bin.as_bytes())?;
     put_all(sink, registration_ends().as_bytes())

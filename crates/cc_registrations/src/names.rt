@@ -1,25 +1,23 @@
 //! Names and paths in a registration.
 
-ghost use Rattle.std.specs.Prelude.{◌≡◌};
+ghost use Rattle.std.specs.Prelude.{◌≡◌, IfErr};
 ghost use Rattle.std.specs.List.{list_all};
+ghost use Rattle.cc_base.specs.Writes.{IsWrite, Writes};
 ghost use Rattle.cc_registrations.specs.Names.{is_path_byte, is_plain_path, underscored};
 
-use cc_quote::Escape;
-use memchr::memchr;
+use cc_base::{Error, Sink};
+use cc_quote::{Replace, put_escaped};
 
-/// A name with `_` for each `-`.
-pub struct Underscores;
-
-impl Escape for Underscores {
-    ghost escaped = { λ _ text. underscored text };
-
-    fn split<'a>(&self, text: &'a str) -> Option<(&'a str, &'static str, &'a str)> {
-        let bytes = text.as_bytes();
-        let Some(at) = memchr(b'-', bytes) else {
-            return None;
-        };
-        Some((&text[..at], "_", &text[at + 1..]))
-    }
+/// Writes the name with `_` for each `-`.
+pub(crate) fn put_underscored<W: Sink>(name: &str, sink: &mut W) -> Result<(), Error>
+    ensures written { Writes W.taken W.failed result sink.old sink.new (underscored name.now) }
+    ensures write_only { IfErr result IsWrite }
+{
+    let escape = Replace {
+        byte: b'-',
+        by: "_",
+    };
+    put_escaped(&escape, name, sink)
 }
 
 /// Whether a path is plain: not empty, and made of ASCII letters, digits and `/._-`. The contracts

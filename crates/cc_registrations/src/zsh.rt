@@ -8,10 +8,9 @@ ghost use Rattle.cc_registrations.specs.ZshRegistration.{function_head, name_end
 ghost use Rattle.cc_registrations.specs.ZshRegistration.{registration_ends, registration_front};
 ghost use Rattle.cc_registrations.specs.ZshRegistration.{registration_head, registration_tail, zsh_registration};
 
-use crate::names::Underscores;
+use crate::names::put_underscored;
 use crate::words::put_posix_quoted;
 use cc_base::{Error, Sink, put_all};
-use cc_quote::put_escaped;
 use std::alloc::Global;
 
 /// Writes the registration for zsh: of the variable that asks for completions, the name,
@@ -63,7 +62,7 @@ fn write_front<W: Sink>(
         (registration_front variable.now name.now bin.now) }
 {
     write_head(alloc, bin, sink)?;
-    put_escaped(&Underscores, name, sink)?;
+    put_underscored(name, sink)?;
     put_all(sink, function_head().as_bytes())?;
     put_all(sink, variable.as_bytes())?;
     put_all(sink, call_begins().as_bytes())
@@ -86,7 +85,7 @@ fn write_tail<W: Sink>(alloc: Global, name: &str, bin: &str, sink: &mut W) -> Re
         (registration_tail name.now bin.now) }
 {
     put_all(sink, call_ends().as_bytes())?;
-    put_escaped(&Underscores, name, sink)?;
+    put_underscored(name, sink)?;
     put_all(sink, name_ends().as_bytes())?;
     put_posix_quoted(alloc, bin, sink)?;
     put_all(sink, registration_ends().as_bytes())
