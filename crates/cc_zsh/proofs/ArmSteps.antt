@@ -7,13 +7,17 @@ use Rattle.cc_command.specs.Names.{visible_names}
 use Rattle.cc_command.specs.Tree.{Forest, none, more, Tree, has_nodes}
 use Rattle.cc_visits.specs.Visits.{Keyed, keyed, Step, enter, leave, steps_below}
 use Rattle.cc_zsh.specs.Functions.{entries_of, has_entries}
-use Rattle.cc_zsh.specs.Nested.{arm_ends, arm_text, arms_text, block_text, nested_ends, nested_begins, nested_line}
+use Rattle.cc_zsh.specs.Nested.{arm_begins, arm_ends, arm_text, arms_text, block_text, nested_ends, nested_begins, nested_line}
 use Rattle.cc_zsh.specs.Steps.{enter_text, last_name, leave_text, nested_closes, nested_opens, step_text}
 
 -- a node has names to describe where it has children
 pub has_entries_of : (children : Forest) → has_entries (entries_of children) ≡ has_nodes children
 has_entries_of none = refl
 has_entries_of (more node below rest) = refl
+
+regroup : (front begins arms ends last : List ℕ) →
+    (front ++ begins) ++ (arms ++ ((ends ++ last) ++ [])) ≡ (front ++ ((begins ++ arms) ++ ends)) ++ last
+regroup front begins arms ends last = simp (append_assoc, append-nil)
 
 -- a node that is entered, and left after the arms of its children
 arm : (name : List ℕ) (above node : Node) (below : Forest) (arms : List ℕ) → arms ≡ arms_text node below →
@@ -23,25 +27,14 @@ arm : (name : List ℕ) (above node : Node) (below : Forest) (arms : List ℕ) �
 unfolding enter_text leave_text nested_opens nested_closes arms_text
 arm name above node none arms is =
     let tree : Tree = record { node = node; children = none } in
-    let block : List ℕ = block_text above tree in
-    ap (λ t. enter_text (keyed name above tree) ++ (t ++ (arm_ends ++ []))) is ∙
-    ap (λ t. enter_text (keyed name above tree) ++ t) (append-nil arm_ends) ∙
-    ap (λ t. 40 ∷ t) (append_assoc name (41 ∷ 10 ∷ (block ++ [])) arm_ends ∙
-    ap (λ t. name ++ 41 ∷ 10 ∷ t) (append_assoc block [] arm_ends))
+    ap (λ t. enter_text (keyed name above tree) ++ (t ++ (arm_ends ++ []))) is
+    ∙ regroup (arm_begins name (block_text above tree)) [] [] [] arm_ends
 arm name above node (more first under others) arms is =
     let below : Forest = more first under others in
     let tree : Tree = record { node = node; children = below } in
-    let block : List ℕ = block_text above tree in
-    let begins : List ℕ = nested_begins node in
-    let whole : List ℕ = arms_text node below in
-    let end : List ℕ = nested_ends ++ arm_ends in
-    ap (λ t. enter_text (keyed name above tree) ++ (t ++ (end ++ []))) is ∙
-    ap (λ t. enter_text (keyed name above tree) ++ (whole ++ t)) (append-nil end) ∙
-    ap (λ t. 40 ∷ t) (append_assoc name (41 ∷ 10 ∷ (block ++ 10 ∷ begins)) (whole ++ end) ∙
-    ap (λ t. name ++ 41 ∷ 10 ∷ t) (append_assoc block (10 ∷ begins) (whole ++ end) ∙
-    ap (λ t. block ++ 10 ∷ t)
-    (ap (λ t. begins ++ t) (sym (append_assoc whole nested_ends arm_ends)) ∙
-    sym (append_assoc begins (whole ++ nested_ends) arm_ends))))
+    ap (λ t. enter_text (keyed name above tree) ++ (t ++ (leave_text tree ++ []))) is
+    ∙ regroup (arm_begins name (block_text above tree)) (10 ∷ nested_begins node)
+    (arms_text node below) nested_ends arm_ends
 
 -- what is written of one node below a key
 abbrev steps_of : Node → Node → Forest → List ℕ → List (Step (List ℕ))

@@ -17,10 +17,10 @@ use Rattle.cc_command.specs.Texts.{help_name, help_help, help_about}
 use Rattle.cc_quote.specs.ZshQuote.{zsh_escaped_help, zsh_escaped_value}
 use Rattle.cc_zsh.specs.Conflicts.{conflicts_text}
 use Rattle.cc_zsh.specs.Functions.{entries_end, entries_text, entry_text, unless_defined, function_begins, commands_begin, describe_begins, describe_ends, function_text, sorted_functions}
-use Rattle.cc_zsh.specs.Nested.{arm_ends, arms_text, command_begins, state_begins, state_ends, below_text, block_begins, block_ends, block_text, children_text, case_state, set_words, set_context, context_command, case_line, case_line_in, nested_ends, nested_begins, root_text}
-use Rattle.cc_zsh.specs.Options.{flags_text, front_text, help_text, line_end, argument_line, argument_text, options_text}
+use Rattle.cc_zsh.specs.Nested.{arm_ends, arms_text, command_begins, state_begins, state_ends, below_text, block_begins, block_ends, block_text, children_text, case_state, set_words, set_context, context_command, case_line, case_line_in, nested_ends, case_text, root_text}
+use Rattle.cc_zsh.specs.Options.{flags_text, help_text, line_end, argument_line, argument_text, options_text}
 use Rattle.cc_zsh.specs.Positionals.{count_text, positional_escaped, positional_text, positionals_text}
-use Rattle.cc_zsh.specs.Values.{described_list, described_text, hint_text, list_text, named_list, named_text, one_value, value_text, values_text}
+use Rattle.cc_zsh.specs.Values.{hint_text, item_help, item_text, list_text, one_value, value_text, values_text}
 use Rattle.cc_zsh.specs.ZshScript.{compdef_begins, autoloads, body_begins, begin_text, if_called, then_call, else_define, if_ends, end_text, functions_text, body_ends, script_text, zsh_script}
 
 -- ---- single lines
@@ -54,7 +54,7 @@ counted =
 
 conflicts : flags_text counted counted
     ≡ codes "'(-q)*-v[]' \\\n'(-q)*--verbose[]' \\\n'-q[]' \\\n"
-unfolding flags_text argument_text argument_line front_text conflicts_text help_text line_end zsh_escaped_help encode_utf8
+unfolding flags_text argument_text argument_line conflicts_text help_text line_end zsh_escaped_help encode_utf8 values_text
 conflicts = refl
 
 -- a conflict with a positional has no name, and the brackets stand all the same
@@ -65,7 +65,7 @@ unnamed =
     (new_arg (codes "file"))
 
 unnamed_conflicts : flags_text unnamed unnamed ≡ codes "'()--yes[]' \\\n"
-unfolding flags_text argument_text argument_line front_text conflicts_text help_text line_end zsh_escaped_help encode_utf8
+unfolding flags_text argument_text argument_line conflicts_text help_text line_end zsh_escaped_help encode_utf8 values_text
 unnamed_conflicts = refl
 
 -- the conflicts of a global argument are those that the node above finds
@@ -87,7 +87,7 @@ flags_below above (more node below rest) = flags_text above node ∷ flags_below
 
 global_conflicts : flags_below with_global.node with_global.children
     ≡ codes "'(--yaml)--json[]' \\\n'-h[Print help]' \\\n'--help[Print help]' \\\n" ∷ [] ∷ []
-unfolding flags_text argument_text argument_line front_text conflicts_text help_text line_end zsh_escaped_help encode_utf8 help_argument help_name help_help
+unfolding flags_text argument_text argument_line conflicts_text help_text line_end zsh_escaped_help encode_utf8 help_argument help_name help_help values_text
 global_conflicts = refl
 
 -- a value that may be left out, a positional that must be there, one that takes the rest
@@ -114,7 +114,7 @@ block : block_text lines.node lines
     ++ codes "':in:_files' \\\n"
     ++ codes "'*::rest -- a\\:b:_default' \\\n"
     ++ codes "&& ret=0"
-unfolding zsh_escaped_help zsh_escaped_value block_text block_begins block_ends below_text options_text argument_text argument_line flags_text front_text conflicts_text help_text line_end values_text one_value value_text hint_text positionals_text positional_text count_text positional_escaped
+unfolding zsh_escaped_help zsh_escaped_value block_text block_begins block_ends below_text options_text argument_text argument_line flags_text conflicts_text help_text line_end values_text one_value value_text hint_text positionals_text positional_text count_text positional_escaped
 block = refl
 
 -- possible values
@@ -130,14 +130,14 @@ colour = record (new_arg (codes "color")) {
   possible_values = Some (value (codes "auto") false ∷ value (codes "never") true ∷ []);
 }
 
-values : argument_text true app_node app_node colour
+values : argument_text app_node app_node colour
     ≡ codes "'-c+[Colour]:WHEN:(auto)' \\\n'--color=[Colour]:WHEN:(auto)' \\\n"
-unfolding zsh_escaped_help zsh_escaped_value encode_utf8 argument_text argument_line front_text conflicts_text help_text line_end values_text one_value value_text list_text named_list named_text
+unfolding zsh_escaped_help zsh_escaped_value encode_utf8 argument_text argument_line conflicts_text help_text line_end values_text one_value value_text list_text item_text
 values = refl
 
 described : list_text (record (value (codes "a b") false) { help = Some (codes "it's") } ∷ value (codes "c") false ∷ [])
     ≡ codes "((a\\ b\\:\"it'\\''s\"\nc\\:\"\"))"
-unfolding zsh_escaped_help zsh_escaped_value list_text described_list described_text
+unfolding zsh_escaped_help zsh_escaped_value list_text item_text item_help
 described = refl
 
 -- ---- a whole script
@@ -248,5 +248,5 @@ whole : zsh_script app ≡
     ++ codes "else\n"
     ++ codes "    compdef _app app\n"
     ++ codes "fi\n"
-unfolding zsh_escaped_help encode_utf8 help_argument help_name help_help help_about placed in_order digits script_text begin_text compdef_begins autoloads body_begins body_ends root_text block_text block_begins block_ends options_text flags_text argument_text argument_line front_text conflicts_text help_text line_end positionals_text below_text children_text command_begins state_begins state_ends nested_begins case_state set_words set_context context_command case_line case_line_in nested_ends arms_text arm_ends functions_text sorted_functions function_text unless_defined function_begins commands_begin describe_begins describe_ends entry_text entries_text entries_end end_text if_called then_call else_define if_ends
+unfolding zsh_escaped_help encode_utf8 help_argument help_name help_help help_about placed in_order digits script_text begin_text compdef_begins autoloads body_begins body_ends root_text block_text block_begins block_ends options_text flags_text argument_text argument_line conflicts_text help_text line_end positionals_text below_text children_text command_begins state_begins state_ends case_text case_state set_words set_context context_command case_line case_line_in nested_ends arms_text arm_ends functions_text sorted_functions function_text unless_defined function_begins commands_begin describe_begins describe_ends entry_text entries_text entries_end end_text if_called then_call else_define if_ends values_text
 whole = refl

@@ -1,10 +1,8 @@
 pub mod ArmSteps
 pub mod Examples
 pub mod FunctionOrder
-pub mod NestedTexts
 pub mod PositionalBytes
 pub mod PreorderFunctions
-pub mod ShownValues
 pub mod Unspaced
 pub mod ZshArms
 pub mod ZshBlock

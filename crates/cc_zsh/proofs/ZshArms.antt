@@ -15,7 +15,7 @@ use Rattle.cc_quote.specs.Tokens.{is_word}
 use Rattle.cc_quote.specs.Tokens.Piece.{bare}
 use Rattle.cc_quote.proofs.PosixCutting.{IsOther, IsKept-IsOther, tokens_from, bare_run, double_run}
 use Rattle.cc_visits.specs.Visits.{Keyed, keyed, keys_below, longer_path, paths_below}
-use Rattle.cc_zsh.specs.Nested.{block_text, case_state, set_words, set_context, context_command, case_line, case_line_in, nested_ends, place_text, context_text, nested_begins, nested_text, nested_line, arm_ends, arm_text, arms_text}
+use Rattle.cc_zsh.specs.Nested.{block_text, case_text, case_state, set_words, set_context, context_command, case_line, case_line_in, nested_ends, place_text, context_text, nested_begins, nested_text, nested_line, arm_ends, arm_text, arms_text}
 use Rattle.cc_zsh.specs.ZshReader.{Block, Path, State, arm_word, is_line, next, next_arm, read, text_after}
 use Rattle.cc_zsh.specs.ZshReader.State.{after_block, after_nested, at_arms, at_block, between_arms, after_arms, malformed}
 use Rattle.cc_zsh.proofs.ZshLastBytes.{before-last}
@@ -31,7 +31,7 @@ block_at visit = block_with visit.key visit.above visit.tree
 -- ---- the frame of the arms
 
 regroup_frame : (a b c d e f g h i j k rest : List ℕ) →
-    (a ++ (b ++ (c ++ (d ++ (e ++ (f ++ (g ++ (h ++ (i ++ (j ++ k)))))))))) ++ rest
+    ((((((((((a ++ b) ++ c) ++ d) ++ e) ++ f) ++ g) ++ h) ++ i) ++ j) ++ k) ++ rest
     ≡ a ++ (b ++ (c ++ (d ++ (e ++ (f ++ (g ++ (h ++ (i ++ (j ++ (k ++ rest))))))))))
 regroup_frame a b c d e f g h i j k rest = simp append_assoc
 
@@ -39,7 +39,7 @@ frame_read : (node : Node) (outer : List Path) (blocks : List Block) (path : Pat
     (rest : List ℕ) → IsOther node.name → IsOther (context_text node) →
     reading (after_block outer blocks path) between (nested_begins node ++ rest)
     ≡ reading (between_arms outer blocks path) between rest
-unfolding nested_begins case_state set_words set_context context_command case_line case_line_in sign byte_of cut is_word is_line text_after next read
+unfolding case_text case_state set_words set_context context_command case_line case_line_in sign byte_of cut is_word is_line text_after next read
 frame_read node outer blocks path rest name context =
     let place : List ℕ = place_text node in
     let other : IsOther place = decimal_other (suc (length (positionals node))) in
@@ -136,7 +136,7 @@ Reads above forest = (outer : List Path) (blocks : List Block) (path : Path) (re
     ≡ reading (between_arms outer (blocks ++ map block_at (paths_below longer_path path above forest)) path)
     between rest
 
-regroup_nested : (b a e rest : List ℕ) → (b ++ (a ++ e)) ++ rest ≡ b ++ (a ++ (e ++ rest))
+regroup_nested : (b a e rest : List ℕ) → ((b ++ a) ++ e) ++ rest ≡ b ++ (a ++ (e ++ rest))
 regroup_nested b a e rest = simp append_assoc
 
 -- the text that stands in an arm after its block
@@ -155,7 +155,7 @@ nested_read node (more child under later) name context reads up outer blocks pat
     let arms : List ℕ = arms_text node (more child under later) in
     let more_blocks : List Block = blocks ++ map block_at
     (paths_below longer_path path node (more child under later)) in
-    line_feed_first (up ∷ outer) blocks path ((nested_begins node ++ (arms ++ nested_ends)) ++ (arm_ends ++ rest))
+    line_feed_first (up ∷ outer) blocks path (((nested_begins node ++ arms) ++ nested_ends) ++ (arm_ends ++ rest))
     ∙ ap (reading (after_block (up ∷ outer) blocks path) between)
     (regroup_nested (nested_begins node) arms nested_ends (arm_ends ++ rest))
     ∙ frame_read node (up ∷ outer) blocks path (arms ++ (nested_ends ++ (arm_ends ++ rest))) name context
@@ -169,7 +169,7 @@ nested_is_line node none arms rest = ends_line rest
 nested_is_line node (more child under later) arms rest = line _
 
 regroup_arm : (a b c d e f rest : List ℕ) →
-    (a ++ (b ++ (c ++ (d ++ (e ++ f))))) ++ rest ≡ a ++ (b ++ (c ++ (d ++ (e ++ (f ++ rest)))))
+    (((((a ++ b) ++ c) ++ d) ++ e) ++ f) ++ rest ≡ a ++ (b ++ (c ++ (d ++ (e ++ (f ++ rest)))))
 regroup_arm a b c d e f rest = simp append_assoc
 
 module _ (above node : Node) (below : Forest)

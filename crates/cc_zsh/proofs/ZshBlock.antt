@@ -104,7 +104,7 @@ second_word name outer blocks block =
     ∙ ap (λ f. in_block outer blocks (with_function block f)) (first_named-none block.function)
 
 regroup_children : (a b c d e rest : List ℕ) →
-    (a ++ (b ++ (c ++ (d ++ e)))) ++ rest ≡ a ++ (b ++ (c ++ (d ++ (e ++ rest))))
+    ((((a ++ b) ++ c) ++ d) ++ e) ++ rest ≡ a ++ (b ++ (c ++ (d ++ (e ++ rest))))
 regroup_children a b c d e rest = simp append_assoc
 
 -- the words of the children name their function
@@ -166,9 +166,22 @@ block_with path above tree = record {
   function = children_label tree.node tree.children;
 }
 
-regroup_block : (o f p b e rest : List ℕ) →
-    (o ++ (f ++ (p ++ (b ++ e)))) ++ rest ≡ (o ++ f) ++ (p ++ (b ++ (e ++ rest)))
-regroup_block o f p b e rest = simp append_assoc
+regroup_block : (a o f p b e rest : List ℕ) →
+    (((((a ++ o) ++ f) ++ p) ++ b) ++ e) ++ rest ≡ a ++ ((o ++ f) ++ (p ++ (b ++ (e ++ rest))))
+regroup_block a o f p b e rest = simp append_assoc
+
+-- what follows the begin of a block
+abbrev body : Node → Tree → List ℕ → List ℕ
+body above tree rest =
+    (options_text above tree.node ++ flags_text above tree.node)
+    ++ (positionals_text tree ++ (below_text tree ++ (block_ends ++ rest)))
+
+block_parts : (above : Node) (tree : Tree) (rest : List ℕ) →
+    block_text above tree ++ rest ≡ block_begins ++ body above tree rest
+unfolding block_text
+block_parts above tree rest =
+    regroup_block block_begins (options_text above tree.node) (flags_text above tree.node)
+    (positionals_text tree) (below_text tree) block_ends rest
 
 ends_read : (outer : List Path) (blocks : List Block) (block : Block) (rest : List ℕ) →
     IsLine rest → reading (in_block outer blocks block) between (block_ends ++ rest)
@@ -200,18 +213,13 @@ below_read path above tree outer blocks rest is =
 -- from the first option on
 body_read : (path : Path) (above : Node) (tree : Tree) (outer : List Path) (blocks : List Block)
     (rest : List ℕ) → IsReadable above tree → IsLine rest →
-    reading (in_block outer blocks (new_block path)) between
-    ((options_text above tree.node ++ (flags_text above tree.node ++ (positionals_text tree
-    ++ (below_text tree ++ block_ends)))) ++ rest)
+    reading (in_block outer blocks (new_block path)) between (body above tree rest)
     ≡ reading (after_block outer (blocks ++ block_with path above tree ∷ []) path) between rest
 body_read path above tree outer blocks rest is l =
     let rows : List ZshOption = node_rows above tree.node in
     let end : List ℕ = block_ends ++ rest in
     let below : List ℕ = below_text tree ++ end in
-    ap (reading (in_block outer blocks (new_block path)) between)
-    (regroup_block (options_text above tree.node) (flags_text above tree.node)
-    (positionals_text tree) (below_text tree) block_ends rest)
-    ∙ node_adds above tree.node is.above_plain is.plain outer blocks (new_block path)
+    node_adds above tree.node is.above_plain is.plain outer blocks (new_block path)
     (positionals_text tree ++ below)
     ∙ positionals_add tree is.plain.arguments outer blocks (with_options (new_block path) rows) below
     ∙ ap (λ os. reading (in_block outer blocks (record (new_block path) { options = os })) between below)
@@ -235,21 +243,15 @@ pub arm_block_read : (path : Path) (above : Node) (tree : Tree) (outer : List Pa
     (blocks : List Block) (rest : List ℕ) → IsReadable above tree → IsLine rest →
     reading (at_block outer blocks path) between (block_text above tree ++ rest)
     ≡ reading (after_block outer (blocks ++ block_with path above tree ∷ []) path) between rest
-unfolding block_text
 arm_block_read path above tree outer blocks rest is l =
-    let body : List ℕ = options_text above tree.node ++ (flags_text above tree.node
-    ++ (positionals_text tree ++ (below_text tree ++ block_ends))) in
-    ap (reading (at_block outer blocks path) between) (append_assoc block_begins body rest)
-    ∙ begins_arm outer blocks path (body ++ rest)
+    ap (reading (at_block outer blocks path) between) (block_parts above tree rest)
+    ∙ begins_arm outer blocks path (body above tree rest)
     ∙ body_read path above tree outer blocks rest is l
 
 pub root_block_read : (above : Node) (tree : Tree) (rest : List ℕ) → IsReadable above tree →
     IsLine rest → reading before_blocks between (block_text above tree ++ rest)
     ≡ reading (after_block [] (block_with [] above tree ∷ []) []) between rest
-unfolding block_text
 root_block_read above tree rest is l =
-    let body : List ℕ = options_text above tree.node ++ (flags_text above tree.node
-    ++ (positionals_text tree ++ (below_text tree ++ block_ends))) in
-    ap (reading before_blocks between) (append_assoc block_begins body rest)
-    ∙ begins_root (body ++ rest)
+    ap (reading before_blocks between) (block_parts above tree rest)
+    ∙ begins_root (body above tree rest)
     ∙ body_read [] above tree [] [] rest is l

@@ -107,7 +107,7 @@ module _ (blocks : List Block) (ds : List Description) (label : List ℕ) where
   entry_line e rest = line _
 
   regroup_entry : (a b c d e rest : List ℕ) →
-      (a ++ (b ++ (c ++ (d ++ e)))) ++ rest ≡ a ++ ((b ++ (c ++ d)) ++ (e ++ rest))
+      ((((a ++ b) ++ c) ++ d) ++ e) ++ rest ≡ a ++ ((b ++ (c ++ d)) ++ (e ++ rest))
   regroup_entry a b c d e rest = simp append_assoc
 
   entry_read : (entries : List Entry) (e : Entry) (rest : List ℕ) → AreNameBytes e.word →
@@ -138,9 +138,6 @@ module _ (blocks : List Block) (ds : List Description) (label : List ℕ) where
       ≡ reading (between_functions blocks (with_description ds label entries)) (in_single [] []) rest
   unfolding entries_end describe_begins sign byte_of cut is_word next next_function function_name text_before read
   end_read entries rest = refl
-
-  regroup_end : (a b rest : List ℕ) → (a ++ b) ++ rest ≡ a ++ (b ++ rest)
-  regroup_end a b rest = append_assoc a b rest
 
   end_line : (rest : List ℕ) → IsLine (entries_end ++ rest)
   unfolding entries_end
@@ -208,7 +205,7 @@ begins blocks ds label =
     ∙ ap (by_name blocks ds) (before-last 40 label refl)
 
 regroup_function : (a b c d e f g h i rest : List ℕ) →
-    (a ++ (b ++ (c ++ (d ++ (e ++ (f ++ (g ++ (h ++ i)))))))) ++ rest
+    ((((((((a ++ b) ++ c) ++ d) ++ e) ++ f) ++ g) ++ h) ++ i) ++ rest
     ≡ a ++ (b ++ (c ++ (d ++ (e ++ (f ++ (g ++ (h ++ (i ++ rest))))))))
 regroup_function a b c d e f g h i rest = simp append_assoc
 

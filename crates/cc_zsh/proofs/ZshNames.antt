@@ -21,7 +21,7 @@ use Rattle.cc_quote.specs.PosixTokens.{sign}
 use Rattle.cc_quote.specs.PosixTokens.Sign.{other}
 use Rattle.cc_quote.proofs.PosixCutting.{IsOther}
 use Rattle.cc_command.specs.ArgumentLists.{first_with}
-use Rattle.cc_zsh.specs.Conflicts.{looked_up, excluded, short_word, long_word, short_words, long_words, own_words, conflict_words, conflicts_text}
+use Rattle.cc_zsh.specs.Conflicts.{conflict_scope, conflicts_of, short_word, long_word, short_words, long_words, own_words, conflict_words, conflicts_text, has_arguments}
 use Rattle.cc_zsh.specs.Options.{name_word}
 use Rattle.cc_zsh.specs.ZshReader.{is_name_byte, is_typed_name}
 use Rattle.cc_zsh.proofs.ZshCutting.{NoQuote}
@@ -164,9 +164,9 @@ ids_plain arguments (id ∷ ids) h =
 conflicting_plain : (above node : Node) (argument : Arg) →
     AllByRecursion IsPlainArgument above.arguments →
     AllByRecursion IsPlainArgument node.arguments →
-    AllByRecursion IsPlainArgument (excluded above node argument)
+    AllByRecursion IsPlainArgument (conflicts_of above node argument)
 conflicting_plain above node argument h k =
-    ids_plain (looked_up above node argument) argument.conflicts (by_test argument.global)
+    ids_plain (conflict_scope above node argument) argument.conflicts (by_test argument.global)
   where
     by_test : (b : Bool) →
         AllByRecursion IsPlainArgument (cond b above.arguments node.arguments)
@@ -176,23 +176,19 @@ conflicting_plain above node argument h k =
 pub conflicting_dashed : (above node : Node) (argument : Arg) →
     AllByRecursion IsPlainArgument above.arguments →
     AllByRecursion IsPlainArgument node.arguments →
-    AllByRecursion IsDashed (conflict_words (excluded above node argument))
+    AllByRecursion IsDashed (conflict_words (conflicts_of above node argument))
 conflicting_dashed above node argument h k =
-    words_dashed (excluded above node argument) (conflicting_plain above node argument h k)
+    words_dashed (conflicts_of above node argument) (conflicting_plain above node argument h k)
 
 -- the brackets stand where there are arguments in conflict
-abbrev pub has_any : List Arg → Bool
-has_any [] = false
-has_any (argument ∷ arguments) = true
-
 pub conflicts_front : (arguments : List Arg) →
-    conflicts_text arguments ≡ front_of (has_any arguments) (conflict_words arguments)
+    conflicts_text arguments ≡ front_of (has_arguments arguments) (conflict_words arguments)
 unfolding conflicts_text
 conflicts_front [] = refl
 conflicts_front (argument ∷ arguments) = refl
 
 pub conflicts_are : (arguments : List Arg) → AllByRecursion IsDashed (conflict_words arguments) →
-    IsFront (has_any arguments) (conflict_words arguments)
+    IsFront (has_arguments arguments) (conflict_words arguments)
 conflicts_are [] h = refl
 conflicts_are (argument ∷ arguments) h = h
 

@@ -5,22 +5,23 @@ use Rattle.std.specs.Option.{option_to_list}
 use Rattle.cc_arg.specs.declared.parts.ArgParts.{ArgParts as Arg}
 use Rattle.cc_arg.specs.declared.names.ShownName.{ShownName}
 use Rattle.cc_arg.specs.declared.names.ShownName.TheVariants.{Short, Long}
+use Rattle.cc_arg.specs.Arguments.{takes_values}
 use Rattle.cc_arg.specs.ShownNames.{shown_names}
 use Rattle.cc_command.specs.declared.node.Node.{Node}
 use Rattle.cc_command.specs.ArgumentLists.{options, flags}
 use Rattle.cc_command.proofs.PlainParts.{IsPlainArgument, IsPlainNode}
 use Rattle.cc_quote.specs.QuotedWord.{line_feeds_as_spaces}
 use Rattle.cc_quote.specs.ZshQuote.{is_help_marked, marked, zsh_escaped_help}
-use Rattle.cc_zsh.specs.Conflicts.{excluded, conflict_words, conflicts_text, short_word, long_word}
-use Rattle.cc_zsh.specs.Options.{is_repeated, repeated_text, help_text, front_text, line_end, name_word, argument_line, argument_text, options_text, flags_text}
+use Rattle.cc_zsh.specs.Conflicts.{conflicts_of, conflict_words, has_arguments}
+use Rattle.cc_zsh.specs.Options.{is_repeated, repeated_text, help_text, line_end, name_word, argument_line, argument_text, options_text, flags_text, value_sign}
 use Rattle.cc_zsh.specs.Values.{values_text}
 use Rattle.cc_zsh.specs.ZshReader.{Bracket}
 use Rattle.cc_zsh.specs.ZshReader.Bracket.{alone, after_plus, after_equals}
-use Rattle.cc_zsh.specs.ZshTable.{bracket_after, option_row, option_rows, flag_rows, node_rows}
-use Rattle.cc_zsh.proofs.ZshCutting.{Escapes, escapes_append, escapes_same, IsEscaped, escaped_same}
+use Rattle.cc_zsh.specs.ZshTable.{argument_rows, bracket_after, option_row, node_rows}
+use Rattle.cc_zsh.proofs.ZshCutting.{Escapes, escapes_append, escapes_same, IsEscaped}
 use Rattle.cc_zsh.proofs.ZshOptionWords.{IsDashed, dashed_bytes, IsFront, bracket_text, front_of, star_of, option_word, option_read}
 use Rattle.cc_zsh.proofs.ZshLines.{Adds, adds_append, adds_flat_map, adds_map, line_adds}
-use Rattle.cc_zsh.proofs.ZshNames.{IsDashedName, names_dashed, conflicting_dashed, has_any, conflicts_front, conflicts_are, name_no_quote, front_no_quote}
+use Rattle.cc_zsh.proofs.ZshNames.{IsDashedName, names_dashed, conflicting_dashed, conflicts_front, conflicts_are, name_no_quote, front_no_quote}
 use Rattle.cc_zsh.proofs.ZshValues.{escaped_values}
 
 star_escapes : (repeated : Bool) → Escapes (star_of repeated) (star_of repeated)
@@ -63,13 +64,13 @@ module _ (above node : Node) (above_plain : AllByRecursion IsPlainArgument above
     (plain : AllByRecursion IsPlainArgument node.arguments) (argument : Arg)
     (is : IsPlainArgument argument) where
   abbrev words : List (List ℕ)
-  words = conflict_words (excluded above node argument)
+  words = conflict_words (conflicts_of above node argument)
 
   abbrev has_front : Bool
-  has_front = has_any (excluded above node argument)
+  has_front = has_arguments (conflicts_of above node argument)
 
   front : IsFront has_front words
-  front = conflicts_are (excluded above node argument)
+  front = conflicts_are (conflicts_of above node argument)
       (conflicting_dashed above node argument above_plain plain)
 
   abbrev help : List ℕ
@@ -92,58 +93,68 @@ module _ (above node : Node) (above_plain : AllByRecursion IsPlainArgument above
   star_is true = refl
   star_is false = refl
 
-  front_is : conflicts_text (excluded above node argument) ++ repeated_text argument
-      ≡ front_of has_front words ++ star_of (is_repeated argument)
-  front_is = ap (λ t. t ++ repeated_text argument) (conflicts_front (excluded above node argument))
-      ∙ ap (λ t. front_of has_front words ++ t) (star_is (is_repeated argument))
+  sign_is : (name : ShownName) → value_sign argument name ≡ bracket_text (bracket_after argument name)
+  sign_is (Short short) = by_test (takes_values argument)
+    where
+      by_test : (b : Bool) → cond b (codes "+") [] ≡ bracket_text (cond b after_plus alone)
+      by_test true = refl
+      by_test false = refl
+  sign_is (Long long) = by_test (takes_values argument)
+    where
+      by_test : (b : Bool) → cond b (codes "=") [] ≡ bracket_text (cond b after_equals alone)
+      by_test true = refl
+      by_test false = refl
+
+  abbrev line : List ℕ → List ℕ → List ℕ → List ℕ → List ℕ
+  line front repeated name sign =
+      ((((((codes "'" ++ front) ++ repeated) ++ name) ++ sign)
+      ++ ((codes "[" ++ zsh_escaped_help help) ++ codes "]")) ++ values_text argument) ++ line_end
 
   regroup : (q conf rep name br ob helps cb values end : List ℕ) →
-      (q ++ (conf ++ rep)) ++ (name ++ (br ++ ((ob ++ (helps ++ cb)) ++ (values ++ end))))
+      ((((((q ++ conf) ++ rep) ++ name) ++ br) ++ ((ob ++ helps) ++ cb)) ++ values) ++ end
       ≡ q ++ ((conf ++ (rep ++ (name ++ (br ++ (ob ++ (helps ++ (cb ++ values))))))) ++ end)
   regroup q conf rep name br ob helps cb values end = simp append_assoc
 
   -- a line under one name adds an option
-  adds_one : (name : List ℕ) (bracket : Bracket) (values : List ℕ) → IsEscaped values →
-      IsDashed name →
-      Adds (front_text above node argument ++ (name ++ (bracket_text bracket
-      ++ (help_text argument ++ (values ++ line_end)))))
-      (option_row above node argument bracket name ∷ [])
-  unfolding front_text help_text
-  adds_one name bracket values v dashed =
+  adds_one : (name : List ℕ) (bracket : Bracket) → IsDashed name →
+      Adds (line (front_of has_front words) (star_of (is_repeated argument)) name
+      (bracket_text bracket)) (option_row above node argument bracket name ∷ [])
+  adds_one name bracket dashed =
       subst (λ t. Adds t (option_row above node argument bracket name ∷ []))
-      (sym (ap (λ t. (codes "'" ++ t) ++ (name ++ (bracket_text bracket
-      ++ ((codes "[" ++ (zsh_escaped_help help ++ codes "]")) ++ (values ++ line_end)))))
-      front_is ∙ regroup (codes "'") (front_of has_front words)
-      (star_of (is_repeated argument)) name (bracket_text bracket) (codes "[")
-      (zsh_escaped_help help) (codes "]") values line_end))
-      (line_of name bracket values v dashed)
+      (sym (regroup (codes "'") (front_of has_front words) (star_of (is_repeated argument)) name
+      (bracket_text bracket) (codes "[") (zsh_escaped_help help) (codes "]")
+      (values_text argument) line_end))
+      (line_of name bracket (values_text argument) (escaped_values argument is.value_names) dashed)
 
-  option_adds_one : (name : ShownName) → IsDashedName name →
-      Adds (argument_line true above node argument name)
-      (option_row above node argument (bracket_after name) (name_word name) ∷ [])
-  unfolding argument_line
-  option_adds_one (Short short) = adds_one (short_word short) after_plus (values_text argument)
-      (escaped_values argument is.value_names)
-  option_adds_one (Long long) = adds_one (long_word long) after_equals (values_text argument)
-      (escaped_values argument is.value_names)
+  line_is : (name : ShownName) → argument_line above node argument name
+      ≡ line (front_of has_front words) (star_of (is_repeated argument)) (name_word name)
+      (bracket_text (bracket_after argument name))
+  unfolding argument_line help_text
+  line_is name =
+      ap (λ t. line t (repeated_text argument) (name_word name) (value_sign argument name))
+      (conflicts_front (conflicts_of above node argument))
+      ∙ ap (λ t. line (front_of has_front words) t (name_word name) (value_sign argument name))
+      (star_is (is_repeated argument))
+      ∙ ap (line (front_of has_front words) (star_of (is_repeated argument)) (name_word name))
+      (sign_is name)
 
-  flag_adds_one : (name : ShownName) → IsDashedName name →
-      Adds (argument_line false above node argument name)
-      (option_row above node argument alone (name_word name) ∷ [])
-  unfolding argument_line
-  flag_adds_one name = adds_one (name_word name) alone [] (escaped_same [] tt)
+  name_adds : (name : ShownName) → IsDashedName name → Adds (argument_line above node argument name)
+      (option_row above node argument (bracket_after argument name) (name_word name) ∷ [])
+  name_adds name dashed =
+      subst (λ t. Adds t
+      (option_row above node argument (bracket_after argument name) (name_word name) ∷ []))
+      (sym (line_is name))
+      (adds_one (name_word name) (bracket_after argument name) (dashed_word name dashed))
+    where
+      dashed_word : (name : ShownName) → IsDashedName name → IsDashed (name_word name)
+      dashed_word (Short short) h = h
+      dashed_word (Long long) h = h
 
-  option_adds : Adds (argument_text true above node argument) (option_rows above node argument)
+  argument_adds : Adds (argument_text above node argument) (argument_rows above node argument)
   unfolding argument_text
-  option_adds = adds_map IsDashedName (argument_line true above node argument)
-      (λ name. option_row above node argument (bracket_after name) (name_word name))
-      option_adds_one (shown_names argument) (names_dashed argument is)
-
-  flag_adds : Adds (argument_text false above node argument) (flag_rows above node argument)
-  unfolding argument_text
-  flag_adds = adds_map IsDashedName (argument_line false above node argument)
-      (λ name. option_row above node argument alone (name_word name))
-      flag_adds_one (shown_names argument) (names_dashed argument is)
+  argument_adds = adds_map IsDashedName (argument_line above node argument)
+      (λ name. option_row above node argument (bracket_after argument name) (name_word name))
+      name_adds (shown_names argument) (names_dashed argument is)
 
 -- all options and flags of a node
 pub node_adds : (above node : Node) → AllByRecursion IsPlainArgument above.arguments →
@@ -151,8 +162,10 @@ pub node_adds : (above node : Node) → AllByRecursion IsPlainArgument above.arg
     Adds (options_text above node ++ flags_text above node) (node_rows above node)
 unfolding options_text flags_text
 node_adds above node above_plain is = adds_append (options_text above node) (flags_text above node)
-    (flat_map (option_rows above node) (options node)) (flat_map (flag_rows above node) (flags node))
-    (adds_flat_map IsPlainArgument (argument_text true above node) (option_rows above node)
-    (option_adds above node above_plain is.arguments) (options node) is.options)
-    (adds_flat_map IsPlainArgument (argument_text false above node) (flag_rows above node)
-    (flag_adds above node above_plain is.arguments) (flags node) is.flags)
+    (flat_map (argument_rows above node) (options node)) (flat_map (argument_rows above node) (flags node))
+    (adds (options node) is.options) (adds (flags node) is.flags)
+  where
+    adds : (arguments : List Arg) → AllByRecursion IsPlainArgument arguments →
+        Adds (flat_map (argument_text above node) arguments) (flat_map (argument_rows above node) arguments)
+    adds arguments = adds_flat_map IsPlainArgument (argument_text above node) (argument_rows above node)
+        (argument_adds above node above_plain is.arguments) arguments

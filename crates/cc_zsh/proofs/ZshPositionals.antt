@@ -97,7 +97,7 @@ from_rest (Some terminator) rest h = record {
   none = star_none terminator h.word;
 }
   where
-    regroup : (a b c d : List ℕ) → (a ++ (b ++ c)) ++ d ≡ a ++ (b ++ (c ++ d))
+    regroup : (a b c d : List ℕ) → ((a ++ b) ++ c) ++ d ≡ a ++ (b ++ (c ++ d))
     regroup a b c d = simp append_assoc
 
 counted : (has_children : Bool) (argument : Arg) (rest : List ℕ) → IsEscaped rest →
@@ -128,7 +128,7 @@ positional_adds has_children argument is =
     (line_adds (count_text has_children argument ++ (codes ":" ++ rest)) none.word [] none.escapes
     (ap option_to_list none.none))
   where
-    regroup : (a b c d e f g : List ℕ) → a ++ (b ++ (c ++ (d ++ (e ++ (f ++ g)))))
+    regroup : (a b c d e f g : List ℕ) → (((((a ++ b) ++ c) ++ d) ++ e) ++ f) ++ g
         ≡ (a ++ (b ++ (c ++ (d ++ (e ++ f))))) ++ g
     regroup a b c d e f g = simp append_assoc
 

@@ -3,16 +3,18 @@ use Rattle.std.proofs.Common.{◌≡◌, ◌==◌, ℕ, zero, suc, Bool, true, f
 use Rattle.std.specs.List.{AllByRecursion, list_any}
 use Rattle.cc_base.proofs.Booleans.{each_passes}
 use Rattle.cc_base.proofs.Members.{AllByRecursion-weaker}
-use Rattle.cc_base.specs.Joined.{joined, joined_after, separator}
+use Rattle.cc_base.specs.Joined.{joined_after, separator}
 use Rattle.cc_arg.specs.declared.parts.ArgParts.{ArgParts as Arg}
 use Rattle.cc_arg.specs.declared.possible_value.PossibleValue.{PossibleValue}
 use Rattle.cc_arg.specs.declared.value_hint.ValueHint.{ValueHint}
 use Rattle.cc_arg.specs.declared.value_hint.ValueHint.TheVariants.{Unknown, Other, AnyPath, FilePath, DirPath, ExecutablePath, CommandName, CommandString, CommandWithArguments, Username, Hostname, Url, EmailAddress}
-use Rattle.cc_arg.specs.Arguments.{possible_values}
+use Rattle.cc_arg.specs.Arguments.{possible_values, takes_values}
 use Rattle.cc_command.proofs.PlainParts.{HasNoQuote}
 use Rattle.cc_quote.specs.QuotedWord.{line_feeds_as_spaces}
 use Rattle.cc_quote.specs.ZshQuote.{is_help_marked, is_value_marked, marked, zsh_escaped_help, zsh_escaped_value}
-use Rattle.cc_zsh.specs.Values.{shown_values, is_described, described_text, named_text, described_list, named_list, list_text, hint_text, listed_or_hint, value_text, first_name, one_value, times, least_values, range, values_text}
+use Rattle.cc_zsh.specs.declared.values.Form.{Form}
+use Rattle.cc_zsh.specs.declared.values.Form.TheVariants.{Names, Helps}
+use Rattle.cc_zsh.specs.Values.{shown_values, is_described, item_help, item_text, item_separator, items_text, list_text, hint_text, listed_or_hint, value_text, first_name, one_value, times, least_values, range, values_text}
 use Rattle.cc_zsh.proofs.ZshCutting.{NoQuote, IsEscaped, escaped_append, escaped_same, escaped_of}
 
 -- by the tests of plainness
@@ -46,46 +48,46 @@ escaped_joined between text h each begun (x ∷ xs) =
     front true = h
     front false = escaped_same [] tt
 
-escaped_described : (value : PossibleValue) → IsEscaped (described_text value)
-unfolding described_text
-escaped_described value =
-    escaped_append (zsh_escaped_value value.name)
-    (codes "\\:\"" ++ (zsh_escaped_help (unwrap_or value.help []) ++ codes "\""))
-    (escaped_value value.name)
-    (escaped_append (codes "\\:\"") (zsh_escaped_help (unwrap_or value.help []) ++ codes "\"")
-    (escaped_same (codes "\\:\"") (refl, (refl, (refl, tt))))
-    (escaped_append (zsh_escaped_help (unwrap_or value.help [])) (codes "\"")
-    (escaped_help (unwrap_or value.help [])) (escaped_same (codes "\"") (refl, tt))))
+escaped_item_help : (help : List ℕ) → IsEscaped (item_help help)
+unfolding item_help
+escaped_item_help help =
+    escaped_append (codes "\\:\"" ++ zsh_escaped_help help) (codes "\"")
+    (escaped_append (codes "\\:\"") (zsh_escaped_help help)
+    (escaped_same (codes "\\:\"") (refl, (refl, (refl, tt)))) (escaped_help help))
+    (escaped_same (codes "\"") (refl, tt))
 
-escaped_named : (value : PossibleValue) → IsEscaped (named_text value)
-unfolding named_text
-escaped_named value = escaped_value value.name
+escaped_item : (form : Form) (value : PossibleValue) → IsEscaped (item_text form value)
+unfolding item_text
+escaped_item Names value = escaped_value value.name
+escaped_item Helps value =
+    escaped_append (zsh_escaped_value value.name) (item_help (unwrap_or value.help []))
+    (escaped_value value.name) (escaped_item_help (unwrap_or value.help []))
+
+escaped_items : (form : Form) (values : List PossibleValue) → IsEscaped (items_text form values)
+escaped_items form values =
+    escaped_joined (item_separator form) (item_text form) (separator_escaped form)
+    (escaped_item form) false (shown_values values)
+  where
+    separator_escaped : (form : Form) → IsEscaped (item_separator form)
+    separator_escaped Names = escaped_same (codes " ") (refl, tt)
+    separator_escaped Helps = escaped_same (codes "\n") (refl, tt)
 
 escaped_list : (values : List PossibleValue) → IsEscaped (list_text values)
-unfolding list_text described_list named_list
+unfolding list_text
 escaped_list values = by_test (list_any is_described values)
   where
-    with_helps : List ℕ
-    with_helps = joined (codes "\n") (map described_text (shown_values values))
-
-    names : List ℕ
-    names = joined (codes " ") (map named_text (shown_values values))
-
-    by_test : (b : Bool) → IsEscaped (cond b (codes "((" ++ (with_helps ++ codes "))"))
-        (codes "(" ++ (names ++ codes ")")))
+    by_test : (b : Bool) → IsEscaped (cond b ((codes "((" ++ items_text Helps values) ++ codes "))")
+        ((codes "(" ++ items_text Names values) ++ codes ")"))
     by_test true =
-        escaped_append (codes "((") (with_helps ++ codes "))")
-        (escaped_same (codes "((") (refl, (refl, tt)))
-        (escaped_append with_helps (codes "))")
-        (escaped_joined (codes "\n") described_text (escaped_same (codes "\n") (refl, tt))
-        escaped_described false (shown_values values))
-        (escaped_same (codes "))") (refl, (refl, tt))))
+        escaped_append (codes "((" ++ items_text Helps values) (codes "))")
+        (escaped_append (codes "((") (items_text Helps values)
+        (escaped_same (codes "((") (refl, (refl, tt))) (escaped_items Helps values))
+        (escaped_same (codes "))") (refl, (refl, tt)))
     by_test false =
-        escaped_append (codes "(") (names ++ codes ")") (escaped_same (codes "(") (refl, tt))
-        (escaped_append names (codes ")")
-        (escaped_joined (codes " ") named_text (escaped_same (codes " ") (refl, tt))
-        escaped_named false (shown_values values))
-        (escaped_same (codes ")") (refl, tt)))
+        escaped_append (codes "(" ++ items_text Names values) (codes ")")
+        (escaped_append (codes "(") (items_text Names values) (escaped_same (codes "(") (refl, tt))
+        (escaped_items Names values))
+        (escaped_same (codes ")") (refl, tt))
 
 -- a text in which no byte is a quote by the test
 computed : (text : List ℕ) → HasNoQuote text → IsEscaped text
@@ -131,17 +133,22 @@ colon = escaped_same (codes ":") (refl, tt)
 pub escaped_values : (argument : Arg) → AllByRecursion HasNoQuote argument.value_names →
     IsEscaped (values_text argument)
 unfolding values_text one_value
-escaped_values argument h = by_least (range argument).least
+escaped_values argument h = by_test (takes_values argument) (by_least (range argument).least)
   where
-    one : IsEscaped (codes ":" ++ (first_name argument.value_names ++ (codes ":" ++ value_text argument)))
-    one = escaped_append (codes ":") (first_name argument.value_names ++ (codes ":" ++ value_text argument))
-        colon (escaped_append (first_name argument.value_names) (codes ":" ++ value_text argument)
-        (escaped_first argument.value_names h)
-        (escaped_append (codes ":") (value_text argument) colon (escaped_value_text argument)))
+    first : List ℕ
+    first = first_name argument.value_names
 
-    by_least : (least : ℕ) → IsEscaped (least_values least
-        (codes ":" ++ (first_name argument.value_names ++ (codes ":" ++ value_text argument))))
-    by_least zero = escaped_append (codes ":")
-        (codes ":" ++ (first_name argument.value_names ++ (codes ":" ++ value_text argument))) colon one
-    by_least (suc count) = escaped_times (suc count)
-        (codes ":" ++ (first_name argument.value_names ++ (codes ":" ++ value_text argument))) one
+    one : IsEscaped (one_value argument)
+    one = escaped_append ((codes ":" ++ first) ++ codes ":") (value_text argument)
+        (escaped_append (codes ":" ++ first) (codes ":")
+        (escaped_append (codes ":") first colon (escaped_first argument.value_names h)) colon)
+        (escaped_value_text argument)
+
+    by_least : (least : ℕ) → IsEscaped (least_values least (one_value argument))
+    by_least zero = escaped_append (codes ":") (one_value argument) colon one
+    by_least (suc count) = escaped_times (suc count) (one_value argument) one
+
+    by_test : (b : Bool) → IsEscaped (least_values (range argument).least (one_value argument)) →
+        IsEscaped (cond b (least_values (range argument).least (one_value argument)) [])
+    by_test true least = least
+    by_test false least = escaped_same [] tt

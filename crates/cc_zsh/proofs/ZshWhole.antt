@@ -15,7 +15,7 @@ use Rattle.cc_quote.specs.Tokens.Piece.{bare}
 use Rattle.cc_quote.proofs.PosixCutting.{IsOther, IsKept-IsOther, tokens_from, bare_word, bare_run, double_run}
 use Rattle.cc_visits.specs.Visits.{longer_path, path_visits, paths_below}
 use Rattle.cc_zsh.specs.Functions.{function_text, tree_functions}
-use Rattle.cc_zsh.specs.Nested.{block_text, nested_begins, case_state, nested_ends, nested_text, arms_text, root_text, context_text}
+use Rattle.cc_zsh.specs.Nested.{block_text, nested_begins, case_text, case_state, nested_ends, nested_text, arms_text, root_text, context_text}
 use Rattle.cc_zsh.specs.ZshReader.{Block, Description, State, ended, function_name, is_name_byte, next, next_arm, next_function, read, text_before, zsh_parts}
 use Rattle.cc_zsh.specs.ZshReader.State.{after_block, after_nested, before_blocks, between_functions, in_block}
 use Rattle.cc_zsh.specs.ZshScript.{compdef_begins, autoloads, body_begins, begin_text, body_ends, if_called, then_call, else_define, if_ends, end_text, functions_text, script_text, zsh_script}
@@ -68,7 +68,7 @@ named_word : (bin : List ℕ) → bytes_eq ((codes "_" ++ bin) ++ codes "()") (c
 named_word bin = with_bracket bin (codes ")") (codes "arguments") refl
 
 regroup_begin : (a b c d e rest : List ℕ) →
-    (a ++ (b ++ (c ++ (d ++ e)))) ++ rest ≡ a ++ (b ++ (c ++ (d ++ (e ++ rest))))
+    ((((a ++ b) ++ c) ++ d) ++ e) ++ rest ≡ a ++ (b ++ (c ++ (d ++ (e ++ rest))))
 regroup_begin a b c d e rest = simp append_assoc
 
 begin_tail : (rest : List ℕ) →
@@ -148,6 +148,11 @@ underscore : is_name_byte 95 ≡ true
 unfolding is_name_byte
 underscore = refl
 
+regroup_end : (a b c d e f g h i : List ℕ) →
+    (((((((a ++ b) ++ c) ++ d) ++ e) ++ f) ++ g) ++ h) ++ i
+    ≡ a ++ (b ++ (c ++ (d ++ (e ++ (f ++ (g ++ (h ++ i)))))))
+regroup_end a b c d e f g h i = simp append_assoc
+
 module _ (blocks : List Block) (ds : List Description) (bin : List ℕ) (h : AreNameBytes bin) where
   abbrev functions : State
   functions = between_functions blocks ds
@@ -195,7 +200,9 @@ module _ (blocks : List Block) (ds : List Description) (bin : List ℕ) (h : Are
   unfolding end_text if_called then_call sign byte_of cut next next_function function_name text_before read
   end_read =
       let third : List ℕ = bin ++ (else_define ++ (bin ++ (codes " " ++ (bin ++ if_ends)))) in
-      ap (read functions) (double_run bin (then_call ++ third) [] (codes "_") (IsKept-IsOther bin other))
+      ap (reading functions between)
+      (regroup_end if_called bin then_call bin else_define bin (codes " ") bin if_ends)
+      ∙ ap (read functions) (double_run bin (then_call ++ third) [] (codes "_") (IsKept-IsOther bin other))
       ∙ third_read
 
 -- ---- the whole
@@ -243,8 +250,8 @@ nested_or_none node (more child under later) rest name context h blocks =
     ∙ nested_middle (blocks ++ map block_at (paths_below longer_path [] node (more child under later))) rest
 
 begins_line : (node : Node) (arms rest : List ℕ) →
-    IsLine ((nested_begins node ++ (arms ++ nested_ends)) ++ rest)
-unfolding nested_begins case_state
+    IsLine (((nested_begins node ++ arms) ++ nested_ends) ++ rest)
+unfolding case_text case_state
 begins_line node arms rest = line _
 
 nested_line : (node : Node) (children : Forest) (arms rest : List ℕ) →
@@ -266,6 +273,10 @@ root_read root rest is =
     (name_other (context_text root.node) (context_bytes (full_name root.node) is.node.full))
     is.below (block_with [] root.node root ∷ [])
 
+regroup_script : (a b c d e : List ℕ) →
+    (((a ++ b) ++ c) ++ d) ++ e ≡ a ++ (b ++ (c ++ (d ++ e)))
+regroup_script a b c d e = simp append_assoc
+
 -- the script of such a tree is read to its blocks and functions
 pub parts_read : (root : Tree) → IsReadableTree root → zsh_parts (zsh_script root)
     ≡ Some (record { blocks = tree_blocks root; descriptions = map description_of (tree_functions root) })
@@ -273,7 +284,9 @@ unfolding zsh_parts posix_tokens script_text functions_text
 parts_read root is =
     let bin : List ℕ = full_name root.node in
     let functions : List ℕ = flat_map function_text (tree_functions root) in
-    begin_read bin (root_text root ++ (body_ends ++ (functions ++ end_text bin))) is.bin
+    ap (reading before_blocks between)
+    (regroup_script (begin_text bin) (root_text root) body_ends functions (end_text bin))
+    ∙ begin_read bin (root_text root ++ (body_ends ++ (functions ++ end_text bin))) is.bin
     ∙ root_read root (functions ++ end_text bin) is
     ∙ functions_read (tree_blocks root) (tree_functions root) [] (end_text bin) is.functions
     ∙ end_read (tree_blocks root) (map description_of (tree_functions root)) bin is.bin_bytes

@@ -14,12 +14,12 @@ with_ids arguments ids = flat_map (λ id. option_to_list (first_with arguments i
 
 -- where the conflicts of an argument are looked up: those of a global one in the node above, which
 -- for the root is the root itself
-abbrev pub looked_up : Node → Node → Arg → List Arg
-looked_up above node argument = if argument.global then above.arguments else node.arguments
+abbrev pub conflict_scope : Node → Node → Arg → List Arg
+conflict_scope above node argument = if argument.global then above.arguments else node.arguments
 
 -- the arguments with which an argument of a node is in conflict
-abbrev pub excluded : Node → Node → Arg → List Arg
-excluded above node argument = conflicting (looked_up above node argument) argument
+abbrev pub conflicts_of : Node → Node → Arg → List Arg
+conflicts_of above node argument = conflicting (conflict_scope above node argument) argument
 
 -- a short and a long as they are typed
 abbrev pub short_word : ℕ → List ℕ
@@ -53,4 +53,4 @@ has_arguments (_ ∷ _) = true
 unfoldable pub conflicts_text : List Arg → List ℕ
 conflicts_text arguments =
     if has_arguments arguments
-    then codes "(" ++ (joined (codes " ") (conflict_words arguments) ++ codes ")") else []
+    then (codes "(" ++ joined (codes " ") (conflict_words arguments)) ++ codes ")" else []

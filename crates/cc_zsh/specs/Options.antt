@@ -1,15 +1,16 @@
 -- The lines of a node's options and flags.
-use Rattle.std.specs.Prelude.{ℕ, List, [], ◌++◌, Bool, true, false, if◌then◌else◌, unwrap_or, codes}
+use Rattle.std.specs.Prelude.{List, [], ◌++◌, ℕ, Bool, true, false, if◌then◌else◌, unwrap_or, codes}
 use Rattle.std.specs.List.{flat_map}
 use Rattle.cc_arg.specs.declared.parts.ArgParts.{ArgParts as Arg}
 use Rattle.cc_arg.specs.declared.action.ArgAction.{ArgAction}
 use Rattle.cc_arg.specs.declared.action.ArgAction.TheVariants.{Set, Append, Count}
 use Rattle.cc_arg.specs.declared.names.ShownName.{ShownName}
 use Rattle.cc_arg.specs.declared.names.ShownName.TheVariants.{Short, Long}
+use Rattle.cc_arg.specs.Arguments.{takes_values}
 use Rattle.cc_arg.specs.ShownNames.{shown_names}
 use Rattle.cc_command.specs.declared.node.Node.{Node}
 use Rattle.cc_command.specs.ArgumentLists.{flags, options}
-use Rattle.cc_zsh.specs.Conflicts.{conflicts_text, excluded, long_word, short_word}
+use Rattle.cc_zsh.specs.Conflicts.{conflicts_text, conflicts_of, long_word, short_word}
 use Rattle.cc_quote.specs.ZshQuote.{zsh_escaped_help}
 use Rattle.cc_zsh.specs.Values.{values_text}
 
@@ -29,13 +30,7 @@ repeated_text argument = if is_repeated argument then codes "*" else []
 
 -- the help, or nothing, in square brackets
 unfoldable pub help_text : Arg → List ℕ
-help_text argument = codes "[" ++ (zsh_escaped_help (unwrap_or argument.help []) ++ codes "]")
-
--- what stands before the name of an argument of a node: the names of those in conflict with it, and
--- a star
-unfoldable pub front_text : Node → Node → Arg → List ℕ
-front_text above node argument =
-    codes "'" ++ (conflicts_text (excluded above node argument) ++ repeated_text argument)
+help_text argument = (codes "[" ++ zsh_escaped_help (unwrap_or argument.help [])) ++ codes "]"
 
 -- what each line ends with
 unfoldable pub line_end : List ℕ
@@ -48,26 +43,25 @@ name_word (Long long) = long_word long
 
 -- how the value of an option may follow its name: a short at once, a long after `=`, and either as
 -- the next word; nothing follows the name of a flag
-abbrev pub value_sign : Bool → ShownName → List ℕ
-value_sign false _ = []
-value_sign true (Short _) = codes "+"
-value_sign true (Long _) = codes "="
+abbrev pub value_sign : Arg → ShownName → List ℕ
+value_sign argument (Short _) = if takes_values argument then codes "+" else []
+value_sign argument (Long _) = if takes_values argument then codes "=" else []
 
--- an argument under one of its names, where it is told whether it is an option, which takes values,
--- or a flag
-unfoldable pub argument_line : Bool → Node → Node → Arg → ShownName → List ℕ
-argument_line is_option above node argument name =
-    front_text above node argument ++ (name_word name ++ (value_sign is_option name
-    ++ (help_text argument ++ ((if is_option then values_text argument else []) ++ line_end))))
+-- an argument under one of its names, after those in conflict with it
+unfoldable pub argument_line : Node → Node → Arg → ShownName → List ℕ
+argument_line above node argument name =
+    ((((((codes "'" ++ conflicts_text (conflicts_of above node argument)) ++ repeated_text argument)
+    ++ name_word name) ++ value_sign argument name) ++ help_text argument) ++ values_text argument)
+    ++ line_end
 
 -- an argument under each of its shown names, shorts first
-unfoldable pub argument_text : Bool → Node → Node → Arg → List ℕ
-argument_text is_option above node argument =
-    flat_map (argument_line is_option above node argument) (shown_names argument)
+unfoldable pub argument_text : Node → Node → Arg → List ℕ
+argument_text above node argument =
+    flat_map (argument_line above node argument) (shown_names argument)
 
 -- the options and the flags of a node that has this node above it
 unfoldable pub options_text : Node → Node → List ℕ
-options_text above node = flat_map (argument_text true above node) (options node)
+options_text above node = flat_map (argument_text above node) (options node)
 
 unfoldable pub flags_text : Node → Node → List ℕ
-flags_text above node = flat_map (argument_text false above node) (flags node)
+flags_text above node = flat_map (argument_text above node) (flags node)

@@ -1,9 +1,9 @@
 -- What is written where a node is entered and where it is left.
-use Rattle.std.specs.Prelude.{ℕ, List, [], ◌∷◌, ◌++◌, if◌then◌else◌, codes}
+use Rattle.std.specs.Prelude.{ℕ, List, [], ◌∷◌, ◌++◌, if◌then◌else◌}
 use Rattle.cc_command.specs.Tree.{Tree, has_nodes}
 use Rattle.cc_base.specs.Bytes.{line_feed}
 use Rattle.cc_visits.specs.Visits.{Keyed, Step, enter, leave}
-use Rattle.cc_zsh.specs.Nested.{arm_ends, block_text, nested_ends, nested_begins}
+use Rattle.cc_zsh.specs.Nested.{arm_begins, arm_ends, block_text, nested_ends, nested_begins}
 
 -- the key of a node is the name by which it is reached
 abbrev pub last_name : List ℕ → List ℕ → List ℕ
@@ -21,8 +21,7 @@ nested_closes tree = if has_nodes tree.children then nested_ends else []
 -- the word of an arm, the block of its node, and what the arms of its children begin with
 unfoldable pub enter_text : Keyed (List ℕ) → List ℕ
 enter_text visit =
-    codes "(" ++ (visit.key ++ (codes ")\n"
-    ++ (block_text visit.above visit.tree ++ nested_opens visit.tree)))
+    arm_begins visit.key (block_text visit.above visit.tree) ++ nested_opens visit.tree
 
 -- what these arms end with, and what an arm ends with
 unfoldable pub leave_text : Tree → List ℕ

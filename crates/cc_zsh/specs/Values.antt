@@ -7,8 +7,10 @@ use Rattle.cc_arg.specs.declared.possible_value.PossibleValue.{PossibleValue}
 use Rattle.cc_arg.specs.declared.range.ValueRange.{ValueRange}
 use Rattle.cc_arg.specs.declared.value_hint.ValueHint.{ValueHint}
 use Rattle.cc_arg.specs.declared.value_hint.ValueHint.TheVariants.{Unknown, Other, AnyPath, FilePath, DirPath, ExecutablePath, CommandName, CommandString, CommandWithArguments, Username, Hostname, Url, EmailAddress}
-use Rattle.cc_arg.specs.Arguments.{exactly, possible_values}
+use Rattle.cc_arg.specs.Arguments.{exactly, possible_values, takes_values}
 use Rattle.cc_quote.specs.ZshQuote.{zsh_escaped_help, zsh_escaped_value}
+use Rattle.cc_zsh.specs.declared.values.Form.{Form}
+use Rattle.cc_zsh.specs.declared.values.Form.TheVariants.{Names, Helps}
 
 -- the values of a list that are shown
 abbrev pub shown_values : List PossibleValue → List PossibleValue
@@ -18,28 +20,28 @@ shown_values values = filter (λ value. not value.hide) values
 abbrev pub is_described : PossibleValue → Bool
 is_described value = not value.hide && is_some value.help
 
--- a value with its help, or with an empty one
-unfoldable pub described_text : PossibleValue → List ℕ
-described_text value =
-    zsh_escaped_value value.name
-    ++ (codes "\\:\"" ++ (zsh_escaped_help (unwrap_or value.help []) ++ codes "\""))
+-- what follows the name of a value: its help, or an empty one
+unfoldable pub item_help : List ℕ → List ℕ
+item_help help = (codes "\\:\"" ++ zsh_escaped_help help) ++ codes "\""
 
--- a value without its help
-unfoldable pub named_text : PossibleValue → List ℕ
-named_text value = zsh_escaped_value value.name
+-- a value in a list of names, and in one of names with helps
+unfoldable pub item_text : Form → PossibleValue → List ℕ
+item_text Names value = zsh_escaped_value value.name
+item_text Helps value = zsh_escaped_value value.name ++ item_help (unwrap_or value.help [])
 
--- the values of a list that are shown: with their helps, each on a line of its own, where one of
--- them has a help; else the names alone
-unfoldable pub described_list : List PossibleValue → List ℕ
-described_list values =
-    codes "((" ++ (joined (codes "\n") (map described_text (shown_values values)) ++ codes "))")
+-- names stand on one line, and each name with its help on a line of its own
+abbrev pub item_separator : Form → List ℕ
+item_separator Names = codes " "
+item_separator Helps = codes "\n"
 
-unfoldable pub named_list : List PossibleValue → List ℕ
-named_list values =
-    codes "(" ++ (joined (codes " ") (map named_text (shown_values values)) ++ codes ")")
+abbrev pub items_text : Form → List PossibleValue → List ℕ
+items_text form values = joined (item_separator form) (map (item_text form) (shown_values values))
 
+-- the values of a list that are shown, with their helps where one of them has a help
 unfoldable pub list_text : List PossibleValue → List ℕ
-list_text values = if list_any is_described values then described_list values else named_list values
+list_text values =
+    if list_any is_described values then (codes "((" ++ items_text Helps values) ++ codes "))"
+    else (codes "(" ++ items_text Names values) ++ codes ")"
 
 -- what a hint tells
 unfoldable pub hint_text : ValueHint → List ℕ
@@ -74,7 +76,7 @@ first_name (name ∷ names) = name
 -- one value of an option
 unfoldable pub one_value : Arg → List ℕ
 one_value argument =
-    codes ":" ++ (first_name argument.value_names ++ (codes ":" ++ value_text argument))
+    ((codes ":" ++ first_name argument.value_names) ++ codes ":") ++ value_text argument
 
 -- a text as often as told
 abbrev pub times : ℕ → List ℕ → List ℕ
@@ -90,6 +92,7 @@ least_values (suc count) one = times (suc count) one
 abbrev pub range : Arg → ValueRange
 range argument = unwrap_or argument.num_args (exactly 1)
 
--- the values of an option: as many as it takes at least
+-- the values of an argument that takes some: as many as it takes at least
 unfoldable pub values_text : Arg → List ℕ
-values_text argument = least_values (range argument).least (one_value argument)
+values_text argument =
+    if takes_values argument then least_values (range argument).least (one_value argument) else []

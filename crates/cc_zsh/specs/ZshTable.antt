@@ -1,9 +1,10 @@
 -- What a zsh script offers at each visible path of a tree.
-use Rattle.std.specs.Prelude.{ℕ, List, [], ◌∷◌, ◌++◌, map, unwrap_or}
+use Rattle.std.specs.Prelude.{ℕ, List, [], ◌∷◌, ◌++◌, if◌then◌else◌, map, unwrap_or}
 use Rattle.std.specs.List.{flat_map}
 use Rattle.cc_arg.specs.declared.parts.ArgParts.{ArgParts as Arg}
 use Rattle.cc_arg.specs.declared.names.ShownName.{ShownName}
 use Rattle.cc_arg.specs.declared.names.ShownName.TheVariants.{Short, Long}
+use Rattle.cc_arg.specs.Arguments.{takes_values}
 use Rattle.cc_arg.specs.ShownNames.{shown_names}
 use Rattle.cc_base.specs.Bytes.{underscore}
 use Rattle.cc_command.specs.declared.node.Node.{Node}
@@ -11,7 +12,7 @@ use Rattle.cc_command.specs.ArgumentLists.{flags, options}
 use Rattle.cc_command.specs.Tree.{Tree}
 use Rattle.cc_quote.specs.QuotedWord.{line_feeds_as_spaces}
 use Rattle.cc_visits.specs.Visits.{Keyed, longer_path, path_visits}
-use Rattle.cc_zsh.specs.Conflicts.{conflict_words, excluded}
+use Rattle.cc_zsh.specs.Conflicts.{conflict_words, conflicts_of}
 use Rattle.cc_zsh.specs.Functions.{Entry, Function, entries_of}
 use Rattle.cc_zsh.specs.Nested.{function_label}
 use Rattle.cc_zsh.specs.Options.{is_repeated, name_word}
@@ -22,32 +23,29 @@ use Rattle.cc_zsh.specs.ZshReader.Bracket.{after_equals, after_plus, alone}
 -- argument as the node above finds them; whether it may be used again; and its help, or nothing
 abbrev pub option_row : Node → Node → Arg → Bracket → List ℕ → ZshOption
 option_row above node argument bracket name = record {
-  conflicts = conflict_words (excluded above node argument);
+  conflicts = conflict_words (conflicts_of above node argument);
   repeated = is_repeated argument;
   name = name;
   bracket = bracket;
   help = line_feeds_as_spaces (unwrap_or argument.help []);
 }
 
--- what stands before the bracket of an option
-abbrev pub bracket_after : ShownName → Bracket
-bracket_after (Short _) = after_plus
-bracket_after (Long _) = after_equals
+-- what stands before the bracket of an argument: a sign where it takes values
+abbrev pub bracket_after : Arg → ShownName → Bracket
+bracket_after argument (Short _) = if takes_values argument then after_plus else alone
+bracket_after argument (Long _) = if takes_values argument then after_equals else alone
 
--- an option under each of its shown names, shorts first; a flag likewise
-abbrev pub option_rows : Node → Node → Arg → List ZshOption
-option_rows above node argument =
-    map (λ name. option_row above node argument (bracket_after name) (name_word name))
+-- an argument under each of its shown names, shorts first
+abbrev pub argument_rows : Node → Node → Arg → List ZshOption
+argument_rows above node argument =
+    map (λ name. option_row above node argument (bracket_after argument name) (name_word name))
     (shown_names argument)
-
-abbrev pub flag_rows : Node → Node → Arg → List ZshOption
-flag_rows above node argument =
-    map (λ name. option_row above node argument alone (name_word name)) (shown_names argument)
 
 -- the options and the flags of a node that has this node above it
 abbrev pub node_rows : Node → Node → List ZshOption
 node_rows above node =
-    flat_map (option_rows above node) (options node) ++ flat_map (flag_rows above node) (flags node)
+    flat_map (argument_rows above node) (options node)
+    ++ flat_map (argument_rows above node) (flags node)
 
 -- a visible name of a child with its description, in which line feeds are spaces
 abbrev pub entry_row : Entry → Entry

@@ -6,7 +6,7 @@ ghost use Rattle.std.specs.Option.{option_copied};
 ghost use Rattle.std.specs.Ordering.{nat_cmp};
 ghost use Rattle.std.specs.Cmp.Lexicographic.{slice_cmp};
 ghost use Rattle.cc_base.specs.Sorting.{in_order};
-ghost use Rattle.cc_base.specs.Writes.{Writes};
+ghost use Rattle.cc_base.specs.Writes.{Writes, as_write};
 ghost use Rattle.cc_command.specs.Names.{visible_names};
 ghost use Rattle.cc_command.specs.Tree.{forest_of};
 ghost use Rattle.cc_flat.specs.Flat.{tree_at};
@@ -15,16 +15,16 @@ ghost use Rattle.cc_zsh.specs.Named.{function_named};
 ghost use Rattle.cc_zsh.specs.ZshScript.{functions_text};
 
 use crate::names::write_label;
-use crate::pieces::put_around;
 use crate::texts::{
     commands_begin, describe_begins, describe_ends, entries_end, function_begins, unless_defined,
 };
-use cc_base::{Error, Sink, put_all};
+use cc_base::{Error, Sink, as_error, put_around, put_piece};
 use cc_command::{Command, full_name};
 use cc_flat::Flat;
-use cc_quote::{ZshHelpEscape, put_escaped};
+use cc_quote::{ZshHelpEscape, put_escaped_piece};
 use std::alloc::{AllocError, Global};
 use std::cmp::Ordering;
+use std::io::ErrorKind;
 
 // A command with its full name.
 #[derive(Clone, Copy)]
@@ -44,7 +44,7 @@ pub(crate) fn write_functions<W: Sink>(
     ensures { Writes W.taken W.failed result sink.old sink.new
         (functions_text (tree_at flat.now 0)) }
 {
-    write_function(&with_full_name(flat.command(0)), sink)?;
+    as_error(write_function(&with_full_name(flat.command(0)), sink))?;
     write_sorted(alloc, flat, sink)
 }
 
@@ -55,7 +55,7 @@ fn write_sorted<W: Sink>(alloc: Global, flat: &Flat<'_>, sink: &mut W) -> Result
         (flat_map function_text (sorted_functions (tree_at flat.now 0).children)) }
 {
     let sorted = sorted_commands(alloc, flat)?;
-    write_once(&sorted, sink)
+    as_error(write_once(&sorted, sink))
 }
 
 // The commands below the root in the order of the bytes of their full names.
@@ -73,10 +73,10 @@ fn sort_commands(commands: &mut Vec<Named<'_>>) -> Result<(), AllocError>
     ensures { OnOk result (map function_named commands.new.items
         ≡ in_order function_below (map function_named commands.old.items)) }
 {
-    commands.sort_by(|one, other| compared(one, other))
+    commands.sort_by(|one, other| compare_names(one, other))
 }
 
-fn compared(one: &Named<'_>, other: &Named<'_>) -> Ordering
+fn compare_names(one: &Named<'_>, other: &Named<'_>) -> Ordering
     ensures { result ≡ slice_cmp nat_cmp one.now.name.now other.now.name.now }
 {
     one.name.cmp(other.name)
@@ -106,8 +106,8 @@ fn with_full_name(command: &Command) -> Named<'_>
 }
 
 // Commands with one full name are neighbours here, so it is enough to look at the last.
-fn write_once<W: Sink>(commands: &[Named<'_>], sink: &mut W) -> Result<(), Error>
-    ensures { Writes W.taken W.failed result sink.old sink.new
+fn write_once<W: Sink>(commands: &[Named<'_>], sink: &mut W) -> Result<(), ErrorKind>
+    ensures { Writes W.taken W.failed (as_write result) sink.old sink.new
         (flat_map function_text (once_after None (map function_named commands.now))) }
 {
     let mut last = None;
@@ -132,34 +132,34 @@ fn is_again(last: Option<&str>, name: &str) -> bool
 }
 
 #[tactic(auto, unfolding(crate::specs::Functions::function_text))]
-fn write_function<W: Sink>(command: &Named<'_>, sink: &mut W) -> Result<(), Error>
-    ensures { Writes W.taken W.failed result sink.old sink.new
+fn write_function<W: Sink>(command: &Named<'_>, sink: &mut W) -> Result<(), ErrorKind>
+    ensures { Writes W.taken W.failed (as_write result) sink.old sink.new
         (function_text (function_named command.now)) }
 {
-    put_all(sink, unless_defined().as_bytes())?;
+    put_piece(sink, unless_defined().as_bytes())?;
     write_label(command.name, sink)?;
-    put_all(sink, function_begins().as_bytes())?;
+    put_piece(sink, function_begins().as_bytes())?;
     write_label(command.name, sink)?;
-    put_all(sink, commands_begin().as_bytes())?;
+    put_piece(sink, commands_begin().as_bytes())?;
     write_entries(command.command, sink)?;
     put_around(describe_begins(), command.name, describe_ends(), sink)
 }
 
 // Where there are none, the brackets of the list stay on one line.
 #[tactic(auto, unfolding(crate::specs::Functions::entries_text), using(crate::proofs::ArmSteps::has_entries_of))]
-fn write_entries<W: Sink>(command: &Command, sink: &mut W) -> Result<(), Error>
-    ensures { Writes W.taken W.failed result sink.old sink.new
+fn write_entries<W: Sink>(command: &Command, sink: &mut W) -> Result<(), ErrorKind>
+    ensures { Writes W.taken W.failed (as_write result) sink.old sink.new
         (entries_text (entries_of command.now.children)) }
 {
     if !command.has_subcommands() {
         return Ok(());
     }
     write_children(command.get_subcommands(), sink)?;
-    put_all(sink, entries_end().as_bytes())
+    put_piece(sink, entries_end().as_bytes())
 }
 
-fn write_children<W: Sink>(children: &[Command], sink: &mut W) -> Result<(), Error>
-    ensures { Writes W.taken W.failed result sink.old sink.new
+fn write_children<W: Sink>(children: &[Command], sink: &mut W) -> Result<(), ErrorKind>
+    ensures { Writes W.taken W.failed (as_write result) sink.old sink.new
         (flat_map entry_text (entries_of (forest_of children.now))) }
 {
     for child in children {
@@ -168,8 +168,8 @@ fn write_children<W: Sink>(children: &[Command], sink: &mut W) -> Result<(), Err
     Ok(())
 }
 
-fn write_child<W: Sink>(child: &Command, sink: &mut W) -> Result<(), Error>
-    ensures { Writes W.taken W.failed result sink.old sink.new
+fn write_child<W: Sink>(child: &Command, sink: &mut W) -> Result<(), ErrorKind>
+    ensures { Writes W.taken W.failed (as_write result) sink.old sink.new
         (flat_map entry_text (map (entry child.now.node) (visible_names child.now.node))) }
 {
     for name in child.get_name_and_visible_aliases() {
@@ -179,11 +179,11 @@ fn write_child<W: Sink>(child: &Command, sink: &mut W) -> Result<(), Error>
 }
 
 #[tactic(auto, unfolding(crate::specs::Functions::entry_text))]
-fn write_entry<W: Sink>(name: &str, child: &Command, sink: &mut W) -> Result<(), Error>
-    ensures { Writes W.taken W.failed result sink.old sink.new
+fn write_entry<W: Sink>(name: &str, child: &Command, sink: &mut W) -> Result<(), ErrorKind>
+    ensures { Writes W.taken W.failed (as_write result) sink.old sink.new
         (entry_text (entry child.now.node name.now)) }
 {
     put_around("\n'", name, ":", sink)?;
-    put_escaped(&ZshHelpEscape, child.get_about().unwrap_or(""), sink)?;
-    put_all(sink, "' \\".as_bytes())
+    put_escaped_piece(&ZshHelpEscape, child.get_about().unwrap_or(""), sink)?;
+    put_piece(sink, "' \\".as_bytes())
 }

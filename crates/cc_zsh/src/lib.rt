@@ -8,7 +8,6 @@ mod keys;
 mod names;
 mod nested;
 mod options;
-mod pieces;
 mod positionals;
 mod texts;
 mod values;

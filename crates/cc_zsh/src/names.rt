@@ -1,41 +1,44 @@
 //! Names: those of arguments as they are typed, and those of commands without spaces.
 
 ghost use Rattle.std.specs.Prelude.{◌≡◌, codes, unwrap_or};
-ghost use Rattle.cc_base.specs.Writes.{Writes};
-ghost use Rattle.cc_zsh.specs.Conflicts.{long_word, short_word};
+ghost use Rattle.cc_base.specs.Writes.{Writes, as_write};
 ghost use Rattle.cc_zsh.specs.Nested.{function_label, unspaced};
+ghost use Rattle.cc_zsh.specs.Options.{name_word};
 
-use cc_base::{Error, Sink, put_all};
-use cc_quote::{Escape, put_escaped};
+use cc_arg::ShownName;
+use cc_base::{Sink, put_piece, put_pieces};
+use cc_quote::{Escape, put_escaped_piece};
 use memchr::memchr;
+use std::io::ErrorKind;
 
-pub(crate) fn write_short<W: Sink>(short: char, sink: &mut W) -> Result<(), Error>
-    ensures { Writes W.taken W.failed result sink.old sink.new (short_word short) }
+/// Writes the name of an argument with the dashes before it.
+pub(crate) fn write_name<W: Sink>(name: &ShownName<'_>, sink: &mut W) -> Result<(), ErrorKind>
+    ensures { Writes W.taken W.failed (as_write result) sink.old sink.new (name_word name.now) }
 {
-    let mut buffer = [0; 4];
-    put_all(sink, "-".as_bytes())?;
-    put_all(sink, short.encode_utf8(&mut buffer).as_bytes())
-}
-
-pub(crate) fn write_long<W: Sink>(long: &str, sink: &mut W) -> Result<(), Error>
-    ensures { Writes W.taken W.failed result sink.old sink.new (long_word long.now) }
-{
-    put_all(sink, "--".as_bytes())?;
-    put_all(sink, long.as_bytes())
+    match name {
+        ShownName::Short(short) => {
+            let mut buffer = [0; 4];
+            let short = short.encode_utf8(&mut buffer);
+            put_pieces(sink, &["-".as_bytes(), short.as_bytes()])
+        }
+        ShownName::Long(long) => put_pieces(sink, &["--".as_bytes(), long.as_str().as_bytes()]),
+    }
 }
 
 /// The name of the function begins with a `_`, which stands in the text before each place of it.
-pub(crate) fn write_label<W: Sink>(name: &str, sink: &mut W) -> Result<(), Error>
-    ensures { Writes W.taken W.failed result sink.old sink.new (function_label name.now) }
+pub(crate) fn write_label<W: Sink>(name: &str, sink: &mut W) -> Result<(), ErrorKind>
+    ensures { Writes W.taken W.failed (as_write result) sink.old sink.new
+        (function_label name.now) }
 {
-    put_escaped(&Unspaced { by: "__subcmd__" }, name, sink)?;
-    put_all(sink, "_commands".as_bytes())
+    put_escaped_piece(&Unspaced { by: "__subcmd__" }, name, sink)?;
+    put_piece(sink, "_commands".as_bytes())
 }
 
-pub(crate) fn write_dashed<W: Sink>(name: &str, sink: &mut W) -> Result<(), Error>
-    ensures { Writes W.taken W.failed result sink.old sink.new (unspaced (codes "-") name.now) }
+pub(crate) fn write_dashed<W: Sink>(name: &str, sink: &mut W) -> Result<(), ErrorKind>
+    ensures { Writes W.taken W.failed (as_write result) sink.old sink.new
+        (unspaced (codes "-") name.now) }
 {
-    put_escaped(&Unspaced { by: "-" }, name, sink)
+    put_escaped_piece(&Unspaced { by: "-" }, name, sink)
 }
 
 // A text with another in place of each space.

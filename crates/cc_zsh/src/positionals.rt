@@ -4,7 +4,7 @@ ghost use Rattle.std.specs.Prelude.{◌≡◌, ◌++◌, false, true, codes};
 ghost use Rattle.std.specs.List.{flat_map};
 ghost use Rattle.std.specs.Option.{option_copied};
 ghost use Rattle.memchr.specs.Find.{IsFirstByte};
-ghost use Rattle.cc_base.specs.Writes.{Writes};
+ghost use Rattle.cc_base.specs.Writes.{Writes, as_write};
 ghost use Rattle.cc_command.specs.ArgumentLists.{positionals};
 ghost use Rattle.cc_zsh.specs.Options.{line_end};
 ghost use Rattle.cc_zsh.specs.Positionals.{count_text, is_left_out, is_positional_escaped, positional_byte, positional_escaped, positional_help, positional_text, positionals_text, rest_text, shown_positionals, takes_all, takes_rest, takes_several};
@@ -13,22 +13,17 @@ ghost use Rattle.cc_zsh.specs.Values.{value_text};
 use crate::texts::line_end;
 use crate::values::{range, write_value};
 use cc_arg::Arg;
-use cc_base::{Error, Sink, as_error, put_all, put_pieces};
+use cc_base::{Sink, put_piece, put_pieces};
 use cc_command::Command;
-use cc_quote::{Escape, ZshValueEscape, put_escaped};
+use cc_quote::{Escape, ZshValueEscape, put_escaped_piece};
+use std::io::ErrorKind;
 
 #[tactic(auto, unfolding(crate::specs::Positionals::positionals_text))]
-pub(crate) fn write_positionals<W: Sink>(command: &Command, sink: &mut W) -> Result<(), Error>
-    ensures { Writes W.taken W.failed result sink.old sink.new (positionals_text command.now) }
+pub(crate) fn write_positionals<W: Sink>(command: &Command, sink: &mut W) -> Result<(), ErrorKind>
+    ensures { Writes W.taken W.failed (as_write result) sink.old sink.new
+        (positionals_text command.now) }
 {
-    write_shown(command.has_subcommands(), command, sink)
-}
-
-fn write_shown<W: Sink>(has_children: bool, command: &Command, sink: &mut W) -> Result<(), Error>
-    ensures { Writes W.taken W.failed result sink.old sink.new
-        (flat_map (positional_text has_children)
-        (shown_positionals has_children false (positionals command.now.node))) }
-{
+    let has_children = command.has_subcommands();
     let mut taken = false;
     for positional in command.get_positionals() {
         let left_out = is_left_out(taken, positional);
@@ -69,22 +64,26 @@ fn takes_all(has_children: bool, argument: &Arg) -> bool
 }
 
 #[tactic(auto, unfolding(crate::specs::Positionals::positional_text))]
-fn write_positional<W: Sink>(has_children: bool, argument: &Arg, sink: &mut W) -> Result<(), Error>
-    ensures { Writes W.taken W.failed result sink.old sink.new
+fn write_positional<W: Sink>(
+    has_children: bool,
+    argument: &Arg,
+    sink: &mut W,
+) -> Result<(), ErrorKind>
+    ensures { Writes W.taken W.failed (as_write result) sink.old sink.new
         (positional_text has_children argument.now) }
 {
-    put_all(sink, "'".as_bytes())?;
+    put_piece(sink, "'".as_bytes())?;
     write_count(has_children, argument, sink)?;
-    as_error(put_pieces(sink, &[":".as_bytes(), argument.get_id().as_bytes()]))?;
+    put_pieces(sink, &[":".as_bytes(), argument.get_id().as_bytes()])?;
     write_help(argument.get_help(), sink)?;
-    put_all(sink, ":".as_bytes())?;
+    put_piece(sink, ":".as_bytes())?;
     write_value(argument, sink)?;
-    put_all(sink, line_end().as_bytes())
+    put_piece(sink, line_end().as_bytes())
 }
 
 #[tactic(auto, unfolding(crate::specs::Positionals::count_text))]
-fn write_count<W: Sink>(has_children: bool, argument: &Arg, sink: &mut W) -> Result<(), Error>
-    ensures { Writes W.taken W.failed result sink.old sink.new
+fn write_count<W: Sink>(has_children: bool, argument: &Arg, sink: &mut W) -> Result<(), ErrorKind>
+    ensures { Writes W.taken W.failed (as_write result) sink.old sink.new
         (count_text has_children argument.now) }
 {
     if takes_rest(has_children, argument) {
@@ -93,30 +92,30 @@ fn write_count<W: Sink>(has_children: bool, argument: &Arg, sink: &mut W) -> Res
     if argument.is_required_set() {
         return Ok(());
     }
-    put_all(sink, ":".as_bytes())
+    put_piece(sink, ":".as_bytes())
 }
 
-fn write_rest<W: Sink>(terminator: Option<&str>, sink: &mut W) -> Result<(), Error>
-    ensures { Writes W.taken W.failed result sink.old sink.new
+fn write_rest<W: Sink>(terminator: Option<&str>, sink: &mut W) -> Result<(), ErrorKind>
+    ensures { Writes W.taken W.failed (as_write result) sink.old sink.new
         (rest_text (option_copied terminator.entry)) }
 {
     let Some(terminator) = terminator else {
-        return put_all(sink, "*:".as_bytes());
+        return put_piece(sink, "*:".as_bytes());
     };
-    put_all(sink, "*".as_bytes())?;
-    put_escaped(&ZshValueEscape, terminator, sink)?;
-    put_all(sink, ":".as_bytes())
+    put_piece(sink, "*".as_bytes())?;
+    put_escaped_piece(&ZshValueEscape, terminator, sink)?;
+    put_piece(sink, ":".as_bytes())
 }
 
-fn write_help<W: Sink>(help: Option<&str>, sink: &mut W) -> Result<(), Error>
-    ensures { Writes W.taken W.failed result sink.old sink.new
+fn write_help<W: Sink>(help: Option<&str>, sink: &mut W) -> Result<(), ErrorKind>
+    ensures { Writes W.taken W.failed (as_write result) sink.old sink.new
         (positional_help (option_copied help.entry)) }
 {
     let Some(help) = help else {
         return Ok(());
     };
-    put_all(sink, " -- ".as_bytes())?;
-    put_escaped(&PositionalEscape, help, sink)
+    put_piece(sink, " -- ".as_bytes())?;
+    put_escaped_piece(&PositionalEscape, help, sink)
 }
 
 // The escape of a positional's help: `[`, `]` and `:` after a backslash, and `'` as `'\''`.

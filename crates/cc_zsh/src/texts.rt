@@ -1,4 +1,5 @@
-//! The fixed texts of a script, as the definitions have them.
+//! The fixed texts of a script, as the definitions have them. They have any lifetime, since all
+//! pieces that are put together must have one.
 
 ghost use Rattle.std.specs.Prelude.{◌≡◌};
 ghost use Rattle.cc_zsh.specs.Functions.{entries_end, unless_defined, function_begins, commands_begin, describe_begins, describe_ends};
@@ -7,14 +8,14 @@ ghost use Rattle.cc_zsh.specs.Options.{line_end};
 ghost use Rattle.cc_zsh.specs.ZshScript.{compdef_begins, autoloads, body_begins, if_called, then_call, else_define, if_ends, body_ends};
 
 #[tactic(auto, unfolding(crate::specs::ZshScript::compdef_begins))]
-pub(crate) fn compdef_begins() -> &'static str
+pub(crate) fn compdef_begins<'a>() -> &'a str
     ensures { result.now ≡ compdef_begins }
 {
     "#compdef "
 }
 
 #[tactic(auto, unfolding(crate::specs::ZshScript::autoloads))]
-pub(crate) fn autoloads() -> &'static str
+pub(crate) fn autoloads<'a>() -> &'a str
     ensures { result.now ≡ autoloads }
 {
     "
@@ -25,7 +26,7 @@ _"
 }
 
 #[tactic(auto, unfolding(crate::specs::ZshScript::body_begins))]
-pub(crate) fn body_begins() -> &'static str
+pub(crate) fn body_begins<'a>() -> &'a str
     ensures { result.now ≡ body_begins }
 {
     "() {
@@ -44,7 +45,7 @@ pub(crate) fn body_begins() -> &'static str
 }
 
 #[tactic(auto, unfolding(crate::specs::ZshScript::body_ends))]
-pub(crate) fn body_ends() -> &'static str
+pub(crate) fn body_ends<'a>() -> &'a str
     ensures { result.now ≡ body_ends }
 {
     "
@@ -54,7 +55,7 @@ pub(crate) fn body_ends() -> &'static str
 }
 
 #[tactic(auto, unfolding(crate::specs::ZshScript::if_called))]
-pub(crate) fn if_called() -> &'static str
+pub(crate) fn if_called<'a>() -> &'a str
     ensures { result.now ≡ if_called }
 {
     "
@@ -62,7 +63,7 @@ if [ \"$funcstack[1]\" = \"_"
 }
 
 #[tactic(auto, unfolding(crate::specs::ZshScript::then_call))]
-pub(crate) fn then_call() -> &'static str
+pub(crate) fn then_call<'a>() -> &'a str
     ensures { result.now ≡ then_call }
 {
     "\" ]; then
@@ -70,7 +71,7 @@ pub(crate) fn then_call() -> &'static str
 }
 
 #[tactic(auto, unfolding(crate::specs::ZshScript::else_define))]
-pub(crate) fn else_define() -> &'static str
+pub(crate) fn else_define<'a>() -> &'a str
     ensures { result.now ≡ else_define }
 {
     " \"$@\"
@@ -79,7 +80,7 @@ else
 }
 
 #[tactic(auto, unfolding(crate::specs::ZshScript::if_ends))]
-pub(crate) fn if_ends() -> &'static str
+pub(crate) fn if_ends<'a>() -> &'a str
     ensures { result.now ≡ if_ends }
 {
     "
@@ -88,7 +89,7 @@ fi
 }
 
 #[tactic(auto, unfolding(crate::specs::Options::line_end))]
-pub(crate) fn line_end() -> &'static str
+pub(crate) fn line_end<'a>() -> &'a str
     ensures { result.now ≡ line_end }
 {
     "' \\
@@ -96,7 +97,7 @@ pub(crate) fn line_end() -> &'static str
 }
 
 #[tactic(auto, unfolding(crate::specs::Nested::block_begins))]
-pub(crate) fn block_begins() -> &'static str
+pub(crate) fn block_begins<'a>() -> &'a str
     ensures { result.now ≡ block_begins }
 {
     "_arguments \"${_arguments_options[@]}\" : \\
@@ -104,14 +105,14 @@ pub(crate) fn block_begins() -> &'static str
 }
 
 #[tactic(auto, unfolding(crate::specs::Nested::block_ends))]
-pub(crate) fn block_ends() -> &'static str
+pub(crate) fn block_ends<'a>() -> &'a str
     ensures { result.now ≡ block_ends }
 {
     "&& ret=0"
 }
 
 #[tactic(auto, unfolding(crate::specs::Nested::external_text))]
-pub(crate) fn external_text() -> &'static str
+pub(crate) fn external_text<'a>() -> &'a str
     ensures { result.now ≡ external_text }
 {
     "\"*::external_command:_default\" \\
@@ -119,14 +120,14 @@ pub(crate) fn external_text() -> &'static str
 }
 
 #[tactic(auto, unfolding(crate::specs::Nested::command_begins))]
-pub(crate) fn command_begins() -> &'static str
+pub(crate) fn command_begins<'a>() -> &'a str
     ensures { result.now ≡ command_begins }
 {
     "\":: :_"
 }
 
 #[tactic(auto, unfolding(crate::specs::Nested::state_begins))]
-pub(crate) fn state_begins() -> &'static str
+pub(crate) fn state_begins<'a>() -> &'a str
     ensures { result.now ≡ state_begins }
 {
     "\" \\
@@ -134,7 +135,7 @@ pub(crate) fn state_begins() -> &'static str
 }
 
 #[tactic(auto, unfolding(crate::specs::Nested::state_ends))]
-pub(crate) fn state_ends() -> &'static str
+pub(crate) fn state_ends<'a>() -> &'a str
     ensures { result.now ≡ state_ends }
 {
     "\" \\
@@ -142,7 +143,7 @@ pub(crate) fn state_ends() -> &'static str
 }
 
 #[tactic(auto, unfolding(crate::specs::Nested::case_state))]
-pub(crate) fn case_state() -> &'static str
+pub(crate) fn case_state<'a>() -> &'a str
     ensures { result.now ≡ case_state }
 {
     "
@@ -151,7 +152,7 @@ pub(crate) fn case_state() -> &'static str
 }
 
 #[tactic(auto, unfolding(crate::specs::Nested::set_words))]
-pub(crate) fn set_words() -> &'static str
+pub(crate) fn set_words<'a>() -> &'a str
     ensures { result.now ≡ set_words }
 {
     ")
@@ -159,7 +160,7 @@ pub(crate) fn set_words() -> &'static str
 }
 
 #[tactic(auto, unfolding(crate::specs::Nested::set_context))]
-pub(crate) fn set_context() -> &'static str
+pub(crate) fn set_context<'a>() -> &'a str
     ensures { result.now ≡ set_context }
 {
     "] \"${words[@]}\")
@@ -168,14 +169,14 @@ pub(crate) fn set_context() -> &'static str
 }
 
 #[tactic(auto, unfolding(crate::specs::Nested::context_command))]
-pub(crate) fn context_command() -> &'static str
+pub(crate) fn context_command<'a>() -> &'a str
     ensures { result.now ≡ context_command }
 {
     "-command-$line["
 }
 
 #[tactic(auto, unfolding(crate::specs::Nested::case_line))]
-pub(crate) fn case_line() -> &'static str
+pub(crate) fn case_line<'a>() -> &'a str
     ensures { result.now ≡ case_line }
 {
     "]:\"
@@ -183,7 +184,7 @@ pub(crate) fn case_line() -> &'static str
 }
 
 #[tactic(auto, unfolding(crate::specs::Nested::case_line_in))]
-pub(crate) fn case_line_in() -> &'static str
+pub(crate) fn case_line_in<'a>() -> &'a str
     ensures { result.now ≡ case_line_in }
 {
     "] in
@@ -191,7 +192,7 @@ pub(crate) fn case_line_in() -> &'static str
 }
 
 #[tactic(auto, unfolding(crate::specs::Nested::nested_ends))]
-pub(crate) fn nested_ends() -> &'static str
+pub(crate) fn nested_ends<'a>() -> &'a str
     ensures { result.now ≡ nested_ends }
 {
     "        esac
@@ -200,7 +201,7 @@ esac"
 }
 
 #[tactic(auto, unfolding(crate::specs::Nested::arm_ends))]
-pub(crate) fn arm_ends() -> &'static str
+pub(crate) fn arm_ends<'a>() -> &'a str
     ensures { result.now ≡ arm_ends }
 {
     "
@@ -209,14 +210,14 @@ pub(crate) fn arm_ends() -> &'static str
 }
 
 #[tactic(auto, unfolding(crate::specs::Functions::unless_defined))]
-pub(crate) fn unless_defined() -> &'static str
+pub(crate) fn unless_defined<'a>() -> &'a str
     ensures { result.now ≡ unless_defined }
 {
     "(( $+functions[_"
 }
 
 #[tactic(auto, unfolding(crate::specs::Functions::function_begins))]
-pub(crate) fn function_begins() -> &'static str
+pub(crate) fn function_begins<'a>() -> &'a str
     ensures { result.now ≡ function_begins }
 {
     "] )) ||
@@ -224,7 +225,7 @@ _"
 }
 
 #[tactic(auto, unfolding(crate::specs::Functions::commands_begin))]
-pub(crate) fn commands_begin() -> &'static str
+pub(crate) fn commands_begin<'a>() -> &'a str
     ensures { result.now ≡ commands_begin }
 {
     "() {
@@ -232,7 +233,7 @@ pub(crate) fn commands_begin() -> &'static str
 }
 
 #[tactic(auto, unfolding(crate::specs::Functions::describe_begins))]
-pub(crate) fn describe_begins() -> &'static str
+pub(crate) fn describe_begins<'a>() -> &'a str
     ensures { result.now ≡ describe_begins }
 {
     ")
@@ -240,7 +241,7 @@ pub(crate) fn describe_begins() -> &'static str
 }
 
 #[tactic(auto, unfolding(crate::specs::Functions::describe_ends))]
-pub(crate) fn describe_ends() -> &'static str
+pub(crate) fn describe_ends<'a>() -> &'a str
     ensures { result.now ≡ describe_ends }
 {
     " commands' commands \"$@\"
@@ -249,7 +250,7 @@ pub(crate) fn describe_ends() -> &'static str
 }
 
 #[tactic(auto, unfolding(crate::specs::Functions::entries_end))]
-pub(crate) fn entries_end() -> &'static str
+pub(crate) fn entries_end<'a>() -> &'a str
     ensures { result.now ≡ entries_end }
 {
     "

@@ -1,15 +1,23 @@
 //! What an argument's values may be.
 
-ghost use Rattle.std.specs.Prelude.{◌≡◌, ◌++◌, codes, map, unwrap_or};
+ghost use Rattle.std.specs.Prelude.{◌≡◌, ◌++◌, true, unwrap_or, OnOk};
 ghost use Rattle.std.specs.List.{list_any};
-ghost use Rattle.cc_base.specs.Joined.{joined};
-ghost use Rattle.cc_base.specs.Writes.{Writes};
-ghost use Rattle.cc_zsh.specs.Values.{described_list, described_text, first_name, hint_text, is_described, list_text, named_list, named_text, one_value, range, shown_values, times, value_text, values_text};
+ghost use Rattle.cc_base.specs.Joined.{separator};
+ghost use Rattle.cc_base.specs.Writes.{Writes, as_write};
+ghost use Rattle.cc_zsh.specs.Values.{first_name, hint_text, is_described, item_help, item_separator, item_text, items_text, list_text, one_value, range, times, value_text, values_text};
 
-use crate::pieces::put_around;
 use cc_arg::{Arg, PossibleValue, ValueHint, ValueRange, possible_values};
-use cc_base::{Error, Sink, Text, put_all, put_separator};
-use cc_quote::{ZshHelpEscape, ZshValueEscape, put_escaped};
+use cc_base::{Sink, Text, put_around, put_piece};
+use cc_quote::{ZshHelpEscape, ZshValueEscape, put_escaped_piece};
+use std::io::ErrorKind;
+
+// What a list tells of its values.
+#[derive(Clone, Copy)]
+enum Form {
+    Names,
+    // the names with the helps
+    Helps,
+}
 
 /// How many values an argument takes.
 pub(crate) fn range(argument: &Arg) -> ValueRange
@@ -18,20 +26,25 @@ pub(crate) fn range(argument: &Arg) -> ValueRange
     argument.get_num_args().unwrap_or(ValueRange::new(1, 1))
 }
 
+/// Nothing, where the argument takes no values.
 #[tactic(auto, unfolding(crate::specs::Values::values_text))]
-pub(crate) fn write_values<W: Sink>(argument: &Arg, sink: &mut W) -> Result<(), Error>
-    ensures { Writes W.taken W.failed result sink.old sink.new (values_text argument.now) }
+pub(crate) fn write_values<W: Sink>(argument: &Arg, sink: &mut W) -> Result<(), ErrorKind>
+    ensures { Writes W.taken W.failed (as_write result) sink.old sink.new
+        (values_text argument.now) }
 {
+    if !argument.takes_values() {
+        return Ok(());
+    }
     let least = range(argument).min_values();
     if least == 0 {
-        put_all(sink, ":".as_bytes())?;
+        put_piece(sink, ":".as_bytes())?;
         return write_one(argument, sink);
     }
     write_times(least, argument, sink)
 }
 
-fn write_times<W: Sink>(count: usize, argument: &Arg, sink: &mut W) -> Result<(), Error>
-    ensures { Writes W.taken W.failed result sink.old sink.new
+fn write_times<W: Sink>(count: usize, argument: &Arg, sink: &mut W) -> Result<(), ErrorKind>
+    ensures { Writes W.taken W.failed (as_write result) sink.old sink.new
         (times count (one_value argument.now)) }
 {
     let mut left = count;
@@ -43,8 +56,8 @@ fn write_times<W: Sink>(count: usize, argument: &Arg, sink: &mut W) -> Result<()
 }
 
 #[tactic(auto, unfolding(crate::specs::Values::one_value))]
-fn write_one<W: Sink>(argument: &Arg, sink: &mut W) -> Result<(), Error>
-    ensures { Writes W.taken W.failed result sink.old sink.new (one_value argument.now) }
+fn write_one<W: Sink>(argument: &Arg, sink: &mut W) -> Result<(), ErrorKind>
+    ensures { Writes W.taken W.failed (as_write result) sink.old sink.new (one_value argument.now) }
 {
     put_around(":", first_name(argument.get_value_names()), ":", sink)?;
     write_value(argument, sink)
@@ -61,23 +74,28 @@ fn first_name(names: &[Text]) -> &str
 }
 
 #[tactic(auto, unfolding(crate::specs::Values::value_text))]
-pub(crate) fn write_value<W: Sink>(argument: &Arg, sink: &mut W) -> Result<(), Error>
-    ensures { Writes W.taken W.failed result sink.old sink.new (value_text argument.now) }
+pub(crate) fn write_value<W: Sink>(argument: &Arg, sink: &mut W) -> Result<(), ErrorKind>
+    ensures { Writes W.taken W.failed (as_write result) sink.old sink.new
+        (value_text argument.now) }
 {
     match possible_values(argument) {
         Some(values) => write_list(values, sink),
-        None => put_all(sink, hint(argument.get_value_hint()).as_bytes()),
+        None => put_piece(sink, hint(argument.get_value_hint()).as_bytes()),
     }
 }
 
 #[tactic(auto, unfolding(crate::specs::Values::list_text))]
-fn write_list<W: Sink>(values: &[PossibleValue], sink: &mut W) -> Result<(), Error>
-    ensures { Writes W.taken W.failed result sink.old sink.new (list_text values.now) }
+fn write_list<W: Sink>(values: &[PossibleValue], sink: &mut W) -> Result<(), ErrorKind>
+    ensures { Writes W.taken W.failed (as_write result) sink.old sink.new (list_text values.now) }
 {
     if is_any_described(values) {
-        return write_described_list(values, sink);
+        put_piece(sink, "((".as_bytes())?;
+        write_items(Form::Helps, values, sink)?;
+        return put_piece(sink, "))".as_bytes());
     }
-    write_named_list(values, sink)
+    put_piece(sink, "(".as_bytes())?;
+    write_items(Form::Names, values, sink)?;
+    put_piece(sink, ")".as_bytes())
 }
 
 // Whether one of the values is shown and has a help.
@@ -92,69 +110,59 @@ fn is_any_described(values: &[PossibleValue]) -> bool
     false
 }
 
-#[tactic(auto, unfolding(crate::specs::Values::described_list))]
-fn write_described_list<W: Sink>(values: &[PossibleValue], sink: &mut W) -> Result<(), Error>
-    ensures { Writes W.taken W.failed result sink.old sink.new (described_list values.now) }
-{
-    put_all(sink, "((".as_bytes())?;
-    write_described(values, sink)?;
-    put_all(sink, "))".as_bytes())
-}
-
-fn write_described<W: Sink>(values: &[PossibleValue], sink: &mut W) -> Result<(), Error>
-    ensures { Writes W.taken W.failed result sink.old sink.new
-        (joined (codes "\n") (map described_text (shown_values values.now))) }
+fn write_items<W: Sink>(form: Form, values: &[PossibleValue], sink: &mut W) -> Result<(), ErrorKind>
+    ensures { Writes W.taken W.failed (as_write result) sink.old sink.new
+        (items_text form values.now) }
 {
     let mut begun = false;
     for value in values {
         if value.is_hide_set() {
             continue;
         }
-        put_separator("\n", &mut begun, sink)?;
-        write_described_value(value, sink)?;
+        write_item(form, value, &mut begun, sink)?;
     }
     Ok(())
 }
 
-#[tactic(auto, unfolding(crate::specs::Values::described_text))]
-fn write_described_value<W: Sink>(value: &PossibleValue, sink: &mut W) -> Result<(), Error>
-    ensures { Writes W.taken W.failed result sink.old sink.new (described_text value.now) }
+// What separates the items comes before one where `begun` says that another does.
+#[tactic(auto, unfolding(crate::specs::Values::item_text))]
+fn write_item<W: Sink>(
+    form: Form,
+    value: &PossibleValue,
+    begun: &mut bool,
+    sink: &mut W,
+) -> Result<(), ErrorKind>
+    ensures written { Writes W.taken W.failed (as_write result) sink.old sink.new
+        (separator (item_separator form) begun.old ++ item_text form value.now) }
+    ensures begun { OnOk result (begun.new ≡ true) }
 {
-    put_escaped(&ZshValueEscape, value.get_name(), sink)?;
-    put_all(sink, "\\:\"".as_bytes())?;
-    put_escaped(&ZshHelpEscape, value.get_help().unwrap_or(""), sink)?;
-    put_all(sink, "\"".as_bytes())
-}
-
-#[tactic(auto, unfolding(crate::specs::Values::named_list))]
-fn write_named_list<W: Sink>(values: &[PossibleValue], sink: &mut W) -> Result<(), Error>
-    ensures { Writes W.taken W.failed result sink.old sink.new (named_list values.now) }
-{
-    put_all(sink, "(".as_bytes())?;
-    write_named(values, sink)?;
-    put_all(sink, ")".as_bytes())
-}
-
-fn write_named<W: Sink>(values: &[PossibleValue], sink: &mut W) -> Result<(), Error>
-    ensures { Writes W.taken W.failed result sink.old sink.new
-        (joined (codes " ") (map named_text (shown_values values.now))) }
-{
-    let mut begun = false;
-    for value in values {
-        if value.is_hide_set() {
-            continue;
-        }
-        put_separator(" ", &mut begun, sink)?;
-        write_name(value, sink)?;
+    if *begun {
+        put_piece(sink, item_separator(form).as_bytes())?;
     }
-    Ok(())
+    *begun = true;
+    put_escaped_piece(&ZshValueEscape, value.get_name(), sink)?;
+    match form {
+        Form::Names => Ok(()),
+        Form::Helps => write_help(value.get_help().unwrap_or(""), sink),
+    }
 }
 
-#[tactic(auto, unfolding(crate::specs::Values::named_text))]
-fn write_name<W: Sink>(value: &PossibleValue, sink: &mut W) -> Result<(), Error>
-    ensures { Writes W.taken W.failed result sink.old sink.new (named_text value.now) }
+fn item_separator(form: Form) -> &'static str
+    ensures { result.now ≡ item_separator form }
 {
-    put_escaped(&ZshValueEscape, value.get_name(), sink)
+    match form {
+        Form::Names => " ",
+        Form::Helps => "\n",
+    }
+}
+
+#[tactic(auto, unfolding(crate::specs::Values::item_help))]
+fn write_help<W: Sink>(help: &str, sink: &mut W) -> Result<(), ErrorKind>
+    ensures { Writes W.taken W.failed (as_write result) sink.old sink.new (item_help help.now) }
+{
+    put_piece(sink, "\\:\"".as_bytes())?;
+    put_escaped_piece(&ZshHelpEscape, help, sink)?;
+    put_piece(sink, "\"".as_bytes())
 }
 
 // What a hint tells.

@@ -1,7 +1,7 @@
 //! The zsh script: a function with a block for each visible path, then a function for each command.
 
 ghost use Rattle.std.specs.Prelude.{◌≡◌, ◌++◌, ◌<◌, None, codes, length};
-ghost use Rattle.cc_base.specs.Writes.{Writes};
+ghost use Rattle.cc_base.specs.Writes.{Writes, as_write};
 ghost use Rattle.cc_command.specs.Names.{full_name};
 ghost use Rattle.cc_flat.specs.Flat.{tree_at};
 ghost use Rattle.cc_zsh.specs.ZshReads.{ZshReads};
@@ -9,15 +9,15 @@ ghost use Rattle.cc_zsh.specs.ZshScript.{begin_text, end_text, zsh_script};
 
 use crate::functions::write_functions;
 use crate::nested::write_root;
-use crate::pieces::put_around;
 use crate::texts::{
     autoloads, body_begins, body_ends, compdef_begins, else_define, if_called, if_ends, then_call,
 };
-use cc_base::{Error, Sink, put_all};
+use cc_base::{Error, Sink, as_error, put_all, put_around, put_pieces};
 use cc_command::{Command, full_name};
 use cc_flat::Flat;
 use cc_lists::Generator;
 use std::alloc::Global;
+use std::io::ErrorKind;
 
 /// Writes zsh scripts. The file of a program `N` is `_N`.
 #[derive(Clone, Copy, PartialEq, Eq, Debug)]
@@ -57,29 +57,33 @@ fn write_script<W: Sink>(alloc: Global, flat: &Flat<'_>, sink: &mut W) -> Result
     ensures { Writes W.taken W.failed result sink.old sink.new (zsh_script (tree_at flat.now 0)) }
 {
     let bin_name = full_name(flat.command(0));
-    write_begin(bin_name, sink)?;
+    as_error(write_begin(bin_name, sink))?;
     write_root(alloc, flat, sink)?;
     put_all(sink, body_ends().as_bytes())?;
     write_functions(alloc, flat, sink)?;
-    write_end(bin_name, sink)
+    as_error(write_end(bin_name, sink))
 }
 
 #[tactic(auto, unfolding(crate::specs::ZshScript::begin_text))]
-fn write_begin<W: Sink>(bin_name: &str, sink: &mut W) -> Result<(), Error>
-    ensures { Writes W.taken W.failed result sink.old sink.new (begin_text bin_name.now) }
+fn write_begin<W: Sink>(bin_name: &str, sink: &mut W) -> Result<(), ErrorKind>
+    ensures { Writes W.taken W.failed (as_write result) sink.old sink.new
+        (begin_text bin_name.now) }
 {
-    put_all(sink, compdef_begins().as_bytes())?;
-    put_around(bin_name, autoloads(), bin_name, sink)?;
-    put_all(sink, body_begins().as_bytes())
+    let pieces = [
+        compdef_begins().as_bytes(),
+        bin_name.as_bytes(),
+        autoloads().as_bytes(),
+        bin_name.as_bytes(),
+        body_begins().as_bytes(),
+    ];
+    put_pieces(sink, &pieces)
 }
 
 #[tactic(auto, unfolding(crate::specs::ZshScript::end_text))]
-fn write_end<W: Sink>(bin_name: &str, sink: &mut W) -> Result<(), Error>
-    ensures { Writes W.taken W.failed result sink.old sink.new (end_text bin_name.now) }
+fn write_end<W: Sink>(bin_name: &str, sink: &mut W) -> Result<(), ErrorKind>
+    ensures { Writes W.taken W.failed (as_write result) sink.old sink.new (end_text bin_name.now) }
 {
-    put_all(sink, if_called().as_bytes())?;
-    put_around(bin_name, then_call(), bin_name, sink)?;
-    put_all(sink, else_define().as_bytes())?;
-    put_around(bin_name, " ", bin_name, sink)?;
-    put_all(sink, if_ends().as_bytes())
+    put_around(if_called(), bin_name, then_call(), sink)?;
+    put_around(bin_name, else_define(), bin_name, sink)?;
+    put_around(" ", bin_name, if_ends(), sink)
 }

@@ -6,7 +6,7 @@ use Rattle.cc_zsh.proofs.options.write_argument.Given as goal
 -- what was taken and what is left make the whole; no put failed
 abbrev pub invariant-loop-name : goal.invariant-loop-name
 invariant-loop-name g l = record {
-  whole : g.W.Sink.taken l.sink ++ flat_map (argument_line l.is_option l.above.node l.command.node l.argument) (names_left l.name-iterator)
-      ≡ g.W.Sink.taken l.initial.sink ++ flat_map (argument_line l.is_option l.above.node l.command.node l.argument) (shown_names l.argument);
+  whole : g.W.Sink.taken l.sink ++ flat_map (argument_line l.above.node l.command.node l.argument) (names_left l.name-iterator)
+      ≡ g.W.Sink.taken l.initial.sink ++ flat_map (argument_line l.above.node l.command.node l.argument) (shown_names l.argument);
   failures : g.W.Sink.failed l.sink ≡ g.W.Sink.failed l.initial.sink;
 }

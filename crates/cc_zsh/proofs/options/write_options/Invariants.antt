@@ -1,4 +1,4 @@
-use Rattle.std.proofs.Common.{◌≡◌, ◌++◌, flat_map, true}
+use Rattle.std.proofs.Common.{◌≡◌, ◌++◌, flat_map}
 use Rattle.cc_command.specs.ArgumentLists.{options}
 use Rattle.cc_command.specs.Iterators.{options_left}
 use Rattle.cc_zsh.specs.Options.{argument_text}
@@ -7,7 +7,7 @@ use Rattle.cc_zsh.proofs.options.write_options.Given as goal
 -- what was taken and what is left make the whole; no put failed
 abbrev pub invariant-loop-option : goal.invariant-loop-option
 invariant-loop-option g l = record {
-  whole : g.W.Sink.taken l.sink ++ flat_map (argument_text true l.above.node l.command.node) (options_left l.option-iterator)
-      ≡ g.W.Sink.taken l.initial.sink ++ flat_map (argument_text true l.above.node l.command.node) (options l.command.node);
+  whole : g.W.Sink.taken l.sink ++ flat_map (argument_text l.above.node l.command.node) (options_left l.option-iterator)
+      ≡ g.W.Sink.taken l.initial.sink ++ flat_map (argument_text l.above.node l.command.node) (options l.command.node);
   failures : g.W.Sink.failed l.sink ≡ g.W.Sink.failed l.initial.sink;
 }

@@ -2,7 +2,7 @@ use Rattle.std.proofs.Common.{◌≡◌, ◌++◌, false, flat_map}
 use Rattle.cc_command.specs.ArgumentLists.{positionals}
 use Rattle.cc_command.specs.Iterators.{positionals_left}
 use Rattle.cc_zsh.specs.Positionals.{positional_text, shown_positionals}
-use Rattle.cc_zsh.proofs.positionals.write_shown.Given as goal
+use Rattle.cc_zsh.proofs.positionals.write_positionals.Given as goal
 
 -- what was taken and what is left make the whole; no put failed
 abbrev pub invariant-loop-positional : goal.invariant-loop-positional
