@@ -9,8 +9,9 @@ use Rattle.std.proofs.lemmas.Map.Text.{is_eq-slice_cmp}
 use Rattle.serde_json.specs.Data.{Data, null, boolean, number, string, array, object}
 use Rattle.serde_json.specs.Data.{Members, member, no_members}
 use Rattle.serde_json.specs.Find.{get, get_member}
-use Rattle.cc_command.specs.Made.{with_child}
+use Rattle.cc_command.specs.Made.{of_node, with_child}
 use Rattle.cc_command.specs.Tree.{Tree}
+use Rattle.cc_command.specs.declared.node.Node.{Node}
 use Rattle.cc_tree_file.specs.CommandForm.{children_in, command_of, commands_of, own_of}
 use Rattle.cc_tree_file.specs.TreeForm.{◌>>=◌, with_key, with_value}
 
@@ -49,27 +50,28 @@ same_next (Some a) f g same = same a
 
 -- a command is its own, with the children at their key
 command_with_children : (d : Data)
-    → command_of d ≡ (own_of d >>= with_key (codes "subcommands") commands_of (fold with_child) d)
+    → command_of d
+    ≡ (own_of d >>= (λ own. with_key (codes "subcommands") commands_of (fold with_child) d (of_node own)))
 command_with_children null = refl
 command_with_children (boolean b) = refl
 command_with_children (number n) = refl
 command_with_children (string s) = refl
 command_with_children (array ds) = refl
 command_with_children (object ms) = same_next (own_of (object ms)) _ _ (λ own.
-    ap (option_map (fold with_child own)) (children_found ms)
-    ∙ children_added (get_member (codes "subcommands") ms) own)
+    ap (option_map (fold with_child (of_node own))) (children_found ms)
+    ∙ children_added (get_member (codes "subcommands") ms) (of_node own))
 
 -- a command whose object has no key for children is its own alone
-pub own_alone : (d : Data) (own : Tree) → own_of d ≡ Some own
-    → get (codes "subcommands") d ≡ None → command_of d ≡ Some own
+pub own_alone : (d : Data) (own : Node) → own_of d ≡ Some own
+    → get (codes "subcommands") d ≡ None → command_of d ≡ Some (of_node own)
 own_alone d own is missing = command_with_children d
-    ∙ ap (λ o. o >>= with_key (codes "subcommands") commands_of (fold with_child) d) is
-    ∙ ap (with_value commands_of (fold with_child) own) missing
+    ∙ ap (λ o. o >>= (λ n. with_key (codes "subcommands") commands_of (fold with_child) d (of_node n))) is
+    ∙ ap (with_value commands_of (fold with_child) (of_node own)) missing
 
 -- a command whose object has that key is its own with the children there
-pub own_with_children : (d list : Data) (own : Tree) → own_of d ≡ Some own
+pub own_with_children : (d list : Data) (own : Node) → own_of d ≡ Some own
     → get (codes "subcommands") d ≡ Some list
-    → command_of d ≡ option_map (fold with_child own) (commands_of list)
+    → command_of d ≡ option_map (fold with_child (of_node own)) (commands_of list)
 own_with_children d list own is there = command_with_children d
-    ∙ ap (λ o. o >>= with_key (codes "subcommands") commands_of (fold with_child) d) is
-    ∙ ap (with_value commands_of (fold with_child) own) there
+    ∙ ap (λ o. o >>= (λ n. with_key (codes "subcommands") commands_of (fold with_child) d (of_node n))) is
+    ∙ ap (with_value commands_of (fold with_child) (of_node own)) there

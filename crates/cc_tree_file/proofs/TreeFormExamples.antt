@@ -14,6 +14,7 @@ use Rattle.cc_command.specs.Tree.{more, none}
 use Rattle.cc_tree_file.specs.ArgumentForm.{argument_keys, argument_of}
 use Rattle.cc_tree_file.specs.CommandForm.{command_keys, command_of}
 use Rattle.cc_tree_file.specs.PossibleValueForm.{possible_value_of, value_keys}
+use Rattle.cc_tree_file.specs.TreeForm.{field_from, given, list_of}
 
 -- `{"id":"v","short":"v","long":"verbose","action":"SetTrue","help":"Be loud"}`, by its keys in order
 abbrev verbose : Data
@@ -46,7 +47,7 @@ with_an_argument : command_of app ≡ Some (record (new_tree (codes "app")) {
     next_order = 1;
   };
 })
-unfolding argument_keys argument_of chars command_keys
+unfolding argument_keys argument_of chars command_keys field_from given list_of
 with_an_argument = refl
 
 -- `{"name":"run","visible_aliases":["r","go"]}`
@@ -75,20 +76,20 @@ with_children : command_of parent ≡ Some (record {
     display_order = Some 0;
   }) none (more (record (new_node (codes "stop")) { display_order = Some 1 }) none none);
 })
-unfolding argument_keys command_keys
+unfolding argument_keys command_keys field_from given list_of
 with_children = refl
 
 -- `{"name":"app","nickname":"a"}`: no key of a command
 unknown_key : command_of (object (member (codes "name") (string (codes "app"))
     (member (codes "nickname") (string (codes "a")) no_members))) ≡ None
-unfolding argument_keys command_keys
+unfolding argument_keys command_keys field_from given list_of
 unknown_key = refl
 
 -- the same of a child: there is no command then, not one without the child
 unknown_key_below : command_of (object (member (codes "name") (string (codes "app"))
     (member (codes "subcommands") (array (item (object (member (codes "name") (string (codes "run"))
     (member (codes "nickname") (string (codes "r")) no_members))) no_items)) no_members))) ≡ None
-unfolding argument_keys command_keys
+unfolding argument_keys command_keys field_from given list_of
 unknown_key_below = refl
 
 -- `{"id":"c","possible_values":[{"name":"on"},{"hide":true,"name":"off"}],"value_hint":"Other"}`:
@@ -104,7 +105,7 @@ with_values : argument_of (object (member (codes "id") (string (codes "c"))
           ∷ record (new_possible_value (codes "off")) { hide = true } ∷ []);
       value_hint = Other;
     })
-unfolding argument_keys argument_of value_keys
+unfolding argument_keys argument_of field_from given list_of value_keys
 with_values = refl
 
 -- a possible value is an object, and has a name
@@ -118,7 +119,7 @@ no_name = refl
 -- `{"id":"v","help":null}`: another kind
 other_kind : argument_of (object (member (codes "help") null
     (member (codes "id") (string (codes "v")) no_members))) ≡ None
-unfolding argument_keys argument_of
+unfolding argument_keys argument_of field_from given list_of
 other_kind = refl
 
 -- `{"conflicts_with":["c","b"],"global":true,"id":"a","index":2,"last":true,"required":true,
@@ -137,13 +138,13 @@ with_surroundings : argument_of (object (member (codes "conflicts_with")
       last = true;
       global = true;
     })
-unfolding argument_keys argument_of
+unfolding argument_keys argument_of field_from given list_of
 with_surroundings = refl
 
 -- `{"conflicts_with":"b","id":"a"}`: another kind
 no_list : argument_of (object (member (codes "conflicts_with") (string (codes "b"))
     (member (codes "id") (string (codes "a")) no_members))) ≡ None
-unfolding argument_keys argument_of
+unfolding argument_keys argument_of field_from given list_of
 no_list = refl
 
 -- `{"allow_external_subcommands":true,"name":"app"}`
@@ -153,5 +154,5 @@ with_external_subcommands : command_of (object
     ≡ Some (record (new_tree (codes "app")) {
       node = record (new_node (codes "app")) { allow_external_subcommands = true };
     })
-unfolding command_keys
+unfolding command_keys field_from given list_of
 with_external_subcommands = refl

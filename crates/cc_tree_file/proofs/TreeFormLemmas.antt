@@ -1,17 +1,16 @@
 -- How the readers of a tree file meet its form.
 use Rattle.std.proofs.Common.{◌≡◌, ◌∙◌, ◌<◌, ◌≤◌, ◌+◌, ◌++◌, ℕ, List, [], ◌∷◌, Option, Some, None, ap, sym, refl}
-use Rattle.std.proofs.Common.{length, map, take, drop, get_or, option_map, arith}
-use Rattle.std.specs.Prelude.{option_and_then, encode_utf8, Err, String, string_bytes, suc}
+use Rattle.std.proofs.Common.{length, take, drop, get_or, option_map, arith}
+use Rattle.std.specs.Prelude.{option_and_then, encode_utf8, Err, suc}
 use Rattle.std.specs.declared.alloc.Global.{Global}
 use Rattle.std.specs.Str.{IsUtf8, chars}
-use Rattle.std.proofs.lemmas.List.{map-append, take_more, take-append-drop}
+use Rattle.std.proofs.lemmas.List.{take_more, take-append-drop}
 use Rattle.std.proofs.lemmas.Str.{IsUtf8-past_char, chars_past_char, chars-nil}
 use Rattle.std.proofs.Math.Seq.{drop-cons}
 use Rattle.serde_json.specs.Data.{Data}
-use Rattle.serde_json.specs.Find.{as_str}
 use Rattle.cc_json.specs.Seen.{items_view, view}
 use Rattle.json.specs.declared.value.Value.{Value}
-use Rattle.cc_tree_file.specs.TreeForm.{Gives, all_of, only, pair_of}
+use Rattle.cc_tree_file.specs.TreeForm.{Gives, Sets, all_of, only, pair_of}
 use Rattle.cc_tree_file.specs.declared.error.TreeError.{TreeError}
 use Rattle.cc_tree_file.specs.declared.error.TreeError.TheVariants.{BadForm, Memory, NotJson}
 
@@ -21,6 +20,14 @@ pub passes_on : {X Y Z W : Type 0} (f : X → Y) (g : Z → W) (e : TreeError) (
 passes_on f g BadForm o p given follows = follows given
 passes_on f g NotJson o p given follows = given
 passes_on f g Memory o p given follows = tt
+
+-- an error of a step that is passed on
+pub step_passes_on : {S Z W : Type 0} (g : Z → W) (e : TreeError) (change : S → Option S) (old new : S)
+    (p : Option W) → Sets {R = Unit {0}} (Err e) change old new → (change old ≡ None → p ≡ None)
+    → Gives g (Err e) p
+step_passes_on g BadForm change old new p given follows = follows given
+step_passes_on g NotJson change old new p given follows = given
+step_passes_on g Memory change old new p given follows = tt
 
 -- ---- lists
 
@@ -68,16 +75,6 @@ all_of_stops read vs k d xs h before here =
     (sym (take-append-drop k vs) ∙ ap (λ us. take k vs ++ us) (drop-cons vs k d h))
     ∙ all_of-append read (take k vs) (get_or vs k d ∷ drop (suc k) vs)
     ∙ rw (before, here) refl
-
--- a list of texts grows by one
-pub texts_next : (vs : List (Value Global)) (k : ℕ) (d : Value Global) (texts : List (String Global))
-    (text : String Global) → k < length vs
-    → all_of as_str (items_view (take k vs)) ≡ Some (map string_bytes texts)
-    → as_str (view (get_or vs k d)) ≡ Some (string_bytes text)
-    → all_of as_str (items_view (take (k + 1) vs)) ≡ Some (map string_bytes (texts ++ text ∷ []))
-texts_next vs k d texts text h before here =
-    all_of_next as_str vs k d (map string_bytes texts) (string_bytes text) h before here
-    ∙ ap Some (sym (map-append string_bytes texts (text ∷ [])))
 
 -- a list that isn't of two items is no range
 pub no_pair_below : (vs : List (Value Global)) → length vs < 2 → pair_of (items_view vs) ≡ None

@@ -4,137 +4,84 @@ use Rattle.std.specs.Prelude.{codes, fold, if◌then◌else◌, option_map}
 use Rattle.std.specs.Str.{bytes_eq}
 use Rattle.serde_json.specs.Data.{Data, array, object}
 use Rattle.serde_json.specs.Data.{Items, item, no_items, Members, member, no_members}
-use Rattle.serde_json.specs.Find.{as_array, as_bool, as_str, get}
+use Rattle.serde_json.specs.Find.{as_bool, as_str, get}
 use Rattle.cc_arg.specs.declared.parts.ArgParts.{ArgParts as Arg}
-use Rattle.cc_command.specs.Made.{new_tree, with_argument, with_child, with_root}
+use Rattle.cc_command.specs.Made.{new_node, of_node, with_argument, with_child}
 use Rattle.cc_command.specs.Tree.{Tree}
+use Rattle.cc_command.specs.declared.node.Node.{Node}
 use Rattle.cc_json.specs.Keys.{has_only}
 use Rattle.cc_tree_file.specs.ArgumentForm.{argument_of}
-use Rattle.cc_tree_file.specs.TreeForm.{◌>>=◌, all_of, number_of, texts_of, with_key}
+use Rattle.cc_tree_file.specs.TreeForm.{◌>>=◌, Setting, given, keys_of, list_of, number_of, set_all}
+use Rattle.cc_tree_file.specs.TreeForm.{setting, with_key}
+
+-- its texts besides the name
+abbrev pub texts : List (Setting Node)
+texts =
+    setting (codes "bin_name") (given as_str)
+    (λ node. node.bin_name) (λ node it. record node { bin_name = it })
+    ∷ setting (codes "about") (given as_str)
+    (λ node. node.about) (λ node it. record node { about = it })
+    ∷ setting (codes "version") (given as_str)
+    (λ node. node.version) (λ node it. record node { version = it })
+    ∷ setting (codes "subcommand_help_heading") (given as_str)
+    (λ node. node.subcommand_help_heading) (λ node it. record node { subcommand_help_heading = it }) ∷ []
+
+-- its aliases, hidden and shown, and its display order
+abbrev pub names : List (Setting Node)
+names =
+    setting (codes "aliases") (list_of as_str)
+    (λ node. node.aliases) (λ node it. record node { aliases = it })
+    ∷ setting (codes "visible_aliases") (list_of as_str)
+    (λ node. node.visible_aliases) (λ node it. record node { visible_aliases = it })
+    ∷ setting (codes "display_order") (given number_of)
+    (λ node. node.display_order) (λ node it. record node { display_order = it }) ∷ []
+
+-- what is left out, whether other programs may be named, and whether the program's name is
+-- no word of a command line
+abbrev pub flags : List (Setting Node)
+flags =
+    setting (codes "hide") as_bool (λ node. node.hide) (λ node it. record node { hide = it })
+    ∷ setting (codes "disable_help_flag") as_bool
+    (λ node. node.disable_help_flag) (λ node it. record node { disable_help_flag = it })
+    ∷ setting (codes "disable_version_flag") as_bool
+    (λ node. node.disable_version_flag) (λ node it. record node { disable_version_flag = it })
+    ∷ setting (codes "disable_help_subcommand") as_bool
+    (λ node. node.disable_help_subcommand) (λ node it. record node { disable_help_subcommand = it })
+    ∷ setting (codes "allow_external_subcommands") as_bool
+    (λ node. node.allow_external_subcommands) (λ node it. record node { allow_external_subcommands = it })
+    ∷ setting (codes "no_binary_name") as_bool
+    (λ node. node.no_binary_name) (λ node it. record node { no_binary_name = it }) ∷ []
 
 -- the keys that a command may have
 unfoldable pub command_keys : List (List ℕ)
-command_keys = codes "name" ∷ codes "bin_name" ∷ codes "about" ∷ codes "version"
-    ∷ codes "subcommand_help_heading" ∷ codes "aliases" ∷ codes "visible_aliases"
-    ∷ codes "display_order" ∷ codes "hide" ∷ codes "disable_help_flag"
-    ∷ codes "disable_version_flag" ∷ codes "disable_help_subcommand"
-    ∷ codes "allow_external_subcommands" ∷ codes "no_binary_name" ∷ codes "args"
-    ∷ codes "subcommands" ∷ []
-
--- ---- texts
-
-abbrev pub with_bin_name : Data → Tree → Option Tree
-with_bin_name = with_key (codes "bin_name") as_str
-    (λ tree name. with_root (λ node. record node { bin_name = Some name }) tree)
-
-abbrev pub with_about : Data → Tree → Option Tree
-with_about = with_key (codes "about") as_str
-    (λ tree about. with_root (λ node. record node { about = Some about }) tree)
-
-abbrev pub with_version : Data → Tree → Option Tree
-with_version = with_key (codes "version") as_str
-    (λ tree version. with_root (λ node. record node { version = Some version }) tree)
-
-abbrev pub with_subcommand_help_heading : Data → Tree → Option Tree
-with_subcommand_help_heading = with_key (codes "subcommand_help_heading") as_str (λ tree heading.
-    with_root (λ node. record node { subcommand_help_heading = Some heading }) tree)
-
-abbrev pub with_texts : Data → Tree → Option Tree
-with_texts d tree = with_bin_name d tree >>= with_about d >>= with_version d
-    >>= with_subcommand_help_heading d
-
--- ---- aliases
-
--- one more alias
-abbrev pub with_alias : Tree → List ℕ → Tree
-with_alias tree name =
-    with_root (λ node. record node { aliases = node.aliases ++ name ∷ [] }) tree
-
-abbrev pub with_aliases : Data → Tree → Option Tree
-with_aliases = with_key (codes "aliases") texts_of (fold with_alias)
-
--- one more alias that is shown
-abbrev pub with_visible_alias : Tree → List ℕ → Tree
-with_visible_alias tree name =
-    with_root (λ node. record node { visible_aliases = node.visible_aliases ++ name ∷ [] }) tree
-
-abbrev pub with_visible_aliases : Data → Tree → Option Tree
-with_visible_aliases = with_key (codes "visible_aliases") texts_of (fold with_visible_alias)
-
-abbrev pub with_all_aliases : Data → Tree → Option Tree
-with_all_aliases d tree = with_aliases d tree >>= with_visible_aliases d
-
--- ---- the display order
-
-abbrev pub with_display_order : Data → Tree → Option Tree
-with_display_order = with_key (codes "display_order") number_of
-    (λ tree order. with_root (λ node. record node { display_order = Some order }) tree)
-
--- ---- what is left out, whether other programs may be named, and whether the program's name is
--- no word of a command line
-
-abbrev pub with_hide : Data → Tree → Option Tree
-with_hide = with_key (codes "hide") as_bool
-    (λ tree hide. with_root (λ node. record node { hide = hide }) tree)
-
-abbrev pub with_disable_help_flag : Data → Tree → Option Tree
-with_disable_help_flag = with_key (codes "disable_help_flag") as_bool
-    (λ tree disable. with_root (λ node. record node { disable_help_flag = disable }) tree)
-
-abbrev pub with_disable_version_flag : Data → Tree → Option Tree
-with_disable_version_flag = with_key (codes "disable_version_flag") as_bool
-    (λ tree disable. with_root (λ node. record node { disable_version_flag = disable }) tree)
-
-abbrev pub with_disable_help_subcommand : Data → Tree → Option Tree
-with_disable_help_subcommand = with_key (codes "disable_help_subcommand") as_bool
-    (λ tree disable. with_root (λ node. record node { disable_help_subcommand = disable }) tree)
-
-abbrev pub with_allow_external_subcommands : Data → Tree → Option Tree
-with_allow_external_subcommands = with_key (codes "allow_external_subcommands") as_bool
-    (λ tree allow. with_root (λ node. record node { allow_external_subcommands = allow }) tree)
-
-abbrev pub with_no_binary_name : Data → Tree → Option Tree
-with_no_binary_name = with_key (codes "no_binary_name") as_bool
-    (λ tree none. with_root (λ node. record node { no_binary_name = none }) tree)
-
-abbrev pub with_flags : Data → Tree → Option Tree
-with_flags d tree = with_hide d tree >>= with_disable_help_flag d
-    >>= with_disable_version_flag d >>= with_disable_help_subcommand d
-    >>= with_allow_external_subcommands d >>= with_no_binary_name d
-
--- ---- arguments
-
--- one more argument
-abbrev pub add_argument : Tree → Arg → Tree
-add_argument tree argument = record tree { node = with_argument tree.node argument }
+command_keys = codes "name" ∷ ((keys_of texts ++ keys_of names) ++ keys_of flags)
+    ++ codes "args" ∷ codes "subcommands" ∷ []
 
 -- a list of arguments
 abbrev pub arguments_of : Data → Option (List Arg)
-arguments_of d = as_array d >>= all_of argument_of
+arguments_of = list_of argument_of
 
-abbrev pub with_args : Data → Tree → Option Tree
-with_args = with_key (codes "args") arguments_of (fold add_argument)
-
--- ---- the whole
+-- the node with the arguments at their key added
+abbrev pub with_args : Data → Node → Option Node
+with_args = with_key (codes "args") arguments_of (fold with_argument)
 
 -- the name, of an object with no other keys than a command's
 abbrev pub name_of : Data → Option (List ℕ)
 name_of d = if has_only command_keys d then get (codes "name") d >>= as_str else None
 
 -- what the keys besides the name and the children set
-abbrev pub with_rest : Data → Tree → Option Tree
-with_rest d tree = with_texts d tree >>= with_all_aliases d >>= with_display_order d
-    >>= with_flags d >>= with_args d
+abbrev pub with_rest : Data → Node → Option Node
+with_rest d node = set_all texts d node >>= set_all names d >>= set_all flags d >>= with_args d
 
--- the command that an object describes, without its children
-abbrev pub own_of : Data → Option Tree
-own_of d = name_of d >>= (λ name. with_rest d (new_tree name))
+-- the node of the command that an object describes
+abbrev pub own_of : Data → Option Node
+own_of d = name_of d >>= (λ name. with_rest d (new_node name))
 
 abbrev mutual
   -- the command that an object describes: its own, with each of the children added
   pub command_of : Data → Option Tree
   command_of (object ms) =
-      own_of (object ms) >>= (λ own. option_map (fold with_child own) (children_in ms))
+      own_of (object ms) >>= (λ own. option_map (fold with_child (of_node own)) (children_in ms))
   command_of _ = None
 
   -- the commands that the children of an object are; none where it has no such key

@@ -1,11 +1,11 @@
 -- The form of a possible value in a tree file: what each of its keys sets.
 use Rattle.std.specs.Prelude.{ℕ, List, [], ◌∷◌, Option, Some, None, if◌then◌else◌, codes}
 use Rattle.serde_json.specs.Data.{Data}
-use Rattle.serde_json.specs.Find.{as_array, as_bool, as_str, get}
+use Rattle.serde_json.specs.Find.{as_bool, as_str, get}
 use Rattle.cc_arg.specs.PossibleValues.{new_possible_value}
 use Rattle.cc_arg.specs.declared.possible_value.PossibleValue.{PossibleValue}
 use Rattle.cc_json.specs.Keys.{has_only}
-use Rattle.cc_tree_file.specs.TreeForm.{◌>>=◌, all_of, with_key}
+use Rattle.cc_tree_file.specs.TreeForm.{◌>>=◌, with_key}
 
 -- the keys that a possible value may have
 unfoldable pub value_keys : List (List ℕ)
@@ -25,7 +25,3 @@ name_of d = if has_only value_keys d then get (codes "name") d >>= as_str else N
 abbrev pub possible_value_of : Data → Option PossibleValue
 possible_value_of d =
     name_of d >>= (λ name. with_help d (new_possible_value name) >>= with_hide d)
-
--- a list of possible values
-abbrev pub possible_values_of : Data → Option (List PossibleValue)
-possible_values_of d = as_array d >>= all_of possible_value_of

@@ -1,7 +1,7 @@
 -- The form of a tree file: what each kind of value is read as.
 use Rattle.std.specs.Prelude.{◌≡◌, ◌&&◌, ⊤, ◌-◌, ◌^◌, ℕ, List, [], ◌∷◌, Option, Some, None}
 use Rattle.std.specs.Prelude.{Result, Ok, Err, if◌then◌else◌, nat_le, codes}
-use Rattle.std.specs.Prelude.{option_and_then, option_map}
+use Rattle.std.specs.Prelude.{map, option_and_then, option_map}
 use Rattle.std.specs.Str.{bytes_eq, chars}
 use Rattle.serde_json.specs.Data.{Data, null, boolean, number, string, array, object, Items, item}
 use Rattle.serde_json.specs.Data.{no_items}
@@ -32,6 +32,14 @@ Gives view (Err Memory) defined = ⊤
 abbrev pub GivesSame : {X : Type 0} → Result X TreeError → Option X → Type 0
 GivesSame = Gives (λ x. x)
 
+-- a step changes its subject as it is defined, and fails with bad form exactly where nothing is defined;
+-- it may be out of memory
+abbrev pub Sets : {R S : Type 0} → Result R TreeError → (S → Option S) → S → S → Type 0
+Sets (Ok done) change old new = change old ≡ Some new
+Sets (Err BadForm) change old new = change old ≡ None
+Sets (Err NotJson) change old new = ⊥
+Sets (Err Memory) change old new = ⊤
+
 -- what follows from a value, where there is one
 infixl 10 ◌>>=◌
 abbrev pub ◌>>=◌ : {A B : Type 0} → Option A → (A → Option B) → Option B
@@ -57,13 +65,13 @@ all_of read no_items = Some []
 all_of read (item d ds) =
     option_and_then (λ x. option_map (λ xs. x ∷ xs) (all_of read ds)) (read d)
 
--- a list of texts
-abbrev pub texts_of : Data → Option (List (List ℕ))
-texts_of d = option_and_then (all_of as_str) (as_array d)
+-- a list whose items are each of the kind
+unfoldable pub list_of : {X : Type 0} → (Data → Option X) → Data → Option (List X)
+list_of read d = option_and_then (all_of read) (as_array d)
 
--- a list of texts of one character each
-abbrev pub characters_of : Data → Option (List ℕ)
-characters_of d = option_and_then (all_of character_of) (as_array d)
+-- a value of the kind, as what was given
+unfoldable pub given : {X : Type 0} → (Data → Option X) → Data → Option (Option X)
+given read d = option_map Some (read d)
 
 -- the greatest number of values where there is no bound: the greatest `usize`
 abbrev pub no_bound : ℕ
@@ -123,12 +131,43 @@ hint_of name = if bytes_eq name (codes "Unknown") then Some Unknown
     else if bytes_eq name (codes "EmailAddress") then Some EmailAddress
     else None
 
--- what a value sets in a subject: nothing where there is no value; nothing is defined where the value
+-- what a field holds after a value was read into it: what it held where there is no value; nothing is
+-- defined where the value is of another kind
+abbrev pub value_or : {X : Type 0} → (Data → Option X) → X → Option Data → Option X
+value_or read held None = Some held
+value_or read held (Some d) = read d
+
+-- what a field holds after the value at a key was read into it
+unfoldable pub field_from : {X : Type 0} → List ℕ → (Data → Option X) → Data → X → Option X
+field_from key read d held = value_or read held (get key d)
+
+-- a key, and how the value at it changes a subject
+pub record Setting (S : Type 0) : Type 0 where
+  pub key : List ℕ
+  pub change : Data → S → Option S
+
+-- the value at a key, read into a field
+abbrev pub setting : {S X : Type 0} → List ℕ → (Data → Option X) → (S → X) → (S → X → S) → Setting S
+setting key read field with_field = record {
+  key = key;
+  change = λ d subject. option_map (with_field subject) (field_from key read d (field subject));
+}
+
+-- the keys of some settings
+abbrev pub keys_of : {S : Type 0} → List (Setting S) → List (List ℕ)
+keys_of settings = map (λ one. one.key) settings
+
+-- a subject changed by each of some settings
+abbrev pub set_all : {S : Type 0} → List (Setting S) → Data → S → Option S
+set_all [] d subject = Some subject
+set_all (one ∷ settings) d subject = one.change d subject >>= set_all settings d
+
+-- what a value adds to a subject: nothing where there is no value; nothing is defined where the value
 -- is of another kind
 abbrev pub with_value : {S X : Type 0} → (Data → Option X) → (S → X → S) → S → Option Data → Option S
 with_value kind set subject None = Some subject
 with_value kind set subject (Some d) = option_map (set subject) (kind d)
 
--- what the value at a key sets in a subject
+-- what the value at a key adds to a subject
 abbrev pub with_key : {S X : Type 0} → List ℕ → (Data → Option X) → (S → X → S) → Data → S → Option S
 with_key key kind set d subject = with_value kind set subject (get key d)

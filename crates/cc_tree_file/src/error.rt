@@ -1,10 +1,8 @@
 //! Why a file holds no tree.
 
 ghost use Rattle.std.specs.Prelude.{◌≡◌};
-ghost use Rattle.cc_base.specs.declared.error.Error.TheVariants.{Memory as OutOfMemory};
 ghost use Rattle.cc_tree_file.specs.declared.error.TreeError.TheVariants.{Memory};
 
-use cc_base::Error;
 use std::alloc::{AllocError, AllocFailed};
 use thiserror::Error as ThisError;
 
@@ -35,16 +33,5 @@ impl<T: Drop> From<AllocFailed<T>> for TreeError {
 
     fn from(_failed: AllocFailed<T>) -> TreeError {
         TreeError::Memory
-    }
-}
-
-/// Returns the error of a builder, which fails only where it is out of memory.
-pub fn builder_error(error: Error) -> TreeError
-    requires { error ≡ OutOfMemory }
-    ensures { result ≡ Memory }
-{
-    match error {
-        Error::Memory => TreeError::Memory,
-        _ => unreachable!(),
     }
 }

@@ -7,23 +7,19 @@ ghost use Rattle.cc_json.specs.Keys.{has_only};
 ghost use Rattle.cc_tree_file.specs.TreeForm.{Gives, GivesSame};
 
 use crate::error::TreeError;
-use crate::values::{boolean, text};
+use crate::values::{FromValue, text};
 use cc_arg::PossibleValue;
 use cc_json::{Value, has_only_keys, member};
 use std::alloc::Global;
 
 const KEYS: [&str; 3] = ["name", "help", "hide"];
 
-/// The possible values that a list describes.
-pub fn possible_values(alloc: Global, value: &Value<'_>) -> Result<Vec<PossibleValue>, TreeError>
-    ensures { Gives (λ values. values.items) result (form.possible_values_of (view value.now)) }
-{
-    let items = cc_json::items(value).ok_or(TreeError::BadForm)?;
-    let mut values = Vec::new(alloc);
-    for item in items {
-        values.push(possible_value(alloc, item)?)?;
+impl FromValue for PossibleValue {
+    ghost form = { form.possible_value_of };
+
+    fn from_value(alloc: Global, value: &Value<'_>) -> Result<PossibleValue, TreeError> {
+        possible_value(alloc, value)
     }
-    Ok(values)
 }
 
 fn possible_value(alloc: Global, tree: &Value<'_>) -> Result<PossibleValue, TreeError>
@@ -31,7 +27,7 @@ fn possible_value(alloc: Global, tree: &Value<'_>) -> Result<PossibleValue, Tree
 {
     let name = name(alloc, tree)?;
     let value = with_help(alloc, PossibleValue::new(name), tree)?;
-    with_hide(value, tree)
+    with_hide(alloc, value, tree)
 }
 
 // The name, of an object with no other keys than a possible value's.
@@ -64,11 +60,15 @@ fn with_help(
     }
 }
 
-fn with_hide(value: PossibleValue, tree: &Value<'_>) -> Result<PossibleValue, TreeError>
+fn with_hide(
+    alloc: Global,
+    value: PossibleValue,
+    tree: &Value<'_>,
+) -> Result<PossibleValue, TreeError>
     ensures { GivesSame result (form.with_hide (view tree.now) value) }
 {
     match member(tree, "hide") {
-        Some(hide) => Ok(value.hide(boolean(hide)?)),
+        Some(hide) => Ok(value.hide(bool::from_value(alloc, hide)?)),
         None => Ok(value),
     }
 }

@@ -1,16 +1,49 @@
 //! The kinds of value that a tree file has.
 
-ghost use Rattle.std.specs.Prelude.{◌≡◌, map, option_and_then, string_bytes};
+ghost use Rattle.std.specs.Prelude.{◌≡◌, string_bytes};
 ghost use Rattle.std.specs.Str.{chars};
-ghost use Rattle.serde_json.specs.Find.{as_array, as_bool, as_str};
+ghost use Rattle.serde_json.specs.Find.{as_str};
 ghost use Rattle.cc_json.specs.Seen.{view};
-ghost use Rattle.cc_tree_file.specs.TreeForm.{Gives, GivesSame, action_of, all_of, bound_of, character_of};
-ghost use Rattle.cc_tree_file.specs.TreeForm.{hint_of, number_of, only, range_of};
+ghost use Rattle.cc_tree_file.specs.TreeForm.{Gives, GivesSame, Sets, bound_of, field_from, number_of};
+ghost use Rattle.cc_tree_file.specs.TreeForm.{only};
 
 use crate::error::TreeError;
 use cc_arg::{ArgAction, ValueHint, ValueRange};
+use cc_base::{Items, Text};
 use cc_json::{Value, is_null};
 use std::alloc::Global;
+
+/// A type that a value of a tree file is read into.
+pub trait FromValue: Drop {
+    ghost use Rattle.std.specs.Prelude.{Option};
+    ghost use Rattle.serde_json.specs.Data.{Data};
+    ghost use Rattle.cc_json.specs.Seen.{view};
+    ghost use Rattle.cc_tree_file.specs.TreeForm.{GivesSame};
+
+    // What a value of the kind is read as.
+    ghost form: { Data → Option Self };
+
+    /// What the value says. Fails with `BadForm` where it is of another kind, and with `Memory`.
+    fn from_value(alloc: Global, value: &Value<'_>) -> Result<Self, TreeError>
+        ensures { GivesSame result (form (view value.now)) };
+}
+
+/// Sets a field to what the value at a key says; it stays where the object lacks the key.
+#[tactic(auto, unfolding(crate::specs::TreeForm::field_from))]
+pub fn set<T: FromValue>(
+    field: &mut T,
+    alloc: Global,
+    tree: &Value<'_>,
+    key: &str,
+) -> Result<(), TreeError>
+    ensures { Sets result (field_from key.now T.form (view tree.now)) field.old field.new }
+{
+    let Some(value) = cc_json::member(tree, key) else {
+        return Ok(());
+    };
+    *field = T::from_value(alloc, value)?;
+    Ok(())
+}
 
 /// A text.
 pub fn text(alloc: Global, value: &Value<'_>) -> Result<String, TreeError>
@@ -20,15 +53,41 @@ pub fn text(alloc: Global, value: &Value<'_>) -> Result<String, TreeError>
     Ok(String::from_str(alloc, text)?)
 }
 
+/// A text.
+impl FromValue for Text {
+    ghost use Rattle.serde_json.specs.Find.{as_str};
+
+    ghost form = { as_str };
+
+    fn from_value(alloc: Global, value: &Value<'_>) -> Result<Text, TreeError> {
+        let text = cc_json::text(value).ok_or(TreeError::BadForm)?;
+        Ok(Text::copy_of(alloc, text)?)
+    }
+}
+
 /// `true` or `false`.
-pub fn boolean(value: &Value<'_>) -> Result<bool, TreeError>
-    ensures { GivesSame result (as_bool (view value.now)) }
-{
-    cc_json::boolean(value).ok_or(TreeError::BadForm)
+impl FromValue for bool {
+    ghost use Rattle.serde_json.specs.Find.{as_bool};
+
+    ghost form = { as_bool };
+
+    fn from_value(_alloc: Global, value: &Value<'_>) -> Result<bool, TreeError> {
+        cc_json::boolean(value).ok_or(TreeError::BadForm)
+    }
 }
 
 /// A whole number that fits 64 bits.
-pub fn number(value: &Value<'_>) -> Result<usize, TreeError>
+impl FromValue for usize {
+    ghost use Rattle.cc_tree_file.specs.TreeForm.{number_of};
+
+    ghost form = { number_of };
+
+    fn from_value(_alloc: Global, value: &Value<'_>) -> Result<usize, TreeError> {
+        number(value)
+    }
+}
+
+fn number(value: &Value<'_>) -> Result<usize, TreeError>
     ensures { GivesSame result (number_of (view value.now)) }
 {
     let number = cc_json::whole_number(value).ok_or(TreeError::BadForm)?;
@@ -36,11 +95,15 @@ pub fn number(value: &Value<'_>) -> Result<usize, TreeError>
 }
 
 /// A text of one character.
-pub fn character(value: &Value<'_>) -> Result<char, TreeError>
-    ensures { GivesSame result (character_of (view value.now)) }
-{
-    let text = cc_json::text(value).ok_or(TreeError::BadForm)?;
-    only_character(text).ok_or(TreeError::BadForm)
+impl FromValue for char {
+    ghost use Rattle.cc_tree_file.specs.TreeForm.{character_of};
+
+    ghost form = { character_of };
+
+    fn from_value(_alloc: Global, value: &Value<'_>) -> Result<char, TreeError> {
+        let text = cc_json::text(value).ok_or(TreeError::BadForm)?;
+        only_character(text).ok_or(TreeError::BadForm)
+    }
 }
 
 // The character of a text that has one character.
@@ -55,46 +118,53 @@ fn only_character(text: &str) -> Option<char>
     }
 }
 
-/// A list of texts.
-pub fn texts(alloc: Global, value: &Value<'_>) -> Result<Vec<String>, TreeError>
-    ensures { Gives (λ texts. map string_bytes texts.items) result
-        (option_and_then (all_of as_str) (as_array (view value.now))) }
-{
-    let items = cc_json::items(value).ok_or(TreeError::BadForm)?;
-    let mut texts = Vec::new(alloc);
-    for item in items {
-        texts.push(text(alloc, item)?)?;
+/// A value of the kind, as what was given.
+impl<T: FromValue> FromValue for Option<T> {
+    ghost use Rattle.cc_tree_file.specs.TreeForm.{given};
+
+    ghost form = { given T.form };
+
+    #[tactic(auto, unfolding(crate::specs::TreeForm::given))]
+    fn from_value(alloc: Global, value: &Value<'_>) -> Result<Option<T>, TreeError> {
+        Ok(Some(T::from_value(alloc, value)?))
     }
-    Ok(texts)
 }
 
-/// A list of texts of one character each.
-pub fn characters(alloc: Global, value: &Value<'_>) -> Result<Vec<char>, TreeError>
-    ensures { Gives (λ characters. characters.items) result
-        (option_and_then (all_of character_of) (as_array (view value.now))) }
-{
-    let items = cc_json::items(value).ok_or(TreeError::BadForm)?;
-    let mut characters = Vec::new(alloc);
-    for item in items {
-        characters.push(character(item)?)?;
+/// A list whose items are each of the kind.
+impl<T: FromValue> FromValue for Items<T> {
+    ghost use Rattle.cc_tree_file.specs.TreeForm.{list_of};
+
+    ghost form = { list_of T.form };
+
+    #[tactic(auto, unfolding(crate::specs::TreeForm::list_of))]
+    fn from_value(alloc: Global, value: &Value<'_>) -> Result<Items<T>, TreeError> {
+        let items = cc_json::items(value).ok_or(TreeError::BadForm)?;
+        let mut list = Items::new(alloc);
+        for item in items {
+            list.push(T::from_value(alloc, item)?)?;
+        }
+        Ok(list)
     }
-    Ok(characters)
 }
 
 /// The least and the greatest number of values, where the latter is `null` for no bound.
-pub fn range(value: &Value<'_>) -> Result<ValueRange, TreeError>
-    ensures { GivesSame result (range_of (view value.now)) }
-{
-    let items = cc_json::items(value).ok_or(TreeError::BadForm)?;
-    let [least, greatest] = items.as_slice() else {
-        return Err(TreeError::BadForm);
-    };
-    let least = number(least)?;
-    let greatest = bound(greatest)?;
-    if least > greatest || least > 255 {
-        return Err(TreeError::BadForm);
+impl FromValue for ValueRange {
+    ghost use Rattle.cc_tree_file.specs.TreeForm.{range_of};
+
+    ghost form = { range_of };
+
+    fn from_value(_alloc: Global, value: &Value<'_>) -> Result<ValueRange, TreeError> {
+        let items = cc_json::items(value).ok_or(TreeError::BadForm)?;
+        let [least, greatest] = items.as_slice() else {
+            return Err(TreeError::BadForm);
+        };
+        let least = number(least)?;
+        let greatest = bound(greatest)?;
+        if least > greatest || least > 255 {
+            return Err(TreeError::BadForm);
+        }
+        Ok(ValueRange::new(least, greatest))
     }
-    Ok(ValueRange::new(least, greatest))
 }
 
 // A number, or `null` for no bound.
@@ -108,41 +178,51 @@ fn bound(value: &Value<'_>) -> Result<usize, TreeError>
 }
 
 /// The name of an action.
-pub fn action(value: &Value<'_>) -> Result<ArgAction, TreeError>
-    ensures { GivesSame result (option_and_then action_of (as_str (view value.now))) }
-{
-    match cc_json::text(value).ok_or(TreeError::BadForm)? {
-        "Set" => Ok(ArgAction::Set),
-        "Append" => Ok(ArgAction::Append),
-        "SetTrue" => Ok(ArgAction::SetTrue),
-        "SetFalse" => Ok(ArgAction::SetFalse),
-        "Count" => Ok(ArgAction::Count),
-        "Help" => Ok(ArgAction::Help),
-        "HelpShort" => Ok(ArgAction::HelpShort),
-        "HelpLong" => Ok(ArgAction::HelpLong),
-        "Version" => Ok(ArgAction::Version),
-        _ => Err(TreeError::BadForm),
+impl FromValue for ArgAction {
+    ghost use Rattle.serde_json.specs.Find.{as_str};
+    ghost use Rattle.cc_tree_file.specs.TreeForm.{◌>>=◌, action_of};
+
+    ghost form = { λ d. as_str d >>= action_of };
+
+    fn from_value(_alloc: Global, value: &Value<'_>) -> Result<ArgAction, TreeError> {
+        match cc_json::text(value).ok_or(TreeError::BadForm)? {
+            "Set" => Ok(ArgAction::Set),
+            "Append" => Ok(ArgAction::Append),
+            "SetTrue" => Ok(ArgAction::SetTrue),
+            "SetFalse" => Ok(ArgAction::SetFalse),
+            "Count" => Ok(ArgAction::Count),
+            "Help" => Ok(ArgAction::Help),
+            "HelpShort" => Ok(ArgAction::HelpShort),
+            "HelpLong" => Ok(ArgAction::HelpLong),
+            "Version" => Ok(ArgAction::Version),
+            _ => Err(TreeError::BadForm),
+        }
     }
 }
 
 /// The name of a value hint.
-pub fn hint(value: &Value<'_>) -> Result<ValueHint, TreeError>
-    ensures { GivesSame result (option_and_then hint_of (as_str (view value.now))) }
-{
-    match cc_json::text(value).ok_or(TreeError::BadForm)? {
-        "Unknown" => Ok(ValueHint::Unknown),
-        "Other" => Ok(ValueHint::Other),
-        "AnyPath" => Ok(ValueHint::AnyPath),
-        "FilePath" => Ok(ValueHint::FilePath),
-        "DirPath" => Ok(ValueHint::DirPath),
-        "ExecutablePath" => Ok(ValueHint::ExecutablePath),
-        "CommandName" => Ok(ValueHint::CommandName),
-        "CommandString" => Ok(ValueHint::CommandString),
-        "CommandWithArguments" => Ok(ValueHint::CommandWithArguments),
-        "Username" => Ok(ValueHint::Username),
-        "Hostname" => Ok(ValueHint::Hostname),
-        "Url" => Ok(ValueHint::Url),
-        "EmailAddress" => Ok(ValueHint::EmailAddress),
-        _ => Err(TreeError::BadForm),
+impl FromValue for ValueHint {
+    ghost use Rattle.serde_json.specs.Find.{as_str};
+    ghost use Rattle.cc_tree_file.specs.TreeForm.{◌>>=◌, hint_of};
+
+    ghost form = { λ d. as_str d >>= hint_of };
+
+    fn from_value(_alloc: Global, value: &Value<'_>) -> Result<ValueHint, TreeError> {
+        match cc_json::text(value).ok_or(TreeError::BadForm)? {
+            "Unknown" => Ok(ValueHint::Unknown),
+            "Other" => Ok(ValueHint::Other),
+            "AnyPath" => Ok(ValueHint::AnyPath),
+            "FilePath" => Ok(ValueHint::FilePath),
+            "DirPath" => Ok(ValueHint::DirPath),
+            "ExecutablePath" => Ok(ValueHint::ExecutablePath),
+            "CommandName" => Ok(ValueHint::CommandName),
+            "CommandString" => Ok(ValueHint::CommandString),
+            "CommandWithArguments" => Ok(ValueHint::CommandWithArguments),
+            "Username" => Ok(ValueHint::Username),
+            "Hostname" => Ok(ValueHint::Hostname),
+            "Url" => Ok(ValueHint::Url),
+            "EmailAddress" => Ok(ValueHint::EmailAddress),
+            _ => Err(TreeError::BadForm),
+        }
     }
 }

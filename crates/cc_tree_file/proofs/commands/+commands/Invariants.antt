@@ -8,11 +8,11 @@ use Rattle.cc_tree_file.proofs.commands.+commands.Given as goal
 abbrev pub decreases-command : goal.decreases-command
 decreases-command l = depth (view l.tree.now)
 
-abbrev pub decreases-with_children : goal.decreases-with_children
-decreases-with_children l = depth (view l.value.now)
+abbrev pub decreases-add_children : goal.decreases-add_children
+decreases-add_children l = depth (view l.value.now)
 
 -- with the children that are left it is the whole
-abbrev pub invariant-with_children-loop-item : goal.invariant-with_children-loop-item
-invariant-with_children-loop-item l =
+abbrev pub invariant-add_children-loop-item : goal.invariant-add_children-loop-item
+invariant-add_children-loop-item l =
     option_map (fold with_child l.parent) (each_command (items_view (drop l.item-index l.item-items)))
-    ≡ option_map (fold with_child l.fn.parent) (each_command (items_view l.item-items))
+    ≡ option_map (fold with_child l.initial.parent) (each_command (items_view l.item-items))

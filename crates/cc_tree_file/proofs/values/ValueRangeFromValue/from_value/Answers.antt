@@ -4,7 +4,7 @@ use Rattle.serde_json.specs.Find.{as_array}
 use Rattle.cc_json.specs.Seen.{items_view, view}
 use Rattle.cc_tree_file.specs.TreeForm.{pair_of}
 use Rattle.cc_tree_file.proofs.TreeFormLemmas.{no_pair_above, no_pair_below}
-use Rattle.cc_tree_file.proofs.values.range.Goals as goal
+use Rattle.cc_tree_file.proofs.values.ValueRangeFromValue.from_value.Goals as goal
 
 pub returns-in_default : goal.returns-in_default
 returns-in_default c =
