@@ -5,6 +5,7 @@ pub mod CaseWalk
 pub mod Clashes
 pub mod EachArm
 mod Examples
+pub mod LabelledPath
 pub mod ListedNodes
 pub mod NextSteps
 pub mod PlainArms
@@ -16,7 +17,6 @@ pub mod ReadsCases
 pub mod ReadsDetails
 pub mod Replaced
 pub mod Seen
-pub mod Stack
 pub mod WholeScript
 pub mod WordTexts
 pub mod WordsRead

@@ -1,16 +1,13 @@
--- What the code's nodes, its stack, its cases and its parts of the words stand for.
-use Rattle.std.specs.Prelude.{ℕ, suc, ◌<◌, ◌≤◌, List, [], ◌∷◌, length, map, if◌then◌else◌}
-use Rattle.std.specs.List.{All}
+-- What the code's nodes, its paths, its cases and its parts of the words stand for.
+use Rattle.std.specs.Prelude.{ℕ, ◌-◌, List, [], ◌∷◌, ◌++◌, length, take, slice_get, unwrap_or, if◌then◌else◌}
 use Rattle.cc_arg.specs.declared.parts.ArgParts.{ArgParts as Arg}
 use Rattle.cc_arg.specs.Arguments.{is_positional}
-use Rattle.cc_command.specs.Tree.{Tree}
-use Rattle.cc_flat.specs.Flat.{Entry, tree_at}
+use Rattle.cc_flat.specs.Preorder.{Levelled}
 use Rattle.cc_bash.specs.Arms.{long_words, short_words, value_names}
 use Rattle.cc_bash.specs.CaseTable.{Case}
-use Rattle.cc_bash.specs.Labels.{Labelled, child_label, labelled_node, labelled_under}
+use Rattle.cc_bash.specs.Labels.{Labelled, labelled_node}
 use Rattle.cc_bash.specs.declared.cases.Case.{Case as CaseValue}
 use Rattle.cc_bash.specs.declared.nodes.LabelledNode.{LabelledNode}
-use Rattle.cc_bash.specs.declared.nodes.Pending.{Pending}
 use Rattle.cc_bash.specs.declared.words.Part.{Part}
 use Rattle.cc_bash.specs.declared.words.Part.TheVariants.{Shorts, Longs, Values}
 
@@ -28,29 +25,19 @@ labelled_of node = record {
 abbrev pub case_of : CaseValue → Case
 case_of c = record { from = c.from.now; word = c.word.now; to = c.to.now }
 
--- a node and all below it, below a parent with this label
-abbrev pub labelled_from : List ℕ → ℕ → Tree → List Labelled
-labelled_from parent level tree =
-    labelled_node parent level tree
-    ∷ labelled_under (child_label parent tree.node.name) (suc level) tree.children
+-- the last of these labels, or the root's where there is none
+abbrev pub last_label : List ℕ → List (List ℕ) → List ℕ
+last_label root path = unwrap_or (slice_get path (length path - 1)) root
 
--- the nodes that an item stands for
-abbrev pub labelled_by : List Entry → Pending → List Labelled
-labelled_by flat pending = labelled_from pending.parent pending.level (tree_at flat pending.number)
+-- a node that comes in preorder after one to which a path with these labels, the root's left out,
+-- leads: its own path begins with as many of them as its level tells
+abbrev pub next_labelled : List ℕ → List (List ℕ) → Levelled → Labelled
+next_labelled root path node =
+    labelled_node (last_label root (take (node.level - 2) path)) node.level node.tree
 
--- nodes at this level below a parent with this label, as items
-abbrev pub pending_of : List ℕ → ℕ → List ℕ → List Pending
-pending_of parent level numbers =
-    map (λ number. let p : Pending = record { number = number; level = level; parent = parent } in
-    p) numbers
-
--- the item's number is in the list, and its level is at most one more
-abbrev pub IsListed : List Entry → Pending → Type 0
-IsListed flat pending = (pending.number < length flat) × (pending.level ≤ suc pending.number)
-
--- so are those of each item
-abbrev pub AreListed : List Entry → List Pending → Type 0
-AreListed flat stack = All (IsListed flat) stack
+-- the labels of the path that leads to it
+abbrev pub next_path : List ℕ → List (List ℕ) → Levelled → List (List ℕ)
+next_path root path node = take (node.level - 2) path ++ (next_labelled root path node).label ∷ []
 
 -- an argument's words of a part
 abbrev pub part_words : Part → Arg → List (List ℕ)

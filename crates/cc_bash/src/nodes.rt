@@ -1,18 +1,17 @@
 //! The nodes of a command tree, each with its label.
 
-ghost use Rattle.std.specs.Prelude.{◌≡◌, ◌++◌, ◌∷◌, [], ◌<◌, ◌≤◌, ◌+◌, suc, ℕ, List, length, map};
-ghost use Rattle.std.specs.Prelude.{reverse, codes, encode_utf8, IfOk, OnOk};
+ghost use Rattle.std.specs.Prelude.{◌≡◌, ◌++◌, ◌<◌, length, map, codes, encode_utf8, IfOk, OnOk};
 ghost use Rattle.std.specs.String.{string_bytes};
-ghost use Rattle.cc_flat.specs.Flat.{HasItsChildren, children_at, tree_at};
+ghost use Rattle.cc_flat.specs.Flat.{tree_at};
+ghost use Rattle.cc_flat.specs.Nodes.{levelled_of};
 ghost use Rattle.cc_bash.specs.Labels.{child_label, labelled_node, labelled_under, replaced};
 ghost use Rattle.cc_bash.specs.Labels.{sort_text};
-ghost use Rattle.cc_bash.specs.Nodes.{AreListed, labelled_by, labelled_of, pending_of};
-ghost use Rattle.cc_visits.specs.Stack.{from_stack};
+ghost use Rattle.cc_bash.specs.Nodes.{labelled_of, last_label, next_labelled, next_path};
 
 use cc_base::Text;
 use cc_command::{Command, full_name};
-use cc_flat::Flat;
-use cc_visits::push_reversed;
+use cc_flat::{Flat, LevelledNode};
+use cc_visits::SharedKey;
 use std::alloc::{AllocError, Global};
 
 /// A node below the root, with its label.
@@ -22,24 +21,14 @@ pub(crate) struct LabelledNode<'a> {
     /// How many names its path has, the root's included.
     pub(crate) level: usize,
     /// The label of its parent.
-    pub(crate) parent: Text,
-    pub(crate) label: Text,
+    pub(crate) parent: SharedKey,
+    pub(crate) label: SharedKey,
     /// The text by which its arm is sorted.
     pub(crate) sort_text: Text,
 }
 
-/// A node that is still to be listed, with all below it.
-#[derive(Drop)]
-pub(crate) struct Pending {
-    /// The node's number.
-    number: usize,
-    /// How many names its path has, the root's included.
-    level: usize,
-    /// The label of its parent.
-    parent: Text,
-}
-
 /// The nodes below a root with this label: a node, then each child's whole subtree in turn.
+#[tactic(auto, using(crate::proofs::LabelledPath::labelled_in_preorder))]
 pub(crate) fn labelled_nodes<'a>(
     alloc: Global,
     flat: &Flat<'a>,
@@ -49,53 +38,60 @@ pub(crate) fn labelled_nodes<'a>(
     ensures { IfOk result (λ nodes. map labelled_of nodes.items
         ≡ labelled_under root.now 2 (tree_at flat.now 0).children) }
 {
-    let mut stack = Vec::new(alloc);
-    push_children(&mut stack, alloc, flat, 0, root, 1)?;
-    labelled_pending(alloc, flat, stack)
-}
-
-// The last item first, each with all below it.
-fn labelled_pending<'a>(
-    alloc: Global,
-    flat: &Flat<'a>,
-    mut stack: Vec<Pending>,
-) -> Result<Vec<LabelledNode<'a>>, AllocError>
-    requires listed { AreListed flat.now stack.items }
-    ensures { IfOk result (λ nodes. map labelled_of nodes.items
-        ≡ from_stack (labelled_by flat.now) stack.items) }
-{
+    let root = SharedKey::new(alloc, Text::copy_of(alloc, root)?)?;
+    let mut path = Vec::new(alloc);
     let mut nodes = Vec::new(alloc);
-    while let Some(pending) = stack.pop() {
-        let number = pending.number;
-        let node = labelled_node(alloc, flat.command(number), pending)?;
-        push_children(
-            &mut stack,
-            alloc,
-            flat,
-            number,
-            node.label.as_str(),
-            node.level,
-        )?;
-        nodes.push(node)?;
+    for node in flat.preorder() {
+        nodes.push(next_labelled(alloc, &root, &mut path, node)?)?;
     }
     Ok(nodes)
 }
 
+// The node that comes in preorder after one to which a path with these labels leads, the root's
+// left out. Then the path leads to it.
+fn next_labelled<'a>(
+    alloc: Global,
+    root: &SharedKey,
+    path: &mut Vec<SharedKey>,
+    node: LevelledNode<'a>,
+) -> Result<LabelledNode<'a>, AllocError>
+    ensures node { IfOk result (λ made. labelled_of made
+        ≡ next_labelled root.now path.old.items (levelled_of node.entry)) }
+    ensures path { OnOk result (path.new.items
+        ≡ next_path root.now path.old.items (levelled_of node.entry)) }
+{
+    path.truncate(node.level.saturating_sub(2));
+    let parent = last_label(root, path)?;
+    let node = labelled_node(alloc, node, parent)?;
+    path.push(node.label.share()?)?;
+    Ok(node)
+}
+
+fn last_label(root: &SharedKey, path: &[SharedKey]) -> Result<SharedKey, AllocError>
+    ensures { IfOk result (λ label. label ≡ last_label root.now path.now) }
+{
+    match path.last() {
+        Some(label) => label.share(),
+        None => root.share(),
+    }
+}
+
 fn labelled_node<'a>(
     alloc: Global,
-    command: &'a Command,
-    pending: Pending,
+    node: LevelledNode<'a>,
+    parent: SharedKey,
 ) -> Result<LabelledNode<'a>, AllocError>
-    ensures { IfOk result (λ node. labelled_of node
-        ≡ labelled_node pending.parent pending.level command.now) }
+    ensures { IfOk result (λ made. labelled_of made
+        ≡ labelled_node parent node.entry.level node.entry.command.now) }
 {
-    let label = child_label(alloc, pending.parent.as_str(), command.get_name())?;
+    let command = node.command;
+    let label = child_label(alloc, parent.as_str(), command.get_name())?;
     let sort_text = replaced(alloc, full_name(command), ' ', "__subcmd__")?;
     Ok(LabelledNode {
         command,
-        level: pending.level,
-        parent: pending.parent,
-        label: Text::from(label),
+        level: node.level,
+        parent,
+        label: SharedKey::new(alloc, Text::from(label))?,
         sort_text: Text::from(sort_text),
     })
 }
@@ -142,49 +138,4 @@ fn push_replaced(made: &mut String, c: char, character: char, by: &str) -> Resul
         return made.push_str(by);
     }
     made.push(c)
-}
-
-// Adds the children of a node, so that the first child is the last item.
-fn push_children(
-    stack: &mut Vec<Pending>,
-    alloc: Global,
-    flat: &Flat<'_>,
-    number: usize,
-    label: &str,
-    level: usize,
-) -> Result<(), AllocError>
-    requires number { number < length flat.now }
-    requires level { level ≤ suc number }
-    ensures ok { OnOk result (stack.new.items ≡ stack.old.items
-        ++ reverse (pending_of label.now (suc level) (children_at flat.now number))) }
-    ensures children { OnOk result (HasItsChildren flat.now number) }
-{
-    let children = children_of(alloc, flat, number, label, level)?;
-    push_reversed(stack, children)
-}
-
-fn children_of(
-    alloc: Global,
-    flat: &Flat<'_>,
-    number: usize,
-    label: &str,
-    level: usize,
-) -> Result<Vec<Pending>, AllocError>
-    requires number { number < length flat.now }
-    requires level { level ≤ suc number }
-    ensures ok { IfOk result (λ made. made.items
-        ≡ pending_of label.now (suc level) (children_at flat.now number)) }
-    ensures children { OnOk result (HasItsChildren flat.now number) }
-{
-    let mut made = Vec::new(alloc);
-    let children = flat.children(number);
-    for child in children.start..children.end {
-        let parent = Text::copy_of(alloc, label)?;
-        made.push(Pending {
-            number: child,
-            level: level + 1,
-            parent,
-        })?;
-    }
-    Ok(made)
 }

@@ -3,8 +3,9 @@ use Rattle.std.proofs.Common.{◌≡◌, ℕ, zero, suc, ◌+◌, ◌-◌, ◌<�
 use Rattle.std.specs.List.{range_with_len}
 use Rattle.std.specs.Option.{option_and_then}
 use Rattle.cc_flat.specs.Flat.{Entry, HasItsChildren, IsChildAt, IsFlat, children_at, entry_at, numbers_between, tree_at}
-use Rattle.cc_flat.specs.Places.{children_end, later_nodes, nodes_after, nodes_from, parent_at, path_start, preorder_at}
+use Rattle.cc_flat.specs.Places.{BeginsAt, children_end, later_nodes, nodes_after, nodes_from, path_start, preorder_at}
 use Rattle.cc_flat.specs.Preorder.{Levelled, preorder}
+use Rattle.cc_flat.specs.declared.preorder.Place.{Place}
 use Rattle.cc_flat.proofs.Numbers.{HasParentOrNone, HasParentOrNone-at, numbers_between_first}
 
 -- a path has at most one name more than the number of its node
@@ -24,115 +25,93 @@ level_low flat is_flat (suc (suc level)) number inside starts =
     below (Some parent) is starts low =
         omega (arith, low parent (omega (arith, is.1.0)) starts, is.1.0)
 
-module _ (flat : List Entry) (number parent : ℕ)
-    (is : (entry_at flat number).parent ≡ Some parent) where
-  parent_is : parent_at flat number ≡ parent
-  parent_is = ap (λ p. unwrap_or p 0) is
+abbrev place_at : ℕ → ℕ → Place
+place_at level number = record { number = number; level = level }
 
-  -- the path of a node with a parent has two names at least
-  has_parent : (level : ℕ) → parent < number → path_start flat level number ≡ Some 0 →
-      (above : ℕ) × (level ≡ suc (suc above))
-  has_parent zero before starts = cc
-  has_parent (suc zero) before starts =
-      absurd (omega (arith, before, ap (λ n. unwrap_or n 0) starts))
-  has_parent (suc (suc level)) before starts = (level, refl)
-
-  -- the path of its parent has one name less
-  path_above : (level : ℕ) → path_start flat (suc (suc level)) number ≡ path_start flat (suc level) parent
-  path_above level = ap (option_and_then (path_start flat (suc level))) is
-
-  -- what comes after siblings is what comes after their parent
-  siblings_from : (level end : ℕ) → end ≡ children_end flat parent → number < end →
-      preorder_at flat (suc (suc level)) (numbers_between number end)
-      ++ later_nodes flat (suc level) parent
-      ≡ nodes_from flat (suc (suc level)) number
-  siblings_from level end last low =
-      let node : Levelled = record { level = suc (suc level); tree = tree_at flat number } in
-      let below : List Levelled = preorder (suc (suc (suc level))) (tree_at flat number).children in
-      let later : ℕ → ℕ → List Levelled = λ end parent.
-      preorder_at flat (suc (suc level)) (numbers_between (number + 1) end)
-      ++ later_nodes flat (suc level) parent in
-      ap (λ numbers. preorder_at flat (suc (suc level)) numbers
-      ++ later_nodes flat (suc level) parent) (numbers_between_first number end low) ∙
-      ap (λ t. node ∷ t)
-      (append_assoc below (preorder_at flat (suc (suc level)) (numbers_between (number + 1) end))
-      (later_nodes flat (suc level) parent) ∙
-      ap (λ t. below ++ t) (ap (λ e. later e parent) last ∙
-      ap (λ p. later (children_end flat p) p) (sym parent_is)))
-
-  -- after the last sibling comes what comes after the parent
-  pub later_above : (level up : ℕ) → up ≡ level - 1 → parent < number →
-      children_end flat parent ≤ number + 1 → path_start flat level number ≡ Some 0 →
-      (path_start flat up parent ≡ Some 0)
-      × (later_nodes flat up parent ≡ later_nodes flat level number)
-  later_above level up up_is before last starts =
-      let above : ℕ = (has_parent level before starts).0 in
-      let is_level : level ≡ suc (suc above) = (has_parent level before starts).1 in
-      let is_up : up ≡ suc above = omega (arith, up_is, is_level) in
-      let none_left : children_end flat parent - (number + 1) ≡ 0 = omega (arith, last) in
-      let later : ℕ → ℕ → List Levelled = λ count parent.
-      preorder_at flat (suc (suc above)) (range_with_len (number + 1) count)
-      ++ later_nodes flat (suc above) parent in
-      (
-        ap (λ l. path_start flat l parent) is_up ∙ sym (path_above above) ∙
-        ap (λ l. path_start flat l number) (sym is_level) ∙ starts,
-        ap (λ l. later_nodes flat l parent) is_up ∙ ap (λ n. later n parent) (sym none_left) ∙
-        ap (λ p. later (children_end flat p - (number + 1)) p) (sym parent_is) ∙
-        ap (λ l. later_nodes flat l number) (sym is_level),
-      )
-
--- after a sibling that is not the last comes the next one
-pub later_sibling : (flat : List Entry) (level number parent next : ℕ) →
-    (entry_at flat number).parent ≡ Some parent → next ≡ number + 1 → parent < number →
-    HasItsChildren flat parent → IsChildAt flat parent number → next < children_end flat parent →
-    path_start flat level number ≡ Some 0 →
-    (path_start flat level next ≡ Some 0)
-    × (later_nodes flat level number ≡ nodes_from flat level next)
-later_sibling flat level number parent next is next_is before its child low starts =
-    let above : ℕ = (has_parent flat number parent is level before starts).0 in
-    let is_level : level ≡ suc (suc above) =
-    (has_parent flat number parent is level before starts).1 in
-    let next_parent : (entry_at flat next).parent ≡ Some parent =
-    its.parent next (record { low = omega (arith, child.low, next_is); high = low }) in
-    let later : ℕ → ℕ → List Levelled = λ next parent.
-    preorder_at flat (suc (suc above)) (numbers_between next (children_end flat parent))
-    ++ later_nodes flat (suc above) parent in
-    (
-      ap (λ l. path_start flat l next) is_level ∙ path_above flat next parent next_parent above ∙
-      sym (path_above flat number parent is above) ∙
-      ap (λ l. path_start flat l number) (sym is_level) ∙ starts,
-      ap (λ l. later_nodes flat l number) is_level ∙
-      ap (λ p. later (number + 1) p) (parent_is flat number parent is) ∙
-      ap (λ n. later n parent) (sym next_is) ∙
-      siblings_from flat next parent next_parent above (children_end flat parent) refl low ∙
-      ap (λ l. nodes_from flat l next) (sym is_level),
-    )
+-- siblings from one of them on, then what comes after their parent
+siblings_from : (flat : List Entry) (level number parent end : ℕ) →
+    (entry_at flat number).parent ≡ Some parent → end ≡ children_end flat parent → number < end →
+    preorder_at flat (suc (suc level)) (numbers_between number end)
+    ++ later_nodes flat (suc level) parent ≡ nodes_from flat (suc (suc level)) number
+siblings_from flat level number parent end is last low =
+    let siblings : List ℕ → List Levelled = preorder_at flat (suc (suc level)) in
+    let after : List Levelled = later_nodes flat (suc level) parent in
+    let node : Levelled = record { level = suc (suc level); tree = tree_at flat number } in
+    let below : List Levelled = preorder (suc (suc (suc level))) (tree_at flat number).children in
+    ap (λ numbers. siblings numbers ++ after) (numbers_between_first number end low)
+    ∙ append_assoc (node ∷ below) (siblings (numbers_between (number + 1) end)) after
+    ∙ ap (λ t. node ∷ (below ++ t))
+    (ap (λ e. siblings (numbers_between (number + 1) e) ++ after) last
+    ∙ ap (λ p. siblings (numbers_between (number + 1) (children_end flat p))
+    ++ later_nodes flat (suc level) p) (sym (ap (λ p. unwrap_or p 0) is)))
 
 -- the first child comes after a node
-pub first_child : (flat : List Entry) (level below number next : ℕ) → below ≡ level + 1 →
-    HasItsChildren flat number → next ≡ (entry_at flat number).first_child →
-    next < children_end flat number → path_start flat level number ≡ Some 0 →
-    (path_start flat below next ≡ Some 0)
-    × (nodes_after flat level number ≡ nodes_from flat below next)
-first_child flat zero below number next below_is its first low starts = cc
-first_child flat (suc level) below number next below_is its first low starts =
-    let parent : (entry_at flat next).parent ≡ Some number =
-    its.parent next (record { low = omega (arith, first); high = low }) in
+pub first_child : (flat : List Entry) (level below number start end : ℕ) → below ≡ level + 1 →
+    HasItsChildren flat number → start ≡ (entry_at flat number).first_child →
+    end ≡ start + (entry_at flat number).child_count →
+    numbers_between start end ≡ children_at flat number → start < end →
+    path_start flat level number ≡ Some 0 →
+    BeginsAt flat (nodes_after flat level number) (Some (place_at below start))
+first_child flat zero below number start end below_is its first last numbers low starts = cc
+first_child flat (suc level) below number start end below_is its first last numbers low starts =
     let is_below : below ≡ suc (suc level) = omega (arith, below_is) in
-    let children : children_at flat number ≡ numbers_between next (children_end flat number) =
-    (let count : (entry_at flat number).child_count ≡ children_end flat number - next =
-    omega (arith, first) in
-    ap (λ n. range_with_len n (entry_at flat number).child_count) (sym first) ∙
-    ap (range_with_len next) count) in
-    let from : List ℕ → List Levelled = λ numbers.
-    preorder_at flat (suc (suc level)) numbers ++ later_nodes flat (suc level) number in
-    (
-      ap (λ l. path_start flat l next) is_below ∙ path_above flat next number parent level ∙ starts,
-      ap (λ f. preorder (suc (suc level)) f ++ later_nodes flat (suc level) number)
-      (sym its.forest) ∙ ap from children ∙
-      siblings_from flat next number parent level (children_end flat number) refl low ∙
-      ap (λ l. nodes_from flat l next) (sym is_below),
+    let parent : (entry_at flat start).parent ≡ Some number =
+    its.parent start (record { low = omega (arith, first); high = omega (arith, first, last) }) in (
+      record {
+        listed = omega (arith, first, last, low, its.within);
+        level =
+            ap (λ l. path_start flat l start) is_below
+            ∙ ap (option_and_then (path_start flat (suc level))) parent ∙ starts;
+      },
+      ap (λ forest. preorder (suc (suc level)) forest ++ later_nodes flat (suc level) number)
+          (sym its.forest)
+          ∙ ap (λ n. preorder_at flat (suc (suc level)) n ++ later_nodes flat (suc level) number)
+          (sym numbers)
+          ∙ siblings_from flat level start number end parent (omega (arith, first, last)) low
+          ∙ ap (λ l. nodes_from flat l start) (sym is_below),
     )
+
+module _ (flat : List Entry) (number parent : ℕ)
+    (is : (entry_at flat number).parent ≡ Some parent) (before : parent < number) where
+  -- after a sibling that is not the last comes the next one
+  pub later_sibling : (level : ℕ) → HasItsChildren flat parent → IsChildAt flat parent number →
+      number + 1 < children_end flat parent → path_start flat level number ≡ Some 0 →
+      BeginsAt flat (later_nodes flat level number) (Some (place_at level (number + 1)))
+  later_sibling zero its child low starts = cc
+  later_sibling (suc zero) its child low starts =
+      absurd (omega (arith, before, ap (λ n. unwrap_or n 0) starts))
+  later_sibling (suc (suc level)) its child low starts =
+      let next : (entry_at flat (number + 1)).parent ≡ Some parent =
+      its.parent (number + 1) (record { low = omega (arith, child.low); high = low }) in (
+        record {
+          listed = omega (arith, low, its.within);
+          level = ap (option_and_then (path_start flat (suc level))) (next ∙ sym is) ∙ starts;
+        },
+        ap (λ p. preorder_at flat (suc (suc level))
+            (numbers_between (number + 1) (children_end flat p)) ++ later_nodes flat (suc level) p)
+            (ap (λ p. unwrap_or p 0) is)
+            ∙ siblings_from flat level (number + 1) parent (children_end flat parent) next refl low,
+      )
+
+  -- after the last sibling comes what comes after the parent
+  pub later_above : (level up : ℕ) → up ≡ level - 1 → children_end flat parent ≤ number + 1 →
+      path_start flat level number ≡ Some 0 →
+      (path_start flat up parent ≡ Some 0)
+      × (later_nodes flat up parent ≡ later_nodes flat level number)
+  later_above zero up up_is last starts = cc
+  later_above (suc zero) up up_is last starts =
+      absurd (omega (arith, before, ap (λ n. unwrap_or n 0) starts))
+  later_above (suc (suc level)) up up_is last starts =
+      let is_up : up ≡ suc level = omega (arith, up_is) in
+      let none_left : 0 ≡ children_end flat parent - (number + 1) = omega (arith, last) in
+      let later : ℕ → ℕ → List Levelled = λ count p.
+      preorder_at flat (suc (suc level)) (range_with_len (number + 1) count)
+      ++ later_nodes flat (suc level) p in (
+        ap (λ l. path_start flat l parent) is_up
+            ∙ sym (ap (option_and_then (path_start flat (suc level))) is) ∙ starts,
+        ap (λ l. later_nodes flat l parent) is_up ∙ ap (λ n. later n parent) none_left
+            ∙ sym (ap (λ p. later (children_end flat p - (number + 1)) p) (ap (λ p. unwrap_or p 0) is)),
+      )
 
 -- nothing comes after the root and all below it
 pub none_later : (flat : List Entry) (level number : ℕ) → (entry_at flat number).parent ≡ None →

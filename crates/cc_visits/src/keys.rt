@@ -68,7 +68,7 @@ pub(crate) fn push_keys_below<K: Keys>(
 ///
 /// A clause sees its bytes.
 #[derive(Drop)]
-pub(crate) struct SharedKey {
+pub struct SharedKey {
     text: Rc<Text>,
 }
 
@@ -82,11 +82,11 @@ impl Model for SharedKey {
 }
 
 impl SharedKey {
-    /// A copy of a key, to be shared. Fails where memory runs out.
-    pub fn copy_of(alloc: Global, key: &Text) -> Result<SharedKey, AllocError>
-        ensures { IfOk result (λ copy. copy ≡ key.now) }
+    /// A key with this text, which is not copied. Fails where memory runs out.
+    pub fn new(alloc: Global, text: Text) -> Result<SharedKey, AllocError>
+        ensures { IfOk result (λ key. key ≡ text) }
     {
-        let text = Rc::new(alloc, key.try_clone(alloc)?)?;
+        let text = Rc::new(alloc, text)?;
         Ok(SharedKey { text })
     }
 

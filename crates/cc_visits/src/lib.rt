@@ -7,8 +7,7 @@ mod stack;
 mod table_visits;
 mod visit;
 
-pub use crate::keys::{Joined, Keys};
+pub use crate::keys::{Joined, Keys, SharedKey};
 pub use crate::path_steps::{PathStep, PathSteps};
-pub use crate::stack::push_reversed;
 pub use crate::table_visits::TableVisits;
 pub use crate::visit::Visit;

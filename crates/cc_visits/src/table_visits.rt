@@ -176,7 +176,7 @@ fn shared_keys(alloc: Global, keys: &[Text]) -> Result<Vec<SharedKey>, AllocErro
 {
     let mut shared = Vec::with_capacity(alloc, keys.len())?;
     for key in keys {
-        shared.push(SharedKey::copy_of(alloc, key)?)?;
+        shared.push(SharedKey::new(alloc, key.try_clone(alloc)?)?)?;
     }
     Ok(shared)
 }

@@ -1,5 +1,4 @@
-use Rattle.std.proofs.Common.{◌+◌, ◌<◌, arith}
-use Rattle.cc_flat.specs.Places.{children_end}
+use Rattle.std.proofs.Common.{◌+◌, arith}
 use Rattle.cc_flat.proofs.Places.{first_child, level_low}
 use Rattle.cc_flat.proofs.preorder.next_place.Goals as goal
 
@@ -13,10 +12,7 @@ overflow_add-result c =
 pub returns-then-children : goal.returns-then-children
 returns-then-children c =
     let children = c.children-children.ensures in
-    let low : c.children-children.result.start
-    < children_end c.args.flat.now c.args.place.number =
-    omega (arith, c.if-children.true, children.first, children.end) in
-    let next = first_child c.args.flat.now c.args.place.level (c.args.place.level + 1)
-    c.args.place.number c.children-children.result.start (omega arith) children.children
-    children.first low c.requires.level in
-    (record { listed = omega (arith, low, children.children.within); level = next.0 }, next.1)
+    first_child c.args.flat.now c.args.place.level (c.args.place.level + 1) c.args.place.number
+    c.children-children.result.start c.children-children.result.end (omega arith)
+    children.children children.first children.end children.numbers c.if-children.true
+    c.requires.level
