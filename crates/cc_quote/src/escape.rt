@@ -53,6 +53,7 @@ pub trait ByteEscape {
 impl<E: ByteEscape> Escape for E {
     ghost escaped = { λ escape text. escaped_by (E.escapes escape) (E.replacement escape) text };
 
+    #[inline(always)]
     fn split<'a>(&self, text: &'a str) -> Option<(&'a str, &'static str, &'a str)> {
         let bytes = text.as_bytes();
         let at = self.find(bytes)?;
