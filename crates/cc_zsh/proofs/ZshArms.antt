@@ -19,7 +19,7 @@ use Rattle.cc_zsh.specs.Nested.{block_text, case_text, case_state, set_words, se
 use Rattle.cc_zsh.specs.ZshReader.{Block, Path, State, arm_word, is_line, next, next_arm, read, text_after}
 use Rattle.cc_zsh.specs.ZshReader.State.{after_block, after_nested, at_arms, at_block, between_arms, after_arms, malformed}
 use Rattle.cc_zsh.proofs.ZshLastBytes.{before-last}
-use Rattle.cc_zsh.proofs.ZshLines.{reading}
+use Rattle.cc_zsh.proofs.ZshLines.{reading, in_parts}
 use Rattle.cc_zsh.proofs.ZshNames.{name_other, plain_name_bytes}
 use Rattle.cc_zsh.proofs.ZshBlock.{context_bytes, IsReadable, block_with, arm_block_read}
 use Rattle.cc_zsh.proofs.ZshNumbers.{decimal_other}
@@ -29,11 +29,6 @@ abbrev pub block_at : Keyed Path → Block
 block_at visit = block_with visit.key visit.above visit.tree
 
 -- ---- the frame of the arms
-
-regroup_frame : (a b c d e f g h i j k rest : List ℕ) →
-    ((((((((((a ++ b) ++ c) ++ d) ++ e) ++ f) ++ g) ++ h) ++ i) ++ j) ++ k) ++ rest
-    ≡ a ++ (b ++ (c ++ (d ++ (e ++ (f ++ (g ++ (h ++ (i ++ (j ++ (k ++ rest))))))))))
-regroup_frame a b c d e f g h i j k rest = simp append_assoc
 
 frame_read : (node : Node) (outer : List Path) (blocks : List Block) (path : Path)
     (rest : List ℕ) → IsOther node.name → IsOther (context_text node) →
@@ -48,8 +43,8 @@ frame_read node outer blocks path rest name context =
     let r3 : List ℕ = context_text node ++ (context_command ++ r4) in
     let r2 : List ℕ = place ++ (set_context ++ r3) in
     ap (reading (after_block outer blocks path) between)
-    (regroup_frame case_state node.name set_words place set_context (context_text node) context_command place
-    case_line place case_line_in rest)
+    (in_parts case_state (node.name ∷ set_words ∷ place ∷ set_context ∷ context_text node
+    ∷ context_command ∷ place ∷ case_line ∷ place ∷ case_line_in ∷ []) rest)
     ∙ ap (read (at_arms outer blocks path))
     (bare_run node.name (set_words ++ r2) [] (codes "(") name)
     ∙ ap (read (at_arms outer blocks path))
@@ -136,9 +131,6 @@ Reads above forest = (outer : List Path) (blocks : List Block) (path : Path) (re
     ≡ reading (between_arms outer (blocks ++ map block_at (paths_below longer_path path above forest)) path)
     between rest
 
-regroup_nested : (b a e rest : List ℕ) → ((b ++ a) ++ e) ++ rest ≡ b ++ (a ++ (e ++ rest))
-regroup_nested b a e rest = simp append_assoc
-
 -- the text that stands in an arm after its block
 nested_read : (node : Node) (below : Forest) → IsOther node.name → IsOther (context_text node) →
     Reads node below → (up : Path) (outer : List Path) (blocks : List Block) (path : Path)
@@ -157,7 +149,7 @@ nested_read node (more child under later) name context reads up outer blocks pat
     (paths_below longer_path path node (more child under later)) in
     line_feed_first (up ∷ outer) blocks path (((nested_begins node ++ arms) ++ nested_ends) ++ (arm_ends ++ rest))
     ∙ ap (reading (after_block (up ∷ outer) blocks path) between)
-    (regroup_nested (nested_begins node) arms nested_ends (arm_ends ++ rest))
+    (in_parts (nested_begins node) (arms ∷ nested_ends ∷ []) (arm_ends ++ rest))
     ∙ frame_read node (up ∷ outer) blocks path (arms ++ (nested_ends ++ (arm_ends ++ rest))) name context
     ∙ reads (up ∷ outer) blocks path (nested_ends ++ (arm_ends ++ rest))
     ∙ frame_ends (up ∷ outer) more_blocks path (arm_ends ++ rest) (ends_line rest)
@@ -167,10 +159,6 @@ nested_is_line : (node : Node) (below : Forest) (arms rest : List ℕ) →
     IsLine (nested_line node below arms ++ (arm_ends ++ rest))
 nested_is_line node none arms rest = ends_line rest
 nested_is_line node (more child under later) arms rest = line _
-
-regroup_arm : (a b c d e f rest : List ℕ) →
-    (((((a ++ b) ++ c) ++ d) ++ e) ++ f) ++ rest ≡ a ++ (b ++ (c ++ (d ++ (e ++ (f ++ rest)))))
-regroup_arm a b c d e f rest = simp append_assoc
 
 module _ (above node : Node) (below : Forest)
     (is : IsReadable above (record { node = node; children = below })) (reads : Reads node below) where
@@ -199,7 +187,7 @@ module _ (above node : Node) (below : Forest)
       let inside : Path = longer_path path word in
       let after : List ℕ = nested ++ (arm_ends ++ rest) in
       ap (reading (between_arms outer blocks path) between)
-      (regroup_arm (codes "(") word (codes ")\n") (block_text above tree) nested arm_ends rest)
+      (in_parts (codes "(") (word ∷ codes ")\n" ∷ block_text above tree ∷ nested ∷ arm_ends ∷ []) rest)
       ∙ word_read outer blocks path word (block_text above tree ++ after)
       (name_other word (plain_name_bytes word plain))
       ∙ arm_block_read inside above tree (path ∷ outer) blocks after is
@@ -262,7 +250,7 @@ root_nested_read node none name context h blocks path rest l e = absurd (let k :
 root_nested_read node (more child under later) name context h blocks path rest l e =
     let arms : List ℕ = arms_text node (more child under later) in
     ap (reading (after_block [] blocks path) between)
-    (regroup_nested (nested_begins node) arms nested_ends rest)
+    (in_parts (nested_begins node) (arms ∷ nested_ends ∷ []) rest)
     ∙ frame_read node [] blocks path (arms ++ (nested_ends ++ rest)) name context
     ∙ arms_read node (more child under later) h [] blocks path (nested_ends ++ rest)
     ∙ frame_ends [] (blocks ++ map block_at (paths_below longer_path path node (more child under later)))

@@ -20,7 +20,7 @@ use Rattle.cc_zsh.specs.ZshReader.{Block, Path, ZshOption, first_named, is_name_
 use Rattle.cc_zsh.specs.ZshReader.State.{after_block, at_block, at_ret, before_blocks, in_block}
 use Rattle.cc_zsh.specs.ZshTable.{node_rows}
 use Rattle.cc_zsh.proofs.ZshOptionWords.{AreNameBytes, colon_none, star_none, not_space}
-use Rattle.cc_zsh.proofs.ZshLines.{reading, with_options, first_named-none}
+use Rattle.cc_zsh.proofs.ZshLines.{reading, with_options, first_named-none, in_parts}
 use Rattle.cc_zsh.proofs.ZshNames.{name_other, plain_name_bytes}
 use Rattle.cc_zsh.proofs.ZshOptionLines.{node_adds}
 use Rattle.cc_zsh.proofs.ZshPositionals.{positionals_add}
@@ -103,10 +103,6 @@ second_word name outer blocks block =
     refl (star_none [] ((codes ":: :->" ++ name) ++ [])) refl
     ∙ ap (λ f. in_block outer blocks (with_function block f)) (first_named-none block.function)
 
-regroup_children : (a b c d e rest : List ℕ) →
-    ((((a ++ b) ++ c) ++ d) ++ e) ++ rest ≡ a ++ (b ++ (c ++ (d ++ (e ++ rest))))
-regroup_children a b c d e rest = simp append_assoc
-
 -- the words of the children name their function
 children_read : (node : Node) (outer : List Path) (blocks : List Block) (block : Block)
     (rest : List ℕ) → AreNameBytes (function_label (full_name node)) → AreNameBytes node.name →
@@ -119,7 +115,7 @@ children_read node outer blocks block rest label name =
     let named : Block = with_function block (first_named block.function (Some (95 ∷ function))) in
     let after : List ℕ = node.name ++ (state_ends ++ rest) in
     ap (reading (in_block outer blocks block) between)
-    (regroup_children command_begins function state_begins node.name state_ends rest)
+    (in_parts command_begins (function ∷ state_begins ∷ node.name ∷ state_ends ∷ []) rest)
     ∙ ap (read (in_block outer blocks block))
     (double_run function (state_begins ++ after) [] (codes ":: :_")
     (IsKept-IsOther function (name_other function label)))

@@ -21,7 +21,7 @@ use Rattle.cc_zsh.specs.ZshTable.{description_of, entry_row}
 use Rattle.cc_zsh.proofs.ZshCutting.{Escapes, escapes_append, escapes_same, NoQuote, quoted_token, single_cut, single_run, token_quoted, not_word, word_of-quoted}
 use Rattle.cc_zsh.proofs.ZshOptionWords.{AreNameBytes}
 use Rattle.cc_zsh.proofs.ZshLastBytes.{before-last, before-other}
-use Rattle.cc_zsh.proofs.ZshLines.{reading}
+use Rattle.cc_zsh.proofs.ZshLines.{in_parts, reading}
 use Rattle.cc_zsh.proofs.ZshNames.{name_other, name_no_quote}
 
 -- ---- one description
@@ -204,11 +204,6 @@ begins blocks ds label =
     ])) (before-last 41 (label ++ codes "(") refl)
     ∙ ap (by_name blocks ds) (before-last 40 label refl)
 
-regroup_function : (a b c d e f g h i rest : List ℕ) →
-    ((((((((a ++ b) ++ c) ++ d) ++ e) ++ f) ++ g) ++ h) ++ i) ++ rest
-    ≡ a ++ (b ++ (c ++ (d ++ (e ++ (f ++ (g ++ (h ++ (i ++ rest))))))))
-regroup_function a b c d e f g h i rest = simp append_assoc
-
 module _ (blocks : List Block) (ds : List Description) where
   -- up to the second label
   first_read : (label rest : List ℕ) → AreNameBytes label →
@@ -250,8 +245,8 @@ function_read blocks ds function rest is =
     let named : List ℕ = function.name ++ (describe_ends ++ rest) in
     let listed : List ℕ = entries_text function.entries ++ (describe_begins ++ named) in
     ap (reading (between_functions blocks ds) between)
-    (regroup_function unless_defined label function_begins label commands_begin (entries_text function.entries)
-    describe_begins function.name describe_ends rest)
+    (in_parts unless_defined (label ∷ function_begins ∷ label ∷ commands_begin
+    ∷ entries_text function.entries ∷ describe_begins ∷ function.name ∷ describe_ends ∷ []) rest)
     ∙ first_read blocks ds label (label ++ (commands_begin ++ listed)) is.label
     ∙ second_read blocks ds label listed is.label
     ∙ list_read blocks ds (95 ∷ label) function.entries named is.words

@@ -23,7 +23,7 @@ pub record IsDashed (text : List ℕ) : Type 0 where
   pub starts : StartsDashed text
   pub typed : IsTrue (is_typed_name text)
 
-not_close : (byte : ℕ) → is_name_byte byte ≡ true → byte == 41 ≡ false
+pub not_close : (byte : ℕ) → is_name_byte byte ≡ true → byte == 41 ≡ false
 unfolding is_name_byte
 not_close byte h = grind (arith, nat_tests)
 

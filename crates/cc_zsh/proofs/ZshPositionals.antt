@@ -18,7 +18,7 @@ use Rattle.cc_zsh.specs.Values.{value_text}
 use Rattle.cc_zsh.specs.ZshReader.{option_of}
 use Rattle.cc_zsh.proofs.ZshCutting.{Escapes, escapes_append, escapes_same, IsEscaped, escaped_append, escaped_same, escaped_of}
 use Rattle.cc_zsh.proofs.ZshOptionWords.{colon_none, star_none}
-use Rattle.cc_zsh.proofs.ZshLines.{Adds, adds_nothing, line_adds}
+use Rattle.cc_zsh.proofs.ZshLines.{Adds, adds_nothing, in_parts, line_adds}
 use Rattle.cc_zsh.proofs.ZshValues.{no_quote, escaped_value_text}
 
 same_byte : (byte : ℕ) →
@@ -88,7 +88,7 @@ from_rest None rest h = record {
 from_rest (Some terminator) rest h = record {
   word = codes "*" ++ (marked is_value_marked terminator ++ (codes ":" ++ h.word));
   escapes = subst (λ t. Escapes t (codes "*" ++ (marked is_value_marked terminator ++ (codes ":" ++ h.word))))
-      (sym (regroup (codes "*") (zsh_escaped_value terminator) (codes ":") rest))
+      (sym (in_parts (codes "*") (zsh_escaped_value terminator ∷ codes ":" ∷ []) rest))
       (escapes_append (codes "*") (zsh_escaped_value terminator ++ (codes ":" ++ rest)) (codes "*")
       (marked is_value_marked terminator ++ (codes ":" ++ h.word)) star_escapes
       (escapes_append (zsh_escaped_value terminator) (codes ":" ++ rest)
@@ -96,9 +96,6 @@ from_rest (Some terminator) rest h = record {
       (escapes_append (codes ":") rest (codes ":") h.word colon_escapes h.escapes)));
   none = star_none terminator h.word;
 }
-  where
-    regroup : (a b c d : List ℕ) → ((a ++ b) ++ c) ++ d ≡ a ++ (b ++ (c ++ d))
-    regroup a b c d = simp append_assoc
 
 counted : (has_children : Bool) (argument : Arg) (rest : List ℕ) → IsEscaped rest →
     IsNone (count_text has_children argument ++ (codes ":" ++ rest))

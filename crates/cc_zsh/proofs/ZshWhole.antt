@@ -20,8 +20,8 @@ use Rattle.cc_zsh.specs.ZshReader.{Block, Description, State, ended, function_na
 use Rattle.cc_zsh.specs.ZshReader.State.{after_block, after_nested, before_blocks, between_functions, in_block}
 use Rattle.cc_zsh.specs.ZshScript.{compdef_begins, autoloads, body_begins, begin_text, body_ends, if_called, then_call, else_define, if_ends, end_text, functions_text, script_text, zsh_script}
 use Rattle.cc_zsh.specs.ZshTable.{description_of}
-use Rattle.cc_zsh.proofs.ZshOptionWords.{AreNameBytes}
-use Rattle.cc_zsh.proofs.ZshLines.{reading}
+use Rattle.cc_zsh.proofs.ZshOptionWords.{AreNameBytes, not_close}
+use Rattle.cc_zsh.proofs.ZshLines.{reading, in_parts}
 use Rattle.cc_zsh.proofs.ZshNames.{name_other, plain_name_bytes}
 use Rattle.cc_zsh.proofs.ZshBlock.{IsReadable, block_with, context_bytes, root_block_read}
 use Rattle.cc_zsh.proofs.ZshArms.{AreReadable, block_at, root_nested_read}
@@ -67,18 +67,18 @@ first_word first rest e = ap (λ b. b && bytes_eq rest (codes "arguments")) e
 named_word : (bin : List ℕ) → bytes_eq ((codes "_" ++ bin) ++ codes "()") (codes "_arguments") ≡ false
 named_word bin = with_bracket bin (codes ")") (codes "arguments") refl
 
-regroup_begin : (a b c d e rest : List ℕ) →
-    ((((a ++ b) ++ c) ++ d) ++ e) ++ rest ≡ a ++ (b ++ (c ++ (d ++ (e ++ rest))))
-regroup_begin a b c d e rest = simp append_assoc
-
-begin_tail : (rest : List ℕ) →
-    reading before_blocks between (codes " {\n" ++ (codes "    typeset -A opt_args\n"
+-- what follows the name of the function, up to the blocks
+abbrev after_function_name : List ℕ → List ℕ
+after_function_name rest =
+    codes " {\n" ++ (codes "    typeset -A opt_args\n"
     ++ (codes "    typeset -a _arguments_options\n" ++ (codes "    local ret=1\n" ++ (codes "\n"
     ++ (codes "    if is-at-least 5.2; then\n" ++ (codes "        _arguments_options=(-s -S -C)\n"
     ++ (codes "    else\n" ++ (codes "        _arguments_options=(-s -C)\n" ++ (codes "    fi\n"
     ++ (codes "\n" ++ (codes "    local context curcontext=\"$curcontext\" state line\n"
-    ++ (codes "    " ++ rest)))))))))))))
-    ≡ reading before_blocks between rest
+    ++ (codes "    " ++ rest))))))))))))
+
+begin_tail : (rest : List ℕ) →
+    reading before_blocks between (after_function_name rest) ≡ reading before_blocks between rest
 unfolding sign byte_of cut is_word next read
 begin_tail rest = refl
 
@@ -92,20 +92,9 @@ first_read first rest named e =
 
 second_read : (bin rest : List ℕ) →
     read before_blocks (tokens_from (in_bare [] (codes "_" ++ bin)) (body_begins ++ rest))
-    ≡ reading before_blocks between (codes " {\n" ++ (codes "    typeset -A opt_args\n"
-    ++ (codes "    typeset -a _arguments_options\n" ++ (codes "    local ret=1\n" ++ (codes "\n"
-    ++ (codes "    if is-at-least 5.2; then\n" ++ (codes "        _arguments_options=(-s -S -C)\n"
-    ++ (codes "    else\n" ++ (codes "        _arguments_options=(-s -C)\n" ++ (codes "    fi\n"
-    ++ (codes "\n" ++ (codes "    local context curcontext=\"$curcontext\" state line\n"
-    ++ (codes "    " ++ rest)))))))))))))
+    ≡ reading before_blocks between (after_function_name rest)
 unfolding body_begins sign byte_of cut is_word next read
-second_read bin rest = ap (λ s. read s (tokens_from between (codes " {\n"
-    ++ (codes "    typeset -A opt_args\n"
-    ++ (codes "    typeset -a _arguments_options\n" ++ (codes "    local ret=1\n" ++ (codes "\n"
-    ++ (codes "    if is-at-least 5.2; then\n" ++ (codes "        _arguments_options=(-s -S -C)\n"
-    ++ (codes "    else\n" ++ (codes "        _arguments_options=(-s -C)\n" ++ (codes "    fi\n"
-    ++ (codes "\n" ++ (codes "    local context curcontext=\"$curcontext\" state line\n"
-    ++ (codes "    " ++ rest)))))))))))))))
+second_read bin rest = ap (λ s. read s (tokens_from between (after_function_name rest)))
     (other_word (((codes "_" ++ bin) ++ codes "(") ++ codes ")") (named_tokens bin))
   where
     named_tokens : (bin : List ℕ) → bytes_eq (((codes "_" ++ bin) ++ codes "(") ++ codes ")") (codes "_arguments") ≡ false
@@ -117,7 +106,7 @@ unfolding begin_text compdef_begins autoloads body_begins sign byte_of cut is_wo
 begin_read bin rest is =
     let all : List ℕ = is.first ∷ is.rest in
     let named : List ℕ = bin ++ (body_begins ++ rest) in
-    ap (reading before_blocks between) (regroup_begin compdef_begins bin autoloads bin body_begins rest)
+    ap (reading before_blocks between) (in_parts compdef_begins (bin ∷ autoloads ∷ bin ∷ body_begins ∷ []) rest)
     ∙ ap (λ t. reading before_blocks between (compdef_begins ++ (t ++ (autoloads ++ named)))) is.whole
     ∙ ap (read before_blocks) (bare_word all (autoloads ++ named) (name_other all is.bytes))
     ∙ first_read is.first is.rest named is.no_underscore
@@ -136,22 +125,13 @@ lacks_bracket last (byte ∷ []) (h, hs) = ap (λ b. cond b (Some []) None) h
 lacks_bracket last (byte ∷ next ∷ text) (h, hs) =
     ap (option_map (λ before. byte ∷ before)) (lacks_bracket last (next ∷ text) hs)
 
-no_bracket : (byte : ℕ) → is_name_byte byte ≡ true → byte == 41 ≡ false
-unfolding is_name_byte
-no_bracket byte h = grind (arith, nat_tests)
-
 name_lacks : (name : List ℕ) → AreNameBytes name → text_before 41 name ≡ None
 name_lacks name h = lacks_bracket 41 name (AllByRecursion-weaker (λ b. is_name_byte b ≡ true)
-    (λ b. b == 41 ≡ false) no_bracket name h)
+    (λ b. b == 41 ≡ false) not_close name h)
 
 underscore : is_name_byte 95 ≡ true
 unfolding is_name_byte
 underscore = refl
-
-regroup_end : (a b c d e f g h i : List ℕ) →
-    (((((((a ++ b) ++ c) ++ d) ++ e) ++ f) ++ g) ++ h) ++ i
-    ≡ a ++ (b ++ (c ++ (d ++ (e ++ (f ++ (g ++ (h ++ i)))))))
-regroup_end a b c d e f g h i = simp append_assoc
 
 module _ (blocks : List Block) (ds : List Description) (bin : List ℕ) (h : AreNameBytes bin) where
   abbrev functions : State
@@ -201,7 +181,7 @@ module _ (blocks : List Block) (ds : List Description) (bin : List ℕ) (h : Are
   end_read =
       let third : List ℕ = bin ++ (else_define ++ (bin ++ (codes " " ++ (bin ++ if_ends)))) in
       ap (reading functions between)
-      (regroup_end if_called bin then_call bin else_define bin (codes " ") bin if_ends)
+      (in_parts if_called (bin ∷ then_call ∷ bin ∷ else_define ∷ bin ∷ codes " " ∷ bin ∷ []) if_ends)
       ∙ ap (read functions) (double_run bin (then_call ++ third) [] (codes "_") (IsKept-IsOther bin other))
       ∙ third_read
 
@@ -273,10 +253,6 @@ root_read root rest is =
     (name_other (context_text root.node) (context_bytes (full_name root.node) is.node.full))
     is.below (block_with [] root.node root ∷ [])
 
-regroup_script : (a b c d e : List ℕ) →
-    (((a ++ b) ++ c) ++ d) ++ e ≡ a ++ (b ++ (c ++ (d ++ e)))
-regroup_script a b c d e = simp append_assoc
-
 -- the script of such a tree is read to its blocks and functions
 pub parts_read : (root : Tree) → IsReadableTree root → zsh_parts (zsh_script root)
     ≡ Some (record { blocks = tree_blocks root; descriptions = map description_of (tree_functions root) })
@@ -285,7 +261,7 @@ parts_read root is =
     let bin : List ℕ = full_name root.node in
     let functions : List ℕ = flat_map function_text (tree_functions root) in
     ap (reading before_blocks between)
-    (regroup_script (begin_text bin) (root_text root) body_ends functions (end_text bin))
+    (in_parts (begin_text bin) (root_text root ∷ body_ends ∷ functions ∷ []) (end_text bin))
     ∙ begin_read bin (root_text root ++ (body_ends ++ (functions ++ end_text bin))) is.bin
     ∙ root_read root (functions ++ end_text bin) is
     ∙ functions_read (tree_blocks root) (tree_functions root) [] (end_text bin) is.functions
