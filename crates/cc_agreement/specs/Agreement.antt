@@ -37,8 +37,8 @@ pub record AgreesWithBash (lent : Lent) (root : Tree) (words : List (List ℕ)) 
   pub leads : BashLeadsTo root (words_before root.node words index) tree
 
 -- How a call that writes a script and then finds no candidates ends: out of memory, with the tree
--- as it was or built; else with the tree built, and a put that failed, a label that two nodes share,
--- or an index that is out of range.
+-- as it was or built; else with the tree built, and a put that failed, a label that two nodes
+-- share, or an index that is out of range.
 abbrev pub FailsBefore : Tree → Tree → Tree → ℕ → ℕ → Error → Type 0
 FailsBefore old new built count index Memory = (new ≡ old) ⊎ (new ≡ built)
 FailsBefore old new built count index (Write kind) = new ≡ built

@@ -43,7 +43,8 @@ is_count _ = false
 
 -- more values may follow than there are names: by the range, or as a positional keeps every use
 abbrev pub takes_more : Arg → Bool
-takes_more arg = nat_lt (length (written_names arg)) (range_of arg).greatest || (is_positional arg && is_append (action_of arg))
+takes_more arg = nat_lt (length (written_names arg)) (range_of arg).greatest
+    || (is_positional arg && is_append (action_of arg))
 
 abbrev pub dots_where : Bool → List ℕ
 dots_where true = codes "..."
@@ -66,9 +67,11 @@ printed_name None None = []
 -- what follows the name of an option or a flag
 unfoldable pub printed_behind : Arg → List ℕ
 printed_behind arg =
-    if takes_values arg then codes " " ++ (if (range_of arg).least == 0 then in_brackets (printed_values arg) else printed_values arg)
+    if takes_values arg then codes " " ++
+        (if (range_of arg).least == 0 then in_brackets (printed_values arg) else printed_values arg)
     else dots_where (is_count arg.action)
 
 -- the printed form of an argument: its values where it is positional, else its name and its values
 unfoldable pub printed : Arg → List ℕ
-printed arg = if is_positional arg then printed_values arg else printed_name arg.long arg.short ++ printed_behind arg
+printed arg = if is_positional arg then printed_values arg else printed_name arg.long arg.short
+    ++ printed_behind arg

@@ -1,5 +1,5 @@
-//! Callers of the library: two whose contracts say what the script that they write reads to, and one
-//! whose contract says which names it completes a word with.
+//! Callers of the library: two whose contracts say what the script that they write reads to, and
+//! one whose contract says which names it completes a word with.
 #![tactic(auto)]
 
 ghost use Rattle.std.specs.Prelude.{◌≡◌, ◌&&◌, IfOk, Some};

@@ -26,7 +26,8 @@ impl Completers {
     ) -> Completers
         ensures completers { result.completers ≡ completers }
         ensures lists { result.lists ≡ lists }
-        ensures no_closures { (result.completer_closures.items ≡ []) × (result.list_closures.items ≡ []) }
+        ensures no_closures { (result.completer_closures.items ≡ [])
+            × (result.list_closures.items ≡ []) }
     {
         Completers {
             completers,

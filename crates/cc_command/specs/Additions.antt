@@ -20,10 +20,13 @@ HasRoom count added = 0 < length added.items → count + length added.items ≤ 
 
 -- what building adds to a node with these children, which gets this bin name, under a parent that
 -- propagates these arguments; each list has room for what the command has of its own
-pub record IsAddition (inherited : List Arg) (bin_name : Option (List ℕ)) (node : Node) (below : Forest) (addition : Addition) : Type 0 where
+pub record IsAddition (inherited : List Arg) (bin_name : Option (List ℕ)) (node : Node)
+    (below : Forest) (addition : Addition) : Type 0 where
   pub named : addition.bin_name ≡ bin_name
-  pub arguments : node.arguments ++ addition.arguments.items ≡ with_missing (given_arguments inherited node) (generated_arguments node)
-  pub children : forest_of addition.children.items ≡ help_child (full_name (record node { bin_name = bin_name })) node below
+  pub arguments : node.arguments ++ addition.arguments.items
+      ≡ with_missing (given_arguments inherited node) (generated_arguments node)
+  pub children : forest_of addition.children.items
+      ≡ help_child (full_name (record node { bin_name = bin_name })) node below
   pub room : HasRoom (length node.arguments) addition.arguments
   pub children_room : HasRoom (sibling_count below) addition.children
 
@@ -41,7 +44,8 @@ AreAdditions inherited parent none additions later = additions ≡ later
 AreAdditions inherited parent (more node below rest) [] later = ⊥
 AreAdditions inherited parent (more node below rest) (addition ∷ additions) later =
     IsAddition inherited (Some (joined_name parent node.name)) node below addition ×
-    Between (λ left. AreAdditions (propagated inherited node) (joined_name parent node.name) below additions left)
+    Between (λ left. AreAdditions (propagated inherited node)
+        (joined_name parent node.name) below additions left)
     (λ left. AreAdditions inherited parent rest left later)
 
 -- the same of a tree that gets this bin name
@@ -49,16 +53,19 @@ abbrev pub AreOfTree : List Arg → Option (List ℕ) → Tree → List Addition
 AreOfTree inherited bin_name tree [] later = ⊥
 AreOfTree inherited bin_name tree (addition ∷ additions) later =
     IsAddition inherited bin_name tree.node tree.children addition ×
-    AreAdditions (propagated inherited tree.node) (full_name (record tree.node { bin_name = bin_name })) tree.children additions later
+    AreAdditions (propagated inherited tree.node)
+        (full_name (record tree.node { bin_name = bin_name })) tree.children additions later
 
 -- what was put after the earlier additions are those to some siblings
-pub record AreAfter (inherited : List Arg) (parent : List ℕ) (siblings : Forest) (before after : List Addition) : Type 0 where
+pub record AreAfter (inherited : List Arg) (parent : List ℕ) (siblings : Forest)
+    (before after : List Addition) : Type 0 where
   pub added : List Addition
   pub all : after ≡ before ++ added
   pub fit : AreAdditions inherited parent siblings added []
 
 -- the same of a tree
-pub record AreOfTreeAfter (inherited : List Arg) (bin_name : Option (List ℕ)) (tree : Tree) (before after : List Addition) : Type 0 where
+pub record AreOfTreeAfter (inherited : List Arg) (bin_name : Option (List ℕ)) (tree : Tree)
+    (before after : List Addition) : Type 0 where
   pub added : List Addition
   pub all : after ≡ before ++ added
   pub fit : AreOfTree inherited bin_name tree added []
@@ -80,11 +87,13 @@ pub record SuitTree (tree : Tree) (additions : List Addition) : Type 0 where
 -- with the additions to them some siblings are built, and the later ones are left
 abbrev pub AreBuiltBy : Forest → List Addition → Forest → List Addition → Type 0
 AreBuiltBy siblings additions built left =
-    (inherited : List Arg) (parent : List ℕ) (later : List Addition) → AreAdditions inherited parent siblings additions later →
+    (inherited : List Arg) (parent : List ℕ) (later : List Addition)
+        → AreAdditions inherited parent siblings additions later →
     (built ≡ built_forest inherited parent siblings) × (left ≡ later)
 
 -- the same of a tree
 abbrev pub IsBuiltBy : Tree → List Addition → Tree → List Addition → Type 0
 IsBuiltBy tree additions built left =
-    (inherited : List Arg) (bin_name : Option (List ℕ)) (later : List Addition) → AreOfTree inherited bin_name tree additions later →
+    (inherited : List Arg) (bin_name : Option (List ℕ)) (later : List Addition)
+        → AreOfTree inherited bin_name tree additions later →
     (built ≡ built_below inherited bin_name tree) × (left ≡ later)

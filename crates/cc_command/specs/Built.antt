@@ -19,7 +19,8 @@ lacks_index argument = is_positional argument && not (is_some argument.index)
 
 -- the argument with this index, if it lacks one
 abbrev pub with_index : ℕ → Arg → Arg
-with_index number argument = if lacks_index argument then record argument { index = Some number } else argument
+with_index number argument =
+    if lacks_index argument then record argument { index = Some number } else argument
 
 -- the index that is free after an argument
 abbrev pub next_index : ℕ → Arg → ℕ
@@ -28,7 +29,8 @@ next_index number argument = if lacks_index argument then suc number else number
 -- the positionals that lack an index get those from this one on, in order
 abbrev pub indexed : ℕ → List Arg → List Arg
 indexed number [] = []
-indexed number (argument ∷ arguments) = with_index number argument ∷ indexed (next_index number argument) arguments
+indexed number (argument ∷ arguments) =
+    with_index number argument ∷ indexed (next_index number argument) arguments
 
 -- what a node inherits: nothing, where building made it
 abbrev pub inherited_by : Node → List Arg → List Arg
@@ -66,7 +68,8 @@ abbrev pub built_forest : List Arg → List ℕ → Forest → Forest
 built_forest inherited parent none = none
 built_forest inherited parent (more node below rest) =
     more (built_node inherited (Some (joined_name parent node.name)) node)
-    (join (built_forest (propagated inherited node) (joined_name parent node.name) below) (help_child (joined_name parent node.name) node below))
+    (join (built_forest (propagated inherited node) (joined_name parent node.name) below)
+        (help_child (joined_name parent node.name) node below))
     (built_forest inherited parent rest)
 
 -- a tree as building leaves it, under this bin name, where there is one, and under a parent that
@@ -74,7 +77,8 @@ built_forest inherited parent (more node below rest) =
 abbrev pub built_below : List Arg → Option (List ℕ) → Tree → Tree
 built_below inherited bin_name tree = record {
   node = built_node inherited bin_name tree.node;
-  children = join (built_forest (propagated inherited tree.node) (full_name (record tree.node { bin_name = bin_name })) tree.children)
+  children = join (built_forest (propagated inherited tree.node)
+      (full_name (record tree.node { bin_name = bin_name })) tree.children)
       (help_child (full_name (record tree.node { bin_name = bin_name })) tree.node tree.children);
 }
 

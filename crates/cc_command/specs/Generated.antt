@@ -35,7 +35,8 @@ generated_help node = if node.disable_help_flag then [] else help_argument ∷ [
 
 -- the flag `version`, where there is a version and the flag is not disabled
 abbrev pub generated_version : Node → List Arg
-generated_version node = if is_some node.version && not node.disable_version_flag then version_argument ∷ [] else []
+generated_version node =
+    if is_some node.version && not node.disable_version_flag then version_argument ∷ [] else []
 
 -- the flags that building adds where no argument has their ids
 abbrev pub generated_arguments : Node → List Arg
@@ -55,8 +56,8 @@ generated_node name bin_name about order hide = record (new_node name) {
   built = true;
 }
 
--- the copies of some siblings and of all below them, under a parent of this full name, numbered from
--- this display order on
+-- the copies of some siblings and of all below them, under a parent of this full name, numbered
+-- from this display order on
 abbrev pub copies : List ℕ → ℕ → Forest → Forest
 copies parent order none = none
 copies parent order (more node below rest) =
@@ -66,10 +67,11 @@ copies parent order (more node below rest) =
 -- a generated `help` under a parent of this full name, with these children
 abbrev pub help_command : List ℕ → Forest → Forest
 help_command parent children =
-    more (generated_node help_name (joined_name parent help_name) (Some help_about) last_order false) children none
+    more (generated_node help_name (joined_name parent help_name)
+        (Some help_about) last_order false) children none
 
--- the child `help` is missing: there are children, none of them has the name or an alias `help`, and it is
--- not disabled
+-- the child `help` is missing: there are children, none of them has the name or an alias `help`,
+-- and it is not disabled
 abbrev pub needs_help_child : Node → Forest → Bool
 needs_help_child node none = false
 needs_help_child node (more child below rest) =

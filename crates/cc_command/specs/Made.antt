@@ -47,7 +47,8 @@ next_order order = min (order + 1) (2 ^ 64 - 1)
 
 -- the argument with this display order, if it has none of its own
 abbrev pub ordered_argument : ℕ → Arg → Arg
-ordered_argument order argument = record argument { display_order = Some (unwrap_or argument.display_order order) }
+ordered_argument order argument =
+    record argument { display_order = Some (unwrap_or argument.display_order order) }
 
 -- the node with one more argument. One that is no positional takes the next display order, unless
 -- it has its own; the order is used up all the same.
@@ -70,5 +71,6 @@ ordered_node order node = record node { display_order = Some (unwrap_or node.dis
 abbrev pub with_child : Tree → Tree → Tree
 with_child tree child = record {
   node = record tree.node { next_order = next_order tree.node.next_order; built = false };
-  children = join tree.children (more (ordered_node tree.node.next_order child.node) child.children none);
+  children = join tree.children
+      (more (ordered_node tree.node.next_order child.node) child.children none);
 }

@@ -12,7 +12,8 @@ contains_name names word = list_any (λ name. bytes_eq name word) names
 
 -- the node's name or an alias of it, visible or hidden, is the word
 abbrev pub has_name : Node → List ℕ → Bool
-has_name node word = bytes_eq node.name word || contains_name node.visible_aliases word || contains_name node.aliases word
+has_name node word = bytes_eq node.name word || contains_name node.visible_aliases word
+    || contains_name node.aliases word
 
 -- the names of a node that are shown: its name, then its visible aliases
 abbrev pub visible_names : Node → List (List ℕ)
@@ -22,7 +23,8 @@ visible_names node = node.name ∷ node.visible_aliases
 abbrev pub find_child : Forest → List ℕ → Option Tree
 find_child none word = None
 find_child (more node below rest) word =
-    if has_name node word then Some (record { node = node; children = below }) else find_child rest word
+    if has_name node word then Some (record { node = node; children = below })
+        else find_child rest word
 
 -- the first of the siblings that shows the word as a name, with what is below it
 abbrev pub visible_child : Forest → List ℕ → Option Tree

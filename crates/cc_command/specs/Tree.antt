@@ -45,6 +45,7 @@ abbrev pub tree_size : Tree → ℕ
 tree_size tree = forest_size tree.children
 
 -- a tree of several is smaller than all of them
-pub most_le-forest_size : (trees : List Tree) → most (λ tree. tree_size tree + 1) trees ≤ forest_size (forest_of trees)
+pub most_le-forest_size : (trees : List Tree) → most (λ tree. tree_size tree + 1) trees
+    ≤ forest_size (forest_of trees)
 most_le-forest_size [] = omega arith
 most_le-forest_size (tree ∷ trees) = omega (arith, most_le-forest_size trees)

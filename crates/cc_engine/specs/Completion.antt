@@ -1,5 +1,5 @@
--- What is offered for the word at an index: what it asks of those who lend candidates, and the list that
--- is made of their answers.
+-- What is offered for the word at an index: what it asks of those who lend candidates, and the list
+-- that is made of their answers.
 use Rattle.std.specs.Prelude.{ℕ, List, [], ◌++◌, map, take, drop, get_or, ◌≡◌, ◌⊎◌, ◌&&◌, nat_le, nat_lt, Bool, false, true, Contains, Option, Some, None, if◌then◌else◌}
 use Rattle.std.specs.List.{list_any, AllByRecursion}
 use Rattle.cc_arg.specs.declared.parts.ArgParts.{ArgParts as Arg}
@@ -38,17 +38,21 @@ children_question offered node =
     if offered && node.allow_external_subcommands then list_question node.candidates else nothing
 
 -- the children's names that begin with the word, and those of the lent list
-abbrev pub offered_children : Bool → Tree → List ℕ → List CompletionCandidate → List CompletionCandidate
-offered_children offered tree word given = if offered then subcommand_candidates tree given word else []
+abbrev pub offered_children : Bool → Tree → List ℕ → List CompletionCandidate
+    → List CompletionCandidate
+offered_children offered tree word given =
+    if offered then subcommand_candidates tree given word else []
 
 -- THE VALUES OF THE POSITIONAL
 
 abbrev pub positional_question : Option Arg → Option ℕ → List ℕ → Question
 positional_question None number word = nothing
 positional_question (Some argument) None word = nothing
-positional_question (Some argument) (Some number) word = question argument number (part argument.value_delimiter word)
+positional_question (Some argument) (Some number) word =
+    question argument number (part argument.value_delimiter word)
 
-abbrev pub positional_values : Option Arg → Option ℕ → List ℕ → List CompletionCandidate → List CompletionCandidate
+abbrev pub positional_values : Option Arg → Option ℕ → List ℕ → List CompletionCandidate
+    → List CompletionCandidate
 positional_values None number word given = []
 positional_values (Some argument) None word given = []
 positional_values (Some argument) (Some number) word given = values argument word given
@@ -62,22 +66,26 @@ offered_row offered arguments word = if offered then row_of arguments word else 
 -- values within the word are the first of their argument
 abbrev pub row_question : Row → Question
 row_question (Listed found) = nothing
-row_question (ValuesOf asked) = question asked.argument 0 (part asked.argument.value_delimiter asked.text)
+row_question (ValuesOf asked) =
+    question asked.argument 0 (part asked.argument.value_delimiter asked.text)
 
 abbrev pub row_candidates : Row → List CompletionCandidate → List CompletionCandidate
 row_candidates (Listed found) given = found
-row_candidates (ValuesOf asked) given = map (prefixed asked.before) (values asked.argument asked.text given)
+row_candidates (ValuesOf asked) given =
+    map (prefixed asked.before) (values asked.argument asked.text given)
 
 -- THE OPEN OPTION
 
 -- as many values as it has are the number of the next one, counted from 0
 abbrev pub open_question : Pending → List ℕ → Question
-open_question (OptionOpen option count) word = question option count (part option.value_delimiter word)
+open_question (OptionOpen option count) word =
+    question option count (part option.value_delimiter word)
 open_question _ word = nothing
 
 -- THE WORD
 
--- what a word asks: for the children, the positional, a value within an option's word, the open option
+-- what a word asks: for the children, the positional, a value within an option's word, the open
+-- option
 pub record Questions : Type 0 where
   pub children : Question
   pub positional : Question
@@ -110,44 +118,54 @@ offer_questions tree place offer pending word = record {
 -- what the word at a node asks, where the words before it lead to this state
 abbrev pub questions : Tree → State → List ℕ → Questions
 questions tree state word =
-    offer_questions tree state.place (offer_by tree.node.arguments state.place state.escaped state.pending) state.pending word
+    offer_questions tree state.place
+        (offer_by tree.node.arguments state.place state.escaped state.pending) state.pending word
 
 -- the offered lists, one after another
 abbrev pub offered : Tree → ℕ → Offer → List ℕ → Given → List CompletionCandidate
 offered tree place offer word given =
     (offered_children offer.children tree word given.children
-    ++ positional_values (positional_at tree.node.arguments place) offer.value word given.positional)
+    ++ positional_values
+        (positional_at tree.node.arguments place) offer.value word given.positional)
     ++ row_candidates (offered_row offer.options tree.node.arguments word) given.within
 
--- finished: the values of an option that has too few alone; those of one that may end here, and after
--- them the finished others; else the others
-abbrev pub finished_with : Pending → List ℕ → List CompletionCandidate → List CompletionCandidate → List CompletionCandidate
+-- finished: the values of an option that has too few alone; those of one that may end here, and
+-- after them the finished others; else the others
+abbrev pub finished_with : Pending → List ℕ → List CompletionCandidate → List CompletionCandidate
+    → List CompletionCandidate
 finished_with (OptionOpen option count) word given others =
-    if nat_le (least option) count then finished (values option word given ++ finished others) else finished (values option word given)
+    if nat_le (least option) count then finished (values option word given ++ finished others)
+        else finished (values option word given)
 finished_with _ word given others = finished others
 
 -- what is offered besides the values of an open option
 abbrev pub besides : Tree → State → List ℕ → Given → List CompletionCandidate
 besides tree state word given =
-    offered tree state.place (offer_by tree.node.arguments state.place state.escaped state.pending) word given
+    offered tree state.place
+        (offer_by tree.node.arguments state.place state.escaped state.pending) word given
 
 -- what is offered for the word, where these lists are given
 abbrev pub answer : Tree → State → List ℕ → Given → List CompletionCandidate
-answer tree state word given = finished_with state.pending word given.opened (besides tree state word given)
+answer tree state word given =
+    finished_with state.pending word given.opened (besides tree state word given)
 
 -- the lists that may be offered for the word at a node
 abbrev pub Offers : Lent → Tree → State → List ℕ → List CompletionCandidate → Type 0
 Offers lent tree state word result =
-    (given : Given) × AreAllowed lent (questions tree state word) given × (result ≡ answer tree state word given)
+    (given : Given) × AreAllowed lent (questions tree state word) given
+        × (result ≡ answer tree state word given)
 
 -- the lists that may be offered for the word, the values of an open option aside
-pub record AreOffered (lent : Lent) (tree : Tree) (place : ℕ) (offer : Offer) (word : List ℕ) (found : List CompletionCandidate) : Type 0 where
+pub record AreOffered (lent : Lent) (tree : Tree) (place : ℕ) (offer : Offer) (word : List ℕ)
+    (found : List CompletionCandidate) : Type 0 where
   pub children : List CompletionCandidate
   pub children_given : Allows lent (children_question offer.children tree.node) children
   pub positional : List CompletionCandidate
-  pub positional_given : Allows lent (positional_question (positional_at tree.node.arguments place) offer.value word) positional
+  pub positional_given : Allows lent
+      (positional_question (positional_at tree.node.arguments place) offer.value word) positional
   pub within : List CompletionCandidate
-  pub within_given : Allows lent (row_question (offered_row offer.options tree.node.arguments word)) within
+  pub within_given : Allows lent
+      (row_question (offered_row offer.options tree.node.arguments word)) within
   pub is : found ≡ (offered_children offer.children tree word children
       ++ positional_values (positional_at tree.node.arguments place) offer.value word positional)
       ++ row_candidates (offered_row offer.options tree.node.arguments word) within
@@ -161,7 +179,8 @@ opened_values _ word given = []
 
 -- all that is gathered for the word: the values of an open option, and what is offered besides
 abbrev pub all_gathered : Tree → State → List ℕ → Given → List CompletionCandidate
-all_gathered tree state word given = opened_values state.pending word given.opened ++ besides tree state word given
+all_gathered tree state word given =
+    opened_values state.pending word given.opened ++ besides tree state word given
 
 -- where the values of an open option share no id with the others, all is finished once
 abbrev pub FinishesOnce : Tree → State → List ℕ → Given → List CompletionCandidate → Type 0
@@ -192,13 +211,15 @@ told_by_offer tree place offer pending word given =
 -- the same for the word at a node, where the words before it lead to this state
 abbrev pub told_candidates : Tree → State → List ℕ → Given → List CompletionCandidate
 told_candidates tree state word given =
-    told_by_offer tree state.place (offer_by tree.node.arguments state.place state.escaped state.pending) state.pending word given
+    told_by_offer tree state.place
+        (offer_by tree.node.arguments state.place state.escaped state.pending) state.pending word given
 
--- each candidate of the result begins with the word, or is made of the answer of a completer or of the
--- folder
+-- each candidate of the result begins with the word, or is made of the answer of a completer or of
+-- the folder
 abbrev pub BeginsOrIsTold : Tree → State → List ℕ → Given → List CompletionCandidate → Type 0
 BeginsOrIsTold tree state word given result =
-    AllByRecursion (λ c. (begins word c ≡ true) ⊎ Contains (told_candidates tree state word given) c) result
+    AllByRecursion (λ c. (begins word c ≡ true) ⊎ Contains
+        (told_candidates tree state word given) c) result
 
 -- THE WORDS
 
@@ -214,11 +235,12 @@ is_in_range node count index = nat_le (names_before node) index && nat_lt index 
 abbrev pub words_before : Node → List (List ℕ) → ℕ → List (List ℕ)
 words_before node words index = drop (names_before node) (take index words)
 
--- What may be offered for the word at the index: the words before it lead to one node and one state, to
--- no others, and the list is one that may be offered there. Where none of those words is a hidden alias,
--- the node is that of the walk by visible names. The laws speak of this node and state, and of the very
--- lists of which the result is made.
-pub record Completes (lent : Lent) (root : Tree) (words : List (List ℕ)) (index : ℕ) (result : List CompletionCandidate) : Type 0 where
+-- What may be offered for the word at the index: the words before it lead to one node and one
+-- state, to no others, and the list is one that may be offered there. Where none of those words is
+-- a hidden alias, the node is that of the walk by visible names. The laws speak of this node and
+-- state, and of the very lists of which the result is made.
+pub record Completes (lent : Lent) (root : Tree) (words : List (List ℕ)) (index : ℕ)
+    (result : List CompletionCandidate) : Type 0 where
   pub tree : Tree
   pub state : State
   pub line : IsLine root (words_before root.node words index) tree state
@@ -230,9 +252,10 @@ pub record Completes (lent : Lent) (root : Tree) (words : List (List ℕ)) (inde
   pub shows_visible : ShowsVisible tree state (get_or words index []) offers.0 result
   pub begins_or_told : BeginsOrIsTold tree state (get_or words index []) offers.0 result
 
--- How a call that builds the tree and finds no candidates ends: out of memory, with the tree as it was or
--- built; or with the tree built and the index out of range.
+-- How a call that builds the tree and finds no candidates ends: out of memory, with the tree as it
+-- was or built; or with the tree built and the index out of range.
 abbrev pub Refuses : Tree → Tree → ℕ → ℕ → Error → Type 0
 Refuses old new count index Memory = (new ≡ old) ⊎ (new ≡ built_tree old)
-Refuses old new count index NoCompletion = (new ≡ built_tree old) × (is_in_range new.node count index ≡ false)
+Refuses old new count index NoCompletion =
+    (new ≡ built_tree old) × (is_in_range new.node count index ≡ false)
 Refuses old new count index _ = ⊥

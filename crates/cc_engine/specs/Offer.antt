@@ -24,10 +24,10 @@ no_offer = record { children = false; value = None; options = false }
 abbrev pub full_offer : Bool → Offer
 full_offer escaped = record { children = true; value = Some 0; options = not escaped }
 
--- After a run of values the next value of the positional, and the options where no `--` was read and
--- the run is long enough; right after the last value of a positional that `--` precedes, the first
--- value of the next one alone; beside the values of an open option all that is offered without one,
--- where the option has enough values.
+-- After a run of values the next value of the positional, and the options where no `--` was read
+-- and the run is long enough; right after the last value of a positional that `--` precedes, the
+-- first value of the next one alone; beside the values of an open option all that is offered
+-- without one, where the option has enough values.
 abbrev pub offer_by : List Arg → ℕ → Bool → Pending → Offer
 offer_by arguments place escaped Nothing = full_offer escaped
 offer_by arguments place escaped (PositionalRun count) = record {
@@ -35,6 +35,7 @@ offer_by arguments place escaped (PositionalRun count) = record {
   value = Some count;
   options = not escaped && has_enough (positional_at arguments place) count;
 }
-offer_by arguments place escaped PlaceMoved = record { children = false; value = Some 0; options = false }
+offer_by arguments place escaped PlaceMoved =
+    record { children = false; value = Some 0; options = false }
 offer_by arguments place escaped (OptionOpen option count) =
     if nat_le (least option) count then full_offer escaped else no_offer

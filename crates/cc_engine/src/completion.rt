@@ -57,7 +57,8 @@ pub fn complete<D: Folder>(
     // Two candidates that are answered never share an id.
     ensures differ { IfOk result (λ found. Differ found.items) }
     ensures built { OnOk result (command.new ≡ built_tree command.old) }
-    ensures in_range { OnOk result (is_in_range command.new.node (length words.items) index ≡ true) }
+    ensures in_range { OnOk result
+        (is_in_range command.new.node (length words.items) index ≡ true) }
     ensures errors { IfErr result (Refuses command.old command.new (length words.items) index) }
 {
     command.build(alloc)?;

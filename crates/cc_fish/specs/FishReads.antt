@@ -10,10 +10,11 @@ use Rattle.cc_fish.specs.FishTable.{table, tables}
 use Rattle.cc_fish.specs.RecordReader.{records}
 use Rattle.cc_fish.specs.Records.{record_path}
 
--- The script reads to the tables of the visits, one after another, and to nothing else. The visits are
--- exactly the visible paths, each once, with the nodes that they lead to, and each record of a table
--- holds at its visit's path.
+-- The script reads to the tables of the visits, one after another, and to nothing else. The visits
+-- are exactly the visible paths, each once, with the nodes that they lead to, and each record of a
+-- table holds at its visit's path.
 pub record FishReads (root : Tree) : Type 0 where
   pub tables : records (fish_script root) ≡ Some (tables root)
   pub covers : CoversPaths root (path_visits longer_path [] root)
-  pub places : (visit : Keyed (List (List ℕ))) → AllByRecursion (λ read. record_path read ≡ visit.key) (table (full_name root.node) visit)
+  pub places : (visit : Keyed (List (List ℕ))) → AllByRecursion
+      (λ read. record_path read ≡ visit.key) (table (full_name root.node) visit)

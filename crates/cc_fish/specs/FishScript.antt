@@ -31,7 +31,8 @@ not_seen = codes "; and not __fish_seen_subcommand_from"
 
 -- that none of the children's names was seen, where there are children
 abbrev pub excluded_text : Forest → List ℕ
-excluded_text children = if has_nodes children then not_seen ++ flat_map spaced_name (child_names children) else []
+excluded_text children =
+    if has_nodes children then not_seen ++ flat_map spaced_name (child_names children) else []
 
 -- the key of a node: the part of a condition that tells its path; the root's is empty
 abbrev pub fish_key : List ℕ → List ℕ → List ℕ
@@ -41,7 +42,8 @@ fish_key (byte ∷ bytes) name = (byte ∷ bytes) ++ seen_text name
 -- the condition of the node with this key, from the name of the functions
 unfoldable pub key_condition : List ℕ → List ℕ → Forest → Option (List ℕ)
 key_condition function [] children =
-    if has_nodes children then Some (codes "__fish_" ++ function ++ codes "_needs_command") else None
+    if has_nodes children then Some (codes "__fish_" ++ function ++ codes "_needs_command")
+        else None
 key_condition function (byte ∷ bytes) children =
     Some (codes "__fish_" ++ function ++ (byte ∷ bytes) ++ excluded_text children)
 
@@ -67,17 +69,20 @@ help_text (Some help) = codes " -d '" ++ fish_escaped help ++ codes "'"
 
 unfoldable pub names_text : Arg → List ℕ
 names_text argument =
-    flat_map short_text (shown_shorts argument) ++ flat_map long_text (shown_longs argument) ++ help_text argument.help
+    flat_map short_text (shown_shorts argument) ++ flat_map long_text (shown_longs argument)
+        ++ help_text argument.help
 
 -- ---- what an option's value may be
 
 -- a value that is listed: its name, a tab and its help or nothing, quoted for two readings
 unfoldable pub value_text : PossibleValue → List ℕ
-value_text value = fish_quoted_for_eval value.name ++ codes "\\t" ++ fish_help_for_eval_of (unwrap_or value.help [])
+value_text value = fish_quoted_for_eval value.name ++ codes "\\t"
+    ++ fish_help_for_eval_of (unwrap_or value.help [])
 
 -- the values of a list that are shown, each on a line of its own
 unfoldable pub value_lines : List PossibleValue → List ℕ
-value_lines values = joined (line_feed ∷ []) (map value_text (filter (λ value. not value.hide) values))
+value_lines values =
+    joined (line_feed ∷ []) (map value_text (filter (λ value. not value.hide) values))
 
 unfoldable pub list_begin : List ℕ
 list_begin = codes " -r -f -a \""
@@ -111,17 +116,20 @@ values_text false argument = []
 
 -- the record of an argument that takes values, or takes none
 unfoldable pub argument_text : List ℕ → Bool → Arg → List ℕ
-argument_text front takes argument = front ++ names_text argument ++ values_text takes argument ++ line_feed ∷ []
+argument_text front takes argument =
+    front ++ names_text argument ++ values_text takes argument ++ line_feed ∷ []
 
 -- the record of a child's name, which marks no files where the node has no positional
 unfoldable pub child_text : List ℕ → Bool → Option (List ℕ) → List ℕ → List ℕ
 child_text front no_files about name =
-    front ++ (if no_files then codes " -f" else []) ++ codes " -a \"" ++ name ++ codes "\"" ++ help_text about ++ line_feed ∷ []
+    front ++ (if no_files then codes " -f" else []) ++ codes " -a \"" ++ name ++ codes "\""
+        ++ help_text about ++ line_feed ∷ []
 
 abbrev pub children_text : List ℕ → Bool → Forest → List ℕ
 children_text front no_files none = []
 children_text front no_files (more node below rest) =
-    flat_map (child_text front no_files node.about) (visible_names node) ++ children_text front no_files rest
+    flat_map (child_text front no_files node.about) (visible_names node)
+        ++ children_text front no_files rest
 
 unfoldable pub options_text : List ℕ → Node → List ℕ
 options_text front node = flat_map (argument_text front true) (options node)
@@ -134,12 +142,14 @@ below_text front tree = children_text front (not (has_positionals tree.node)) tr
 
 -- the records of a node: its options, its flags, its children's visible names
 unfoldable pub node_text : List ℕ → Tree → List ℕ
-node_text front tree = options_text front tree.node ++ flags_text front tree.node ++ below_text front tree
+node_text front tree =
+    options_text front tree.node ++ flags_text front tree.node ++ below_text front tree
 
 -- the records of a visit
 unfoldable pub visit_text : List ℕ → List ℕ → Keyed (List ℕ) → List ℕ
 visit_text bin_name function visit =
-    node_text (front_text bin_name (key_condition function visit.key visit.tree.children)) visit.tree
+    node_text (front_text bin_name
+        (key_condition function visit.key visit.tree.children)) visit.tree
 
 -- ---- the head
 
@@ -193,18 +203,21 @@ using_subcommand_call = codes "_using_subcommand\n    set -l cmd (__fish_"
 
 -- from there on
 unfoldable pub using_subcommand_answer : List ℕ
-using_subcommand_answer = codes "_needs_command)\n    test -z \"$cmd\"\n    and return 1\n    contains -- $cmd[1] $argv\nend\n\n"
+using_subcommand_answer =
+    codes "_needs_command)\n    test -z \"$cmd\"\n    and return 1\n    contains -- $cmd[1] $argv\nend\n\n"
 
 -- what `argparse` is told of the arguments that are no positionals
 abbrev pub specs_text : List Arg → List ℕ
-specs_text arguments = flat_map spec_text (filter (λ argument. not (is_positional argument)) arguments)
+specs_text arguments =
+    flat_map spec_text (filter (λ argument. not (is_positional argument)) arguments)
 
 -- the head, where the root has children: three functions, each named after the program
 unfoldable pub head_text : List ℕ → Tree → List ℕ
 head_text function root =
     if has_nodes root.children then
     optspecs_begin ++ function ++ optspecs_join ++ specs_text root.node.arguments
-    ++ needs_command_begin ++ function ++ needs_command_parse ++ function ++ needs_command_answer ++ function
+    ++ needs_command_begin ++ function ++ needs_command_parse ++ function ++ needs_command_answer
+        ++ function
     ++ using_subcommand_call ++ function ++ using_subcommand_answer
     else []
 
@@ -212,7 +225,8 @@ head_text function root =
 
 -- the records of all visible paths, path by path
 unfoldable pub body_text : List ℕ → List ℕ → Tree → List ℕ
-body_text bin_name function root = flat_map (visit_text bin_name function) (path_visits fish_key [] root)
+body_text bin_name function root =
+    flat_map (visit_text bin_name function) (path_visits fish_key [] root)
 
 unfoldable pub script_text : List ℕ → List ℕ → Tree → List ℕ
 script_text bin_name function root = head_text function root ++ body_text bin_name function root

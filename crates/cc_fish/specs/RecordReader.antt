@@ -61,13 +61,14 @@ pub data Expected : Type 0 where
   nothing : Expected
 
 -- The condition that the pieces give, after what was read of it so far: each name that follows the
--- function is the next of the path, and all names after `and not` and the function are excluded. None
--- where a piece is not what is expected.
+-- function is the next of the path, and all names after `and not` and the function are excluded.
+-- None where a piece is not what is expected.
 abbrev pub condition_from : Expected → Condition → List (List ℕ) → Option Condition
 condition_from an_and when [] = Some when
 condition_from nothing when [] = Some when
 condition_from _ when [] = None
-condition_from a_name when (piece ∷ pieces) = condition_from an_and (record when { path = when.path ++ piece ∷ [] }) pieces
+condition_from a_name when (piece ∷ pieces) =
+    condition_from an_and (record when { path = when.path ++ piece ∷ [] }) pieces
 condition_from an_and when (piece ∷ pieces) = elim (piece_sign piece) [
   | is_and ↦ condition_from not_or_seen when pieces
   | _ ↦ None
@@ -87,8 +88,8 @@ condition_from nothing when (piece ∷ pieces) = None
 abbrev pub asked : List ℕ → Condition
 asked function = record { function = function; path = []; excluded = [] }
 
--- the condition from the first piece on: after the function of a path its first name stands, after that
--- of the root nothing
+-- the condition from the first piece on: after the function of a path its first name stands, after
+-- that of the root nothing
 abbrev pub condition_of_pieces : List (List ℕ) → Option Condition
 condition_of_pieces [] = None
 condition_of_pieces (piece ∷ pieces) = elim (before_ending (codes "_using_subcommand") piece) [
@@ -111,8 +112,8 @@ joined_words [] = Some []
 joined_words (None ∷ commands) = None
 joined_words (Some words ∷ commands) = option_map (λ later. words ++ later) (joined_words commands)
 
--- the words that the text of `-a` offers: it is read a second time, and a line feed there parts words as
--- a blank does
+-- the words that the text of `-a` offers: it is read a second time, and a line feed there parts
+-- words as a blank does
 abbrev pub offered_of : List ℕ → Option (List (List ℕ))
 offered_of text = joined_words (fish_commands text)
 
@@ -136,42 +137,54 @@ pub data OptionWord : Type 0 where
 
 abbrev pub option_word : List ℕ → OptionWord
 option_word word =
-    if bytes_eq word (codes "-c") then takes command else if bytes_eq word (codes "-n") then takes condition
-    else if bytes_eq word (codes "-s") then takes short_name else if bytes_eq word (codes "-l") then takes long_name
-    else if bytes_eq word (codes "-d") then takes description else if bytes_eq word (codes "-a") then takes offer
-    else if bytes_eq word (codes "-r") then marks_required else if bytes_eq word (codes "-f") then marks_no_files
-    else if bytes_eq word (codes "-F") then marks_files else unknown
+    if bytes_eq word (codes "-c") then takes command
+    else if bytes_eq word (codes "-n") then takes condition
+    else if bytes_eq word (codes "-s") then takes short_name
+    else if bytes_eq word (codes "-l") then takes long_name
+    else if bytes_eq word (codes "-d") then takes description
+    else if bytes_eq word (codes "-a") then takes offer
+    else if bytes_eq word (codes "-r") then marks_required
+    else if bytes_eq word (codes "-f") then marks_no_files
+    else if bytes_eq word (codes "-F") then marks_files
+    else unknown
 
 -- what is told now, where nothing was told before
 abbrev pub told_once : {X Y : Type 0} → Option X → Option Y → Option Y
 told_once None now = now
 told_once (Some before) now = None
 
--- the record with one more operand; none where the condition or what is offered can't be read, or where
--- what a record says once is said again
+-- the record with one more operand; none where the condition or what is offered can't be read, or
+-- where what a record says once is said again
 abbrev pub with_operand : Operand → List ℕ → Record → Option Record
 with_operand command word read = told_once read.command (Some (record read { command = Some word }))
-with_operand condition word read = told_once read.when (option_map (λ when. record read { when = Some when }) (condition_of word))
+with_operand condition word read =
+    told_once read.when (option_map (λ when. record read { when = Some when }) (condition_of word))
 with_operand short_name word read = Some (record read { shorts = read.shorts ++ word ∷ [] })
 with_operand long_name word read = Some (record read { longs = read.longs ++ word ∷ [] })
-with_operand description word read = told_once read.description (Some (record read { description = Some word }))
-with_operand offer word read = told_once read.offered (option_map (λ words. record read { offered = Some words }) (offered_of word))
+with_operand description word read =
+    told_once read.description (Some (record read { description = Some word }))
+with_operand offer word read =
+    told_once read.offered (option_map (λ words. record read { offered = Some words })
+    (offered_of word))
 
 -- the next word is an option or a mark, or an operand
 pub data NextWord : Type 0 where
   an_option : NextWord
   the_operand : Operand → NextWord
 
--- the record that the words give, after what was read so far; none where a word is unknown or an operand
--- is missing
+-- the record that the words give, after what was read so far; none where a word is unknown or an
+-- operand is missing
 abbrev pub record_from : NextWord → Record → List (List ℕ) → Option Record
 record_from an_option read [] = Some read
 record_from (the_operand operand) read [] = None
 record_from an_option read (word ∷ words) = elim (option_word word) [
   | takes operand ↦ record_from (the_operand operand) read words
-  | marks_required ↦ record_from an_option (record read { marks = record read.marks { required = true } }) words
-  | marks_no_files ↦ record_from an_option (record read { marks = record read.marks { no_files = true } }) words
-  | marks_files ↦ record_from an_option (record read { marks = record read.marks { files = true } }) words
+  | marks_required ↦ record_from an_option
+      (record read { marks = record read.marks { required = true } }) words
+  | marks_no_files ↦ record_from an_option
+      (record read { marks = record read.marks { no_files = true } }) words
+  | marks_files ↦ record_from an_option
+      (record read { marks = record read.marks { files = true } }) words
   | unknown ↦ None
 ]
 record_from (the_operand operand) read (word ∷ words) = elim (with_operand operand word read) [
@@ -193,8 +206,8 @@ no_record = record {
 
 -- ---- a script
 
--- the records of the commands whose first word is `complete`; none where one of them can't be read, or
--- where a quote or an escape is open at the end
+-- the records of the commands whose first word is `complete`; none where one of them can't be read,
+-- or where a quote or an escape is open at the end
 abbrev pub records_of : List (Option (List (List ℕ))) → Option (List Record)
 records_of [] = Some []
 records_of (None ∷ commands) = None

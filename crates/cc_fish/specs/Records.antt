@@ -1,8 +1,8 @@
 -- The records of a fish script, and when they hold.
 use Rattle.std.specs.Prelude.{ℕ, List, [], Bool, Option, Some, None}
 
--- what is asked before a record holds: the beginning of the name of the function that is asked, the names
--- of a path, which were seen, and the names that are excluded, of which none was seen
+-- what is asked before a record holds: the beginning of the name of the function that is asked, the
+-- names of a path, which were seen, and the names that are excluded, of which none was seen
 pub record Condition : Type 0 where
   pub function : List ℕ
   pub path : List (List ℕ)

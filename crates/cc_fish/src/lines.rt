@@ -110,7 +110,8 @@ fn write_argument<W: Sink>(
 
 #[tactic(auto, unfolding(crate::specs::FishScript::names_text))]
 fn write_names<W: Sink>(argument: &Arg, sink: &mut W) -> Result<(), ErrorKind>
-    ensures { Writes W.taken W.failed (as_write result) sink.old sink.new (names_text argument.now) }
+    ensures { Writes W.taken W.failed (as_write result) sink.old sink.new
+        (names_text argument.now) }
 {
     write_shorts(argument, sink)?;
     write_longs(argument, sink)?;
@@ -167,7 +168,8 @@ fn write_help<W: Sink>(help: Option<&str>, sink: &mut W) -> Result<(), ErrorKind
 
 #[tactic(auto, unfolding(crate::specs::FishScript::below_text))]
 fn write_below<W: Sink>(front: &str, command: &Command, sink: &mut W) -> Result<(), ErrorKind>
-    ensures { Writes W.taken W.failed (as_write result) sink.old sink.new (below_text front.now command.now) }
+    ensures { Writes W.taken W.failed (as_write result) sink.old sink.new
+        (below_text front.now command.now) }
 {
     let no_files = !has_positionals(command);
     write_children(front, no_files, command.get_subcommands(), sink)

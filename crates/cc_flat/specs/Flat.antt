@@ -56,7 +56,8 @@ numbers_between start end = range_with_len start (end - start)
 
 -- the numbers of a node's children, in order
 abbrev pub children_at : List Entry → ℕ → List ℕ
-children_at flat number = range_with_len (entry_at flat number).first_child (entry_at flat number).child_count
+children_at flat number =
+    range_with_len (entry_at flat number).first_child (entry_at flat number).child_count
 
 -- a number is that of a child of a node
 pub record IsChildAt (flat : List Entry) (number child : ℕ) : Type 0 where
@@ -69,7 +70,8 @@ pub record HasItsChildren (flat : List Entry) (number : ℕ) : Type 0 where
   pub forest : forest_of (trees_at flat (children_at flat number)) ≡ (tree_at flat number).children
   pub after : number < (entry_at flat number).first_child
   pub within : (entry_at flat number).first_child + (entry_at flat number).child_count ≤ length flat
-  pub parent : (child : ℕ) → IsChildAt flat number child → (entry_at flat child).parent ≡ Some number
+  pub parent : (child : ℕ) → IsChildAt flat number child → (entry_at flat child).parent
+      ≡ Some number
 
 -- the node with a number is a child of a node before it
 pub record HasItsParent (flat : List Entry) (number : ℕ) : Type 0 where

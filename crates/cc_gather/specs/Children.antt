@@ -24,12 +24,14 @@ child_candidate parent node hidden name = record {
 -- a child's visible names, then its hidden aliases, hidden
 abbrev pub child_candidates : Node → Node → List CompletionCandidate
 child_candidates parent node =
-    map (child_candidate parent node node.hide) (visible_names node) ++ map (child_candidate parent node true) node.aliases
+    map (child_candidate parent node node.hide) (visible_names node)
+        ++ map (child_candidate parent node true) node.aliases
 
 -- those of all siblings
 abbrev pub children_candidates : Node → Forest → List CompletionCandidate
 children_candidates parent none = []
-children_candidates parent (more node below rest) = child_candidates parent node ++ children_candidates parent rest
+children_candidates parent (more node below rest) =
+    child_candidates parent node ++ children_candidates parent rest
 
 -- the lent list, where the node takes names of other programs
 abbrev pub external : Node → List CompletionCandidate → List CompletionCandidate
@@ -37,9 +39,12 @@ external node lent = if node.allow_external_subcommands then lent else []
 
 -- in the order of candidates, equal ones once
 unfoldable pub in_candidates_order : List CompletionCandidate → List CompletionCandidate
-in_candidates_order cs = dedup (eq_by_cmp candidate_cmp) (in_order (λ x y. is_lt (candidate_cmp x y)) cs)
+in_candidates_order cs =
+    dedup (eq_by_cmp candidate_cmp) (in_order (λ x y. is_lt (candidate_cmp x y)) cs)
 
 -- the children's names and the lent list, those that begin with the word, in order
-unfoldable pub subcommand_candidates : Tree → List CompletionCandidate → List ℕ → List CompletionCandidate
+unfoldable pub subcommand_candidates : Tree → List CompletionCandidate → List ℕ
+    → List CompletionCandidate
 subcommand_candidates tree lent word =
-    in_candidates_order (filter (begins word) (children_candidates tree.node tree.children ++ external tree.node lent))
+    in_candidates_order (filter (begins word)
+        (children_candidates tree.node tree.children ++ external tree.node lent))

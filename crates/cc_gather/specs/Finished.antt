@@ -34,9 +34,10 @@ abbrev pub place_of : List CompletionCandidate → Option (List ℕ) → ℕ
 place_of [] tag = 0
 place_of (c ∷ cs) tag = if has_tag tag c then 0 else suc (place_of cs tag)
 
--- one stands before another: by the place of its tag's first member, then by the display order, none
--- before some
-abbrev pub comes_before : List CompletionCandidate → CompletionCandidate → CompletionCandidate → Bool
+-- one stands before another: by the place of its tag's first member, then by the display order,
+-- none before some
+abbrev pub comes_before : List CompletionCandidate → CompletionCandidate → CompletionCandidate
+    → Bool
 comes_before cs one other =
     is_lt (ordering_then (nat_cmp (place_of cs one.tag) (place_of cs other.tag))
     (option_cmp nat_cmp one.display_order other.display_order))

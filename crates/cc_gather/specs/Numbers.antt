@@ -27,7 +27,8 @@ abbrev pub is_some_e : Option ℕ → Bool
 is_some_e None = false
 is_some_e (Some b) = is_e b
 
--- digits, at most one `.`, at most one `e`, neither first, no `.` after the `e`, and the `e` not last
+-- digits, at most one `.`, at most one `e`, neither first, no `.` after the `e`, and the `e` not
+-- last
 unfoldable pub is_number : List ℕ → Bool
 is_number bytes =
     begins_with_digit bytes

@@ -19,7 +19,8 @@ option_candidate argument help hidden value = record {
 }
 
 abbrev pub long_candidate : Arg → Bool → List ℕ → CompletionCandidate
-long_candidate argument hidden name = option_candidate argument argument.help hidden (codes "--" ++ name)
+long_candidate argument hidden name =
+    option_candidate argument argument.help hidden (codes "--" ++ name)
 
 -- the long, then its visible aliases
 abbrev pub long_candidates : Arg → List CompletionCandidate
@@ -31,10 +32,12 @@ hidden_candidates argument = map (long_candidate argument true) argument.aliases
 
 -- the help; without one the long
 abbrev pub short_help : Arg → Option (List ℕ)
-short_help argument = option_or argument.help (option_map (λ long. codes "--" ++ long) argument.long)
+short_help argument =
+    option_or argument.help (option_map (λ long. codes "--" ++ long) argument.long)
 
 abbrev pub short_candidate : List ℕ → Arg → ℕ → CompletionCandidate
-short_candidate before argument short = option_candidate argument (short_help argument) argument.hide (before ++ encode_utf8 short)
+short_candidate before argument short =
+    option_candidate argument (short_help argument) argument.hide (before ++ encode_utf8 short)
 
 -- the short, then its visible aliases, with a text before each
 abbrev pub short_candidates : List ℕ → Arg → List CompletionCandidate

@@ -12,7 +12,8 @@ use Rattle.cc_gather.specs.declared.finishing.Placed.{Placed}
 abbrev pub with_places : List ℕ → List CompletionCandidate → List Placed
 with_places [] cs = []
 with_places (place ∷ places) [] = []
-with_places (place ∷ places) (c ∷ cs) = (record { place = place; candidate = c }) ∷ with_places places cs
+with_places (place ∷ places) (c ∷ cs) =
+    (record { place = place; candidate = c }) ∷ with_places places cs
 
 -- by the place, then by the display order
 abbrev pub placed_cmp : Placed → Placed → Ordering

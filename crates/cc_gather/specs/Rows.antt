@@ -31,12 +31,14 @@ after_equals (c ∷ s) = if c == 61 then Some s else after_equals s
 -- values of the argument that the flag names
 abbrev pub flag_row : Option Arg → List ℕ → List ℕ → Row
 flag_row None flag text = Listed []
-flag_row (Some argument) flag text = ValuesOf (record { argument = argument; before = codes "--" ++ flag ++ codes "="; text = text })
+flag_row (Some argument) flag text =
+    ValuesOf (record { argument = argument; before = codes "--" ++ flag ++ codes "="; text = text })
 
 -- after `--`: the longs that begin so; with a `=` the values of the first argument with that long
 abbrev pub long_row : List Arg → List ℕ → Option (List ℕ) → Row
 long_row arguments long None = Listed (filter (begins (codes "--" ++ long)) (longs arguments))
-long_row arguments long (Some text) = flag_row (find (has_own_long (before_equals long)) arguments) (before_equals long) text
+long_row arguments long (Some text) =
+    flag_row (find (has_own_long (before_equals long)) arguments) (before_equals long) text
 
 -- THE SHORTS OF A WORD
 
@@ -55,7 +57,8 @@ without_end text end = take (length text - length end) text
 -- without one the shorts after the word
 abbrev pub cluster_row : List Arg → List ℕ → Option ValueCharacter → Row
 cluster_row arguments word None = Listed (shorts word arguments)
-cluster_row arguments word (Some found) = ValuesOf (asked_after found.argument (without_end word found.after) found.after)
+cluster_row arguments word (Some found) =
+    ValuesOf (asked_after found.argument (without_end word found.after) found.after)
 
 -- after `-`: none for a negative number
 abbrev pub short_row : List Arg → List ℕ → Row
@@ -71,7 +74,8 @@ after_two_dashes arguments (c ∷ s) = long_row arguments (c ∷ s) (after_equal
 
 abbrev pub after_one_dash : List Arg → List ℕ → Row
 after_one_dash arguments [] = Listed (shorts (codes "-") arguments ++ longs arguments)
-after_one_dash arguments (c ∷ s) = if c == 45 then after_two_dashes arguments s else short_row arguments (c ∷ s)
+after_one_dash arguments (c ∷ s) =
+    if c == 45 then after_two_dashes arguments s else short_row arguments (c ∷ s)
 
 unfoldable pub row_of : List Arg → List ℕ → Row
 row_of arguments [] = Listed (longs arguments ++ shorts (codes "-") arguments)

@@ -24,7 +24,8 @@ pub fn subcommand_candidates(
     lent: Vec<CompletionCandidate>,
     word: &str,
 ) -> Result<Vec<CompletionCandidate>, AllocError>
-    ensures { IfOk result (λ answer. answer.items ≡ subcommand_candidates command.now lent.items word.now) }
+    ensures { IfOk result (λ answer. answer.items
+        ≡ subcommand_candidates command.now lent.items word.now) }
 {
     let mut found = children_beginning(alloc, command, word)?;
     let mut lent = beginning(external(alloc, command, lent), word);
@@ -161,7 +162,8 @@ fn child_candidate(
     name: &str,
     hidden: bool,
 ) -> Result<CompletionCandidate, AllocError>
-    ensures { IfOk result (λ candidate. candidate ≡ child_candidate parent.now.node child.now.node hidden name.now) }
+    ensures { IfOk result (λ candidate. candidate
+        ≡ child_candidate parent.now.node child.now.node hidden name.now) }
 {
     let heading = parent.get_subcommand_help_heading().unwrap_or("Commands");
     let tag = String::from_str(alloc, heading)?;

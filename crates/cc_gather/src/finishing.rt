@@ -136,7 +136,8 @@ fn id_of<'a>(candidate: &'a CompletionCandidate) -> Option<TextRef<'a>>
 
 // Marks those whose id no earlier one has.
 fn new_ids(alloc: Global, candidates: &[CompletionCandidate]) -> Result<Vec<bool>, AllocError>
-    ensures { IfOk result (λ marks. marked marks.items candidates.now ≡ first_of_ids candidates.now) }
+    ensures { IfOk result (λ marks. marked marks.items candidates.now
+        ≡ first_of_ids candidates.now) }
 {
     let mut seen = BTreeSet::new(alloc);
     let mut marks = Vec::with_capacity(alloc, candidates.len())?;
@@ -245,7 +246,8 @@ fn grouped(
 
 // For each candidate the place of its tag's first member.
 fn places(alloc: Global, candidates: &[CompletionCandidate]) -> Result<Vec<usize>, AllocError>
-    ensures { IfOk result (λ places. places.items ≡ map (λ c. place_of candidates.now c.tag) candidates.now) }
+    ensures { IfOk result (λ places. places.items ≡ map
+        (λ c. place_of candidates.now c.tag) candidates.now) }
 {
     let mut known = BTreeMap::new(alloc);
     let mut places = Vec::with_capacity(alloc, candidates.len())?;
@@ -262,9 +264,11 @@ fn place_for<'a>(
     candidate: &'a CompletionCandidate,
     next: usize,
 ) -> Result<usize, AllocError>
-    ensures value { IfOk result (λ place. place ≡ unwrap_or (get texts_cmp known.old candidate.now.tag) next) }
+    ensures value { IfOk result
+        (λ place. place ≡ unwrap_or (get texts_cmp known.old candidate.now.tag) next) }
     ensures kept { OnOk result ((other : Option (List ℕ)) → get texts_cmp known.new other
-        ≡ option_or (get texts_cmp known.old other) (if option_eq bytes_eq candidate.now.tag other then Some next else None)) }
+        ≡ option_or (get texts_cmp known.old other)
+            (if option_eq bytes_eq candidate.now.tag other then Some next else None)) }
 {
     let tag = tag_of(candidate);
     if let Some(place) = known.get(&tag) {

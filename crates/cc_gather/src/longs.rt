@@ -73,7 +73,8 @@ fn push_own_longs(
     argument: &Arg,
     long: &str,
 ) -> Result<(), AllocError>
-    ensures { OnOk result (found.new.items ≡ found.old.items ++ longs_beginning long.now argument.now) }
+    ensures { OnOk result (found.new.items ≡ found.old.items
+        ++ longs_beginning long.now argument.now) }
 {
     let Some(own) = argument.get_long() else {
         return Ok(());

@@ -87,7 +87,8 @@ fn without_dash(
     word: &str,
 ) -> Result<Vec<CompletionCandidate>, AllocError>
     ensures { IfOk result (λ found. found.items
-        ≡ (if length word.now == 0 then longs arguments.now ++ shorts (codes "-") arguments.now else [])) }
+        ≡ (if length word.now == 0 then longs arguments.now ++ shorts (codes "-") arguments.now
+            else [])) }
 {
     if word.is_empty() {
         return longs_then_shorts(alloc, arguments);
@@ -99,7 +100,8 @@ fn longs_then_shorts(
     alloc: Global,
     arguments: &[Arg],
 ) -> Result<Vec<CompletionCandidate>, AllocError>
-    ensures { IfOk result (λ found. found.items ≡ longs arguments.now ++ shorts (codes "-") arguments.now) }
+    ensures { IfOk result (λ found. found.items ≡ longs arguments.now
+        ++ shorts (codes "-") arguments.now) }
 {
     let mut found = longs(alloc, arguments)?;
     found.append(&mut shorts(alloc, arguments, "-")?)?;
@@ -110,7 +112,8 @@ fn shorts_then_longs(
     alloc: Global,
     arguments: &[Arg],
 ) -> Result<Vec<CompletionCandidate>, AllocError>
-    ensures { IfOk result (λ found. found.items ≡ shorts (codes "-") arguments.now ++ longs arguments.now) }
+    ensures { IfOk result (λ found. found.items ≡ shorts (codes "-") arguments.now
+        ++ longs arguments.now) }
 {
     let mut found = shorts(alloc, arguments, "-")?;
     found.append(&mut longs(alloc, arguments)?)?;
@@ -223,7 +226,8 @@ fn asked_after<'a>(
     mut before: String,
     rest: &'a str,
 ) -> Result<ValuesAsked<'a>, AllocError>
-    ensures { IfOk result (λ asked. asked_of asked ≡ asked_after argument.now (string_bytes before) rest.now) }
+    ensures { IfOk result (λ asked. asked_of asked
+        ≡ asked_after argument.now (string_bytes before) rest.now) }
 {
     let Some(text) = rest.strip_prefix('=') else {
         return Ok(ValuesAsked {

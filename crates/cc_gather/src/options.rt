@@ -17,7 +17,8 @@ pub(crate) fn option_candidate(
     help: Option<String>,
     hidden: bool,
 ) -> Result<CompletionCandidate, AllocError>
-    ensures { IfOk result (λ candidate. candidate ≡ option_candidate argument.now (option_map string_bytes help) hidden (string_bytes value)) }
+    ensures { IfOk result (λ candidate. candidate ≡ option_candidate argument.now
+        (option_map string_bytes help) hidden (string_bytes value)) }
 {
     let mut id = String::from_str(alloc, "arg::")?;
     id.push_str(argument.get_id())?;

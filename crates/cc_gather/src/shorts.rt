@@ -30,7 +30,8 @@ fn push_shorts(
     arguments: &[Arg],
     prefix: &str,
 ) -> Result<(), AllocError>
-    ensures { OnOk result (found.new.items ≡ found.old.items ++ flat_map (short_candidates prefix.now) arguments.now) }
+    ensures { OnOk result (found.new.items ≡ found.old.items
+        ++ flat_map (short_candidates prefix.now) arguments.now) }
 {
     for argument in arguments {
         push_own_shorts(found, alloc, argument, prefix)?;
@@ -44,7 +45,8 @@ fn push_own_shorts(
     argument: &Arg,
     prefix: &str,
 ) -> Result<(), AllocError>
-    ensures { OnOk result (found.new.items ≡ found.old.items ++ short_candidates prefix.now argument.now) }
+    ensures { OnOk result (found.new.items ≡ found.old.items
+        ++ short_candidates prefix.now argument.now) }
 {
     let Some(short) = argument.get_short() else {
         return Ok(());
@@ -66,7 +68,8 @@ fn push_short_names(
     names: &[char],
     prefix: &str,
 ) -> Result<(), AllocError>
-    ensures { OnOk result (found.new.items ≡ found.old.items ++ map (short_candidate prefix.now argument.now) names.now) }
+    ensures { OnOk result (found.new.items ≡ found.old.items
+        ++ map (short_candidate prefix.now argument.now) names.now) }
 {
     for name in names {
         found.push(short_candidate(alloc, argument, prefix, *name)?)?;

@@ -10,8 +10,8 @@ use Rattle.cc_json.specs.Seen.{view}
 use Rattle.cc_json.specs.declared.read.JsonError.{JsonError}
 use Rattle.cc_json.specs.declared.read.JsonError.TheVariants.{Memory, NotJson}
 
--- reading a text returns the value that it spells, and fails with `NotJson` where it spells none; it
--- may be out of memory
+-- reading a text returns the value that it spells, and fails with `NotJson` where it spells none;
+-- it may be out of memory
 abbrev pub ReadsJson : List ℕ → Result (Value Global) JsonError → Type 0
 ReadsJson text (Ok value) = serde.read text ≡ Some (view value)
 ReadsJson text (Err NotJson) = serde.read text ≡ None

@@ -10,8 +10,10 @@ aliases_then aliases (Some first) = aliases ++ first ∷ []
 
 -- of each argument with a short its visible aliases, then the short
 unfoldable pub all_shorts : List Arg → List ℕ
-all_shorts arguments = flat_map (λ argument. aliases_then argument.visible_short_aliases argument.short) arguments
+all_shorts arguments =
+    flat_map (λ argument. aliases_then argument.visible_short_aliases argument.short) arguments
 
 -- of each argument with a long its visible aliases, then the long
 unfoldable pub all_longs : List Arg → List (List ℕ)
-all_longs arguments = flat_map (λ argument. aliases_then argument.visible_aliases argument.long) arguments
+all_longs arguments =
+    flat_map (λ argument. aliases_then argument.visible_aliases argument.long) arguments

@@ -19,16 +19,19 @@ ReportsClash (Some label) result old new =
     ((result ≡ Err (LabelClash label)) ⊎ (result ≡ Err Memory)) × (new ≡ old)
 
 -- What a generator's call does to its sink. On `Ok` the script of the tree is taken, and it reads
--- back where the tree is plain; a clash of labels is reported; a failed put is counted exactly where
--- the call returns `Write`.
-pub record Generates {S : Type 0} (taken : S → List ℕ) (failed : S → Failures) (script : Tree → List ℕ) (clash : Tree → Option (List ℕ)) (Reads : Tree → Type 0) (tree : Tree) (result : Result (Unit {0}) Error) (old new : S) : Type 0 where
+-- back where the tree is plain; a clash of labels is reported; a failed put is counted exactly
+-- where the call returns `Write`.
+pub record Generates {S : Type 0} (taken : S → List ℕ) (failed : S → Failures)
+    (script : Tree → List ℕ) (clash : Tree → Option (List ℕ)) (Reads : Tree → Type 0) (tree : Tree)
+    (result : Result (Unit {0}) Error) (old new : S) : Type 0 where
   pub ok : OnOk result (taken new ≡ taken old ++ script tree)
   pub reads : OnOk result (IsTrue (is_plain_tree tree) → Reads tree)
   pub clashes : ReportsClash (clash tree) result (taken old) (taken new)
   pub failures : CountsWrite result (failed old) (failed new)
 
--- What a call that builds and then writes leaves: the built tree. Only where it is out of memory may
--- it leave the tree as it was, and then nothing is taken.
+-- What a call that builds and then writes leaves: the built tree. Only where it is out of memory
+-- may it leave the tree as it was, and then nothing is taken.
 abbrev pub LeavesBuilt : Result (Unit {0}) Error → Tree → Tree → Tree → List ℕ → List ℕ → Type 0
-LeavesBuilt (Err Memory) old new built taken_old taken_new = ((new ≡ old) × (taken_new ≡ taken_old)) ⊎ (new ≡ built)
+LeavesBuilt (Err Memory) old new built taken_old taken_new =
+    ((new ≡ old) × (taken_new ≡ taken_old)) ⊎ (new ≡ built)
 LeavesBuilt _ old new built taken_old taken_new = new ≡ built

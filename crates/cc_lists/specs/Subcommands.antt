@@ -33,4 +33,5 @@ all_named forest = named_siblings forest ++ named_below forest
 -- where a path of words leads: each word to the first child with that name or alias
 abbrev pub find_path : Tree → List (List ℕ) → Option Tree
 find_path tree [] = Some tree
-find_path tree (word ∷ path) = option_and_then (λ child. find_path child path) (find_child tree.children word)
+find_path tree (word ∷ path) =
+    option_and_then (λ child. find_path child path) (find_child tree.children word)

@@ -13,10 +13,11 @@ use Rattle.cc_paths.specs.declared.entry.Entry.{Entry}
 abbrev pub folder_mark : Bool → List ℕ
 folder_mark is_folder = if is_folder then slash ∷ [] else []
 
--- the candidate for a listed name: the prefix as it was written, the name, and a slash for a folder;
--- hidden where the name begins with a dot
+-- the candidate for a listed name: the prefix as it was written, the name, and a slash for a
+-- folder; hidden where the name begins with a dot
 abbrev pub path_candidate : List ℕ → Entry → CompletionCandidate
-path_candidate prefix entry = record (new_candidate (path_join prefix entry.name ++ folder_mark entry.is_folder)) {
+path_candidate prefix entry =
+    record (new_candidate (path_join prefix entry.name ++ folder_mark entry.is_folder)) {
   hidden = slice_index entry.name 0 == dot;
 }
 
@@ -58,16 +59,18 @@ abbrev pub entry_name : Entry → List ℕ
 entry_name entry = entry.name
 
 -- the entry holds what the folder and the test may say of the path of its name
-pub record IsTold (tells_dir passes : List ℕ → Bool → Type 0) (root : List ℕ) (entry : Entry) : Type 0 where
+pub record IsTold (tells_dir passes : List ℕ → Bool → Type 0) (root : List ℕ)
+    (entry : Entry) : Type 0 where
   pub folder : tells_dir (path_join root entry.name) entry.is_folder
   pub test : passes (path_join root entry.name) entry.passes
 
 -- these names may be listed; a folder that can't be read has none
 abbrev pub MayList : (Option (List (List ℕ)) → Type 0) → List (List ℕ) → Type 0
-MayList lists names = (listing : Option (List (List ℕ))) × lists listing × (names ≡ unwrap_or listing [])
+MayList lists names =
+    (listing : Option (List (List ℕ))) × lists listing × (names ≡ unwrap_or listing [])
 
--- the candidates for a word from the names that may be listed at the root, of which those that begin
--- as the word does are looked at
+-- the candidates for a word from the names that may be listed at the root, of which those that
+-- begin as the word does are looked at
 pub record AreCandidatesAt (lists : List ℕ → Option (List (List ℕ)) → Type 0)
     (tells_dir passes : List ℕ → Bool → Type 0) (word root : List ℕ)
     (candidates : List CompletionCandidate) : Type 0 where

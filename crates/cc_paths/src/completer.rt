@@ -23,7 +23,8 @@ pub struct PathCompleter<D, T> {
 impl<D> PathCompleter<D, EveryPath> {
     /// A completer of all paths.
     pub fn any(folder: D) -> PathCompleter<D, EveryPath>
-        ensures { result ≡ record { folder = folder; test = record {}; stdio = false; current_dir = None } }
+        ensures { result ≡ record { folder = folder; test = record {}; stdio = false;
+            current_dir = None } }
     {
         PathCompleter::with_test(folder, EveryPath)
     }
@@ -32,7 +33,8 @@ impl<D> PathCompleter<D, EveryPath> {
 impl<D> PathCompleter<D, IsFile> {
     /// A completer of the paths of files; the folders, which may hold some, come after them.
     pub fn file(folder: D) -> PathCompleter<D, IsFile>
-        ensures { result ≡ record { folder = folder; test = record {}; stdio = false; current_dir = None } }
+        ensures { result ≡ record { folder = folder; test = record {}; stdio = false;
+            current_dir = None } }
     {
         PathCompleter::with_test(folder, IsFile)
     }
@@ -41,17 +43,19 @@ impl<D> PathCompleter<D, IsFile> {
 impl<D> PathCompleter<D, IsDir> {
     /// A completer of the paths of folders.
     pub fn dir(folder: D) -> PathCompleter<D, IsDir>
-        ensures { result ≡ record { folder = folder; test = record {}; stdio = false; current_dir = None } }
+        ensures { result ≡ record { folder = folder; test = record {}; stdio = false;
+            current_dir = None } }
     {
         PathCompleter::with_test(folder, IsDir)
     }
 }
 
 impl<D, T> PathCompleter<D, T> {
-    /// A completer of the paths that pass a test, which may be of a type of the caller's own. With a
-    /// test that holds no boxed closure it can be lent in `Completers`.
+    /// A completer of the paths that pass a test, which may be of a type of the caller's own. With
+    /// a test that holds no boxed closure it can be lent in `Completers`.
     pub fn with_test(folder: D, test: T) -> PathCompleter<D, T>
-        ensures { result ≡ record { folder = folder; test = test; stdio = false; current_dir = None } }
+        ensures { result ≡ record { folder = folder; test = test; stdio = false;
+            current_dir = None } }
     {
         PathCompleter {
             folder,
@@ -82,7 +86,8 @@ impl<D: Drop, T: Drop> PathCompleter<D, T> {
     /// Replaces the test by a closure, which may be called with any text. It is given the path of
     /// each listed name that begins as the word does, and for an empty word the current folder's.
     /// This is for calls of `complete` and `complete_at` themselves: no trait object is made of a
-    /// type that holds a boxed closure, so what is to be lent in `Completers` is made by `with_test`.
+    /// type that holds a boxed closure, so what is to be lent in `Completers` is made by
+    /// `with_test`.
     pub fn filter(self, test: TextTest) -> PathCompleter<D, FnTest>
         requires { TextTest.IsAlwaysCallable test }
         ensures folder { result.folder ≡ self.folder }

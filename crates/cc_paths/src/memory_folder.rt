@@ -58,12 +58,14 @@ impl MemoryFolder {
 }
 
 impl Folder for MemoryFolder {
-    ghost lists = { λ folder path listing. listing ≡ names_in folder.folders.now (without_slash path) };
+    ghost lists = { λ folder path listing. listing
+        ≡ names_in folder.folders.now (without_slash path) };
 
     ghost tells_dir = { λ folder path told.
         told ≡ is_some (folder_at folder.folders.now (without_slash path)) };
 
-    ghost tells_file = { λ folder path told. told ≡ has_file folder.files.now (without_slash path) };
+    ghost tells_file = { λ folder path told. told ≡ has_file folder.files.now
+        (without_slash path) };
 
     ghost tells_executable = { λ folder path told.
         told ≡ has_file folder.files.now (without_slash path) };

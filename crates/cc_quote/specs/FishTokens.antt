@@ -1,5 +1,5 @@
--- How a fish script is cut into commands, each a list of the words that it spells; none for a last one
--- in which a quote or an escape is open at the end.
+-- How a fish script is cut into commands, each a list of the words that it spells; none for a last
+-- one in which a quote or an escape is open at the end.
 use Rattle.std.specs.Prelude.{ℕ, List, [], ◌∷◌, ◌++◌, Option, Some, None}
 use Rattle.cc_quote.specs.FishQuote.{fish_sign, FishPlace, next_place, spelled}
 use Rattle.cc_quote.specs.FishQuote.FishSign.{blank, line_feed, hash}

@@ -1,5 +1,5 @@
--- How a text is escaped between `'` for the lists of zsh's completion, and how the backslashes are taken
--- off again.
+-- How a text is escaped between `'` for the lists of zsh's completion, and how the backslashes are
+-- taken off again.
 use Rattle.std.specs.Prelude.{◌≡◌, ℕ, Bool, true, false, List, [], ◌∷◌, ◌++◌, Option, Some, None, option_map, codes, ◌==◌, ◌||◌, if◌then◌else◌}
 use Rattle.cc_base.specs.Bytes.{backslash, backtick, dollar, line_feed, single_quote, space}
 use Rattle.cc_quote.specs.Escapes.{backslashed, escaped_by}
@@ -13,8 +13,8 @@ pub data Mark : Type 0 where
   escaped : ℕ → Mark
   unended : Mark
 
--- The marks of a text, after a backslash that escapes or after none. A backslash escapes the next byte,
--- whatever it is.
+-- The marks of a text, after a backslash that escapes or after none. A backslash escapes the next
+-- byte, whatever it is.
 unfoldable pub marks_from : Bool → List ℕ → List Mark
 marks_from false [] = []
 marks_from true [] = unended ∷ []
@@ -44,7 +44,8 @@ zsh_unescaped text = unmarked (marks text)
 -- `\ [ ] : $` and a backtick, which stand after a backslash in a description
 abbrev pub is_help_marked : ℕ → Bool
 is_help_marked byte =
-    byte == backslash || byte == 91 || byte == 93 || byte == 58 || byte == dollar || byte == backtick
+    byte == backslash || byte == 91 || byte == 93 || byte == 58 || byte == dollar
+        || byte == backtick
 
 -- these, `(`, `)` and a space, which stand after one in a value
 abbrev pub is_value_marked : ℕ → Bool
@@ -74,8 +75,8 @@ zsh_escaped_help text = escaped_by is_help_escaped zsh_help_replacement text
 unfoldable pub zsh_escaped_value : List ℕ → List ℕ
 zsh_escaped_value text = escaped_by is_value_escaped zsh_replacement text
 
--- what stands between two `'` is read as the text that it spells, and without the backslashes that is
--- the other text
+-- what stands between two `'` is read as the text that it spells, and without the backslashes that
+-- is the other text
 pub record ReadsUnescaped (quoted text : List ℕ) : Type 0 where
   pub between : List ℕ
   pub word : posix_word_of (codes "'" ++ quoted ++ codes "'") ≡ Some (between, [])

@@ -11,8 +11,8 @@ use crate::word::split_first;
 use cc_base::Error;
 use std::alloc::{AllocError, Global};
 
-/// zsh's escape of a description between two `'`: a backslash before `\ [ ] : $` and a backtick, `'`
-/// as `'\''`, and each line feed as a space.
+/// zsh's escape of a description between two `'`: a backslash before `\ [ ] : $` and a backtick,
+/// `'` as `'\''`, and each line feed as a space.
 pub struct ZshHelpEscape;
 
 impl ByteEscape for ZshHelpEscape {
@@ -87,8 +87,8 @@ pub fn zsh_escape_value(alloc: Global, text: &str) -> Result<String, Error>
     Ok(escape_text(alloc, &ZshValueEscape, text)?)
 }
 
-/// The text without its escaping backslashes: each keeps the next character, a backslash too. `None`
-/// where an escaping backslash is last. Fails with `Memory` alone.
+/// The text without its escaping backslashes: each keeps the next character, a backslash too.
+/// `None` where an escaping backslash is last. Fails with `Memory` alone.
 pub fn zsh_unescape(alloc: Global, text: &str) -> Result<Option<String>, Error>
     ensures unescaped { IfOk result
         (λ read. option_map string_bytes read ≡ zsh_unescaped text.now) }

@@ -48,8 +48,8 @@ pub record IsRegistration (registration : List ℕ → List ℕ → List ℕ →
 -- ---- the reply
 
 -- How the reply ends, over a built tree: candidates that may be offered for what is asked for are
--- replied, the index that is asked for is in range, and what replies are read as holds; the index is
--- out of range; or memory ran out.
+-- replied, the index that is asked for is in range, and what replies are read as holds; the index
+-- is out of range; or memory ran out.
 abbrev pub RepliesAs : (List (List ℕ) → ℕ → Type 0)
     → (List (List ℕ) → ℕ → List CompletionCandidate → Type 0)
     → (List CompletionCandidate → List ℕ) → (List CompletionCandidate → Type 0) → Tree
@@ -72,8 +72,8 @@ BuiltUnlessMemory (Err _) Built = ⊥
 -- ---- the text
 
 -- How making the text ends for a shell that is known. `Makes` says what the factory may return,
--- `Registers` which text is the registration of a program and a tree, and `Replies` how the reply to
--- words ends over a tree.
+-- `Registers` which text is the registration of a program and a tree, and `Replies` how the reply
+-- to words ends over a tree.
 pub data MakesText (Makes : Result Tree Error → Type 0)
     (Registers : List ℕ → Tree → List ℕ → Type 0)
     (Replies : List (List ℕ) → Tree → Result (List ℕ) Error → Type 0)
@@ -109,8 +109,8 @@ made_bytes (Err error) = Err error
 
 -- ---- the whole call
 
--- How the whole call ends for a shell that is known. The text is made first; nothing is written, and
--- no write failed, where that fails.
+-- How the whole call ends for a shell that is known. The text is made first; nothing is written,
+-- and no write failed, where that fails.
 pub data Ends {S : Type 0} (taken : S → List ℕ) (failed : S → Failures)
     (Makes : Result (List ℕ) Error → Type 0) (old new : S) : Result Bool Error → Type 0 where
   -- no text is made

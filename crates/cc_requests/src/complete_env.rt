@@ -121,8 +121,8 @@ impl<'s, F: Fn(Global) -> Result<Command, Error> + Drop, E: EnvCompleter> Comple
     /// Fails, in this order: with `UnknownShell` where no shell has the name; as the factory does;
     /// with `NoArguments` where the list of arguments is empty; with `NoCompletion` where the shell
     /// asks for a word that is not there, or for the program's name. Nothing is written then, nor
-    /// where the call fails with `Memory`. Fails with `Write` where the sink fails; how much it took
-    /// is left open.
+    /// where the call fails with `Memory`. Fails with `Write` where the sink fails; how much it
+    /// took is left open.
     pub fn try_complete<D: Folder, W: Sink>(
         self,
         alloc: Global,

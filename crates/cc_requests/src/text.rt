@@ -75,7 +75,8 @@ impl<'s, F: Fn(Global) -> Result<Command, Error>, E: EnvCompleter> CompleteEnv<'
     // The command that the factory makes, built.
     fn command(&self, alloc: Global) -> Result<Command, Error>
         requires { F.IsAlwaysCallable self.now.factory }
-        ensures made { IfOk result (λ command. (tree : Tree) × F.post self.now.factory alloc (Ok tree)
+        ensures made { IfOk result
+            (λ command. (tree : Tree) × F.post self.now.factory alloc (Ok tree)
             × (command ≡ built_tree tree) × (built_tree command ≡ command)) }
         ensures err { IfErr result (λ error. F.post self.now.factory alloc (Err error)
             ⊎ (error ≡ Error.Memory)) }
@@ -157,7 +158,8 @@ fn reply<E: EnvCompleter, D: Folder>(
         (D.tells_executable folder.now) (D.home_path folder.now)
         (option_copied current_dir.entry)))
         command.new)
-        (E.reply shell.now env.now) (E.ReplyReads shell.now env.now) command.new (made_bytes result) }
+        (E.reply shell.now env.now) (E.ReplyReads shell.now env.now) command.new
+            (made_bytes result) }
     ensures built { BuiltUnlessMemory (made_bytes result) (command.new ≡ built_tree command.old) }
 {
     let mut text = Collected::new(alloc);

@@ -19,8 +19,8 @@ Spells bytes d = IsUtf8 bytes × (read bytes ≡ Some d)
 abbrev pub SpellsNone : List ℕ → Type 0
 SpellsNone bytes = IsUtf8 bytes → read bytes ≡ None
 
--- reading bytes as JSON returns the value that they spell, and fails with `NotJson` where they spell none;
--- it may be out of memory
+-- reading bytes as JSON returns the value that they spell, and fails with `NotJson` where they
+-- spell none; it may be out of memory
 abbrev pub ReadsValue : List ℕ → Result (Value Global) TreeError → Type 0
 ReadsValue bytes (Ok value) = Spells bytes (view value)
 ReadsValue bytes (Err NotJson) = SpellsNone bytes
@@ -31,8 +31,8 @@ ReadsValue bytes (Err Memory) = ⊤
 abbrev pub Describes : List ℕ → Option Tree → Type 0
 Describes bytes described = (d : Data) × Spells bytes d × (command_of d ≡ described)
 
--- reading a tree file returns the command that the bytes describe, and fails with `NotJson` where they
--- spell no JSON and with `BadForm` where it describes no command; it may be out of memory
+-- reading a tree file returns the command that the bytes describe, and fails with `NotJson` where
+-- they spell no JSON and with `BadForm` where it describes no command; it may be out of memory
 abbrev pub ReadsTree : List ℕ → Result Tree TreeError → Type 0
 ReadsTree bytes (Ok command) = Describes bytes (Some command)
 ReadsTree bytes (Err NotJson) = SpellsNone bytes

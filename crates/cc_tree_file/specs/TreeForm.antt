@@ -20,8 +20,8 @@ use Rattle.cc_arg.specs.declared.value_hint.ValueHint.TheVariants.{Hostname, Url
 use Rattle.cc_tree_file.specs.declared.error.TreeError.{TreeError}
 use Rattle.cc_tree_file.specs.declared.error.TreeError.TheVariants.{BadForm, Memory, NotJson}
 
--- a reader returns what is defined, as seen by the view, and fails with bad form exactly where nothing
--- is defined; it may be out of memory
+-- a reader returns what is defined, as seen by the view, and fails with bad form exactly where
+-- nothing is defined; it may be out of memory
 abbrev pub Gives : {X Y : Type 0} → (X → Y) → Result X TreeError → Option Y → Type 0
 Gives view (Ok x) defined = defined ≡ Some (view x)
 Gives view (Err BadForm) defined = defined ≡ None
@@ -32,8 +32,8 @@ Gives view (Err Memory) defined = ⊤
 abbrev pub GivesSame : {X : Type 0} → Result X TreeError → Option X → Type 0
 GivesSame = Gives (λ x. x)
 
--- a step changes its subject as it is defined, and fails with bad form exactly where nothing is defined;
--- it may be out of memory
+-- a step changes its subject as it is defined, and fails with bad form exactly where nothing is
+-- defined; it may be out of memory
 abbrev pub Sets : {R S : Type 0} → Result R TreeError → (S → Option S) → S → S → Type 0
 Sets (Ok done) change old new = change old ≡ Some new
 Sets (Err BadForm) change old new = change old ≡ None
@@ -131,8 +131,8 @@ hint_of name = if bytes_eq name (codes "Unknown") then Some Unknown
     else if bytes_eq name (codes "EmailAddress") then Some EmailAddress
     else None
 
--- what a field holds after a value was read into it: what it held where there is no value; nothing is
--- defined where the value is of another kind
+-- what a field holds after a value was read into it: what it held where there is no value; nothing
+-- is defined where the value is of another kind
 abbrev pub value_or : {X : Type 0} → (Data → Option X) → X → Option Data → Option X
 value_or read held None = Some held
 value_or read held (Some d) = read d
@@ -162,12 +162,14 @@ abbrev pub set_all : {S : Type 0} → List (Setting S) → Data → S → Option
 set_all [] d subject = Some subject
 set_all (one ∷ settings) d subject = one.change d subject >>= set_all settings d
 
--- what a value adds to a subject: nothing where there is no value; nothing is defined where the value
--- is of another kind
-abbrev pub with_value : {S X : Type 0} → (Data → Option X) → (S → X → S) → S → Option Data → Option S
+-- what a value adds to a subject: nothing where there is no value; nothing is defined where the
+-- value is of another kind
+abbrev pub with_value : {S X : Type 0} → (Data → Option X) → (S → X → S) → S → Option Data
+    → Option S
 with_value kind set subject None = Some subject
 with_value kind set subject (Some d) = option_map (set subject) (kind d)
 
 -- what the value at a key adds to a subject
-abbrev pub with_key : {S X : Type 0} → List ℕ → (Data → Option X) → (S → X → S) → Data → S → Option S
+abbrev pub with_key : {S X : Type 0} → List ℕ → (Data → Option X) → (S → X → S) → Data → S
+    → Option S
 with_key key kind set d subject = with_value kind set subject (get key d)

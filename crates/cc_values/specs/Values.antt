@@ -1,4 +1,5 @@
--- The values of an argument for a word: what is asked, what may be answered, and what is made of it.
+-- The values of an argument for a word: what is asked, what may be answered, and what is made of
+-- it.
 use Rattle.std.specs.Prelude.{◌≡◌, ℕ, List, [], ◌++◌, map, filter, Bool, true, false, Option, Some, None, unwrap_or}
 use Rattle.std.specs.Ordering.{is_lt}
 use Rattle.cc_base.specs.Sorting.{in_order}
@@ -16,8 +17,8 @@ use Rattle.cc_candidates.specs.declared.numbers.ArgValueCandidates.{ArgValueCand
 use Rattle.cc_candidates.specs.declared.numbers.ArgValueCompleter.{ArgValueCompleter}
 use Rattle.cc_values.specs.Parts.{front, part}
 
--- what is asked for a list of candidates: nothing, or a lent completer of a number for the number of
--- the value and a text, a lent list of a number, or the paths of a kind for a text
+-- what is asked for a list of candidates: nothing, or a lent completer of a number for the number
+-- of the value and a text, a lent list of a number, or the paths of a kind for a text
 pub data Question : Type 0 where
   nothing : Question
   completer : ℕ → ℕ → List ℕ → Question
@@ -30,13 +31,17 @@ pub record Lent : Type 1 where
   pub lists : ℕ → List CompletionCandidate → Type 0
   pub finds : ValueHint → List ℕ → List CompletionCandidate → Type 0
 
--- what is lent: completers and closures, lists and closures, each by its place, and a source of paths
+-- what is lent: completers and closures, lists and closures, each by its place, and a source of
+-- paths
 abbrev pub lent_by : {C F L G : Type 0}
-    → (C → ℕ → List ℕ → List CompletionCandidate → Type 0) → List C → (F → ℕ → List ℕ → List CompletionCandidate → Type 0) → List F
-    → (L → List CompletionCandidate → Type 0) → List L → (G → List CompletionCandidate → Type 0) → List G
+    → (C → ℕ → List ℕ → List CompletionCandidate → Type 0) → List C
+        → (F → ℕ → List ℕ → List CompletionCandidate → Type 0) → List F
+    → (L → List CompletionCandidate → Type 0) → List L → (G → List CompletionCandidate → Type 0)
+        → List G
     → (ValueHint → List ℕ → List CompletionCandidate → Type 0) → Lent
 lent_by Completes completers Answers closures Lists lists Gives list_closures Finds = record {
-  completes = λ which number text. AnswersAt (λ item. Completes item number text) completers (λ closure. Answers closure number text) closures which;
+  completes = λ which number text. AnswersAt (λ item. Completes item number text) completers
+      (λ closure. Answers closure number text) closures which;
   lists = λ which. AnswersAt Lists lists Gives list_closures which;
   finds = Finds;
 }
@@ -63,14 +68,16 @@ question_of_hint false hint text = nothing
 
 -- what an argument asks: its completer, else its list; else nothing where it has possible values,
 -- else by its hint
-abbrev pub question_by : Option ArgValueCompleter → Option ArgValueCandidates → Option (List PossibleValue) → ValueHint → ℕ → List ℕ → Question
+abbrev pub question_by : Option ArgValueCompleter → Option ArgValueCandidates
+    → Option (List PossibleValue) → ValueHint → ℕ → List ℕ → Question
 question_by (Some which) list values hint number text = completer which.number number text
 question_by None (Some which) values hint number text = candidates which.number
 question_by None None (Some values) hint number text = nothing
 question_by None None None hint number text = question_of_hint (is_path hint) hint text
 
 unfoldable pub question : Arg → ℕ → List ℕ → Question
-question arg number text = question_by arg.completer arg.candidates (possible_values arg) arg.value_hint number text
+question arg number text =
+    question_by arg.completer arg.candidates (possible_values arg) arg.value_hint number text
 
 -- the candidate for a possible value
 abbrev pub value_candidate : PossibleValue → CompletionCandidate
@@ -82,7 +89,8 @@ sorted list = in_order (λ one other. is_lt (candidate_cmp one other)) list
 
 -- what is made of the answer: a completer's stays, of a list and of the possible values those stay
 -- that begin with the text, and paths are sorted as one list
-abbrev pub gathered_by : Option ArgValueCompleter → Option ArgValueCandidates → Option (List PossibleValue) → List ℕ → List CompletionCandidate → List CompletionCandidate
+abbrev pub gathered_by : Option ArgValueCompleter → Option ArgValueCandidates
+    → Option (List PossibleValue) → List ℕ → List CompletionCandidate → List CompletionCandidate
 gathered_by (Some which) list values text lent = lent
 gathered_by None (Some which) values text lent = filter (begins text) lent
 gathered_by None None (Some values) text lent = filter (begins text) (map value_candidate values)
@@ -94,17 +102,23 @@ gathered arg text lent = gathered_by arg.completer arg.candidates (possible_valu
 -- what an argument offers for a text that holds no delimiter
 abbrev pub Gathers : Lent → Arg → ℕ → List ℕ → List CompletionCandidate → Type 0
 Gathers lent arg number text result =
-    (answer : List CompletionCandidate) × Allows lent (question arg number text) answer × (result ≡ gathered arg text answer)
+    (answer : List CompletionCandidate) × Allows lent (question arg number text) answer
+        × (result ≡ gathered arg text answer)
 
 -- a candidate after the earlier values of its word; a missing tag is the printed form
 abbrev pub as_value : List ℕ → List ℕ → CompletionCandidate → CompletionCandidate
-as_value before form candidate = record candidate { value = before ++ candidate.value; tag = Some (unwrap_or candidate.tag form) }
+as_value before form candidate =
+    record candidate { value = before ++ candidate.value; tag = Some
+    (unwrap_or candidate.tag form) }
 
 -- the values of an argument for a word, where the question is answered by this list
 unfoldable pub values : Arg → List ℕ → List CompletionCandidate → List CompletionCandidate
-values arg word lent = map (as_value (front arg.value_delimiter word) (printed arg)) (gathered arg (part arg.value_delimiter word) lent)
+values arg word lent = map (as_value (front arg.value_delimiter word) (printed arg))
+    (gathered arg (part arg.value_delimiter word) lent)
 
 -- the values of an argument for a word, as the value of this number
 abbrev pub ArgumentValues : Lent → Arg → List ℕ → ℕ → List CompletionCandidate → Type 0
 ArgumentValues lent arg word number result =
-    (answer : List CompletionCandidate) × Allows lent (question arg number (part arg.value_delimiter word)) answer × (result ≡ values arg word answer)
+    (answer : List CompletionCandidate) × Allows lent
+        (question arg number (part arg.value_delimiter word)) answer
+        × (result ≡ values arg word answer)

@@ -7,19 +7,21 @@ use Rattle.cc_command.specs.Names.{visible_names}
 use Rattle.cc_command.specs.Tree.{Tree, IsSibling}
 use Rattle.cc_visits.specs.Visits.{Keyed}
 
--- the path leads from a tree, which has this node above it, down to a tree and the node above that one
+-- the path leads from a tree, which has this node above it, down to a tree and the node above that
+-- one
 abbrev pub LeadsTo : Node → Tree → List (List ℕ) → Node → Tree → Type 0
 LeadsTo above from [] parent to = (above ≡ parent) × (from ≡ to)
 LeadsTo above from (name ∷ names) parent to =
-    (child : Tree) × (IsSibling from.children child × (Contains (visible_names child.node) name × LeadsTo from.node child names parent to))
+    (child : Tree) × (IsSibling from.children child
+        × (Contains (visible_names child.node) name × LeadsTo from.node child names parent to))
 
--- the key of the visit is a visible path: it leads from the root to the node that is visited, and to
--- the node above it; above the root is the root itself
+-- the key of the visit is a visible path: it leads from the root to the node that is visited, and
+-- to the node above it; above the root is the root itself
 abbrev pub IsVisiblePath : Tree → Keyed (List (List ℕ)) → Type 0
 IsVisiblePath tree visit = LeadsTo tree.node tree visit.key visit.above visit.tree
 
--- the visits are exactly the visible paths of the tree, each with the nodes that it leads to, and no
--- path is visited twice
+-- the visits are exactly the visible paths of the tree, each with the nodes that it leads to, and
+-- no path is visited twice
 pub record CoversPaths (tree : Tree) (visits : List (Keyed (List (List ℕ)))) : Type 0 where
   pub paths : (visit : Keyed (List (List ℕ))) → Contains visits visit ↔ IsVisiblePath tree visit
   pub once : AllDifferBy (λ visit. visit.key) visits

@@ -7,7 +7,8 @@ use Rattle.cc_visits.specs.declared.path_steps.StepItem.{StepItem}
 
 -- a node under a key, to be left or entered
 abbrev pub step_item : Bool → ℕ → ℕ → List ℕ → StepItem
-step_item leaving above number key = record { above = above; number = number; key = key; leaving = leaving }
+step_item leaving above number key =
+    record { above = above; number = number; key = key; leaving = leaving }
 
 -- a node that is to be entered under each of these keys
 abbrev pub entries_at : ℕ → ℕ → List (List ℕ) → List StepItem
@@ -22,11 +23,15 @@ unfoldable pub AreListed : List Entry → List StepItem → Type 0
 AreListed flat items = All (IsListed flat) items
 
 -- nodes, each under its keys below one key of their parent
-abbrev pub step_items : List Entry → (List ℕ → List ℕ → List ℕ) → ℕ → List ℕ → List ℕ → List StepItem
-step_items flat longer above key numbers = flat_map (λ number. entries_at above number (keys_below longer key (tree_at flat number).node)) numbers
+abbrev pub step_items : List Entry → (List ℕ → List ℕ → List ℕ) → ℕ → List ℕ → List ℕ
+    → List StepItem
+step_items flat longer above key numbers =
+    flat_map (λ number. entries_at above number
+    (keys_below longer key (tree_at flat number).node)) numbers
 
 -- the steps that come from an item
 abbrev pub steps_of : List Entry → (List ℕ → List ℕ → List ℕ) → StepItem → List (Step (List ℕ))
 steps_of flat longer item =
-    if item.leaving then leave (keyed item.key (tree_at flat item.above).node (tree_at flat item.number)) ∷ []
+    if item.leaving then leave
+        (keyed item.key (tree_at flat item.above).node (tree_at flat item.number)) ∷ []
     else steps_from longer item.key (tree_at flat item.above).node (tree_at flat item.number)

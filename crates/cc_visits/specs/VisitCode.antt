@@ -1,5 +1,5 @@
--- How visits and steps are stored, so that proofs can tell them apart: of no interest to a reader of
--- contracts.
+-- How visits and steps are stored, so that proofs can tell them apart: of no interest to a reader
+-- of contracts.
 use Rattle.std.specs.Prelude.{◌≡◌, ◌⊎◌, ℕ, List, refl}
 use Rattle.std.proofs.Common.{inl, inr}
 use Rattle.std.specs.Coded.{Coded, code_by, coded×, coded⊎, coded_ℕ, coded_list}
@@ -40,4 +40,5 @@ read-stored (leave visit) = refl
 
 -- steps are stored as the parts of their visits
 abbrev pub steps_code : Coded (List (Step (List ℕ)))
-steps_code = coded_list (code_by (Parts ⊎ Parts) (coded⊎ parts_code parts_code) stored read read-stored)
+steps_code = coded_list (code_by (Parts ⊎ Parts)
+    (coded⊎ parts_code parts_code) stored read read-stored)

@@ -6,7 +6,8 @@ use Rattle.cc_command.specs.declared.node.Node.{Node}
 use Rattle.cc_command.specs.Tree.{Forest, none, more, Tree}
 use Rattle.cc_command.specs.Names.{visible_names}
 
--- a node with all below it, its key, and the node above it: its parent, or itself where it is the root
+-- a node with all below it, its key, and the node above it: its parent, or itself where it is the
+-- root
 pub record Keyed (Key : Type 0) : Type 0 where
   pub key : Key
   pub above : Node
@@ -20,18 +21,21 @@ keyed key above tree = record { key = key; above = above; tree = tree }
 abbrev pub keys_below : {Key : Type 0} → (Key → List ℕ → Key) → Key → Node → List Key
 keys_below longer key node = map (longer key) (visible_names node)
 
--- Path order, below a node with this key: child by child and name by name, the child under the longer
--- key, then all below it.
-unfoldable pub paths_below : {Key : Type 0} → (Key → List ℕ → Key) → Key → Node → Forest → List (Keyed Key)
+-- Path order, below a node with this key: child by child and name by name, the child under the
+-- longer key, then all below it.
+unfoldable pub paths_below : {Key : Type 0} → (Key → List ℕ → Key) → Key → Node → Forest
+    → List (Keyed Key)
 paths_below longer key above none = []
 paths_below longer key above (more node below rest) =
     flat_map (λ child.
-    keyed child above (record { node = node; children = below }) ∷ paths_below longer child node below) (keys_below longer key node) ++
+    keyed child above (record { node = node; children = below })
+        ∷ paths_below longer child node below) (keys_below longer key node) ++
     paths_below longer key above rest
 
 -- the root under this key, then all below it, in path order
 abbrev pub path_visits : {Key : Type 0} → (Key → List ℕ → Key) → Key → Tree → List (Keyed Key)
-path_visits longer key tree = keyed key tree.node tree ∷ paths_below longer key tree.node tree.children
+path_visits longer key tree =
+    keyed key tree.node tree ∷ paths_below longer key tree.node tree.children
 
 -- a tree under each of these keys, with the node above it
 abbrev pub under_each : {Key : Type 0} → List Key → Node → Tree → List (Keyed Key)
@@ -39,7 +43,8 @@ under_each keys above tree = map (λ key. keyed key above tree) keys
 
 -- Table order, below a node with these keys: child by child, and for each of the keys in turn, the
 -- child under its longer keys, then all below it.
-unfoldable pub tables_below : {Key : Type 0} → (Key → List ℕ → Key) → List Key → Node → Forest → List (Keyed Key)
+unfoldable pub tables_below : {Key : Type 0} → (Key → List ℕ → Key) → List Key → Node → Forest
+    → List (Keyed Key)
 tables_below longer keys above none = []
 tables_below longer keys above (more node below rest) =
     flat_map (λ key.
@@ -49,12 +54,16 @@ tables_below longer keys above (more node below rest) =
 
 -- the root under this key, then all below it, in table order
 abbrev pub table_visits : {Key : Type 0} → (Key → List ℕ → Key) → Key → Tree → List (Keyed Key)
-table_visits longer key tree = keyed key tree.node tree ∷ tables_below longer (key ∷ []) tree.node tree.children
+table_visits longer key tree =
+    keyed key tree.node tree ∷ tables_below longer (key ∷ []) tree.node tree.children
 
--- a child below one key of its parent: the child under its longer keys, then all below it, in table order
-abbrev pub tables_from : {Key : Type 0} → (Key → List ℕ → Key) → Key → Node → Tree → List (Keyed Key)
+-- a child below one key of its parent: the child under its longer keys, then all below it, in table
+-- order
+abbrev pub tables_from : {Key : Type 0} → (Key → List ℕ → Key) → Key → Node → Tree
+    → List (Keyed Key)
 tables_from longer key above tree =
-    under_each (keys_below longer key tree.node) above tree ++ tables_below longer (keys_below longer key tree.node) tree.node tree.children
+    under_each (keys_below longer key tree.node) above tree
+        ++ tables_below longer (keys_below longer key tree.node) tree.node tree.children
 
 -- ---- keys
 
@@ -83,18 +92,22 @@ pub data Step (Key : Type 0) : Type 0 where
 
 -- Path order with ends, below a node with this key: each child is entered and, after all below it,
 -- left.
-unfoldable pub steps_below : {Key : Type 0} → (Key → List ℕ → Key) → Key → Node → Forest → List (Step Key)
+unfoldable pub steps_below : {Key : Type 0} → (Key → List ℕ → Key) → Key → Node → Forest
+    → List (Step Key)
 steps_below longer key above none = []
 steps_below longer key above (more node below rest) =
     flat_map (λ child.
     enter (keyed child above (record { node = node; children = below })) ∷
-    (steps_below longer child node below ++ leave (keyed child above (record { node = node; children = below })) ∷ [])) (keys_below longer key node) ++
+    (steps_below longer child node below ++ leave
+        (keyed child above (record { node = node; children = below }))
+        ∷ [])) (keys_below longer key node) ++
     steps_below longer key above rest
 
 -- a tree under this key is entered and, after all below it, left
 abbrev pub steps_from : {Key : Type 0} → (Key → List ℕ → Key) → Key → Node → Tree → List (Step Key)
 steps_from longer key above tree =
-    enter (keyed key above tree) ∷ (steps_below longer key tree.node tree.children ++ leave (keyed key above tree) ∷ [])
+    enter (keyed key above tree) ∷
+        (steps_below longer key tree.node tree.children ++ leave (keyed key above tree) ∷ [])
 
 -- the same of the root
 abbrev pub path_steps : {Key : Type 0} → (Key → List ℕ → Key) → Key → Tree → List (Step Key)

@@ -50,7 +50,8 @@ module _ (arguments : List Arg) where
   Follows option word = follows option (sign_of arguments word) ≡ true
 
   abbrev pub is_value_at : ℕ → Bool → List ℕ → Bool
-  is_value_at place escaped word = escaped || is_value (allows_hyphens_at arguments place) (sign_of arguments word)
+  is_value_at place escaped word =
+      escaped || is_value (allows_hyphens_at arguments place) (sign_of arguments word)
 
   abbrev pub IsValueAt : ℕ → Bool → List ℕ → Type 0
   IsValueAt place escaped word = is_value_at place escaped word ≡ true
@@ -93,7 +94,8 @@ module _ (arguments : List Arg) where
       × AreBlocks (place_after place (suc (length more))) escaped bs
   AreBlocks place escaped (Flag word ∷ bs) =
       (escaped ≡ false)
-      × ((sign_of arguments word ≡ Closed) ⊎ ((sign_of arguments word ≡ Unknown) × (allows_hyphens_at arguments place ≡ false)))
+      × ((sign_of arguments word ≡ Closed) ⊎
+          ((sign_of arguments word ≡ Unknown) × (allows_hyphens_at arguments place ≡ false)))
       × AreBlocks place false bs
 
 -- where a node's words begin
@@ -102,20 +104,25 @@ start escaped = record { place = 1; escaped = escaped; pending = Nothing }
 
 -- the state after one block
 abbrev pub after_block : List Arg → ℕ → Bool → Block → State
-after_block arguments place escaped (Dashes word) = record { place = place; escaped = true; pending = Nothing }
+after_block arguments place escaped (Dashes word) =
+    record { place = place; escaped = true; pending = Nothing }
 after_block arguments place escaped (Opened opener option values) = record {
   place = place;
   escaped = escaped;
-  pending = if nat_lt (length values) (greatest option) then OptionOpen option (length values) else Nothing;
+  pending = if nat_lt (length values) (greatest option) then OptionOpen option (length values)
+      else Nothing;
 }
 after_block arguments place escaped (Values first more) = record {
   place = place_after arguments place (suc (length more));
   escaped = escaped;
-  pending = if nat_lt (suc (length more)) (limit arguments place) then PositionalRun (suc (length more)) else if escaped then PlaceMoved else Nothing;
+  pending = if nat_lt (suc (length more)) (limit arguments place)
+      then PositionalRun (suc (length more)) else if escaped then PlaceMoved else Nothing;
 }
-after_block arguments place escaped (Flag word) = record { place = place; escaped = escaped; pending = Nothing }
+after_block arguments place escaped (Flag word) =
+    record { place = place; escaped = escaped; pending = Nothing }
 
 -- the last block tells what is pending
 abbrev pub state_after : List Arg → State → List Block → State
 state_after arguments state [] = state
-state_after arguments state (b ∷ bs) = state_after arguments (after_block arguments state.place state.escaped b) bs
+state_after arguments state (b ∷ bs) =
+    state_after arguments (after_block arguments state.place state.escaped b) bs

@@ -19,4 +19,5 @@ pub record IsLine (root : Tree) (words : List (List ℕ)) (tree : Tree) (state :
 -- every line of the words is this one
 abbrev pub IsOnlyLine : Tree → List (List ℕ) → Tree → State → Type 0
 IsOnlyLine root words tree state =
-    (other : Tree) (elsewhere : State) → IsLine root words other elsewhere → (other ≡ tree) × (elsewhere ≡ state)
+    (other : Tree) (elsewhere : State) → IsLine root words other elsewhere → (other ≡ tree)
+        × (elsewhere ≡ state)

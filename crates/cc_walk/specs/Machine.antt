@@ -23,35 +23,48 @@ run_length PlaceMoved = 0
 abbrev pub value_state : List Arg → ℕ → Bool → ℕ → State
 value_state arguments place escaped values = if nat_lt (suc values) (limit arguments place)
     then record { place = place; escaped = escaped; pending = PositionalRun (suc values) }
-    else record { place = place + 1; escaped = escaped; pending = if escaped then PlaceMoved else Nothing }
+    else record { place = place + 1; escaped = escaped; pending = if escaped then PlaceMoved
+        else Nothing }
 
 -- after so many values of an open option
 abbrev pub option_state : ℕ → Arg → ℕ → State
-option_state place option values = record { place = place; escaped = false; pending = if nat_lt values (greatest option) then OptionOpen option values else Nothing }
+option_state place option values =
+    record { place = place; escaped = false; pending = if nat_lt values (greatest option)
+    then OptionOpen option values else Nothing }
 
 -- an unescaped word that no option takes
 abbrev pub closed_step : List Arg → ℕ → ℕ → Sign → State
-closed_step arguments place values Escape = record { place = place; escaped = true; pending = Nothing }
-closed_step arguments place values (Opens option) = record { place = place; escaped = false; pending = OptionOpen option 0 }
-closed_step arguments place values Closed = record { place = place; escaped = false; pending = Nothing }
-closed_step arguments place values Unknown = if allows_hyphens_at arguments place then value_state arguments place false values else record { place = place; escaped = false; pending = Nothing }
+closed_step arguments place values Escape =
+    record { place = place; escaped = true; pending = Nothing }
+closed_step arguments place values (Opens option) =
+    record { place = place; escaped = false; pending = OptionOpen option 0 }
+closed_step arguments place values Closed =
+    record { place = place; escaped = false; pending = Nothing }
+closed_step arguments place values Unknown =
+    if allows_hyphens_at arguments place then value_state arguments place false values
+    else record { place = place; escaped = false; pending = Nothing }
 closed_step arguments place values Plain = value_state arguments place false values
 
 -- an unescaped word while an option is open
 abbrev pub open_step : List Arg → ℕ → Arg → ℕ → Sign → State
-open_step arguments place option values sign = if follows option sign then option_state place option (suc values) else closed_step arguments place 0 sign
+open_step arguments place option values sign =
+    if follows option sign then option_state place option (suc values)
+    else closed_step arguments place 0 sign
 
 -- one word further at a node
 abbrev pub step : List Arg → ℕ → Bool → Pending → Sign → State
 step arguments place true pending sign = value_state arguments place true (run_length pending)
-step arguments place false (OptionOpen option values) sign = open_step arguments place option values sign
+step arguments place false (OptionOpen option values) sign =
+    open_step arguments place option values sign
 step arguments place false Nothing sign = closed_step arguments place 0 sign
 step arguments place false (PositionalRun values) sign = closed_step arguments place values sign
 step arguments place false PlaceMoved sign = closed_step arguments place 0 sign
 
 abbrev pub run : List Arg → State → List (List ℕ) → State
 run arguments state [] = state
-run arguments state (word ∷ words) = run arguments (step arguments state.place state.escaped state.pending (sign_of arguments word)) words
+run arguments state (word ∷ words) =
+    run arguments (step arguments state.place state.escaped state.pending
+    (sign_of arguments word)) words
 
 -- a node and the state there
 pub record Stand : Type 0 where
@@ -60,7 +73,9 @@ pub record Stand : Type 0 where
 
 abbrev pub entered : Stand → List ℕ → Option Tree → Stand
 entered stand word (Some child) = record { tree = child; state = start stand.state.escaped }
-entered stand word None = record { tree = stand.tree; state = step stand.tree.node.arguments stand.state.place stand.state.escaped stand.state.pending (sign_of stand.tree.node.arguments word) }
+entered stand word None =
+    record { tree = stand.tree;
+    state = step stand.tree.node.arguments stand.state.place stand.state.escaped stand.state.pending (sign_of stand.tree.node.arguments word) }
 
 -- a word that names a child leads down, whatever is pending
 abbrev pub stand_step : Stand → List ℕ → Stand

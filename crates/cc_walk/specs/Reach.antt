@@ -11,7 +11,8 @@ NamesNoChild tree word = find_child tree.children word ≡ None
 -- From a tree the words lead to a last one: `tail` is what stands after the last descent, and
 -- `before` says that `--` stands among the words before it that name no child.
 pub data Reach : Tree → List (List ℕ) → Tree → List (List ℕ) → Bool → Type 0 where
-  Stay : {tree : Tree} {words : List (List ℕ)} → All (NamesNoChild tree) words → Reach tree words tree words false
+  Stay : {tree : Tree} {words : List (List ℕ)} → All (NamesNoChild tree) words
+      → Reach tree words tree words false
   Descend : {tree child last : Tree} {words tail : List (List ℕ)} {before : Bool}
       (skipped : List (List ℕ)) (name : List ℕ) (after : List (List ℕ))
       → words ≡ skipped ++ name ∷ after

@@ -19,12 +19,14 @@ value_argument arguments character = if_taking (find (has_short character) argum
 -- a character whose argument takes values ends the search; the others go on
 abbrev pub character_value : Option Arg → List ℕ → Option ValueCharacter → Option ValueCharacter
 character_value None after others = others
-character_value (Some argument) after others = Some (record { argument = argument; after = encode_utf8_all after })
+character_value (Some argument) after others =
+    Some (record { argument = argument; after = encode_utf8_all after })
 
 -- the first character of a cluster whose argument takes values
 abbrev pub value_character : List Arg → List ℕ → Option ValueCharacter
 value_character arguments [] = None
-value_character arguments (c ∷ cs) = character_value (value_argument arguments c) cs (value_character arguments cs)
+value_character arguments (c ∷ cs) =
+    character_value (value_argument arguments c) cs (value_character arguments cs)
 
 -- an option is opened where its character stands last
 abbrev pub last_sign : Arg → List ℕ → Sign
@@ -37,11 +39,13 @@ cluster_sign (Some found) = last_sign found.argument found.after
 
 abbrev pub flag_sign : Option Arg → Bool → Sign
 flag_sign None with_equals = Unknown
-flag_sign (Some argument) with_equals = if takes_values argument && not with_equals then Opens argument else Closed
+flag_sign (Some argument) with_equals =
+    if takes_values argument && not with_equals then Opens argument else Closed
 
 abbrev pub sign_of_form : List Arg → Form → Sign
 sign_of_form arguments TwoHyphens = Escape
-sign_of_form arguments (Long flag with_equals) = flag_sign (find (has_long flag) arguments) with_equals
+sign_of_form arguments (Long flag with_equals) =
+    flag_sign (find (has_long flag) arguments) with_equals
 sign_of_form arguments (Short characters) = cluster_sign (value_character arguments characters)
 sign_of_form arguments Other = Plain
 
