@@ -68,7 +68,7 @@ printed_name None None = []
 unfoldable pub printed_behind : Arg → List ℕ
 printed_behind arg =
     if takes_values arg then codes " " ++
-        (if (range_of arg).least == 0 then in_brackets (printed_values arg) else printed_values arg)
+    (if (range_of arg).least == 0 then in_brackets (printed_values arg) else printed_values arg)
     else dots_where (is_count arg.action)
 
 -- the printed form of an argument: its values where it is positional, else its name and its values

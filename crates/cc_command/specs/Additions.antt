@@ -45,7 +45,7 @@ AreAdditions inherited parent (more node below rest) [] later = ⊥
 AreAdditions inherited parent (more node below rest) (addition ∷ additions) later =
     IsAddition inherited (Some (joined_name parent node.name)) node below addition ×
     Between (λ left. AreAdditions (propagated inherited node)
-        (joined_name parent node.name) below additions left)
+    (joined_name parent node.name) below additions left)
     (λ left. AreAdditions inherited parent rest left later)
 
 -- the same of a tree that gets this bin name
@@ -54,7 +54,7 @@ AreOfTree inherited bin_name tree [] later = ⊥
 AreOfTree inherited bin_name tree (addition ∷ additions) later =
     IsAddition inherited bin_name tree.node tree.children addition ×
     AreAdditions (propagated inherited tree.node)
-        (full_name (record tree.node { bin_name = bin_name })) tree.children additions later
+    (full_name (record tree.node { bin_name = bin_name })) tree.children additions later
 
 -- what was put after the earlier additions are those to some siblings
 pub record AreAfter (inherited : List Arg) (parent : List ℕ) (siblings : Forest)
@@ -88,12 +88,12 @@ pub record SuitTree (tree : Tree) (additions : List Addition) : Type 0 where
 abbrev pub AreBuiltBy : Forest → List Addition → Forest → List Addition → Type 0
 AreBuiltBy siblings additions built left =
     (inherited : List Arg) (parent : List ℕ) (later : List Addition)
-        → AreAdditions inherited parent siblings additions later →
+    → AreAdditions inherited parent siblings additions later →
     (built ≡ built_forest inherited parent siblings) × (left ≡ later)
 
 -- the same of a tree
 abbrev pub IsBuiltBy : Tree → List Addition → Tree → List Addition → Type 0
 IsBuiltBy tree additions built left =
     (inherited : List Arg) (bin_name : Option (List ℕ)) (later : List Addition)
-        → AreOfTree inherited bin_name tree additions later →
+    → AreOfTree inherited bin_name tree additions later →
     (built ≡ built_below inherited bin_name tree) × (left ≡ later)

@@ -69,7 +69,7 @@ built_forest inherited parent none = none
 built_forest inherited parent (more node below rest) =
     more (built_node inherited (Some (joined_name parent node.name)) node)
     (join (built_forest (propagated inherited node) (joined_name parent node.name) below)
-        (help_child (joined_name parent node.name) node below))
+    (help_child (joined_name parent node.name) node below))
     (built_forest inherited parent rest)
 
 -- a tree as building leaves it, under this bin name, where there is one, and under a parent that

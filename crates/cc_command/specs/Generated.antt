@@ -68,7 +68,7 @@ copies parent order (more node below rest) =
 abbrev pub help_command : List ℕ → Forest → Forest
 help_command parent children =
     more (generated_node help_name (joined_name parent help_name)
-        (Some help_about) last_order false) children none
+    (Some help_about) last_order false) children none
 
 -- the child `help` is missing: there are children, none of them has the name or an alias `help`,
 -- and it is not disabled

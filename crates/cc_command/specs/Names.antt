@@ -24,7 +24,7 @@ abbrev pub find_child : Forest → List ℕ → Option Tree
 find_child none word = None
 find_child (more node below rest) word =
     if has_name node word then Some (record { node = node; children = below })
-        else find_child rest word
+    else find_child rest word
 
 -- the first of the siblings that shows the word as a name, with what is below it
 abbrev pub visible_child : Forest → List ℕ → Option Tree

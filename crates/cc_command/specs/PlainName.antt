@@ -13,7 +13,7 @@ pub data NameByte : Type 0 where
 unfoldable pub name_byte : ℕ → NameByte
 name_byte byte =
     if is_ascii_alphanumeric byte then letter else
-        (if byte == dash || byte == underscore then joiner else foreign)
+    (if byte == dash || byte == underscore then joiner else foreign)
 
 -- letters, with one joiner at most between two of them
 unfoldable pub is_joined : List NameByte → Bool

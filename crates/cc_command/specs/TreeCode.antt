@@ -39,16 +39,16 @@ forests_of-marks_of : (forest : Forest) (later : List (Option Node))
 forests_of-marks_of none later = refl
 forests_of-marks_of (more node below rest) later =
     ap (λ marks. stacked (Some node) (forests_of marks))
-        (append_assoc (marks_of below) (marks_of rest) later) ∙
+    (append_assoc (marks_of below) (marks_of rest) later) ∙
     ap (stacked (Some node))
-        (forests_of-marks_of below (marks_of rest ++ later) ∙ ap (λ forests. below ∷ forests)
-        (forests_of-marks_of rest later))
+    (forests_of-marks_of below (marks_of rest ++ later) ∙ ap (λ forests. below ∷ forests)
+    (forests_of-marks_of rest later))
 
 -- a forest is stored without loss
 pub from_marks-marks_of : (forest : Forest) → from_marks (marks_of forest) ≡ forest
 from_marks-marks_of forest =
     ap from_marks (sym (append-nil (marks_of forest))) ∙ ap first_forest
-        (forests_of-marks_of forest [])
+    (forests_of-marks_of forest [])
 
 -- the tree that is stored so
 abbrev tree_from : Node × List (Option Node) → Tree
@@ -64,4 +64,4 @@ tree_code = code_by (Node × List (Option Node))
     (coded× node_code (coded_list (coded_option node_code)))
     (λ tree. (tree.node, marks_of tree.children)) tree_from
     (λ tree. ap (λ children. let t : Tree = record { node = tree.node; children = children } in t)
-        (from_marks-marks_of tree.children))
+    (from_marks-marks_of tree.children))

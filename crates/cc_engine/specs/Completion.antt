@@ -119,14 +119,14 @@ offer_questions tree place offer pending word = record {
 abbrev pub questions : Tree → State → List ℕ → Questions
 questions tree state word =
     offer_questions tree state.place
-        (offer_by tree.node.arguments state.place state.escaped state.pending) state.pending word
+    (offer_by tree.node.arguments state.place state.escaped state.pending) state.pending word
 
 -- the offered lists, one after another
 abbrev pub offered : Tree → ℕ → Offer → List ℕ → Given → List CompletionCandidate
 offered tree place offer word given =
     (offered_children offer.children tree word given.children
     ++ positional_values
-        (positional_at tree.node.arguments place) offer.value word given.positional)
+    (positional_at tree.node.arguments place) offer.value word given.positional)
     ++ row_candidates (offered_row offer.options tree.node.arguments word) given.within
 
 -- finished: the values of an option that has too few alone; those of one that may end here, and
@@ -135,14 +135,14 @@ abbrev pub finished_with : Pending → List ℕ → List CompletionCandidate →
     → List CompletionCandidate
 finished_with (OptionOpen option count) word given others =
     if nat_le (least option) count then finished (values option word given ++ finished others)
-        else finished (values option word given)
+    else finished (values option word given)
 finished_with _ word given others = finished others
 
 -- what is offered besides the values of an open option
 abbrev pub besides : Tree → State → List ℕ → Given → List CompletionCandidate
 besides tree state word given =
     offered tree state.place
-        (offer_by tree.node.arguments state.place state.escaped state.pending) word given
+    (offer_by tree.node.arguments state.place state.escaped state.pending) word given
 
 -- what is offered for the word, where these lists are given
 abbrev pub answer : Tree → State → List ℕ → Given → List CompletionCandidate
@@ -153,7 +153,7 @@ answer tree state word given =
 abbrev pub Offers : Lent → Tree → State → List ℕ → List CompletionCandidate → Type 0
 Offers lent tree state word result =
     (given : Given) × AreAllowed lent (questions tree state word) given
-        × (result ≡ answer tree state word given)
+    × (result ≡ answer tree state word given)
 
 -- the lists that may be offered for the word, the values of an open option aside
 pub record AreOffered (lent : Lent) (tree : Tree) (place : ℕ) (offer : Offer) (word : List ℕ)
@@ -212,14 +212,14 @@ told_by_offer tree place offer pending word given =
 abbrev pub told_candidates : Tree → State → List ℕ → Given → List CompletionCandidate
 told_candidates tree state word given =
     told_by_offer tree state.place
-        (offer_by tree.node.arguments state.place state.escaped state.pending) state.pending word given
+    (offer_by tree.node.arguments state.place state.escaped state.pending) state.pending word given
 
 -- each candidate of the result begins with the word, or is made of the answer of a completer or of
 -- the folder
 abbrev pub BeginsOrIsTold : Tree → State → List ℕ → Given → List CompletionCandidate → Type 0
 BeginsOrIsTold tree state word given result =
     AllByRecursion (λ c. (begins word c ≡ true) ⊎ Contains
-        (told_candidates tree state word given) c) result
+    (told_candidates tree state word given) c) result
 
 -- THE WORDS
 

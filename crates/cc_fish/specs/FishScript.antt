@@ -43,7 +43,7 @@ fish_key (byte ∷ bytes) name = (byte ∷ bytes) ++ seen_text name
 unfoldable pub key_condition : List ℕ → List ℕ → Forest → Option (List ℕ)
 key_condition function [] children =
     if has_nodes children then Some (codes "__fish_" ++ function ++ codes "_needs_command")
-        else None
+    else None
 key_condition function (byte ∷ bytes) children =
     Some (codes "__fish_" ++ function ++ (byte ∷ bytes) ++ excluded_text children)
 
@@ -70,7 +70,7 @@ help_text (Some help) = codes " -d '" ++ fish_escaped help ++ codes "'"
 unfoldable pub names_text : Arg → List ℕ
 names_text argument =
     flat_map short_text (shown_shorts argument) ++ flat_map long_text (shown_longs argument)
-        ++ help_text argument.help
+    ++ help_text argument.help
 
 -- ---- what an option's value may be
 
@@ -123,13 +123,13 @@ argument_text front takes argument =
 unfoldable pub child_text : List ℕ → Bool → Option (List ℕ) → List ℕ → List ℕ
 child_text front no_files about name =
     front ++ (if no_files then codes " -f" else []) ++ codes " -a \"" ++ name ++ codes "\""
-        ++ help_text about ++ line_feed ∷ []
+    ++ help_text about ++ line_feed ∷ []
 
 abbrev pub children_text : List ℕ → Bool → Forest → List ℕ
 children_text front no_files none = []
 children_text front no_files (more node below rest) =
     flat_map (child_text front no_files node.about) (visible_names node)
-        ++ children_text front no_files rest
+    ++ children_text front no_files rest
 
 unfoldable pub options_text : List ℕ → Node → List ℕ
 options_text front node = flat_map (argument_text front true) (options node)
@@ -149,7 +149,7 @@ node_text front tree =
 unfoldable pub visit_text : List ℕ → List ℕ → Keyed (List ℕ) → List ℕ
 visit_text bin_name function visit =
     node_text (front_text bin_name
-        (key_condition function visit.key visit.tree.children)) visit.tree
+    (key_condition function visit.key visit.tree.children)) visit.tree
 
 -- ---- the head
 
@@ -217,7 +217,7 @@ head_text function root =
     if has_nodes root.children then
     optspecs_begin ++ function ++ optspecs_join ++ specs_text root.node.arguments
     ++ needs_command_begin ++ function ++ needs_command_parse ++ function ++ needs_command_answer
-        ++ function
+    ++ function
     ++ using_subcommand_call ++ function ++ using_subcommand_answer
     else []
 

@@ -140,13 +140,13 @@ abbrev pub child_records : List ℕ → Option Condition → Bool → Forest →
 child_records bin_name when no_files none = []
 child_records bin_name when no_files (more node below rest) =
     map (child_record bin_name when no_files node.about) (visible_names node)
-        ++ child_records bin_name when no_files rest
+    ++ child_records bin_name when no_files rest
 
 -- the records of a node: its options, its flags, its children's visible names
 abbrev pub node_records : List ℕ → Option Condition → Tree → List Record
 node_records bin_name when tree =
     map (option_record bin_name when) (options tree.node)
-        ++ map (flag_record bin_name when) (flags tree.node)
+    ++ map (flag_record bin_name when) (flags tree.node)
     ++ child_records bin_name when (not (has_positionals tree.node)) tree.children
 
 -- the records at a visible path of a program

@@ -9,10 +9,14 @@ use Rattle.cc_flat.specs.Flat.{Entry}
 abbrev pub entry_code : Coded Entry
 entry_code =
     code_by (Tree × (Option ℕ × (ℕ × ℕ)))
-        (coded× tree_code (coded× (coded_option coded_ℕ) (coded× coded_ℕ coded_ℕ)))
+    (coded× tree_code (coded× (coded_option coded_ℕ) (coded× coded_ℕ coded_ℕ)))
     (λ entry. (entry.tree, (entry.parent, (entry.first_child, entry.child_count))))
-    (λ stored. record { tree = stored.0; parent = stored.1.0; first_child = stored.1.1.0;
-        child_count = stored.1.1.1 })
+    (λ stored. record {
+      tree = stored.0;
+      parent = stored.1.0;
+      first_child = stored.1.1.0;
+      child_count = stored.1.1.1;
+    })
     (λ _. refl)
 
 -- a list of entries is stored as theirs

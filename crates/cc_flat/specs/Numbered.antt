@@ -11,7 +11,7 @@ unnumbered parent tree = record { tree = tree; parent = parent; first_child = 0;
 abbrev pub with_count : List Entry → ℕ → ℕ → List Entry
 with_count flat number count =
     slice_set flat number (record
-        (entry_at flat number) { first_child = length flat; child_count = count })
+    (entry_at flat number) { first_child = length flat; child_count = count })
 
 -- the children of the node with this number are listed after all others
 abbrev pub with_children : List Entry → ℕ → List Tree → List Entry

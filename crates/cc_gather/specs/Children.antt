@@ -25,7 +25,7 @@ child_candidate parent node hidden name = record {
 abbrev pub child_candidates : Node → Node → List CompletionCandidate
 child_candidates parent node =
     map (child_candidate parent node node.hide) (visible_names node)
-        ++ map (child_candidate parent node true) node.aliases
+    ++ map (child_candidate parent node true) node.aliases
 
 -- those of all siblings
 abbrev pub children_candidates : Node → Forest → List CompletionCandidate
@@ -47,4 +47,4 @@ unfoldable pub subcommand_candidates : Tree → List CompletionCandidate → Lis
     → List CompletionCandidate
 subcommand_candidates tree lent word =
     in_candidates_order (filter (begins word)
-        (children_candidates tree.node tree.children ++ external tree.node lent))
+    (children_candidates tree.node tree.children ++ external tree.node lent))

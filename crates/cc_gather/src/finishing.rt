@@ -268,7 +268,7 @@ fn place_for<'a>(
         (λ place. place ≡ unwrap_or (get texts_cmp known.old candidate.now.tag) next) }
     ensures kept { OnOk result ((other : Option (List ℕ)) → get texts_cmp known.new other
         ≡ option_or (get texts_cmp known.old other)
-            (if option_eq bytes_eq candidate.now.tag other then Some next else None)) }
+        (if option_eq bytes_eq candidate.now.tag other then Some next else None)) }
 {
     let tag = tag_of(candidate);
     if let Some(place) = known.get(&tag) {

@@ -88,7 +88,7 @@ fn without_dash(
 ) -> Result<Vec<CompletionCandidate>, AllocError>
     ensures { IfOk result (λ found. found.items
         ≡ (if length word.now == 0 then longs arguments.now ++ shorts (codes "-") arguments.now
-            else [])) }
+        else [])) }
 {
     if word.is_empty() {
         return longs_then_shorts(alloc, arguments);

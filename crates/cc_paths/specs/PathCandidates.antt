@@ -18,8 +18,8 @@ folder_mark is_folder = if is_folder then slash ∷ [] else []
 abbrev pub path_candidate : List ℕ → Entry → CompletionCandidate
 path_candidate prefix entry =
     record (new_candidate (path_join prefix entry.name ++ folder_mark entry.is_folder)) {
-  hidden = slice_index entry.name 0 == dot;
-}
+      hidden = slice_index entry.name 0 == dot;
+    }
 
 -- the candidate `.` for an empty word, where the folder itself passes the test
 abbrev pub dot_candidate : List ℕ → Bool → List CompletionCandidate

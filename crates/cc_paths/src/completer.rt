@@ -23,8 +23,12 @@ pub struct PathCompleter<D, T> {
 impl<D> PathCompleter<D, EveryPath> {
     /// A completer of all paths.
     pub fn any(folder: D) -> PathCompleter<D, EveryPath>
-        ensures { result ≡ record { folder = folder; test = record {}; stdio = false;
-            current_dir = None } }
+        ensures { result ≡ record {
+          folder = folder;
+          test = record {};
+          stdio = false;
+          current_dir = None;
+        } }
     {
         PathCompleter::with_test(folder, EveryPath)
     }
@@ -33,8 +37,12 @@ impl<D> PathCompleter<D, EveryPath> {
 impl<D> PathCompleter<D, IsFile> {
     /// A completer of the paths of files; the folders, which may hold some, come after them.
     pub fn file(folder: D) -> PathCompleter<D, IsFile>
-        ensures { result ≡ record { folder = folder; test = record {}; stdio = false;
-            current_dir = None } }
+        ensures { result ≡ record {
+          folder = folder;
+          test = record {};
+          stdio = false;
+          current_dir = None;
+        } }
     {
         PathCompleter::with_test(folder, IsFile)
     }
@@ -43,8 +51,12 @@ impl<D> PathCompleter<D, IsFile> {
 impl<D> PathCompleter<D, IsDir> {
     /// A completer of the paths of folders.
     pub fn dir(folder: D) -> PathCompleter<D, IsDir>
-        ensures { result ≡ record { folder = folder; test = record {}; stdio = false;
-            current_dir = None } }
+        ensures { result ≡ record {
+          folder = folder;
+          test = record {};
+          stdio = false;
+          current_dir = None;
+        } }
     {
         PathCompleter::with_test(folder, IsDir)
     }
@@ -54,8 +66,12 @@ impl<D, T> PathCompleter<D, T> {
     /// A completer of the paths that pass a test, which may be of a type of the caller's own. With
     /// a test that holds no boxed closure it can be lent in `Completers`.
     pub fn with_test(folder: D, test: T) -> PathCompleter<D, T>
-        ensures { result ≡ record { folder = folder; test = test; stdio = false;
-            current_dir = None } }
+        ensures { result ≡ record {
+          folder = folder;
+          test = test;
+          stdio = false;
+          current_dir = None;
+        } }
     {
         PathCompleter {
             folder,

@@ -45,7 +45,7 @@ zsh_unescaped text = unmarked (marks text)
 abbrev pub is_help_marked : ℕ → Bool
 is_help_marked byte =
     byte == backslash || byte == 91 || byte == 93 || byte == 58 || byte == dollar
-        || byte == backtick
+    || byte == backtick
 
 -- these, `(`, `)` and a space, which stand after one in a value
 abbrev pub is_value_marked : ℕ → Bool

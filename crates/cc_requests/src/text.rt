@@ -159,7 +159,7 @@ fn reply<E: EnvCompleter, D: Folder>(
         (option_copied current_dir.entry)))
         command.new)
         (E.reply shell.now env.now) (E.ReplyReads shell.now env.now) command.new
-            (made_bytes result) }
+        (made_bytes result) }
     ensures built { BuiltUnlessMemory (made_bytes result) (command.new ≡ built_tree command.old) }
 {
     let mut text = Collected::new(alloc);

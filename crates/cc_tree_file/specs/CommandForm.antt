@@ -25,7 +25,7 @@ texts =
     (λ node. node.version) (λ node it. record node { version = it })
     ∷ setting (codes "subcommand_help_heading") (given as_str)
     (λ node. node.subcommand_help_heading)
-        (λ node it. record node { subcommand_help_heading = it }) ∷ []
+    (λ node it. record node { subcommand_help_heading = it }) ∷ []
 
 -- its aliases, hidden and shown, and its display order
 abbrev pub names : List (Setting Node)
@@ -50,7 +50,7 @@ flags =
     (λ node. node.disable_help_subcommand) (λ node it. record node { disable_help_subcommand = it })
     ∷ setting (codes "allow_external_subcommands") as_bool
     (λ node. node.allow_external_subcommands)
-        (λ node it. record node { allow_external_subcommands = it })
+    (λ node it. record node { allow_external_subcommands = it })
     ∷ setting (codes "no_binary_name") as_bool
     (λ node. node.no_binary_name) (λ node it. record node { no_binary_name = it }) ∷ []
 

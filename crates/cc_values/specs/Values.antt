@@ -35,9 +35,9 @@ pub record Lent : Type 1 where
 -- paths
 abbrev pub lent_by : {C F L G : Type 0}
     → (C → ℕ → List ℕ → List CompletionCandidate → Type 0) → List C
-        → (F → ℕ → List ℕ → List CompletionCandidate → Type 0) → List F
+    → (F → ℕ → List ℕ → List CompletionCandidate → Type 0) → List F
     → (L → List CompletionCandidate → Type 0) → List L → (G → List CompletionCandidate → Type 0)
-        → List G
+    → List G
     → (ValueHint → List ℕ → List CompletionCandidate → Type 0) → Lent
 lent_by Completes completers Answers closures Lists lists Gives list_closures Finds = record {
   completes = λ which number text. AnswersAt (λ item. Completes item number text) completers
@@ -103,13 +103,16 @@ gathered arg text lent = gathered_by arg.completer arg.candidates (possible_valu
 abbrev pub Gathers : Lent → Arg → ℕ → List ℕ → List CompletionCandidate → Type 0
 Gathers lent arg number text result =
     (answer : List CompletionCandidate) × Allows lent (question arg number text) answer
-        × (result ≡ gathered arg text answer)
+    × (result ≡ gathered arg text answer)
 
 -- a candidate after the earlier values of its word; a missing tag is the printed form
 abbrev pub as_value : List ℕ → List ℕ → CompletionCandidate → CompletionCandidate
 as_value before form candidate =
-    record candidate { value = before ++ candidate.value; tag = Some
-    (unwrap_or candidate.tag form) }
+    record candidate {
+      value = before ++ candidate.value;
+      tag = Some
+          (unwrap_or candidate.tag form);
+    }
 
 -- the values of an argument for a word, where the question is answered by this list
 unfoldable pub values : Arg → List ℕ → List CompletionCandidate → List CompletionCandidate
@@ -120,5 +123,5 @@ values arg word lent = map (as_value (front arg.value_delimiter word) (printed a
 abbrev pub ArgumentValues : Lent → Arg → List ℕ → ℕ → List CompletionCandidate → Type 0
 ArgumentValues lent arg word number result =
     (answer : List CompletionCandidate) × Allows lent
-        (question arg number (part arg.value_delimiter word)) answer
-        × (result ≡ values arg word answer)
+    (question arg number (part arg.value_delimiter word)) answer
+    × (result ≡ values arg word answer)

@@ -13,7 +13,7 @@ abbrev pub LeadsTo : Node → Tree → List (List ℕ) → Node → Tree → Typ
 LeadsTo above from [] parent to = (above ≡ parent) × (from ≡ to)
 LeadsTo above from (name ∷ names) parent to =
     (child : Tree) × (IsSibling from.children child
-        × (Contains (visible_names child.node) name × LeadsTo from.node child names parent to))
+    × (Contains (visible_names child.node) name × LeadsTo from.node child names parent to))
 
 -- the key of the visit is a visible path: it leads from the root to the node that is visited, and
 -- to the node above it; above the root is the root itself

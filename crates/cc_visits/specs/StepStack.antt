@@ -33,5 +33,5 @@ step_items flat longer above key numbers =
 abbrev pub steps_of : List Entry → (List ℕ → List ℕ → List ℕ) → StepItem → List (Step (List ℕ))
 steps_of flat longer item =
     if item.leaving then leave
-        (keyed item.key (tree_at flat item.above).node (tree_at flat item.number)) ∷ []
+    (keyed item.key (tree_at flat item.above).node (tree_at flat item.number)) ∷ []
     else steps_from longer item.key (tree_at flat item.above).node (tree_at flat item.number)

@@ -29,7 +29,7 @@ paths_below longer key above none = []
 paths_below longer key above (more node below rest) =
     flat_map (λ child.
     keyed child above (record { node = node; children = below })
-        ∷ paths_below longer child node below) (keys_below longer key node) ++
+    ∷ paths_below longer child node below) (keys_below longer key node) ++
     paths_below longer key above rest
 
 -- the root under this key, then all below it, in path order
@@ -63,7 +63,7 @@ abbrev pub tables_from : {Key : Type 0} → (Key → List ℕ → Key) → Key �
     → List (Keyed Key)
 tables_from longer key above tree =
     under_each (keys_below longer key tree.node) above tree
-        ++ tables_below longer (keys_below longer key tree.node) tree.node tree.children
+    ++ tables_below longer (keys_below longer key tree.node) tree.node tree.children
 
 -- ---- keys
 
@@ -99,15 +99,15 @@ steps_below longer key above (more node below rest) =
     flat_map (λ child.
     enter (keyed child above (record { node = node; children = below })) ∷
     (steps_below longer child node below ++ leave
-        (keyed child above (record { node = node; children = below }))
-        ∷ [])) (keys_below longer key node) ++
+    (keyed child above (record { node = node; children = below }))
+    ∷ [])) (keys_below longer key node) ++
     steps_below longer key above rest
 
 -- a tree under this key is entered and, after all below it, left
 abbrev pub steps_from : {Key : Type 0} → (Key → List ℕ → Key) → Key → Node → Tree → List (Step Key)
 steps_from longer key above tree =
     enter (keyed key above tree) ∷
-        (steps_below longer key tree.node tree.children ++ leave (keyed key above tree) ∷ [])
+    (steps_below longer key tree.node tree.children ++ leave (keyed key above tree) ∷ [])
 
 -- the same of the root
 abbrev pub path_steps : {Key : Type 0} → (Key → List ℕ → Key) → Key → Tree → List (Step Key)

@@ -95,7 +95,7 @@ module _ (arguments : List Arg) where
   AreBlocks place escaped (Flag word ∷ bs) =
       (escaped ≡ false)
       × ((sign_of arguments word ≡ Closed) ⊎
-          ((sign_of arguments word ≡ Unknown) × (allows_hyphens_at arguments place ≡ false)))
+      ((sign_of arguments word ≡ Unknown) × (allows_hyphens_at arguments place ≡ false)))
       × AreBlocks place false bs
 
 -- where a node's words begin

@@ -20,4 +20,4 @@ pub record IsLine (root : Tree) (words : List (List ℕ)) (tree : Tree) (state :
 abbrev pub IsOnlyLine : Tree → List (List ℕ) → Tree → State → Type 0
 IsOnlyLine root words tree state =
     (other : Tree) (elsewhere : State) → IsLine root words other elsewhere → (other ≡ tree)
-        × (elsewhere ≡ state)
+    × (elsewhere ≡ state)

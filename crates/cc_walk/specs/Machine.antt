@@ -23,14 +23,22 @@ run_length PlaceMoved = 0
 abbrev pub value_state : List Arg → ℕ → Bool → ℕ → State
 value_state arguments place escaped values = if nat_lt (suc values) (limit arguments place)
     then record { place = place; escaped = escaped; pending = PositionalRun (suc values) }
-    else record { place = place + 1; escaped = escaped; pending = if escaped then PlaceMoved
-        else Nothing }
+    else record {
+      place = place + 1;
+      escaped = escaped;
+      pending = if escaped then PlaceMoved
+          else Nothing;
+    }
 
 -- after so many values of an open option
 abbrev pub option_state : ℕ → Arg → ℕ → State
 option_state place option values =
-    record { place = place; escaped = false; pending = if nat_lt values (greatest option)
-    then OptionOpen option values else Nothing }
+    record {
+      place = place;
+      escaped = false;
+      pending = if nat_lt values (greatest option)
+          then OptionOpen option values else Nothing;
+    }
 
 -- an unescaped word that no option takes
 abbrev pub closed_step : List Arg → ℕ → ℕ → Sign → State
@@ -74,8 +82,10 @@ pub record Stand : Type 0 where
 abbrev pub entered : Stand → List ℕ → Option Tree → Stand
 entered stand word (Some child) = record { tree = child; state = start stand.state.escaped }
 entered stand word None =
-    record { tree = stand.tree;
-    state = step stand.tree.node.arguments stand.state.place stand.state.escaped stand.state.pending (sign_of stand.tree.node.arguments word) }
+    record {
+      tree = stand.tree;
+      state = step stand.tree.node.arguments stand.state.place stand.state.escaped stand.state.pending (sign_of stand.tree.node.arguments word);
+    }
 
 -- a word that names a child leads down, whatever is pending
 abbrev pub stand_step : Stand → List ℕ → Stand
