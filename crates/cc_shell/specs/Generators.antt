@@ -10,8 +10,8 @@ use Rattle.cc_tables.specs.ElvishScript.{elvish_script}
 use Rattle.cc_tables.specs.PowershellScript.{powershell_script}
 use Rattle.cc_tables.specs.ElvishReader.{ElvishReads}
 use Rattle.cc_tables.specs.PowershellReader.{PowershellReads}
-use Rattle.cc_zsh.specs.ZshReads.{ZshReads}
-use Rattle.cc_zsh.specs.ZshScript.{zsh_script}
+use Rattle.cc_zsh.specs.Reads.{ZshReads}
+use Rattle.cc_zsh.specs.Script.{zsh_script}
 use Rattle.cc_tables.specs.NushellReader.{NushellReads}
 use Rattle.cc_tables.specs.NushellScript.{nushell_script}
 use Rattle.cc_shell.specs.declared.shell.Shell.{Shell}

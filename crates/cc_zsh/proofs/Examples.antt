@@ -21,7 +21,7 @@ use Rattle.cc_zsh.specs.Nested.{arm_ends, arms_text, command_begins, state_begin
 use Rattle.cc_zsh.specs.Options.{flags_text, help_text, line_end, argument_line, argument_text, options_text}
 use Rattle.cc_zsh.specs.Positionals.{count_text, positional_escaped, positional_text, positionals_text}
 use Rattle.cc_zsh.specs.Values.{hint_text, item_help, item_text, list_text, one_value, value_text, values_text}
-use Rattle.cc_zsh.specs.ZshScript.{compdef_begins, autoloads, body_begins, begin_text, if_called, then_call, else_define, if_ends, end_text, functions_text, body_ends, script_text, zsh_script}
+use Rattle.cc_zsh.specs.Script.{compdef_begins, autoloads, body_begins, begin_text, if_called, then_call, else_define, if_ends, end_text, functions_text, body_ends, script_text, zsh_script}
 
 -- ---- single lines
 

@@ -4,9 +4,9 @@ pub mod Named
 pub mod Nested
 pub mod Options
 pub mod Positionals
+pub mod Reader
+pub mod Reads
+pub mod Script
 pub mod Steps
+pub mod Table
 pub mod Values
-pub mod ZshReader
-pub mod ZshReads
-pub mod ZshScript
-pub mod ZshTable

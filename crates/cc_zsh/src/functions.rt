@@ -12,7 +12,7 @@ ghost use Rattle.cc_command.specs.Tree.{forest_of};
 ghost use Rattle.cc_flat.specs.Flat.{tree_at};
 ghost use Rattle.cc_zsh.specs.Functions.{entries_of, entries_text, entry, entry_text, function_below, function_of, function_text, functions_below, is_again, once_after, sorted_functions};
 ghost use Rattle.cc_zsh.specs.Named.{function_named};
-ghost use Rattle.cc_zsh.specs.ZshScript.{functions_text};
+ghost use Rattle.cc_zsh.specs.Script.{functions_text};
 
 use crate::names::write_label;
 use crate::texts::{
@@ -34,7 +34,7 @@ pub(crate) struct Named<'a> {
 }
 
 /// Each full name has one function, since commands that share one would define it twice.
-#[tactic(auto, unfolding(crate::specs::ZshScript::functions_text))]
+#[tactic(auto, unfolding(crate::specs::Script::functions_text))]
 pub(crate) fn write_functions<W: Sink>(
     alloc: Global,
     flat: &Flat<'_>,

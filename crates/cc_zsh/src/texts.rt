@@ -5,16 +5,16 @@ ghost use Rattle.std.specs.Prelude.{◌≡◌};
 ghost use Rattle.cc_zsh.specs.Functions.{entries_end, unless_defined, function_begins, commands_begin, describe_begins, describe_ends};
 ghost use Rattle.cc_zsh.specs.Nested.{arm_ends, command_begins, state_begins, state_ends, block_begins, block_ends, external_text, case_state, set_words, set_context, context_command, case_line, case_line_in, nested_ends};
 ghost use Rattle.cc_zsh.specs.Options.{line_end};
-ghost use Rattle.cc_zsh.specs.ZshScript.{compdef_begins, autoloads, body_begins, if_called, then_call, else_define, if_ends, body_ends};
+ghost use Rattle.cc_zsh.specs.Script.{compdef_begins, autoloads, body_begins, if_called, then_call, else_define, if_ends, body_ends};
 
-#[tactic(auto, unfolding(crate::specs::ZshScript::compdef_begins))]
+#[tactic(auto, unfolding(crate::specs::Script::compdef_begins))]
 pub(crate) fn compdef_begins<'a>() -> &'a str
     ensures { result.now ≡ compdef_begins }
 {
     "#compdef "
 }
 
-#[tactic(auto, unfolding(crate::specs::ZshScript::autoloads))]
+#[tactic(auto, unfolding(crate::specs::Script::autoloads))]
 pub(crate) fn autoloads<'a>() -> &'a str
     ensures { result.now ≡ autoloads }
 {
@@ -25,7 +25,7 @@ autoload -U is-at-least
 _"
 }
 
-#[tactic(auto, unfolding(crate::specs::ZshScript::body_begins))]
+#[tactic(auto, unfolding(crate::specs::Script::body_begins))]
 pub(crate) fn body_begins<'a>() -> &'a str
     ensures { result.now ≡ body_begins }
 {
@@ -44,7 +44,7 @@ pub(crate) fn body_begins<'a>() -> &'a str
     "
 }
 
-#[tactic(auto, unfolding(crate::specs::ZshScript::body_ends))]
+#[tactic(auto, unfolding(crate::specs::Script::body_ends))]
 pub(crate) fn body_ends<'a>() -> &'a str
     ensures { result.now ≡ body_ends }
 {
@@ -54,7 +54,7 @@ pub(crate) fn body_ends<'a>() -> &'a str
 "
 }
 
-#[tactic(auto, unfolding(crate::specs::ZshScript::if_called))]
+#[tactic(auto, unfolding(crate::specs::Script::if_called))]
 pub(crate) fn if_called<'a>() -> &'a str
     ensures { result.now ≡ if_called }
 {
@@ -62,7 +62,7 @@ pub(crate) fn if_called<'a>() -> &'a str
 if [ \"$funcstack[1]\" = \"_"
 }
 
-#[tactic(auto, unfolding(crate::specs::ZshScript::then_call))]
+#[tactic(auto, unfolding(crate::specs::Script::then_call))]
 pub(crate) fn then_call<'a>() -> &'a str
     ensures { result.now ≡ then_call }
 {
@@ -70,7 +70,7 @@ pub(crate) fn then_call<'a>() -> &'a str
     _"
 }
 
-#[tactic(auto, unfolding(crate::specs::ZshScript::else_define))]
+#[tactic(auto, unfolding(crate::specs::Script::else_define))]
 pub(crate) fn else_define<'a>() -> &'a str
     ensures { result.now ≡ else_define }
 {
@@ -79,7 +79,7 @@ else
     compdef _"
 }
 
-#[tactic(auto, unfolding(crate::specs::ZshScript::if_ends))]
+#[tactic(auto, unfolding(crate::specs::Script::if_ends))]
 pub(crate) fn if_ends<'a>() -> &'a str
     ensures { result.now ≡ if_ends }
 {

@@ -165,7 +165,6 @@ fn write_help<W: Sink>(help: &str, sink: &mut W) -> Result<(), ErrorKind>
     put_piece(sink, "\"".as_bytes())
 }
 
-// What a hint tells.
 #[tactic(auto, unfolding(crate::specs::Values::hint_text))]
 fn hint(hint: ValueHint) -> &'static str
     ensures { result.now ≡ hint_text hint }

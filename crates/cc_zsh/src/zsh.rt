@@ -4,8 +4,8 @@ ghost use Rattle.std.specs.Prelude.{◌≡◌, ◌++◌, ◌<◌, None, codes, l
 ghost use Rattle.cc_base.specs.Writes.{Writes, as_write};
 ghost use Rattle.cc_command.specs.Names.{full_name};
 ghost use Rattle.cc_flat.specs.Flat.{tree_at};
-ghost use Rattle.cc_zsh.specs.ZshReads.{ZshReads};
-ghost use Rattle.cc_zsh.specs.ZshScript.{begin_text, end_text, zsh_script};
+ghost use Rattle.cc_zsh.specs.Reads.{ZshReads};
+ghost use Rattle.cc_zsh.specs.Script.{begin_text, end_text, zsh_script};
 
 use crate::functions::write_functions;
 use crate::nested::write_root;
@@ -51,7 +51,7 @@ impl Generator for Zsh {
     }
 }
 
-#[tactic(auto, unfolding(crate::specs::ZshScript::script_text))]
+#[tactic(auto, unfolding(crate::specs::Script::script_text))]
 fn write_script<W: Sink>(alloc: Global, flat: &Flat<'_>, sink: &mut W) -> Result<(), Error>
     requires { 0 < length flat.now }
     ensures { Writes W.taken W.failed result sink.old sink.new (zsh_script (tree_at flat.now 0)) }
@@ -64,7 +64,7 @@ fn write_script<W: Sink>(alloc: Global, flat: &Flat<'_>, sink: &mut W) -> Result
     as_error(write_end(bin_name, sink))
 }
 
-#[tactic(auto, unfolding(crate::specs::ZshScript::begin_text))]
+#[tactic(auto, unfolding(crate::specs::Script::begin_text))]
 fn write_begin<W: Sink>(bin_name: &str, sink: &mut W) -> Result<(), ErrorKind>
     ensures { Writes W.taken W.failed (as_write result) sink.old sink.new
         (begin_text bin_name.now) }
@@ -79,7 +79,7 @@ fn write_begin<W: Sink>(bin_name: &str, sink: &mut W) -> Result<(), ErrorKind>
     put_pieces(sink, &pieces)
 }
 
-#[tactic(auto, unfolding(crate::specs::ZshScript::end_text))]
+#[tactic(auto, unfolding(crate::specs::Script::end_text))]
 fn write_end<W: Sink>(bin_name: &str, sink: &mut W) -> Result<(), ErrorKind>
     ensures { Writes W.taken W.failed (as_write result) sink.old sink.new (end_text bin_name.now) }
 {

@@ -107,11 +107,11 @@ pub use Rattle.cc_zsh.specs.Functions as ZshFunctions
 pub use Rattle.cc_zsh.specs.Nested as ZshNested
 pub use Rattle.cc_zsh.specs.Options as ZshOptions
 pub use Rattle.cc_zsh.specs.Positionals as ZshPositionals
+pub use Rattle.cc_zsh.specs.Reader as ZshReader
+pub use Rattle.cc_zsh.specs.Reads as ZshReads
+pub use Rattle.cc_zsh.specs.Script as ZshScript
+pub use Rattle.cc_zsh.specs.Table as ZshTable
 pub use Rattle.cc_zsh.specs.Values as ZshValues
-pub use Rattle.cc_zsh.specs.ZshReader
-pub use Rattle.cc_zsh.specs.ZshReads
-pub use Rattle.cc_zsh.specs.ZshScript
-pub use Rattle.cc_zsh.specs.ZshTable
 -- live completion
 pub use Rattle.cc_candidates.specs.Beginning
 pub use Rattle.cc_candidates.specs.Candidate

@@ -15,11 +15,11 @@ use Rattle.cc_quote.specs.ZshQuote.{is_value_marked, marked, marked_byte, zsh_es
 use Rattle.cc_zsh.specs.Options.{line_end}
 use Rattle.cc_zsh.specs.Positionals.{takes_rest, rest_text, count_text, is_bracket_or_colon, positional_byte, positional_escaped, positional_help, positional_text, is_left_out, shown_positionals, takes_all, positionals_text}
 use Rattle.cc_zsh.specs.Values.{value_text}
-use Rattle.cc_zsh.specs.ZshReader.{option_of}
-use Rattle.cc_zsh.proofs.ZshCutting.{Escapes, escapes_append, escapes_same, IsEscaped, escaped_append, escaped_same, escaped_of}
-use Rattle.cc_zsh.proofs.ZshOptionWords.{colon_none, star_none}
-use Rattle.cc_zsh.proofs.ZshLines.{Adds, adds_nothing, in_parts, line_adds}
-use Rattle.cc_zsh.proofs.ZshValues.{no_quote, escaped_value_text}
+use Rattle.cc_zsh.specs.Reader.{option_of}
+use Rattle.cc_zsh.proofs.Cutting.{Escapes, escapes_append, escapes_same, IsEscaped, escaped_append, escaped_same, escaped_of}
+use Rattle.cc_zsh.proofs.OptionWords.{colon_none, star_none}
+use Rattle.cc_zsh.proofs.LinesRead.{Adds, adds_nothing, in_parts, line_adds}
+use Rattle.cc_zsh.proofs.EscapedValues.{no_quote, escaped_value_text}
 
 same_byte : (byte : ℕ) →
     positional_byte byte ≡ posix_escaped (marked_byte is_bracket_or_colon byte)

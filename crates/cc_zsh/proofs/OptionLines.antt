@@ -15,14 +15,14 @@ use Rattle.cc_quote.specs.ZshQuote.{is_help_marked, marked, zsh_escaped_help}
 use Rattle.cc_zsh.specs.Conflicts.{conflicts_of, conflict_words, has_arguments}
 use Rattle.cc_zsh.specs.Options.{is_repeated, repeated_text, help_text, line_end, name_word, argument_line, argument_text, options_text, flags_text, value_sign}
 use Rattle.cc_zsh.specs.Values.{values_text}
-use Rattle.cc_zsh.specs.ZshReader.{Bracket}
-use Rattle.cc_zsh.specs.ZshReader.Bracket.{alone, after_plus, after_equals}
-use Rattle.cc_zsh.specs.ZshTable.{argument_rows, bracket_after, option_row, node_rows}
-use Rattle.cc_zsh.proofs.ZshCutting.{Escapes, escapes_append, escapes_same, IsEscaped}
-use Rattle.cc_zsh.proofs.ZshOptionWords.{IsDashed, dashed_bytes, IsFront, bracket_text, front_of, star_of, option_word, option_read}
-use Rattle.cc_zsh.proofs.ZshLines.{Adds, adds_append, adds_flat_map, adds_map, line_adds}
-use Rattle.cc_zsh.proofs.ZshNames.{IsDashedName, names_dashed, conflicting_dashed, conflicts_front, conflicts_are, name_no_quote, front_no_quote}
-use Rattle.cc_zsh.proofs.ZshValues.{escaped_values}
+use Rattle.cc_zsh.specs.Reader.{Bracket}
+use Rattle.cc_zsh.specs.Reader.Bracket.{alone, after_plus, after_equals}
+use Rattle.cc_zsh.specs.Table.{argument_rows, bracket_after, option_row, node_rows}
+use Rattle.cc_zsh.proofs.Cutting.{Escapes, escapes_append, escapes_same, IsEscaped}
+use Rattle.cc_zsh.proofs.OptionWords.{IsDashed, dashed_bytes, IsFront, bracket_text, front_of, star_of, option_word, option_read}
+use Rattle.cc_zsh.proofs.LinesRead.{Adds, adds_append, adds_flat_map, adds_map, line_adds}
+use Rattle.cc_zsh.proofs.PlainNames.{IsDashedName, names_dashed, conflicting_dashed, conflicts_front, conflicts_are, name_no_quote, front_no_quote}
+use Rattle.cc_zsh.proofs.EscapedValues.{escaped_values}
 
 star_escapes : (repeated : Bool) → Escapes (star_of repeated) (star_of repeated)
 star_escapes true = escapes_same (codes "*") (refl, tt)

@@ -333,14 +333,14 @@ next (in_list blocks descriptions label entries) token =
 next malformed token = malformed
 
 -- what is told where the script ends in a state
-unfoldable pub ended : State → Option Parts
-ended (between_functions blocks descriptions) =
+unfoldable pub parts_at_end : State → Option Parts
+parts_at_end (between_functions blocks descriptions) =
     Some (record { blocks = blocks; descriptions = descriptions })
-ended _ = None
+parts_at_end _ = None
 
 -- what the tokens tell from a state on
 unfoldable pub read : State → List Token → Option Parts
-read state [] = ended state
+read state [] = parts_at_end state
 read state (token ∷ tokens) = read (next state token) tokens
 
 -- the blocks and the functions of a script
@@ -356,16 +356,16 @@ pub record Shown : Type 0 where
   pub children : List Entry
 
 -- the descriptions of the first function of this name
-unfoldable pub described : List ℕ → List Description → Option (List Entry)
-described label [] = None
-described label (description ∷ descriptions) =
+unfoldable pub labelled_entries : List ℕ → List Description → Option (List Entry)
+labelled_entries label [] = None
+labelled_entries label (description ∷ descriptions) =
     if bytes_eq description.label label then Some description.entries
-    else described label descriptions
+    else labelled_entries label descriptions
 
 -- the descriptions of the children where a block names a function; where it names none, none
 unfoldable pub children_of : List Description → Option (List ℕ) → Option (List Entry)
 children_of descriptions None = Some []
-children_of descriptions (Some label) = described label descriptions
+children_of descriptions (Some label) = labelled_entries label descriptions
 
 -- what is shown at a path that has these options
 abbrev pub shown_with : Path → List ZshOption → List Entry → Shown

@@ -16,9 +16,9 @@ use Rattle.cc_command.proofs.PlainParts.{IsPlainName, plain_node, plain_more}
 use Rattle.cc_command.proofs.SiblingNames.{not_shared, first_differs}
 use Rattle.cc_zsh.specs.Functions.{Function, function_of, functions_below}
 use Rattle.cc_zsh.specs.Nested.{unspaced, function_label}
-use Rattle.cc_zsh.proofs.ZshOptionWords.{AreNameBytes, not_space}
-use Rattle.cc_zsh.proofs.ZshNames.{plain_name_bytes}
-use Rattle.cc_zsh.proofs.ZshPlainTree.{IsNamed}
+use Rattle.cc_zsh.proofs.OptionWords.{AreNameBytes, not_space}
+use Rattle.cc_zsh.proofs.PlainNames.{plain_name_bytes}
+use Rattle.cc_zsh.proofs.PlainTree.{IsNamed}
 
 -- ---- where a plain name ends
 

@@ -15,14 +15,14 @@ use Rattle.cc_quote.proofs.PosixCutting.{tokens_from, bare_run}
 use Rattle.cc_quote.proofs.ZshWords.{marks-kept, marked_unescaped}
 use Rattle.cc_zsh.specs.Functions.{Entry, Function, unless_defined, function_begins, commands_begin, describe_begins, describe_ends, entry_text, entries_end, entries_text, function_text}
 use Rattle.cc_zsh.specs.Nested.{function_label}
-use Rattle.cc_zsh.specs.ZshReader.{Block, Description, Parts, State, entry_from, entry_of, function_name, is_name_byte, next, next_function, read, text_before, with_description, word_of}
-use Rattle.cc_zsh.specs.ZshReader.State.{at_list, between_functions, in_list, malformed}
-use Rattle.cc_zsh.specs.ZshTable.{description_of, entry_row}
-use Rattle.cc_zsh.proofs.ZshCutting.{Escapes, escapes_append, escapes_same, NoQuote, quoted_token, single_cut, single_run, token_quoted, not_word, word_of-quoted}
-use Rattle.cc_zsh.proofs.ZshOptionWords.{AreNameBytes}
-use Rattle.cc_zsh.proofs.ZshLastBytes.{before-last, before-other}
-use Rattle.cc_zsh.proofs.ZshLines.{in_parts, reading}
-use Rattle.cc_zsh.proofs.ZshNames.{name_other, name_no_quote}
+use Rattle.cc_zsh.specs.Reader.{Block, Description, Parts, State, entry_from, entry_of, function_name, is_name_byte, next, next_function, read, text_before, with_description, word_of}
+use Rattle.cc_zsh.specs.Reader.State.{at_list, between_functions, in_list, malformed}
+use Rattle.cc_zsh.specs.Table.{description_of, entry_row}
+use Rattle.cc_zsh.proofs.Cutting.{Escapes, escapes_append, escapes_same, NoQuote, quoted_token, single_cut, single_run, token_quoted, not_word, word_of-quoted}
+use Rattle.cc_zsh.proofs.OptionWords.{AreNameBytes}
+use Rattle.cc_zsh.proofs.LastBytes.{before-last, before-other}
+use Rattle.cc_zsh.proofs.LinesRead.{in_parts, reading}
+use Rattle.cc_zsh.proofs.PlainNames.{name_other, name_no_quote}
 
 -- ---- one description
 

@@ -16,16 +16,16 @@ use Rattle.cc_quote.proofs.PosixCutting.{IsOther, IsKept-IsOther, tokens_from, b
 use Rattle.cc_visits.specs.Visits.{longer_path, path_visits, paths_below}
 use Rattle.cc_zsh.specs.Functions.{function_text, tree_functions}
 use Rattle.cc_zsh.specs.Nested.{block_text, nested_begins, case_text, case_state, nested_ends, nested_text, arms_text, root_text, context_text}
-use Rattle.cc_zsh.specs.ZshReader.{Block, Description, State, ended, function_name, is_name_byte, next, next_arm, next_function, read, text_before, zsh_parts}
-use Rattle.cc_zsh.specs.ZshReader.State.{after_block, after_nested, before_blocks, between_functions, in_block}
-use Rattle.cc_zsh.specs.ZshScript.{compdef_begins, autoloads, body_begins, begin_text, body_ends, if_called, then_call, else_define, if_ends, end_text, functions_text, script_text, zsh_script}
-use Rattle.cc_zsh.specs.ZshTable.{description_of}
-use Rattle.cc_zsh.proofs.ZshOptionWords.{AreNameBytes, not_close}
-use Rattle.cc_zsh.proofs.ZshLines.{reading, in_parts}
-use Rattle.cc_zsh.proofs.ZshNames.{name_other, plain_name_bytes}
-use Rattle.cc_zsh.proofs.ZshBlock.{IsReadable, block_with, context_bytes, root_block_read}
-use Rattle.cc_zsh.proofs.ZshArms.{AreReadable, block_at, root_nested_read}
-use Rattle.cc_zsh.proofs.ZshFunctions.{IsFunction, functions_read, passed}
+use Rattle.cc_zsh.specs.Reader.{Block, Description, State, parts_at_end, function_name, is_name_byte, next, next_arm, next_function, read, text_before, zsh_parts}
+use Rattle.cc_zsh.specs.Reader.State.{after_block, after_nested, before_blocks, between_functions, in_block}
+use Rattle.cc_zsh.specs.Script.{compdef_begins, autoloads, body_begins, begin_text, body_ends, if_called, then_call, else_define, if_ends, end_text, functions_text, script_text, zsh_script}
+use Rattle.cc_zsh.specs.Table.{description_of}
+use Rattle.cc_zsh.proofs.OptionWords.{AreNameBytes, not_close}
+use Rattle.cc_zsh.proofs.LinesRead.{reading, in_parts}
+use Rattle.cc_zsh.proofs.PlainNames.{name_other, plain_name_bytes}
+use Rattle.cc_zsh.proofs.BlockRead.{IsReadable, block_with, context_bytes, root_block_read}
+use Rattle.cc_zsh.proofs.ArmsRead.{AreReadable, block_at, root_nested_read}
+use Rattle.cc_zsh.proofs.FunctionsRead.{IsFunction, functions_read, passed}
 
 -- ---- before the root's block
 
@@ -149,7 +149,7 @@ module _ (blocks : List Block) (ds : List Description) (bin : List ℕ) (h : Are
 
   last_read : reading functions (in_bare [] (codes "_")) (bin ++ (codes " " ++ (bin ++ if_ends)))
       ≡ Some (record { blocks = blocks; descriptions = ds })
-  unfolding if_ends sign byte_of cut next next_function function_name text_before read ended
+  unfolding if_ends sign byte_of cut next next_function function_name text_before read parts_at_end
   last_read =
       ap (read functions) (bare_run bin (codes " " ++ (bin ++ if_ends)) [] (codes "_") other)
       ∙ ap (λ s. read s (tokens_from between (bin ++ if_ends))) function_passed

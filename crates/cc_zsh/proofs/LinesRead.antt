@@ -6,9 +6,9 @@ use Rattle.cc_quote.specs.PosixTokens.{Place, sign, cut}
 use Rattle.cc_quote.specs.PosixTokens.Place.{between, in_single}
 use Rattle.cc_quote.proofs.PosixCutting.{tokens_from}
 use Rattle.cc_zsh.specs.Options.{line_end}
-use Rattle.cc_zsh.specs.ZshReader.{Block, Parts, Path, State, ZshOption, first_named, named_function, next, option_of, read, with_word}
-use Rattle.cc_zsh.specs.ZshReader.State.{at_ret, in_block}
-use Rattle.cc_zsh.proofs.ZshCutting.{Escapes, quoted_token, single_cut, token_quoted, not_word, names_none, word_of-quoted}
+use Rattle.cc_zsh.specs.Reader.{Block, Parts, Path, State, ZshOption, first_named, named_function, next, option_of, read, with_word}
+use Rattle.cc_zsh.specs.Reader.State.{at_ret, in_block}
+use Rattle.cc_zsh.proofs.Cutting.{Escapes, quoted_token, single_cut, token_quoted, not_word, names_none, word_of-quoted}
 
 -- what the reader gives from a state on, where the script is cut from a place on
 abbrev pub reading : State → Place → List ℕ → Option Parts

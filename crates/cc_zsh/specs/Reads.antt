@@ -4,9 +4,9 @@ use Rattle.cc_command.specs.Tree.{Tree}
 use Rattle.cc_visits.specs.Paths.{CoversPaths}
 use Rattle.cc_visits.specs.Visits.{longer_path, path_visits}
 use Rattle.cc_zsh.specs.Functions.{tree_functions}
-use Rattle.cc_zsh.specs.ZshReader.{zsh_parts, zsh_shown}
-use Rattle.cc_zsh.specs.ZshScript.{zsh_script}
-use Rattle.cc_zsh.specs.ZshTable.{all_shown_at, description_of}
+use Rattle.cc_zsh.specs.Reader.{zsh_parts, zsh_shown}
+use Rattle.cc_zsh.specs.Script.{zsh_script}
+use Rattle.cc_zsh.specs.Table.{all_shown_at, description_of}
 
 -- The script reads to what the tree shows at each visible path, path by path: its options and
 -- flags, and the visible names of its children with their descriptions. Its functions are exactly

@@ -16,8 +16,8 @@ use Rattle.cc_zsh.specs.Conflicts.{conflict_words, conflicts_of}
 use Rattle.cc_zsh.specs.Functions.{Entry, Function, entries_of}
 use Rattle.cc_zsh.specs.Nested.{function_label}
 use Rattle.cc_zsh.specs.Options.{is_repeated, name_word}
-use Rattle.cc_zsh.specs.ZshReader.{Bracket, Description, Path, Shown, ZshOption}
-use Rattle.cc_zsh.specs.ZshReader.Bracket.{after_equals, after_plus, alone}
+use Rattle.cc_zsh.specs.Reader.{Bracket, Description, Path, Shown, ZshOption}
+use Rattle.cc_zsh.specs.Reader.Bracket.{after_equals, after_plus, alone}
 
 -- an argument of a node under one of its names: the names in conflict with it, those of a global
 -- argument as the node above finds them; whether it may be used again; and its help, or nothing

@@ -11,7 +11,7 @@ use Rattle.cc_quote.specs.Tokens.{Piece, Token, is_word}
 use Rattle.cc_quote.specs.Tokens.Piece.{bare}
 use Rattle.cc_quote.proofs.PosixCutting.{tokens_from}
 use Rattle.cc_quote.proofs.PosixWords.{byte_of-sign}
-use Rattle.cc_zsh.specs.ZshReader.{piece_text, word_of, named_function}
+use Rattle.cc_zsh.specs.Reader.{piece_text, word_of, named_function}
 
 -- ---- one token
 

@@ -1,6 +1,6 @@
 -- What stands before the last byte of a text.
 use Rattle.std.proofs.Common.{◌≡◌, ◌==◌, ℕ, true, false, cond, List, [], ◌∷◌, ◌++◌, Some, None, option_map, ap}
-use Rattle.cc_zsh.specs.ZshReader.{text_before}
+use Rattle.cc_zsh.specs.Reader.{text_before}
 
 pub before-last : (last : ℕ) (text : List ℕ) → last == last ≡ true →
     text_before last (text ++ last ∷ []) ≡ Some text

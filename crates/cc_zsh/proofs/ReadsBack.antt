@@ -23,14 +23,14 @@ use Rattle.cc_visits.specs.Visits.{Keyed, keyed, keys_below, longer_path, path_v
 use Rattle.cc_visits.proofs.VisitedPaths.{paths_cover}
 use Rattle.cc_zsh.specs.Functions.{Function, entries_of, function_of, functions_below, function_below, is_again, once_after, sorted_functions, tree_functions}
 use Rattle.cc_zsh.specs.Nested.{function_label, unspaced}
-use Rattle.cc_zsh.specs.ZshReader.{Description, Path, Shown, all_shown, children_of, described, shown_of, with_shown, zsh_parts, zsh_shown}
-use Rattle.cc_zsh.specs.ZshReads.{ZshReads}
-use Rattle.cc_zsh.specs.ZshScript.{zsh_script}
-use Rattle.cc_zsh.specs.ZshTable.{all_shown_at, description_of, entry_row, shown_at}
-use Rattle.cc_zsh.proofs.ZshArms.{block_at}
-use Rattle.cc_zsh.proofs.ZshLabels.{all_stems_differ, label_stem}
-use Rattle.cc_zsh.proofs.ZshPlainTree.{named_tree, readable_tree}
-use Rattle.cc_zsh.proofs.ZshWhole.{parts_read}
+use Rattle.cc_zsh.specs.Reader.{Description, Path, Shown, all_shown, children_of, labelled_entries, shown_of, with_shown, zsh_parts, zsh_shown}
+use Rattle.cc_zsh.specs.Reads.{ZshReads}
+use Rattle.cc_zsh.specs.Script.{zsh_script}
+use Rattle.cc_zsh.specs.Table.{all_shown_at, description_of, entry_row, shown_at}
+use Rattle.cc_zsh.proofs.ArmsRead.{block_at}
+use Rattle.cc_zsh.proofs.Labels.{all_stems_differ, label_stem}
+use Rattle.cc_zsh.proofs.PlainTree.{named_tree, readable_tree}
+use Rattle.cc_zsh.proofs.WholeRead.{parts_read}
 
 -- ---- each name once
 
@@ -97,15 +97,15 @@ differ_in_order (function ∷ functions) (h, hs) = differ_placed function (in_or
 
 found_first : (sought : List ℕ) (descriptions : List Description) (description : Description) →
     AllDifferBy (λ d. d.label) descriptions → IsIn descriptions description →
-    description.label ≡ sought → described sought descriptions ≡ Some description.entries
-unfolding described
+    description.label ≡ sought → labelled_entries sought descriptions ≡ Some description.entries
+unfolding labelled_entries
 found_first sought [] description differ at e = absurd at
 found_first sought (first ∷ rest) description differ (inl same) e =
-    ap (λ b. cond b (Some first.entries) (described sought rest))
+    ap (λ b. cond b (Some first.entries) (labelled_entries sought rest))
     ((bytes_eq-Decides first.label sought).1 (ap (λ d. d.label) same ∙ e))
     ∙ ap (λ d. Some d.entries) same
 found_first sought (first ∷ rest) description differ (inr at) e =
-    ap (λ b. cond b (Some first.entries) (described sought rest)) (by_test (bytes_eq first.label sought) refl)
+    ap (λ b. cond b (Some first.entries) (labelled_entries sought rest)) (by_test (bytes_eq first.label sought) refl)
     ∙ found_first sought rest description differ.1 at e
   where
     by_test : (b : Bool) → bytes_eq first.label sought ≡ b → b ≡ false
@@ -154,14 +154,14 @@ below_have path above (more node below rest) =
 -- ---- what is shown
 
 one_shown : (descriptions : List Description) (visit : Keyed Path) →
-    described (95 ∷ function_label (full_name visit.tree.node)) descriptions
+    labelled_entries (95 ∷ function_label (full_name visit.tree.node)) descriptions
     ≡ Some (map entry_row (entries_of visit.tree.children)) →
     shown_of descriptions (block_at visit) ≡ Some (shown_at visit)
 unfolding shown_of children_of
 one_shown descriptions visit e = by_children visit.tree.children e
   where
     by_children : (children : Forest) →
-        described (95 ∷ function_label (full_name visit.tree.node)) descriptions
+        labelled_entries (95 ∷ function_label (full_name visit.tree.node)) descriptions
         ≡ Some (map entry_row (entries_of children)) →
         option_map (λ entries. let s : Shown = record { path = visit.key; options = (block_at visit).options; children = entries } in s)
         (children_of descriptions (cond (has_nodes children)
@@ -172,7 +172,7 @@ one_shown descriptions visit e = by_children visit.tree.children e
         ap (option_map (λ entries. let s : Shown = record { path = visit.key; options = (block_at visit).options; children = entries } in s)) found
 
 visits_shown : (descriptions : List Description) (visits : List (Keyed Path)) →
-    AllByRecursion (λ visit. described (95 ∷ function_label (full_name visit.tree.node)) descriptions
+    AllByRecursion (λ visit. labelled_entries (95 ∷ function_label (full_name visit.tree.node)) descriptions
     ≡ Some (map entry_row (entries_of visit.tree.children))) visits →
     all_shown descriptions (map block_at visits) ≡ Some (map shown_at visits)
 unfolding all_shown
@@ -230,7 +230,7 @@ module _ (root : Tree) (plain : IsTrue (is_plain_tree root)) (built : built_tree
       ≡ Some (all_shown_at root)
   nodes_shown = visits_shown (map description_of functions) (path_visits longer_path [] root)
       (AllByRecursion-weaker (HasFunction functions)
-      (λ visit. described (95 ∷ function_label (full_name visit.tree.node)) (map description_of functions)
+      (λ visit. labelled_entries (95 ∷ function_label (full_name visit.tree.node)) (map description_of functions)
       ≡ Some (map entry_row (entries_of visit.tree.children)))
       (λ visit at. found_first (95 ∷ function_label (full_name visit.tree.node)) (map description_of functions)
       (description_of (function_of visit.tree.node visit.tree.children)) descriptions_differ

@@ -23,9 +23,9 @@ use Rattle.cc_quote.proofs.PosixCutting.{IsOther}
 use Rattle.cc_command.specs.ArgumentLists.{first_with}
 use Rattle.cc_zsh.specs.Conflicts.{conflict_scope, conflicts_of, short_word, long_word, short_words, long_words, own_words, conflict_words, conflicts_text, has_arguments}
 use Rattle.cc_zsh.specs.Options.{name_word}
-use Rattle.cc_zsh.specs.ZshReader.{is_name_byte, is_typed_name}
-use Rattle.cc_zsh.proofs.ZshCutting.{NoQuote}
-use Rattle.cc_zsh.proofs.ZshOptionWords.{AreNameBytes, IsDashed, StartsDashed, IsFront, dashed_bytes, front_of}
+use Rattle.cc_zsh.specs.Reader.{is_name_byte, is_typed_name}
+use Rattle.cc_zsh.proofs.Cutting.{NoQuote}
+use Rattle.cc_zsh.proofs.OptionWords.{AreNameBytes, IsDashed, StartsDashed, IsFront, dashed_bytes, front_of}
 
 -- ---- bytes
 

@@ -16,14 +16,14 @@ use Rattle.cc_quote.proofs.PosixCutting.{IsKept-IsOther, tokens_from, double_run
 use Rattle.cc_zsh.specs.Nested.{unspaced, function_label, block_begins, block_ends, external_text, command_begins, state_begins, state_ends, children_text, below_text, block_text}
 use Rattle.cc_zsh.specs.Options.{options_text, flags_text}
 use Rattle.cc_zsh.specs.Positionals.{positionals_text}
-use Rattle.cc_zsh.specs.ZshReader.{Block, Path, ZshOption, first_named, is_name_byte, named_function, new_block, next, next_place, option_of, place_after, read, read_option, text_after, with_word, word_of}
-use Rattle.cc_zsh.specs.ZshReader.State.{after_block, at_block, at_ret, before_blocks, in_block}
-use Rattle.cc_zsh.specs.ZshTable.{node_rows}
-use Rattle.cc_zsh.proofs.ZshOptionWords.{AreNameBytes, colon_none, star_none, not_space}
-use Rattle.cc_zsh.proofs.ZshLines.{reading, with_options, first_named-none, in_parts}
-use Rattle.cc_zsh.proofs.ZshNames.{name_other, plain_name_bytes}
-use Rattle.cc_zsh.proofs.ZshOptionLines.{node_adds}
-use Rattle.cc_zsh.proofs.ZshPositionals.{positionals_add}
+use Rattle.cc_zsh.specs.Reader.{Block, Path, ZshOption, first_named, is_name_byte, named_function, new_block, next, next_place, option_of, place_after, read, read_option, text_after, with_word, word_of}
+use Rattle.cc_zsh.specs.Reader.State.{after_block, at_block, at_ret, before_blocks, in_block}
+use Rattle.cc_zsh.specs.Table.{node_rows}
+use Rattle.cc_zsh.proofs.OptionWords.{AreNameBytes, colon_none, star_none, not_space}
+use Rattle.cc_zsh.proofs.LinesRead.{reading, with_options, first_named-none, in_parts}
+use Rattle.cc_zsh.proofs.PlainNames.{name_other, plain_name_bytes}
+use Rattle.cc_zsh.proofs.OptionLines.{node_adds}
+use Rattle.cc_zsh.proofs.PositionalsRead.{positionals_add}
 
 -- ---- full names
 

@@ -15,7 +15,7 @@ use Rattle.cc_quote.specs.ZshQuote.{is_help_marked, is_value_marked, marked, zsh
 use Rattle.cc_zsh.specs.declared.values.Form.{Form}
 use Rattle.cc_zsh.specs.declared.values.Form.TheVariants.{Names, Helps}
 use Rattle.cc_zsh.specs.Values.{shown_values, is_described, item_help, item_text, item_separator, items_text, list_text, hint_text, listed_or_hint, value_text, first_name, one_value, times, least_values, range, values_text}
-use Rattle.cc_zsh.proofs.ZshCutting.{NoQuote, IsEscaped, escaped_append, escaped_same, escaped_of}
+use Rattle.cc_zsh.proofs.Cutting.{NoQuote, IsEscaped, escaped_append, escaped_same, escaped_of}
 
 -- by the tests of plainness
 pub no_quote : (text : List ℕ) → HasNoQuote text → NoQuote text

@@ -18,14 +18,14 @@ use Rattle.cc_command.specs.PlainName.{is_joined, is_plain_name}
 use Rattle.cc_command.proofs.PlainNames.{plain_after, plain_after_start, plain_after_more}
 use Rattle.cc_command.proofs.PlainParts.{IsPlainName, IsPlainArgument, IsPlainNode, plain_node, plain_more, plain_tree, plain_full_name}
 use Rattle.cc_zsh.specs.Functions.{Function, entry, entries_of, function_of, functions_below, function_below, is_again, once_after, sorted_functions}
-use Rattle.cc_zsh.specs.ZshReader.{is_name_byte}
-use Rattle.cc_zsh.proofs.ZshCutting.{NoQuote}
-use Rattle.cc_zsh.proofs.ZshOptionWords.{AreNameBytes}
-use Rattle.cc_zsh.proofs.ZshNames.{plain_name_bytes, name_byte_no_quote}
-use Rattle.cc_zsh.proofs.ZshBlock.{AreFullBytes, label_bytes}
-use Rattle.cc_zsh.proofs.ZshArms.{AreReadable}
-use Rattle.cc_zsh.proofs.ZshFunctions.{IsFunction}
-use Rattle.cc_zsh.proofs.ZshWhole.{IsBinName, IsReadableTree}
+use Rattle.cc_zsh.specs.Reader.{is_name_byte}
+use Rattle.cc_zsh.proofs.Cutting.{NoQuote}
+use Rattle.cc_zsh.proofs.OptionWords.{AreNameBytes}
+use Rattle.cc_zsh.proofs.PlainNames.{plain_name_bytes, name_byte_no_quote}
+use Rattle.cc_zsh.proofs.BlockRead.{AreFullBytes, label_bytes}
+use Rattle.cc_zsh.proofs.ArmsRead.{AreReadable}
+use Rattle.cc_zsh.proofs.FunctionsRead.{IsFunction}
+use Rattle.cc_zsh.proofs.WholeRead.{IsBinName, IsReadableTree}
 
 -- ---- full names in a built tree
 
