@@ -18,9 +18,9 @@ pub struct ArgRef<'a> {
 }
 
 impl<'a> Model for ArgRef<'a> {
-    ghost use Rattle.cc_arg.specs.declared.parts.ArgParts.{ArgParts as Arg};
+    ghost use Rattle.cc_arg.specs.declared.parts.ArgParts.{ArgParts};
 
-    ghost Value = { Arg };
+    ghost Value = { ArgParts };
 
     ghost view = { λ borrowed. borrowed.argument.now };
 }
