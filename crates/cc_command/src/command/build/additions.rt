@@ -25,7 +25,9 @@ pub(super) struct Addition {
     pub children: Vec<Command>,
 }
 
-// `inherited` is what the parent propagates.
+// `inherited` is what the parent propagates. Never inlined, so that each level of a tree takes less
+// of the stack.
+#[inline(never)]
 pub(super) fn addition_to(
     command: &Command,
     alloc: Global,
