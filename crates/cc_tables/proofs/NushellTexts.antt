@@ -1,10 +1,12 @@
 -- The lines of a Nushell script, as they are written.
-use Rattle.std.proofs.Common.{◌≡◌, Bool, true, false, List, ◌++◌, flat_map, ap₂, ◌∙◌}
+use Rattle.std.proofs.Common.{◌≡◌, ◌==◌, ℕ, Bool, true, false, cond, List, [], ◌∷◌, ◌++◌, flat_map, codes, refl, ap₂, ◌∙◌}
 use Rattle.std.proofs.lemmas.List.Concat.{flat_map-append}
 use Rattle.std.proofs.lemmas.List.Folds.{flat_map-map}
 use Rattle.cc_arg.specs.declared.parts.ArgParts.{ArgParts as Arg}
 use Rattle.cc_command.specs.ArgumentLists.{options, flags}
 use Rattle.cc_command.specs.Tree.{Tree}
+use Rattle.cc_quote.specs.Escapes.{replaced}
+use Rattle.cc_quote.specs.QuotedWord.{line_feeds_as_spaces}
 use Rattle.cc_tables.specs.NushellScript.{argument_lines, line_text, node_lines, offer_line}
 use Rattle.cc_tables.specs.NushellScript.{offer_text}
 use Rattle.cc_tables.specs.Offers.{argument_offers}
@@ -27,3 +29,12 @@ lines_of_node tree =
     (argument_lines false (flags tree.node))
     ∙ ap₂ (λ first second. first ++ second) (lines_of_arguments true (options tree.node))
     (lines_of_arguments false (flags tree.node))
+
+-- a help on one line
+pub line_feeds_replaced : (text : List ℕ) → replaced 10 (codes " ") text ≡ line_feeds_as_spaces text
+line_feeds_replaced [] = refl
+line_feeds_replaced (byte ∷ text) = ap₂ (λ first second. first ++ second) (by_test (byte == 10)) (line_feeds_replaced text)
+  where
+    by_test : (is : Bool) → cond is (codes " ") (byte ∷ []) ≡ cond is 32 byte ∷ []
+    by_test true = refl
+    by_test false = refl

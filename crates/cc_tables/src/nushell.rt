@@ -15,8 +15,7 @@ use cc_base::{Error, Sink, TextRef, put_around, put_piece};
 use cc_command::Command;
 use cc_flat::Flat;
 use cc_lists::Generator;
-use cc_quote::{Escape, put_escaped_piece};
-use memchr::memchr;
+use cc_quote::{Replace, put_escaped_piece};
 use std::alloc::Global;
 use std::io::ErrorKind;
 
@@ -148,24 +147,20 @@ fn write_help<W: Sink>(offer: &Offer<'_>, sink: &mut W) -> Result<(), ErrorKind>
     match &offer.description {
         Some(help) => {
             put_piece(sink, " # ".as_bytes())?;
-            put_escaped_piece(&OneLine, help.as_str(), sink)
+            put_one_line(help.as_str(), sink)
         }
         None => Ok(()),
     }
 }
 
-// A text on one line: each line feed as a space.
-struct OneLine;
-
-impl Escape for OneLine {
-    ghost use Rattle.cc_quote.specs.QuotedWord.{line_feeds_as_spaces};
-
-    ghost escaped = { λ _ text. line_feeds_as_spaces text };
-
-    fn split<'a>(&self, text: &'a str) -> Option<(&'a str, &'static str, &'a str)> {
-        let Some(at) = memchr(b'\n', text.as_bytes()) else {
-            return None;
-        };
-        Some((&text[..at], " ", &text[at + 1..]))
-    }
+// Writes a text on one line: each line feed as a space.
+fn put_one_line<W: Sink>(text: &str, sink: &mut W) -> Result<(), ErrorKind>
+    ensures { Writes W.taken W.failed (as_write result) sink.old sink.new
+        (line_feeds_as_spaces text.now) }
+{
+    let escape = Replace {
+        byte: b'\n',
+        by: " ",
+    };
+    put_escaped_piece(&escape, text, sink)
 }

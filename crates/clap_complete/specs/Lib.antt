@@ -19,6 +19,7 @@ pub use Rattle.cc_base.specs.declared.failures.Failures
 pub use Rattle.cc_quote.specs.BashDouble
 pub use Rattle.cc_quote.specs.ElvishQuote
 pub use Rattle.cc_quote.specs.ElvishTokens
+pub use Rattle.cc_quote.specs.Escapes
 pub use Rattle.cc_quote.specs.FishEscapes
 pub use Rattle.cc_quote.specs.FishQuote
 pub use Rattle.cc_quote.specs.FishTokens
