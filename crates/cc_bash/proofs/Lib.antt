@@ -15,7 +15,6 @@ pub mod ReadsArms
 pub mod ReadsBack
 pub mod ReadsCases
 pub mod ReadsDetails
-pub mod Replaced
 pub mod Seen
 pub mod WholeScript
 pub mod WordTexts

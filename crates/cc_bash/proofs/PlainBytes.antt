@@ -16,7 +16,8 @@ use Rattle.cc_command.proofs.PlainParts.{IsPlainName, plain_full_name}
 use Rattle.cc_quote.specs.PosixTokens.{sign}
 use Rattle.cc_quote.specs.PosixTokens.Sign.{other}
 use Rattle.cc_quote.proofs.PosixCutting.{IsOther, IsWord}
-use Rattle.cc_bash.specs.Labels.{replaced, root_label, child_label}
+use Rattle.cc_quote.specs.Escapes.{replaced}
+use Rattle.cc_bash.specs.Labels.{root_label, child_label}
 use Rattle.cc_command.specs.Quiet.{is_quiet_byte, is_quiet_value}
 use Rattle.cc_bash.proofs.WordsRead.{Lacks}
 

@@ -1,13 +1,10 @@
 -- The labels by which a bash script tells the commands of a tree apart.
-use Rattle.std.specs.Prelude.{ℕ, suc, List, [], ◌∷◌, ◌++◌, ◌==◌, if◌then◌else◌, map, flat_map, codes, Option, Some, None}
+use Rattle.std.specs.Prelude.{ℕ, suc, List, [], ◌∷◌, ◌++◌, if◌then◌else◌, map, codes, Option, Some, None}
 use Rattle.cc_base.specs.Bytes.{space, dash}
+use Rattle.cc_quote.specs.Escapes.{replaced}
 use Rattle.cc_command.specs.declared.node.Node.{Node}
 use Rattle.cc_command.specs.Tree.{Forest, none, more, Tree}
 use Rattle.cc_command.specs.Names.{contains_name, full_name}
-
--- a text with another in place of each such byte
-abbrev pub replaced : ℕ → List ℕ → List ℕ → List ℕ
-replaced byte by text = flat_map (λ b. if b == byte then by else b ∷ []) text
 
 -- the label of the root: its bin name, with `__` for each `-`
 abbrev pub root_label : Tree → List ℕ

@@ -15,7 +15,7 @@ ghost use Rattle.cc_bash.specs.Script.{tree_script};
 use crate::arms::{sort_nodes, write_arm, write_arms};
 use crate::cases::{sorted_cases, write_cases};
 use crate::clash::shared_label;
-use crate::nodes::{LabelledNode, labelled_nodes, replaced};
+use crate::nodes::{LabelledNode, labelled_nodes};
 use crate::texts::{
     arms_begin, arms_end, cases_begin, function_begins, function_head, otherwise, script_ends,
     sorted, unsorted,
@@ -24,6 +24,7 @@ use cc_base::{Error, Sink, as_error, put_all, put_pieces};
 use cc_command::{Command, full_name};
 use cc_flat::Flat;
 use cc_lists::Generator;
+use cc_quote::{Replace, escape_text};
 use std::alloc::Global;
 
 /// Writes bash scripts. The file of a program `N` is `N.bash`.
@@ -53,7 +54,11 @@ impl Generator for Bash {
         sink: &mut W,
     ) -> Result<(), Error> {
         let flat = Flat::new(alloc, command)?;
-        let root = replaced(alloc, full_name(command), '-', "__")?;
+        let escape = Replace {
+            byte: b'-',
+            by: "__",
+        };
+        let root = escape_text(alloc, &escape, full_name(command))?;
         let nodes = labelled_nodes(alloc, &flat, root.as_str())?;
         if let Some(label) = shared_label(alloc, root.as_str(), &nodes)? {
             return Err(Error::LabelClash(label));

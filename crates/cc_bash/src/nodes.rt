@@ -1,16 +1,17 @@
 //! The nodes of a command tree, each with its label.
 
-ghost use Rattle.std.specs.Prelude.{◌≡◌, ◌++◌, ◌<◌, length, map, codes, encode_utf8, IfOk, OnOk};
+ghost use Rattle.std.specs.Prelude.{◌≡◌, ◌++◌, ◌<◌, length, map, codes, IfOk, OnOk};
 ghost use Rattle.std.specs.String.{string_bytes};
 ghost use Rattle.cc_flat.specs.Flat.{tree_at};
 ghost use Rattle.cc_flat.specs.Nodes.{levelled_of};
-ghost use Rattle.cc_bash.specs.Labels.{child_label, labelled_node, labelled_under, replaced};
+ghost use Rattle.cc_bash.specs.Labels.{child_label, labelled_node, labelled_under};
 ghost use Rattle.cc_bash.specs.Labels.{sort_text};
 ghost use Rattle.cc_bash.specs.Nodes.{labelled_of, last_label, next_labelled, next_path};
 
 use cc_base::Text;
 use cc_command::{Command, full_name};
 use cc_flat::{Flat, LevelledNode};
+use cc_quote::{Replace, escape_text, push_escaped};
 use cc_visits::SharedKey;
 use std::alloc::{AllocError, Global};
 
@@ -86,7 +87,7 @@ fn labelled_node<'a>(
 {
     let command = node.command;
     let label = child_label(alloc, parent.as_str(), command.get_name())?;
-    let sort_text = replaced(alloc, full_name(command), ' ', "__subcmd__")?;
+    let sort_text = sort_text(alloc, command)?;
     Ok(LabelledNode {
         command,
         level: node.level,
@@ -96,46 +97,28 @@ fn labelled_node<'a>(
     })
 }
 
+fn sort_text(alloc: Global, command: &Command) -> Result<String, AllocError>
+    ensures { IfOk result (λ text. string_bytes text ≡ sort_text command.now.node) }
+{
+    let escape = Replace {
+        byte: b' ',
+        by: "__subcmd__",
+    };
+    escape_text(alloc, &escape, full_name(command))
+}
+
 fn child_label(alloc: Global, parent: &str, name: &str) -> Result<String, AllocError>
     ensures { IfOk result (λ text. string_bytes text ≡ child_label parent.now name.now) }
 {
-    let name = replaced(alloc, name, '-', "__subcmd__")?;
     let added = "__subcmd__".len().saturating_add(name.len());
     let mut label = String::with_capacity(alloc, parent.len().saturating_add(added))?;
     label.push_str(parent)?;
     label.push_str("__subcmd__")?;
-    label.push_str(name.as_str())?;
+    let escape = Replace {
+        byte: b'-',
+        by: "__subcmd__",
+    };
+    push_escaped(&escape, name, &mut label)?;
+    label.shrink_to_fit();
     Ok(label)
-}
-
-/// The text with another in place of each such character.
-#[tactic(auto, using(crate::proofs::Replaced::replaced_push))]
-pub(crate) fn replaced(
-    alloc: Global,
-    text: &str,
-    character: char,
-    by: &str,
-) -> Result<String, AllocError>
-    requires ascii { character < 128 }
-    ensures { IfOk result (λ made. string_bytes made ≡ replaced character by.now text.now) }
-{
-    let mut made = String::with_capacity(alloc, text.len())?;
-    for c in text.chars() {
-        push_replaced(&mut made, c, character, by)?;
-    }
-    made.shrink_to_fit();
-    Ok(made)
-}
-
-// Adds a character, or the text that stands in its place.
-#[tactic(auto, using(crate::proofs::Replaced::replaced_kept, crate::proofs::Replaced::replaced_is))]
-fn push_replaced(made: &mut String, c: char, character: char, by: &str) -> Result<(), AllocError>
-    requires ascii { character < 128 }
-    ensures { OnOk result (string_bytes made.new
-        ≡ string_bytes made.old ++ replaced character by.now (encode_utf8 c)) }
-{
-    if c == character {
-        return made.push_str(by);
-    }
-    made.push(c)
 }
