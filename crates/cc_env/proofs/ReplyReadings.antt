@@ -6,7 +6,8 @@ use Rattle.std.proofs.lemmas.Bool.Decides.{Decides-eqb}
 use Rattle.std.specs.List.{AllByRecursion}
 use Rattle.cc_base.specs.Joined.{joined_after}
 use Rattle.cc_base.proofs.Members.{AllByRecursion-weaker, AllByRecursion-append}
-use Rattle.cc_quote.specs.ZshQuote.{Mark, marks_from, marks, unmarked, zsh_unescaped, marked_byte, marked}
+use Rattle.cc_quote.specs.ZshQuote.{Mark, marks_from, marks, unmarked, zsh_unescaped}
+use Rattle.cc_quote.specs.Escapes.{marked_byte, marked}
 use Rattle.cc_quote.specs.ZshQuote.Mark.{kept, escaped}
 use Rattle.cc_quote.specs.ZshReply.{is_reply_value_marked, is_reply_help_marked, zsh_replied_value, zsh_replied_help}
 use Rattle.cc_quote.proofs.ZshWords.{mark_of, marks-marked}
