@@ -13,7 +13,8 @@ use Rattle.cc_quote.specs.PosixTokens.{sign, byte_of, cut, double}
 use Rattle.cc_quote.specs.PosixTokens.Place.{between, in_double}
 use Rattle.cc_quote.specs.Tokens.{Token, is_word}
 use Rattle.cc_quote.proofs.PosixCutting.{IsKept-IsOther, tokens_from, double_run}
-use Rattle.cc_zsh.specs.Nested.{unspaced, function_label, block_begins, block_ends, external_text, command_begins, state_begins, state_ends, children_text, below_text, block_text}
+use Rattle.cc_quote.specs.Escapes.{replaced}
+use Rattle.cc_zsh.specs.Nested.{function_label, block_begins, block_ends, external_text, command_begins, state_begins, state_ends, children_text, below_text, block_text}
 use Rattle.cc_zsh.specs.Options.{options_text, flags_text}
 use Rattle.cc_zsh.specs.Positionals.{positionals_text}
 use Rattle.cc_zsh.specs.Reader.{Block, Path, ZshOption, first_named, is_name_byte, named_function, new_block, next, next_place, option_of, place_after, read, read_option, text_after, with_word, word_of}
@@ -31,15 +32,15 @@ use Rattle.cc_zsh.proofs.PositionalsRead.{positionals_add}
 abbrev pub AreFullBytes : List ℕ → Type 0
 AreFullBytes text = AllByRecursion (λ byte. (is_name_byte byte ≡ true) ⊎ (byte ≡ 32)) text
 
-pub unspaced_bytes : (by text : List ℕ) → AreNameBytes by → AreFullBytes text →
-    AreNameBytes (unspaced by text)
-unspaced_bytes by [] h k = tt
-unspaced_bytes by (byte ∷ text) h (inl k, ks) =
-    AllByRecursion-append (λ b. is_name_byte b ≡ true) (cond (byte == 32) by (byte ∷ [])) (unspaced by text)
-    (let e : byte == 32 ≡ false = not_space byte k in rw e (k, tt)) (unspaced_bytes by text h ks)
-unspaced_bytes by (byte ∷ text) h (inr e, ks) =
-    AllByRecursion-append (λ b. is_name_byte b ≡ true) (cond (byte == 32) by (byte ∷ [])) (unspaced by text)
-    (rw e h) (unspaced_bytes by text h ks)
+pub replaced_bytes : (by text : List ℕ) → AreNameBytes by → AreFullBytes text →
+    AreNameBytes (replaced 32 by text)
+replaced_bytes by [] h k = tt
+replaced_bytes by (byte ∷ text) h (inl k, ks) =
+    AllByRecursion-append (λ b. is_name_byte b ≡ true) (cond (byte == 32) by (byte ∷ [])) (replaced 32 by text)
+    (let e : byte == 32 ≡ false = not_space byte k in rw e (k, tt)) (replaced_bytes by text h ks)
+replaced_bytes by (byte ∷ text) h (inr e, ks) =
+    AllByRecursion-append (λ b. is_name_byte b ≡ true) (cond (byte == 32) by (byte ∷ [])) (replaced 32 by text)
+    (rw e h) (replaced_bytes by text h ks)
 
 subcmd_bytes : AreNameBytes (codes "__subcmd__")
 unfolding is_name_byte
@@ -55,11 +56,11 @@ dash_bytes = (refl, tt)
 
 pub label_bytes : (name : List ℕ) → AreFullBytes name → AreNameBytes (function_label name)
 label_bytes name h =
-    AllByRecursion-append (λ b. is_name_byte b ≡ true) (unspaced (codes "__subcmd__") name)
-    (codes "_commands") (unspaced_bytes (codes "__subcmd__") name subcmd_bytes h) commands_bytes
+    AllByRecursion-append (λ b. is_name_byte b ≡ true) (replaced 32 (codes "__subcmd__") name)
+    (codes "_commands") (replaced_bytes (codes "__subcmd__") name subcmd_bytes h) commands_bytes
 
-pub context_bytes : (name : List ℕ) → AreFullBytes name → AreNameBytes (unspaced (codes "-") name)
-context_bytes name h = unspaced_bytes (codes "-") name dash_bytes h
+pub context_bytes : (name : List ℕ) → AreFullBytes name → AreNameBytes (replaced 32 (codes "-") name)
+context_bytes name h = replaced_bytes (codes "-") name dash_bytes h
 
 -- ---- words that tell no option
 

@@ -3,14 +3,14 @@ use Rattle.std.proofs.Common.{◌≡◌, ◌≢◌, ◌==◌, ℕ, Bool, true, f
 use Rattle.std.specs.List.{AllByRecursion}
 use Rattle.std.proofs.lemmas.Bool.Decides.{Decides-eqb, nat_tests}
 use Rattle.std.proofs.lemmas.List.Concat.{flat_map-append}
-use Rattle.cc_quote.specs.PosixQuote.{posix_escaped_byte, posix_escaped}
+use Rattle.cc_quote.specs.PosixQuote.{posix_escaped}
 use Rattle.cc_quote.specs.PosixTokens.{Sign, sign, byte_of, cut, single}
 use Rattle.cc_quote.specs.PosixTokens.Sign.{blank, line_feed, single_quote, double_quote, backslash, special, other}
 use Rattle.cc_quote.specs.PosixTokens.Place.{between, in_single}
 use Rattle.cc_quote.specs.Tokens.{Piece, Token, is_word}
 use Rattle.cc_quote.specs.Tokens.Piece.{bare}
 use Rattle.cc_quote.proofs.PosixCutting.{tokens_from}
-use Rattle.cc_quote.proofs.PosixWords.{byte_of-sign}
+use Rattle.cc_quote.proofs.PosixWords.{byte_of-sign, posix_escaped_byte}
 use Rattle.cc_zsh.specs.Reader.{piece_text, word_of, named_function}
 
 -- ---- one token

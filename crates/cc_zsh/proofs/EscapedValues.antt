@@ -11,7 +11,9 @@ use Rattle.cc_arg.specs.declared.value_hint.ValueHint.TheVariants.{Unknown, Othe
 use Rattle.cc_arg.specs.Arguments.{possible_values, takes_values}
 use Rattle.cc_command.proofs.PlainParts.{HasNoQuote}
 use Rattle.cc_quote.specs.QuotedWord.{line_feeds_as_spaces}
-use Rattle.cc_quote.specs.ZshQuote.{is_help_marked, is_value_marked, marked, zsh_escaped_help, zsh_escaped_value}
+use Rattle.cc_quote.specs.Escapes.{marked}
+use Rattle.cc_quote.specs.ZshQuote.{is_help_marked, is_value_marked, zsh_escaped_help, zsh_escaped_value}
+use Rattle.cc_quote.proofs.ZshWords.{help_composed, value_composed}
 use Rattle.cc_zsh.specs.declared.values.Form.{Form}
 use Rattle.cc_zsh.specs.declared.values.Form.TheVariants.{Names, Helps}
 use Rattle.cc_zsh.specs.Values.{shown_values, is_described, item_help, item_text, item_separator, items_text, list_text, hint_text, listed_or_hint, value_text, first_name, one_value, times, least_values, range, values_text}
@@ -27,13 +29,11 @@ no_quote text h = AllByRecursion-weaker (λ byte. IsTrue (not (byte == 39))) (λ
     by_test false k = refl
 
 escaped_value : (text : List ℕ) → IsEscaped (zsh_escaped_value text)
-unfolding zsh_escaped_value
-escaped_value text = escaped_of (zsh_escaped_value text) (marked is_value_marked text) refl
+escaped_value text = escaped_of (zsh_escaped_value text) (marked is_value_marked text) (value_composed text)
 
 escaped_help : (text : List ℕ) → IsEscaped (zsh_escaped_help text)
-unfolding zsh_escaped_help
 escaped_help text =
-    escaped_of (zsh_escaped_help text) (marked is_help_marked (line_feeds_as_spaces text)) refl
+    escaped_of (zsh_escaped_help text) (marked is_help_marked (line_feeds_as_spaces text)) (help_composed text)
 
 escaped_joined : {X : Type 0} (between : List ℕ) (text : X → List ℕ) → IsEscaped between →
     ((x : X) → IsEscaped (text x)) → (begun : Bool) (xs : List X) →

@@ -10,9 +10,10 @@ use Rattle.cc_quote.specs.PosixTokens.Place.{between, in_bare, in_single}
 use Rattle.cc_quote.specs.QuotedWord.{line_feeds_as_spaces}
 use Rattle.cc_quote.specs.Tokens.{is_word}
 use Rattle.cc_quote.specs.Tokens.Piece.{bare}
-use Rattle.cc_quote.specs.ZshQuote.{is_help_marked, marked, marks, marks_from, zsh_escaped_help, zsh_unescaped, unmarked}
+use Rattle.cc_quote.specs.Escapes.{marked}
+use Rattle.cc_quote.specs.ZshQuote.{is_help_marked, marks, marks_from, zsh_escaped_help, zsh_unescaped, unmarked}
 use Rattle.cc_quote.proofs.PosixCutting.{tokens_from, bare_run}
-use Rattle.cc_quote.proofs.ZshWords.{marks-kept, marked_unescaped}
+use Rattle.cc_quote.proofs.ZshWords.{help_composed, marks-kept, marked_unescaped}
 use Rattle.cc_zsh.specs.Functions.{Entry, Function, unless_defined, function_begins, commands_begin, describe_begins, describe_ends, entry_text, entries_end, entries_text, function_text}
 use Rattle.cc_zsh.specs.Nested.{function_label}
 use Rattle.cc_zsh.specs.Reader.{Block, Description, Parts, State, entry_from, entry_of, function_name, is_name_byte, next, next_function, read, text_before, with_description, word_of}
@@ -69,14 +70,13 @@ entry_told e h =
 
 entry_escapes : (e : Entry) → AreNameBytes e.word →
     Escapes (e.word ++ (codes ":" ++ zsh_escaped_help e.help)) (entry_word e)
-unfolding zsh_escaped_help
 entry_escapes e h =
     escapes_append e.word (codes ":" ++ zsh_escaped_help e.help) e.word
     (codes ":" ++ marked is_help_marked (line_feeds_as_spaces e.help))
     (escapes_same e.word (name_no_quote e.word h))
     (escapes_append (codes ":") (zsh_escaped_help e.help) (codes ":")
     (marked is_help_marked (line_feeds_as_spaces e.help)) (escapes_same (codes ":") (refl, tt))
-    (record { is = refl }))
+    (record { is = help_composed e.help }))
 
 -- ---- a list
 

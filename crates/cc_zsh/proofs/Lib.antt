@@ -14,10 +14,8 @@ pub mod OptionLines
 pub mod OptionWords
 pub mod PlainNames
 pub mod PlainTree
-pub mod PositionalBytes
 pub mod PositionalsRead
 pub mod PreorderFunctions
 mod ReadExamples
 pub mod ReadsBack
-pub mod Unspaced
 pub mod WholeRead

@@ -11,7 +11,9 @@ use Rattle.cc_command.specs.declared.node.Node.{Node}
 use Rattle.cc_command.specs.ArgumentLists.{options, flags}
 use Rattle.cc_command.proofs.PlainParts.{IsPlainArgument, IsPlainNode}
 use Rattle.cc_quote.specs.QuotedWord.{line_feeds_as_spaces}
-use Rattle.cc_quote.specs.ZshQuote.{is_help_marked, marked, zsh_escaped_help}
+use Rattle.cc_quote.specs.Escapes.{marked}
+use Rattle.cc_quote.specs.ZshQuote.{is_help_marked, zsh_escaped_help}
+use Rattle.cc_quote.proofs.ZshWords.{help_composed}
 use Rattle.cc_zsh.specs.Conflicts.{conflicts_of, conflict_words, has_arguments}
 use Rattle.cc_zsh.specs.Options.{is_repeated, repeated_text, help_text, line_end, name_word, argument_line, argument_text, options_text, flags_text, value_sign}
 use Rattle.cc_zsh.specs.Values.{values_text}
@@ -35,8 +37,7 @@ bracket_escapes after_equals = escapes_same (codes "=") (refl, tt)
 
 help_escapes : (help : List ℕ) →
     Escapes (zsh_escaped_help help) (marked is_help_marked (line_feeds_as_spaces help))
-unfolding zsh_escaped_help
-help_escapes help = record { is = refl }
+help_escapes help = record { is = help_composed help }
 
 -- what stands between the quotes of an option's line
 abbrev inner : Bool → List (List ℕ) → Bool → List ℕ → Bracket → List ℕ → List ℕ → List ℕ

@@ -3,7 +3,8 @@ use Rattle.std.proofs.Common.{◌≡◌, ◌==◌, ℕ, Bool, true, false, cond,
 use Rattle.std.specs.List.{AllByRecursion, list_all}
 use Rattle.std.proofs.lemmas.Bool.Decides.{nat_tests}
 use Rattle.cc_base.specs.Joined.{joined, joined_after}
-use Rattle.cc_quote.specs.ZshQuote.{is_help_marked, is_value_marked, marked_byte, marked}
+use Rattle.cc_quote.specs.Escapes.{marked_byte, marked}
+use Rattle.cc_quote.specs.ZshQuote.{is_help_marked, is_value_marked}
 use Rattle.cc_zsh.specs.Reader.{Bracket, ZshOption, OptionPlace, new_option, with_help, with_name, is_name_byte, after_name, next_place, place_after, is_typed_name, with_typed_names, read_option, option_of}
 use Rattle.cc_zsh.specs.Reader.Bracket.{alone, after_plus, after_equals}
 use Rattle.cc_zsh.specs.Reader.OptionPlace.{before_option, in_conflicts, after_conflicts, after_star, in_name, at_bracket, in_help, in_help_escaped, after_help, no_option}

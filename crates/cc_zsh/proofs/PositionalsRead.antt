@@ -10,10 +10,14 @@ use Rattle.cc_arg.specs.Arguments.{is_positional}
 use Rattle.cc_command.specs.ArgumentLists.{positionals}
 use Rattle.cc_command.specs.Tree.{Tree, has_nodes}
 use Rattle.cc_command.proofs.PlainParts.{IsPlainArgument}
-use Rattle.cc_quote.specs.PosixQuote.{posix_escaped, posix_escaped_byte}
-use Rattle.cc_quote.specs.ZshQuote.{is_value_marked, marked, marked_byte, zsh_escaped_value}
+use Rattle.cc_quote.specs.PosixQuote.{posix_escaped}
+use Rattle.cc_quote.specs.Escapes.{escaped_byte, marked, marked_byte}
+use Rattle.cc_quote.specs.ZshQuote.{is_value_marked, zsh_escaped_value, zsh_replacement}
+use Rattle.cc_quote.proofs.ByteEscapes.{composed, same_bytes}
+use Rattle.cc_quote.proofs.PosixWords.{posix_escaped_byte}
+use Rattle.cc_quote.proofs.ZshWords.{value_composed}
 use Rattle.cc_zsh.specs.Options.{line_end}
-use Rattle.cc_zsh.specs.Positionals.{takes_rest, rest_text, count_text, is_bracket_or_colon, positional_byte, positional_escaped, positional_help, positional_text, is_left_out, shown_positionals, takes_all, positionals_text}
+use Rattle.cc_zsh.specs.Positionals.{takes_rest, rest_text, count_text, is_bracket_or_colon, is_positional_escaped, positional_escaped, positional_help, positional_text, is_left_out, shown_positionals, takes_all, positionals_text}
 use Rattle.cc_zsh.specs.Values.{value_text}
 use Rattle.cc_zsh.specs.Reader.{option_of}
 use Rattle.cc_zsh.proofs.Cutting.{Escapes, escapes_append, escapes_same, IsEscaped, escaped_append, escaped_same, escaped_of}
@@ -21,26 +25,24 @@ use Rattle.cc_zsh.proofs.OptionWords.{colon_none, star_none}
 use Rattle.cc_zsh.proofs.LinesRead.{Adds, adds_nothing, in_parts, line_adds}
 use Rattle.cc_zsh.proofs.EscapedValues.{no_quote, escaped_value_text}
 
-same_byte : (byte : ℕ) →
-    positional_byte byte ≡ posix_escaped (marked_byte is_bracket_or_colon byte)
+same_byte : (byte : ℕ) → escaped_byte is_positional_escaped zsh_replacement byte
+    ≡ posix_escaped (marked_byte is_bracket_or_colon byte)
 same_byte byte = grind (arith, nat_tests)
 
-same_bytes : (text : List ℕ) →
+positional_composed : (text : List ℕ) →
     positional_escaped text ≡ posix_escaped (marked is_bracket_or_colon text)
 unfolding positional_escaped
-same_bytes [] = refl
-same_bytes (byte ∷ text) =
-    ap (λ t. t ++ positional_escaped text) (same_byte byte)
-    ∙ ap (λ t. posix_escaped (marked_byte is_bracket_or_colon byte) ++ t) (same_bytes text)
-    ∙ sym (flat_map-append posix_escaped_byte (marked_byte is_bracket_or_colon byte)
-    (marked is_bracket_or_colon text))
+positional_composed text =
+    same_bytes (escaped_byte is_positional_escaped zsh_replacement)
+    (λ byte. posix_escaped (marked_byte is_bracket_or_colon byte)) same_byte text
+    ∙ composed (marked_byte is_bracket_or_colon) posix_escaped_byte text
 
 help_escaped : (help : Option (List ℕ)) → IsEscaped (positional_help help)
 help_escaped None = escaped_same [] tt
 help_escaped (Some help) =
     escaped_append (codes " -- ") (positional_escaped help)
     (escaped_same (codes " -- ") (refl, (refl, (refl, (refl, tt)))))
-    (escaped_of (positional_escaped help) (marked is_bracket_or_colon help) (same_bytes help))
+    (escaped_of (positional_escaped help) (marked is_bracket_or_colon help) (positional_composed help))
 
 -- what follows the count and its colon
 rest_escaped : (argument : Arg) → IsPlainArgument argument →
@@ -71,8 +73,7 @@ from_colon rest h = record {
 }
 
 value_escapes : (value : List ℕ) → Escapes (zsh_escaped_value value) (marked is_value_marked value)
-unfolding zsh_escaped_value
-value_escapes value = record { is = refl }
+value_escapes value = record { is = value_composed value }
 
 star_escapes : Escapes (codes "*") (codes "*")
 star_escapes = escapes_same (codes "*") (refl, tt)

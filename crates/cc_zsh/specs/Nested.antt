@@ -1,5 +1,5 @@
 -- The blocks of a script: what is offered at a node, and the arms of its children.
-use Rattle.std.specs.Prelude.{ℕ, suc, List, [], ◌∷◌, ◌++◌, ◌==◌, if◌then◌else◌, codes, length}
+use Rattle.std.specs.Prelude.{ℕ, suc, List, [], ◌∷◌, ◌++◌, if◌then◌else◌, codes, length}
 use Rattle.std.specs.List.{flat_map}
 use Rattle.std.specs.Fmt.{decimal}
 use Rattle.cc_command.specs.declared.node.Node.{Node}
@@ -7,16 +7,13 @@ use Rattle.cc_command.specs.ArgumentLists.{positionals}
 use Rattle.cc_command.specs.Names.{full_name, visible_names}
 use Rattle.cc_command.specs.Tree.{Forest, none, more, Tree, has_nodes}
 use Rattle.cc_base.specs.Bytes.{line_feed, space}
+use Rattle.cc_quote.specs.Escapes.{replaced}
 use Rattle.cc_zsh.specs.Options.{flags_text, options_text}
 use Rattle.cc_zsh.specs.Positionals.{positionals_text}
 
--- a text with another in place of each space
-abbrev pub unspaced : List ℕ → List ℕ → List ℕ
-unspaced by text = flat_map (λ byte. if byte == space then by else byte ∷ []) text
-
 -- the name of the function that describes a node's children, without the first `_`
 abbrev pub function_label : List ℕ → List ℕ
-function_label name = unspaced (codes "__subcmd__") name ++ codes "_commands"
+function_label name = replaced space (codes "__subcmd__") name ++ codes "_commands"
 
 -- ---- what is offered at a node
 
@@ -87,7 +84,7 @@ place_text node = decimal (suc (length (positionals node)))
 
 -- the full name with dashes
 abbrev pub context_text : Node → List ℕ
-context_text node = unspaced (codes "-") (full_name node)
+context_text node = replaced space (codes "-") (full_name node)
 
 -- what the arms begin with, where the word that names a child stands at this place: the words from
 -- it on, the context in which zsh looks up its styles, and the choice by it

@@ -4,8 +4,9 @@ use Rattle.std.specs.List.{flat_map}
 use Rattle.cc_arg.specs.declared.parts.ArgParts.{ArgParts as Arg}
 use Rattle.cc_command.specs.ArgumentLists.{positionals}
 use Rattle.cc_command.specs.Tree.{Tree, has_nodes}
-use Rattle.cc_base.specs.Bytes.{backslash, close_bracket, colon, open_bracket, single_quote}
-use Rattle.cc_quote.specs.ZshQuote.{zsh_escaped_value}
+use Rattle.cc_base.specs.Bytes.{close_bracket, colon, open_bracket, single_quote}
+use Rattle.cc_quote.specs.Escapes.{escaped_by}
+use Rattle.cc_quote.specs.ZshQuote.{zsh_escaped_value, zsh_replacement}
 use Rattle.cc_zsh.specs.Options.{line_end}
 use Rattle.cc_zsh.specs.Values.{range, value_text}
 
@@ -29,21 +30,15 @@ count_text has_children argument =
     if takes_rest has_children argument then rest_text argument.value_terminator
     else (if argument.required then [] else codes ":")
 
--- `[`, `]` and `:` after a backslash, and a quote as `'\''`
 abbrev pub is_bracket_or_colon : ℕ → Bool
 is_bracket_or_colon byte = byte == open_bracket || byte == close_bracket || byte == colon
 
-abbrev pub positional_byte : ℕ → List ℕ
-positional_byte byte =
-    if is_bracket_or_colon byte then backslash ∷ byte ∷ []
-    else (if byte == single_quote then codes "'\\''" else byte ∷ [])
-
--- whether something else stands for a byte
+-- `[`, `]` and `:` after a backslash, and a quote as `'\''`
 abbrev pub is_positional_escaped : ℕ → Bool
 is_positional_escaped byte = is_bracket_or_colon byte || byte == single_quote
 
 unfoldable pub positional_escaped : List ℕ → List ℕ
-positional_escaped text = flat_map positional_byte text
+positional_escaped text = escaped_by is_positional_escaped zsh_replacement text
 
 -- the help of a positional
 abbrev pub positional_help : Option (List ℕ) → List ℕ

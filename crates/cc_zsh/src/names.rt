@@ -1,14 +1,15 @@
 //! Names: those of arguments as they are typed, and those of commands without spaces.
 
 ghost use Rattle.std.specs.Prelude.{◌≡◌, codes, unwrap_or};
+ghost use Rattle.cc_base.specs.Bytes.{space};
 ghost use Rattle.cc_base.specs.Writes.{Writes, as_write};
-ghost use Rattle.cc_zsh.specs.Nested.{function_label, unspaced};
+ghost use Rattle.cc_quote.specs.Escapes.{replaced};
+ghost use Rattle.cc_zsh.specs.Nested.{function_label};
 ghost use Rattle.cc_zsh.specs.Options.{name_word};
 
 use cc_arg::ShownName;
 use cc_base::{Sink, put_piece, put_pieces};
-use cc_quote::{Escape, put_escaped_piece};
-use memchr::memchr;
+use cc_quote::{Replace, put_escaped_piece};
 use std::io::ErrorKind;
 
 /// Writes the name of an argument with the dashes before it.
@@ -30,30 +31,21 @@ pub(crate) fn write_label<W: Sink>(name: &str, sink: &mut W) -> Result<(), Error
     ensures { Writes W.taken W.failed (as_write result) sink.old sink.new
         (function_label name.now) }
 {
-    put_escaped_piece(&Unspaced { by: "__subcmd__" }, name, sink)?;
+    let escape = Replace {
+        byte: b' ',
+        by: "__subcmd__",
+    };
+    put_escaped_piece(&escape, name, sink)?;
     put_piece(sink, "_commands".as_bytes())
 }
 
 pub(crate) fn write_dashed<W: Sink>(name: &str, sink: &mut W) -> Result<(), ErrorKind>
     ensures { Writes W.taken W.failed (as_write result) sink.old sink.new
-        (unspaced (codes "-") name.now) }
+        (replaced space (codes "-") name.now) }
 {
-    put_escaped_piece(&Unspaced { by: "-" }, name, sink)
-}
-
-// A text with another in place of each space.
-struct Unspaced {
-    by: &'static str,
-}
-
-impl Escape for Unspaced {
-    ghost escaped = { λ unspaced_by text. unspaced unspaced_by.by.now text };
-
-    fn split<'a>(&self, text: &'a str) -> Option<(&'a str, &'static str, &'a str)> {
-        let bytes = text.as_bytes();
-        let Some(at) = memchr(b' ', bytes) else {
-            return None;
-        };
-        Some((&text[..at], self.by, &text[at + 1..]))
-    }
+    let escape = Replace {
+        byte: b' ',
+        by: "-",
+    };
+    put_escaped_piece(&escape, name, sink)
 }

@@ -3,11 +3,11 @@
 ghost use Rattle.std.specs.Prelude.{◌≡◌, ◌++◌, false, true, codes};
 ghost use Rattle.std.specs.List.{flat_map};
 ghost use Rattle.std.specs.Option.{option_copied};
-ghost use Rattle.memchr.specs.Find.{IsFirstByte};
 ghost use Rattle.cc_base.specs.Writes.{Writes, as_write};
 ghost use Rattle.cc_command.specs.ArgumentLists.{positionals};
+ghost use Rattle.cc_quote.specs.ZshQuote.{zsh_replacement};
 ghost use Rattle.cc_zsh.specs.Options.{line_end};
-ghost use Rattle.cc_zsh.specs.Positionals.{count_text, is_left_out, is_positional_escaped, positional_byte, positional_escaped, positional_help, positional_text, positionals_text, rest_text, shown_positionals, takes_all, takes_rest, takes_several};
+ghost use Rattle.cc_zsh.specs.Positionals.{count_text, is_left_out, is_positional_escaped, positional_escaped, positional_help, positional_text, positionals_text, rest_text, shown_positionals, takes_all, takes_rest, takes_several};
 ghost use Rattle.cc_zsh.specs.Values.{value_text};
 
 use crate::texts::line_end;
@@ -15,7 +15,7 @@ use crate::values::{range, write_value};
 use cc_arg::Arg;
 use cc_base::{Sink, put_piece, put_pieces};
 use cc_command::Command;
-use cc_quote::{Escape, ZshValueEscape, put_escaped_piece};
+use cc_quote::{ByteEscape, ZshValueEscape, put_escaped_piece};
 use std::io::ErrorKind;
 
 #[tactic(auto, unfolding(crate::specs::Positionals::positionals_text))]
@@ -95,6 +95,7 @@ fn write_count<W: Sink>(has_children: bool, argument: &Arg, sink: &mut W) -> Res
     put_piece(sink, ":".as_bytes())
 }
 
+#[tactic(auto, unfolding(cc_quote::specs::ZshQuote::zsh_escaped_value))]
 fn write_rest<W: Sink>(terminator: Option<&str>, sink: &mut W) -> Result<(), ErrorKind>
     ensures { Writes W.taken W.failed (as_write result) sink.old sink.new
         (rest_text (option_copied terminator.entry)) }
@@ -107,6 +108,7 @@ fn write_rest<W: Sink>(terminator: Option<&str>, sink: &mut W) -> Result<(), Err
     put_piece(sink, ":".as_bytes())
 }
 
+#[tactic(auto, unfolding(crate::specs::Positionals::positional_escaped))]
 fn write_help<W: Sink>(help: Option<&str>, sink: &mut W) -> Result<(), ErrorKind>
     ensures { Writes W.taken W.failed (as_write result) sink.old sink.new
         (positional_help (option_copied help.entry)) }
@@ -121,40 +123,18 @@ fn write_help<W: Sink>(help: Option<&str>, sink: &mut W) -> Result<(), ErrorKind
 // The escape of a positional's help: `[`, `]` and `:` after a backslash, and `'` as `'\''`.
 struct PositionalEscape;
 
-impl Escape for PositionalEscape {
-    ghost escaped = { λ _ text. positional_escaped text };
+impl ByteEscape for PositionalEscape {
+    ghost escapes = { λ _. is_positional_escaped };
 
-    fn split<'a>(&self, text: &'a str) -> Option<(&'a str, &'static str, &'a str)> {
-        let bytes = text.as_bytes();
-        let Some(at) = find_escaped(bytes) else {
-            return None;
-        };
-        let replacement = replacement(bytes[at]);
-        Some((&text[..at], replacement, &text[at + 1..]))
-    }
-}
+    ghost replacement = { λ _. zsh_replacement };
 
-// The place of the first byte that is escaped.
-fn find_escaped(bytes: &[u8]) -> Option<usize>
-    ensures { IsFirstByte is_positional_escaped bytes.now result }
-{
-    for at in 0..bytes.len() {
-        if matches!(bytes[at], b'[' | b']' | b':' | b'\'') {
-            return Some(at);
+    fn replacement(&self, byte: u8) -> Option<&'static str> {
+        match byte {
+            b'[' => Some("\\["),
+            b']' => Some("\\]"),
+            b':' => Some("\\:"),
+            b'\'' => Some("'\\''"),
+            _ => None,
         }
-    }
-    None
-}
-
-// What stands for a byte that is escaped.
-fn replacement(escaped: u8) -> &'static str
-    requires { is_positional_escaped escaped ≡ true }
-    ensures { result.now ≡ positional_byte escaped }
-{
-    match escaped {
-        b'[' => "\\[",
-        b']' => "\\]",
-        b':' => "\\:",
-        _ => "'\\''",
     }
 }
