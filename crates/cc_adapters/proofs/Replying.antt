@@ -2,7 +2,8 @@
 use Rattle.std.proofs.Common.{◌≡◌, ◌∙◌, ℕ, Bool, true, List, length}
 use Rattle.std.proofs.Common.{Result, Ok, Err, IfErr, IsErrAnd}
 use Rattle.std.proofs.Common.{ap, inl, refl, subst, sym}
-use Rattle.cc_adapters.specs.Replies.{IsAsked, Replies}
+use Rattle.cc_adapters.specs.Asks.{AsksFor}
+use Rattle.cc_adapters.specs.Replies.{FailsToReply, IsAsked, Replies}
 use Rattle.cc_base.specs.Writes.{IsWrite, Writes}
 use Rattle.cc_base.specs.declared.error.Error.{Error}
 use Rattle.cc_base.specs.declared.error.Error.TheVariants.{InvalidVariant, LabelClash, Memory}
@@ -113,13 +114,73 @@ module _ {S : Type 0} (taken : S → List ℕ) (failed : S → Failures) (before
   written (Err error) old new words count index found asks e built range offers w h =
       unwritten old new words count index found error asks e built range w h
 
-  -- the same of a text that is their reply
+  -- the same of candidates that are shown for them
   pub replied : (result : Result (Unit {0}) Error) (old new : S) (words : List (List ℕ))
-      (count index : ℕ) (found : List CompletionCandidate) (text : List ℕ) → Asks words index
+      (count index : ℕ) (found shown : List CompletionCandidate) → Asks words index
       → length words ≡ count → after ≡ built_tree before
       → is_in_range after.node count index ≡ true → Offers words index found
-      → text ≡ reply found → Writes taken failed result old new text → IfErr result IsWrite
+      → shown ≡ found → Writes taken failed result old new (reply shown) → IfErr result IsWrite
       → Replies taken failed result old new before after Asks Offers reply
-  replied result old new words count index found text asks e built range offers same w h =
+  replied result old new words count index found shown asks e built range offers same w h =
       written result old new words count index found asks e built range offers
-      (subst (λ t. Writes taken failed result old new t) same w) h
+      (subst (λ l. Writes taken failed result old new (reply l)) same w) h
+
+  -- ---- where what is asked for is told
+
+  told_words : (words : List (List ℕ)) (told : ℕ) → Asks words told
+      → (Holds : List (List ℕ) → ℕ → Type 0) → IsAsked (AsksFor words told) Holds
+      → IsAsked Asks Holds
+  told_words words told asks Holds a = record {
+    words = a.words;
+    index = a.index;
+    asks = subst (λ w. Asks w a.index) (sym a.asks.1) (subst (Asks words) (sym a.asks.0) asks);
+    holds = a.holds;
+  }
+
+  told_error : (words : List (List ℕ)) (told : ℕ) → Asks words told → (old new : S)
+      (error : Error) → FailsToReply old new before after (AsksFor words told) error
+      → FailsToReply old new before after Asks error
+  told_error words told asks old new Memory h = h
+  told_error words told asks old new NoCompletion h =
+      (h.0, h.1, told_words words told asks _ h.2)
+  told_error words told asks old new (Write _) h = (h.0, told_words words told asks _ h.1)
+  told_error words told asks old new (LabelClash _) h = absurd h
+  told_error words told asks old new NoArguments h = absurd h
+  told_error words told asks old new (UnknownShell _) h = absurd h
+  told_error words told asks old new (InvalidVariant _) h = absurd h
+
+  -- a reply for words and an index is one for whatever asks for them
+  pub replied_as_told : (result : Result (Unit {0}) Error) (old new : S) (words : List (List ℕ))
+      (told : ℕ) → Asks words told
+      → Replies taken failed result old new before after (AsksFor words told) Offers reply
+      → Replies taken failed result old new before after Asks Offers reply
+  replied_as_told (Ok done) old new words told asks r = record {
+    ok = (r.ok.0, told_words words told asks _ r.ok.1, r.ok.2);
+    built = r.built;
+    in_range = told_words words told asks _ r.in_range;
+    failures = r.failures;
+    errors = tt;
+  }
+  replied_as_told (Err error) old new words told asks r = record {
+    ok = tt;
+    built = tt;
+    in_range = tt;
+    failures = r.failures;
+    errors = told_error words told asks old new error r.errors;
+  }
+
+-- the same of a reply with a separator, which is told by another name
+pub replied_between : {S : Type 0} (taken : S → List ℕ) (failed : S → Failures)
+    (before after : Tree) (Asks : List (List ℕ) → ℕ → Type 0)
+    (Offers : List (List ℕ) → ℕ → List CompletionCandidate → Type 0)
+    (result : Result (Unit {0}) Error) (old new : S) (words : List (List ℕ)) (told : ℕ)
+    (reply : List ℕ → List CompletionCandidate → List ℕ) (between separator : List ℕ)
+    → between ≡ separator → Asks words told
+    → Replies taken failed result old new before after (AsksFor words told) Offers (reply between)
+    → Replies taken failed result old new before after Asks Offers (reply separator)
+replied_between taken failed before after Asks Offers result old new words told reply between
+    separator same asks r =
+    replied_as_told taken failed before after Asks Offers (reply separator) result old new words
+    told asks
+    (subst (λ b. Replies taken failed result old new before after (AsksFor words told) Offers
+    (reply b)) same r)

@@ -4,6 +4,10 @@ use Rattle.std.specs.Prelude.{◌≡◌, ◌==◌, ◌-◌, ◌++◌, ℕ, List,
 use Rattle.cc_env.specs.Environment.{IsIndex, index_name, value_of}
 use Rattle.cc_env.specs.declared.environment.EnvValues.{EnvValues}
 
+-- these words, at this index
+abbrev pub AsksFor : List (List ℕ) → ℕ → List (List ℕ) → ℕ → Type 0
+AsksFor words told asked index = (index ≡ told) × (asked ≡ words)
+
 -- the words as they are, at the index that the environment tells
 abbrev pub AsksAtIndex : EnvValues → List (List ℕ) → List (List ℕ) → ℕ → Type 0
 AsksAtIndex env words asked index = IsIndex (value_of index_name env) index × (asked ≡ words)

@@ -21,63 +21,89 @@ use Rattle.cc_registrations.specs.ZshRegistration.{ZshReads, zsh_registration}
 abbrev pub all_builtins : List Builtin
 all_builtins = Bash ∷ Elvish ∷ Fish ∷ Powershell ∷ Zsh ∷ []
 
--- their names
+-- what is said of an adapter
+pub record BuiltinSpec : Type 1 where
+  -- its name
+  pub name : List ℕ
+  -- whether it has a name
+  pub named : List ℕ → Bool
+  -- the registration of a variable, a name, a binary and a completer
+  pub registration : List ℕ → List ℕ → List ℕ → List ℕ → List ℕ
+  -- what it is read as
+  pub Reads : List ℕ → List ℕ → List ℕ → List ℕ → Type 0
+  -- the words that are asked for, and the index of the one to complete
+  pub Asks : EnvValues → List (List ℕ) → List (List ℕ) → ℕ → Type 0
+  -- the reply of some candidates
+  pub reply : EnvValues → List CompletionCandidate → List ℕ
+  -- what it is read as
+  pub ReplyReads : EnvValues → List CompletionCandidate → Type 0
+
+abbrev pub builtin_spec : Builtin → BuiltinSpec
+builtin_spec Bash = record {
+  name = codes "bash";
+  named = λ name. bytes_eq name (codes "bash");
+  registration = λ variable name bin completer. bash_registration variable name bin completer;
+  Reads = λ variable name bin completer. BashReads variable name bin completer;
+  Asks = λ env words asked index. AsksAtIndex env words asked index;
+  reply = λ env found. values_reply (separator_of env) found;
+  ReplyReads = λ env found. ValuesRead (separator_of env) found;
+}
+builtin_spec Elvish = record {
+  name = codes "elvish";
+  named = λ name. bytes_eq name (codes "elvish");
+  registration = λ variable name bin completer. elvish_registration variable bin completer;
+  Reads = λ variable name bin completer. ElvishReads variable bin completer;
+  Asks = λ env words asked index. AsksAtIndex env words asked index;
+  reply = λ env found. values_reply (separator_of env) found;
+  ReplyReads = λ env found. ValuesRead (separator_of env) found;
+}
+builtin_spec Fish = record {
+  name = codes "fish";
+  named = λ name. bytes_eq name (codes "fish");
+  registration = λ variable name bin completer. fish_registration variable bin completer;
+  Reads = λ variable name bin completer. FishReads variable bin completer;
+  Asks = λ env words asked index. AsksAtLast words asked index;
+  reply = λ env found. lines_reply found;
+  ReplyReads = λ env found. LinesRead found;
+}
+builtin_spec Powershell = record {
+  name = codes "powershell";
+  named = λ name. is_powershell name;
+  registration = λ variable name bin completer. powershell_registration variable bin completer;
+  Reads = λ variable name bin completer. PowershellReads variable bin completer;
+  Asks = λ env words asked index. AsksAtLast words asked index;
+  reply = λ env found. lines_reply found;
+  ReplyReads = λ env found. LinesRead found;
+}
+builtin_spec Zsh = record {
+  name = codes "zsh";
+  named = λ name. bytes_eq name (codes "zsh");
+  registration = λ variable name bin completer. zsh_registration variable name bin completer;
+  Reads = λ variable name bin completer. ZshReads variable name bin completer;
+  Asks = λ env words asked index. AsksAtNext env words asked index;
+  reply = λ env found. zsh_reply (separator_of env) found;
+  ReplyReads = λ env found. ZshReplyRead (separator_of env) found;
+}
+
+-- ---- the same, member by member
+
 abbrev pub builtin_name : Builtin → List ℕ
-builtin_name Bash = codes "bash"
-builtin_name Elvish = codes "elvish"
-builtin_name Fish = codes "fish"
-builtin_name Powershell = codes "powershell"
-builtin_name Zsh = codes "zsh"
+builtin_name shell = (builtin_spec shell).name
 
--- whether they have a name
 abbrev pub builtin_named : Builtin → List ℕ → Bool
-builtin_named Bash name = bytes_eq name (codes "bash")
-builtin_named Elvish name = bytes_eq name (codes "elvish")
-builtin_named Fish name = bytes_eq name (codes "fish")
-builtin_named Powershell name = is_powershell name
-builtin_named Zsh name = bytes_eq name (codes "zsh")
+builtin_named shell = (builtin_spec shell).named
 
--- the registration of a variable, a name, a binary and a completer
 abbrev pub builtin_registration : Builtin → List ℕ → List ℕ → List ℕ → List ℕ → List ℕ
-builtin_registration Bash variable name bin completer =
-    bash_registration variable name bin completer
-builtin_registration Elvish variable name bin completer =
-    elvish_registration variable bin completer
-builtin_registration Fish variable name bin completer =
-    fish_registration variable bin completer
-builtin_registration Powershell variable name bin completer =
-    powershell_registration variable bin completer
-builtin_registration Zsh variable name bin completer =
-    zsh_registration variable name bin completer
+builtin_registration shell = (builtin_spec shell).registration
 
--- what it is read as
 abbrev pub BuiltinReads : Builtin → List ℕ → List ℕ → List ℕ → List ℕ → Type 0
-BuiltinReads Bash variable name bin completer = BashReads variable name bin completer
-BuiltinReads Elvish variable name bin completer = ElvishReads variable bin completer
-BuiltinReads Fish variable name bin completer = FishReads variable bin completer
-BuiltinReads Powershell variable name bin completer = PowershellReads variable bin completer
-BuiltinReads Zsh variable name bin completer = ZshReads variable name bin completer
+BuiltinReads shell = (builtin_spec shell).Reads
 
--- the words that are asked for, and the index of the one to complete
 abbrev pub BuiltinAsks : Builtin → EnvValues → List (List ℕ) → List (List ℕ) → ℕ → Type 0
-BuiltinAsks Bash env words asked index = AsksAtIndex env words asked index
-BuiltinAsks Elvish env words asked index = AsksAtIndex env words asked index
-BuiltinAsks Fish env words asked index = AsksAtLast words asked index
-BuiltinAsks Powershell env words asked index = AsksAtLast words asked index
-BuiltinAsks Zsh env words asked index = AsksAtNext env words asked index
+BuiltinAsks shell = (builtin_spec shell).Asks
 
--- the reply of some candidates
 abbrev pub builtin_reply : Builtin → EnvValues → List CompletionCandidate → List ℕ
-builtin_reply Bash env found = values_reply (separator_of env) found
-builtin_reply Elvish env found = values_reply (separator_of env) found
-builtin_reply Fish env found = lines_reply found
-builtin_reply Powershell env found = lines_reply found
-builtin_reply Zsh env found = zsh_reply (separator_of env) found
+builtin_reply shell = (builtin_spec shell).reply
 
--- what it is read as
 abbrev pub BuiltinReplyReads : Builtin → EnvValues → List CompletionCandidate → Type 0
-BuiltinReplyReads Bash env found = ValuesRead (separator_of env) found
-BuiltinReplyReads Elvish env found = ValuesRead (separator_of env) found
-BuiltinReplyReads Fish env found = LinesRead found
-BuiltinReplyReads Powershell env found = LinesRead found
-BuiltinReplyReads Zsh env found = ZshReplyRead (separator_of env) found
+BuiltinReplyReads shell = (builtin_spec shell).ReplyReads

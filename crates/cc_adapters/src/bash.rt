@@ -8,11 +8,11 @@ ghost use Rattle.cc_env.specs.Reply.{ValuesRead, values_reply};
 ghost use Rattle.cc_registrations.specs.BashRegistration.{BashReads, bash_registration};
 
 use crate::env_completer::EnvCompleter;
+use crate::forms::{Values, reply_at};
 use cc_base::{Error, Sink};
 use cc_candidates::Completers;
 use cc_command::Command;
-use cc_engine::complete;
-use cc_env::{EnvValues, write_values};
+use cc_env::EnvValues;
 use cc_paths::Folder;
 use cc_registrations::write_bash;
 use std::alloc::Global;
@@ -72,7 +72,7 @@ impl EnvCompleter for Bash {
         sink: &mut W,
     ) -> Result<(), Error> {
         let index = env.index();
-        let found = complete(
+        reply_at(
             alloc,
             command,
             words,
@@ -80,7 +80,8 @@ impl EnvCompleter for Bash {
             current_dir,
             folder,
             completers,
-        )?;
-        write_values(env.separator(), found.as_slice(), sink)
+            &Values(env.separator()),
+            sink,
+        )
     }
 }

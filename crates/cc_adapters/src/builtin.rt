@@ -32,6 +32,36 @@ pub enum Builtin {
     Zsh,
 }
 
+// The shells in their order: each variant is named as its adapter. `$part!` makes of them what is
+// asked for.
+macro_rules! each_builtin {
+    ($part:ident! $($asked:tt)*) => {
+        $part! {
+            [$($asked)*]
+            Bash Elvish Fish Powershell Zsh
+        }
+    };
+}
+
+// All of them.
+macro_rules! all {
+    ([] $($variant:ident)*) => {
+        &[$(Builtin::$variant),*]
+    };
+}
+
+// A call of the adapter of a shell.
+macro_rules! adapter {
+    ([$shell:tt, $call:ident $arguments:tt] $($variant:ident)*) => {
+        match $shell {
+            $(Builtin::$variant => $variant.$call $arguments,)*
+        }
+    };
+}
+
+/// All of them, in the order of the type.
+pub(crate) const BUILTINS: &[Builtin] = each_builtin!(all!);
+
 impl EnvCompleter for Builtin {
     ghost own_name = { builtin_name };
 
@@ -48,23 +78,11 @@ impl EnvCompleter for Builtin {
     ghost ReplyReads = { BuiltinReplyReads };
 
     fn name(&self) -> &'static str {
-        match self {
-            Builtin::Bash => Bash.name(),
-            Builtin::Elvish => Elvish.name(),
-            Builtin::Fish => Fish.name(),
-            Builtin::Powershell => Powershell.name(),
-            Builtin::Zsh => Zsh.name(),
-        }
+        each_builtin!(adapter! self, name())
     }
 
     fn is(&self, name: &str) -> bool {
-        match self {
-            Builtin::Bash => Bash.is(name),
-            Builtin::Elvish => Elvish.is(name),
-            Builtin::Fish => Fish.is(name),
-            Builtin::Powershell => Powershell.is(name),
-            Builtin::Zsh => Zsh.is(name),
-        }
+        each_builtin!(adapter! self, is(name))
     }
 
     fn write_registration<W: Sink>(
@@ -76,17 +94,7 @@ impl EnvCompleter for Builtin {
         completer: &str,
         sink: &mut W,
     ) -> Result<(), Error> {
-        match self {
-            Builtin::Bash => Bash.write_registration(alloc, variable, name, bin, completer, sink),
-            Builtin::Elvish => {
-                Elvish.write_registration(alloc, variable, name, bin, completer, sink)
-            }
-            Builtin::Fish => Fish.write_registration(alloc, variable, name, bin, completer, sink),
-            Builtin::Powershell => {
-                Powershell.write_registration(alloc, variable, name, bin, completer, sink)
-            }
-            Builtin::Zsh => Zsh.write_registration(alloc, variable, name, bin, completer, sink),
-        }
+        each_builtin!(adapter! self, write_registration(alloc, variable, name, bin, completer, sink))
     }
 
     fn write_complete<D: Folder, W: Sink>(
@@ -100,57 +108,15 @@ impl EnvCompleter for Builtin {
         completers: &Completers,
         sink: &mut W,
     ) -> Result<(), Error> {
-        match self {
-            Builtin::Bash => Bash.write_complete(
-                alloc,
-                command,
-                words,
-                current_dir,
-                env,
-                folder,
-                completers,
-                sink,
-            ),
-            Builtin::Elvish => Elvish.write_complete(
-                alloc,
-                command,
-                words,
-                current_dir,
-                env,
-                folder,
-                completers,
-                sink,
-            ),
-            Builtin::Fish => Fish.write_complete(
-                alloc,
-                command,
-                words,
-                current_dir,
-                env,
-                folder,
-                completers,
-                sink,
-            ),
-            Builtin::Powershell => Powershell.write_complete(
-                alloc,
-                command,
-                words,
-                current_dir,
-                env,
-                folder,
-                completers,
-                sink,
-            ),
-            Builtin::Zsh => Zsh.write_complete(
-                alloc,
-                command,
-                words,
-                current_dir,
-                env,
-                folder,
-                completers,
-                sink,
-            ),
-        }
+        each_builtin!(adapter! self, write_complete(
+            alloc,
+            command,
+            words,
+            current_dir,
+            env,
+            folder,
+            completers,
+            sink
+        ))
     }
 }

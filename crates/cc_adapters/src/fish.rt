@@ -7,12 +7,12 @@ ghost use Rattle.cc_env.specs.Reply.{LinesRead, lines_reply};
 ghost use Rattle.cc_registrations.specs.FishRegistration.{FishReads, fish_registration};
 
 use crate::env_completer::EnvCompleter;
+use crate::forms::{Lines, reply_at};
 use crate::words::last_index;
 use cc_base::{Error, Sink};
 use cc_candidates::Completers;
 use cc_command::Command;
-use cc_engine::complete;
-use cc_env::{EnvValues, write_lines};
+use cc_env::EnvValues;
 use cc_paths::Folder;
 use cc_registrations::write_fish;
 use std::alloc::Global;
@@ -71,7 +71,7 @@ impl EnvCompleter for Fish {
         sink: &mut W,
     ) -> Result<(), Error> {
         let index = last_index(words.as_slice());
-        let found = complete(
+        reply_at(
             alloc,
             command,
             words,
@@ -79,8 +79,8 @@ impl EnvCompleter for Fish {
             current_dir,
             folder,
             completers,
-        )?;
-        let shown = found.as_slice();
-        write_lines(shown, sink)
+            &Lines,
+            sink,
+        )
     }
 }

@@ -6,6 +6,7 @@ mod builtin;
 mod elvish;
 mod env_completer;
 mod fish;
+mod forms;
 mod powershell;
 mod shells;
 mod words;

@@ -8,12 +8,12 @@ ghost use Rattle.cc_registrations.specs.PowershellRegistration.{PowershellReads}
 ghost use Rattle.cc_registrations.specs.PowershellRegistration.{powershell_registration};
 
 use crate::env_completer::EnvCompleter;
+use crate::forms::{Lines, reply_at};
 use crate::words::last_index;
 use cc_base::{Error, Sink};
 use cc_candidates::Completers;
 use cc_command::Command;
-use cc_engine::complete;
-use cc_env::{EnvValues, write_lines};
+use cc_env::EnvValues;
 use cc_paths::Folder;
 use cc_registrations::write_powershell;
 use std::alloc::Global;
@@ -72,7 +72,7 @@ impl EnvCompleter for Powershell {
         sink: &mut W,
     ) -> Result<(), Error> {
         let index = last_index(words.as_slice());
-        let found = complete(
+        reply_at(
             alloc,
             command,
             words,
@@ -80,8 +80,8 @@ impl EnvCompleter for Powershell {
             current_dir,
             folder,
             completers,
-        )?;
-        let shown = found.as_slice();
-        write_lines(shown, sink)
+            &Lines,
+            sink,
+        )
     }
 }

@@ -6,21 +6,13 @@ ghost use Rattle.std.specs.Slice.Iter.{iter_rest};
 ghost use Rattle.cc_adapters.specs.Builtins.{all_builtins};
 ghost use Rattle.cc_adapters.specs.Shells.{names_left};
 
-use crate::builtin::Builtin;
+use crate::builtin::{BUILTINS, Builtin};
 use crate::env_completer::EnvCompleter;
 use std::slice;
 
 /// The shells that a caller offers, by their adapters.
 #[derive(Drop)]
 pub struct Shells<'s, E>(pub &'s [E]);
-
-const BUILTINS: &[Builtin] = &[
-    Builtin::Bash,
-    Builtin::Elvish,
-    Builtin::Fish,
-    Builtin::Powershell,
-    Builtin::Zsh,
-];
 
 impl Shells<'static, Builtin> {
     /// The shells of this library, in the order of their type.

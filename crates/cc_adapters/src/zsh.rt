@@ -8,11 +8,11 @@ ghost use Rattle.cc_env.specs.Reply.{ZshReplyRead, zsh_reply};
 ghost use Rattle.cc_registrations.specs.ZshRegistration.{ZshReads, zsh_registration};
 
 use crate::env_completer::EnvCompleter;
+use crate::forms::{ZshItems, reply_at};
 use cc_base::{Error, Sink};
 use cc_candidates::Completers;
 use cc_command::Command;
-use cc_engine::complete;
-use cc_env::{EnvValues, write_zsh_items};
+use cc_env::EnvValues;
 use cc_paths::Folder;
 use cc_registrations::write_zsh;
 use std::alloc::{AllocError, Global};
@@ -73,7 +73,7 @@ impl EnvCompleter for Zsh {
     ) -> Result<(), Error> {
         let index = env.index();
         let words = with_next(alloc, words, index)?;
-        let found = complete(
+        reply_at(
             alloc,
             command,
             words,
@@ -81,8 +81,9 @@ impl EnvCompleter for Zsh {
             current_dir,
             folder,
             completers,
-        )?;
-        write_zsh_items(env.separator(), found.as_slice(), sink)
+            &ZshItems(env.separator()),
+            sink,
+        )
     }
 }
 
