@@ -46,8 +46,8 @@ FailsToReply old new before after Asks (Write _) =
     (after ≡ built_tree before) × AsksInRange after Asks
 FailsToReply old new before after Asks _ = ⊥
 
--- the reply is taken where the call returns `Ok`; then the tree is built and the index that is asked
--- for is in range; a failure is counted exactly where the call returns `Write`
+-- the reply is taken where the call returns `Ok`; then the tree is built and the index that is
+-- asked for is in range; a failure is counted exactly where the call returns `Write`
 pub record Replies {S : Type 0} (taken : S → List ℕ) (failed : S → Failures)
     (result : Result (Unit {0}) Error) (old new : S) (before after : Tree)
     (Asks : List (List ℕ) → ℕ → Type 0)

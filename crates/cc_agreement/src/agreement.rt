@@ -20,7 +20,7 @@ use cc_candidates::{
 };
 use cc_command::Command;
 use cc_engine::complete;
-use cc_lists::generate;
+use cc_generator::generate;
 use cc_paths::Folder;
 use std::alloc::Global;
 

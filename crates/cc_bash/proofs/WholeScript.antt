@@ -7,7 +7,7 @@ use Rattle.cc_base.specs.Sorting.{in_order}
 use Rattle.cc_base.specs.Writes.{Writes, IsMemoryOrWrite}
 use Rattle.cc_command.specs.Names.{full_name}
 use Rattle.cc_command.specs.Tree.{Tree}
-use Rattle.cc_lists.specs.Generators.{Generates, ReportsClash}
+use Rattle.cc_generator.specs.Generators.{Generates, ReportsClash}
 use Rattle.cc_bash.specs.Arms.{arm_below, arm_of, node_arm, tree_arms}
 use Rattle.cc_bash.specs.CaseTable.{case_below, node_cases, tree_cases}
 use Rattle.cc_bash.specs.Labels.{Labelled, first_again, labelled, labelled_under, root_label, shared_label}

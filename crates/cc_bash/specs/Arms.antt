@@ -13,7 +13,7 @@ use Rattle.cc_command.specs.declared.node.Node.{Node}
 use Rattle.cc_command.specs.Tree.{Forest, none, more, Tree}
 use Rattle.cc_command.specs.ArgumentLists.{options, positionals}
 use Rattle.cc_command.specs.Names.{visible_names}
-use Rattle.cc_lists.specs.ArgumentNames.{aliases_then}
+use Rattle.cc_generator.specs.ArgumentNames.{aliases_then}
 use Rattle.cc_bash.specs.Labels.{Labelled, labelled, root_label}
 
 -- what is offered after an option: these values, files, the word as it is typed, or nothing

@@ -23,7 +23,7 @@ use crate::texts::{
 use cc_base::{Error, Sink, as_error, put_all, put_pieces};
 use cc_command::{Command, full_name};
 use cc_flat::Flat;
-use cc_lists::Generator;
+use cc_generator::Generator;
 use cc_quote::{Replace, escape_text};
 use std::alloc::Global;
 

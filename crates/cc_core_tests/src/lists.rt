@@ -4,7 +4,7 @@ use crate::checks::is;
 use crate::fixtures::{MY_APP, NESTED, built_tree};
 use cc_base::Error;
 use cc_command::Command;
-use cc_lists::utils;
+use cc_generator::utils;
 use std::alloc::Global;
 use std::fmt::Write;
 

@@ -4,7 +4,7 @@ use crate::checks::{is, same};
 use crate::fixtures::{APP, EXCLUDING, GLOBAL, MY_APP, NESTED, built, built_tree, tree};
 use cc_base::Error;
 use cc_command::Command;
-use cc_lists::utils::find_subcommand_with_path;
+use cc_generator::utils::find_subcommand_with_path;
 use std::alloc::Global;
 use std::fmt::Write;
 use std::process::Abort;

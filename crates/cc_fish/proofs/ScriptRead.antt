@@ -10,7 +10,7 @@ use Rattle.cc_command.specs.Names.{full_name, visible_names}
 use Rattle.cc_command.specs.Plain.{is_plain_tree}
 use Rattle.cc_command.specs.Tree.{Forest, none, more, Tree}
 use Rattle.cc_command.proofs.PlainParts.{plain_node, plain_tree, plain_full_name}
-use Rattle.cc_lists.specs.Generators.{Generates}
+use Rattle.cc_generator.specs.Generators.{Generates}
 use Rattle.cc_quote.specs.FishTokens.{fish_commands}
 use Rattle.cc_visits.specs.Visits.{Keyed, path_visits, path_steps, longer_path, rekeyed, where_entered}
 use Rattle.cc_visits.proofs.Entered.{entered_visits}

@@ -15,7 +15,7 @@ use crate::lines::write_visit;
 use cc_base::{Error, Sink, as_error};
 use cc_command::{Command, full_name};
 use cc_flat::Flat;
-use cc_lists::Generator;
+use cc_generator::Generator;
 use cc_visits::{PathStep, PathSteps};
 use std::alloc::Global;
 

@@ -75,7 +75,8 @@ fn write_tail<W: Sink>(name: &str, bin: &str, sink: &mut W) -> Result<(), Error>
 // What stands from there up to the third place of the name.
 #[tactic(auto, unfolding(crate::specs::BashRegistration::sorted_call))]
 fn write_sorted_call<W: Sink>(name: &str, bin: &str, sink: &mut W) -> Result<(), Error>
-    ensures written { Writes W.taken W.failed result sink.old sink.new (sorted_call name.now bin.now) }
+    ensures written { Writes W.taken W.failed result sink.old sink.new
+        (sorted_call name.now bin.now) }
     ensures write_only { IfErr result IsWrite }
 {
     put_all(sink, call_ends().as_bytes())?;
@@ -88,7 +89,8 @@ fn write_sorted_call<W: Sink>(name: &str, bin: &str, sink: &mut W) -> Result<(),
 // What stands from that name on.
 #[tactic(auto, unfolding(crate::specs::BashRegistration::plain_call))]
 fn write_plain_call<W: Sink>(name: &str, bin: &str, sink: &mut W) -> Result<(), Error>
-    ensures written { Writes W.taken W.failed result sink.old sink.new (plain_call name.now bin.now) }
+    ensures written { Writes W.taken W.failed result sink.old sink.new
+        (plain_call name.now bin.now) }
     ensures write_only { IfErr result IsWrite }
 {
     put_underscored(name, sink)?;

@@ -5,7 +5,7 @@ use crate::fixtures::{self, chain, hinted, tree};
 use crate::written::{script, script_for, script_of, twice};
 use cc_base::{Collected, Error};
 use cc_bash::Bash;
-use cc_lists::{Generator, generate};
+use cc_generator::{Generator, generate};
 use std::alloc::{AllocError, Global};
 use std::fmt::Write;
 use std::process::Abort;

@@ -4,7 +4,7 @@
 use crate::written::script;
 use cc_base::Error;
 use cc_fish::Fish;
-use cc_lists::Generator;
+use cc_generator::Generator;
 use cc_quote::{elvish_word, fish_double, fish_word, posix_word, powershell_word, zsh_unescape};
 use cc_tables::{Elvish, Nushell, PowerShell};
 use cc_zsh::Zsh;

@@ -4,7 +4,7 @@ use crate::checks::{ends, has, is, is_twice, same};
 use crate::fixtures::{self, chain, hinted};
 use crate::written::{script, script_for, script_of, twice};
 use cc_fish::Fish;
-use cc_lists::Generator;
+use cc_generator::Generator;
 use std::process::Abort;
 
 const COLORED: &str =

@@ -2,7 +2,7 @@
 
 use cc_base::{Collected, Error};
 use cc_command::Command;
-use cc_lists::Generator;
+use cc_generator::Generator;
 use cc_tables::Elvish;
 use std::process::Abort;
 

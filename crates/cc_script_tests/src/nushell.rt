@@ -3,7 +3,7 @@
 use crate::checks::{has, is};
 use crate::fixtures;
 use crate::written::script;
-use cc_lists::Generator;
+use cc_generator::Generator;
 use cc_tables::Nushell;
 
 const SCRIPT: &str = "module completions {

@@ -3,7 +3,7 @@
 use crate::fixtures::tree;
 use cc_base::Collected;
 use cc_command::Command;
-use cc_lists::{Generator, generate};
+use cc_generator::{Generator, generate};
 use std::alloc::AllocError;
 use std::process::Abort;
 

@@ -3,7 +3,7 @@
 use crate::checks::{has, is};
 use crate::fixtures;
 use crate::written::{script, script_for};
-use cc_lists::Generator;
+use cc_generator::Generator;
 use cc_zsh::Zsh;
 
 const HELPED: &str = "#compdef my-app

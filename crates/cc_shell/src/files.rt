@@ -11,7 +11,7 @@ ghost use Rattle.cc_shell.specs.Files.{EndsFile, LeavesTree};
 
 use cc_base::{Counted, Error};
 use cc_command::Command;
-use cc_lists::{Generator, generate};
+use cc_generator::{Generator, generate};
 use std::alloc::{AllocError, Global};
 use std::fs;
 use std::io::{self, BufWriter, Write};

@@ -13,7 +13,7 @@ use cc_base::{Error, Sink, Text};
 use cc_bash::Bash;
 use cc_command::Command;
 use cc_fish::Fish;
-use cc_lists::Generator;
+use cc_generator::Generator;
 use cc_tables::{Elvish, Nushell, PowerShell};
 use cc_zsh::Zsh;
 use std::alloc::{AllocError, Global};

@@ -1,6 +1,6 @@
--- The tables that an Elvish script spells: after the bare words `completions`, `=` and `[` stand groups of
--- `&'key'=`, `{`, rows and `}`, up to `]`. A row is `cand`, a bare word and a quoted text. What follows is
--- not read.
+-- The tables that an Elvish script spells: after the bare words `completions`, `=` and `[` stand
+-- groups of `&'key'=`, `{`, rows and `}`, up to `]`. A row is `cand`, a bare word and a quoted
+-- text. What follows is not read.
 use Rattle.std.specs.Prelude.{ℕ, List, [], ◌∷◌, ◌&&◌, if◌then◌else◌, Option, bytes_eq, codes}
 use Rattle.cc_command.specs.Tree.{Tree}
 use Rattle.cc_quote.specs.ElvishTokens.{elvish_tokens}
@@ -32,7 +32,8 @@ pub data Place : Type 0 where
 -- what a part does there
 unfoldable pub step : Place → Part (List ℕ) → Step Place Row
 step between_rows (word run) =
-    if bytes_eq run (codes "cand") then goes_on after_cand else (if bytes_eq run (codes "}") then ends_table else fails)
+    if bytes_eq run (codes "cand") then goes_on after_cand
+    else (if bytes_eq run (codes "}") then ends_table else fails)
 step after_cand (word run) = goes_on (after_word run)
 step (after_word run) (argument text) = ends_row (record { word = run; text = text })
 step _ _ = fails
@@ -46,7 +47,8 @@ tables_begin = codes "completions" ∷ codes "=" ∷ codes "[" ∷ []
 
 -- the tables of a script; `None` where it spells none
 unfoldable pub elvish_tables : List ℕ → Option (List (Table Row))
-elvish_tables script = read spelling (between_tables []) (after_words tables_begin (elvish_tokens script))
+elvish_tables script =
+    read spelling (between_tables []) (after_words tables_begin (elvish_tokens script))
 
 -- the row of an offer as it is read: with a space for each line feed of its text
 abbrev pub offer_read : Offer → Row

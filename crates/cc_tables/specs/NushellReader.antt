@@ -1,6 +1,6 @@
--- The blocks that a Nushell script spells, read line by line. A line `  export extern "key" [` opens
--- a block, and the lines up to one that is `  ]` are its records. Other lines between blocks are not
--- read.
+-- The blocks that a Nushell script spells, read line by line. A line `  export extern "key" [`
+-- opens a block, and the lines up to one that is `  ]` are its records. Other lines between blocks
+-- are not read.
 use Rattle.std.specs.Prelude.{ℕ, List, [], ◌∷◌, ◌++◌, ◌==◌, ◌||◌, Bool, true, false, Option, Some}
 use Rattle.std.specs.Prelude.{None, if◌then◌else◌, bytes_eq, codes, is_some, map, option_map}
 use Rattle.std.specs.Prelude.{reverse}
@@ -52,8 +52,8 @@ unfoldable pub after_name : List ℕ → List ℕ
 after_name [] = []
 after_name (byte ∷ bytes) = if ends_name byte then byte ∷ bytes else after_name bytes
 
--- the record of a line, without the spaces before it: its name; whether `: string` follows; and what
--- stands after the first ` # `
+-- the record of a line, without the spaces before it: its name; whether `: string` follows; and
+-- what stands after the first ` # `
 unfoldable pub record_of : List ℕ → Line
 record_of text = record {
   name = name_of text;
@@ -86,8 +86,8 @@ sign text = elim (after (codes "  export extern \"") text) [
 
 -- ---- a script
 
--- how far the reader is, with the blocks that it has read, and in a block with that one as far as it
--- is read
+-- how far the reader is, with the blocks that it has read, and in a block with that one as far as
+-- it is read
 pub data State : Type 0 where
   between : List (Table Line) → State
   in_block : List (Table Line) → Table Line → State

@@ -36,7 +36,12 @@ short_offer argument character = record {
 -- the offer of a long; the argument's own long stands for a missing help
 abbrev pub long_offer : Arg → List ℕ → Offer
 long_offer argument name =
-    record { kind = Long; name = name; description = argument.help; fallback = unwrap_or argument.long name }
+    record {
+      kind = Long;
+      name = name;
+      description = argument.help;
+      fallback = unwrap_or argument.long name;
+    }
 
 -- the offer of a name of an argument
 abbrev pub argument_offer : Arg → ShownName → Offer
@@ -49,7 +54,8 @@ argument_offers argument = map (argument_offer argument) (shown_names argument)
 
 -- the offer of a name of a child; the name stands for a missing about
 abbrev pub child_offer : Node → List ℕ → Offer
-child_offer child name = record { kind = Subcommand; name = name; description = child.about; fallback = name }
+child_offer child name =
+    record { kind = Subcommand; name = name; description = child.about; fallback = name }
 
 -- the offers of a child: of its visible names
 abbrev pub child_offers : Node → List Offer
@@ -63,4 +69,5 @@ children_offers (more child below rest) = child_offers child ++ children_offers 
 -- the offers at a node: of its options, of its flags, and of its children
 unfoldable pub node_offers : Tree → List Offer
 node_offers tree =
-    flat_map argument_offers (options tree.node) ++ flat_map argument_offers (flags tree.node) ++ children_offers tree.children
+    flat_map argument_offers (options tree.node) ++ flat_map argument_offers (flags tree.node)
+    ++ children_offers tree.children

@@ -1,6 +1,7 @@
--- The tables that a PowerShell script spells: after the bare words `@(switch`, `($command)` and `{` stand
--- groups of a quoted key, `{`, rows, `break` and `}`, up to the bare word `})`. A row is a call
--- `[CompletionResult]::new(` with four arguments and `)`. Every quote is a `'`. What follows is not read.
+-- The tables that a PowerShell script spells: after the bare words `@(switch`, `($command)` and `{`
+-- stand groups of a quoted key, `{`, rows, `break` and `}`, up to the bare word `})`. A row is a
+-- call `[CompletionResult]::new(` with four arguments and `)`. Every quote is a `'`. What follows
+-- is not read.
 use Rattle.std.specs.Prelude.{ℕ, List, [], ◌∷◌, ◌&&◌, if◌then◌else◌, Option, Some, None, option_map}
 use Rattle.std.specs.Prelude.{unwrap_or, bytes_eq, codes}
 use Rattle.cc_command.specs.Tree.{Tree}
@@ -27,13 +28,14 @@ pub data Argument : Type 0 where
 unfoldable pub if_quoted : List ℕ → Part Argument → Part Argument
 if_quoted opening part = if bytes_eq opening (codes "'") then part else unknown
 
--- a key stands alone; the first argument stands between the name of the call and `,`, a further one before
--- `,`, and the last one before `)`
+-- a key stands alone; the first argument stands between the name of the call and `,`, a further one
+-- before `,`, and the last one before `)`
 unfoldable pub part : Token → Part Argument
 part (bare run ∷ []) = word run
 part (quoted opening text ∷ []) = if_quoted opening (key text)
 part (bare before ∷ quoted opening text ∷ bare after ∷ []) =
-    if bytes_eq before (codes "[CompletionResult]::new(") && bytes_eq after (codes ",") then if_quoted opening (argument (first text))
+    if bytes_eq before (codes "[CompletionResult]::new(") && bytes_eq after (codes ",")
+    then if_quoted opening (argument (first text))
     else unknown
 part (quoted opening text ∷ bare after ∷ []) =
     if bytes_eq after (codes ",") then if_quoted opening (argument (further text))
@@ -44,10 +46,11 @@ part _ = unknown
 unfoldable pub kind_of : List ℕ → Option ResultKind
 kind_of run =
     if bytes_eq run (codes "[CompletionResultType]::ParameterName,") then Some parameter_name
-    else (if bytes_eq run (codes "[CompletionResultType]::ParameterValue,") then Some parameter_value else None)
+    else (if bytes_eq run (codes "[CompletionResultType]::ParameterValue,")
+    then Some parameter_value else None)
 
--- where the reader is in a table: between two rows, after the word, the list text or the kind of a row, or
--- after `break`
+-- where the reader is in a table: between two rows, after the word, the list text or the kind of a
+-- row, or after `break`
 pub data Place : Type 0 where
   between_rows : Place
   after_word : List ℕ → Place
@@ -60,8 +63,10 @@ unfoldable pub step : Place → Part Argument → Step Place Row
 step between_rows (argument (first run)) = goes_on (after_word run)
 step between_rows (word run) = if bytes_eq run (codes "break") then goes_on after_break else fails
 step (after_word run) (argument (further list)) = goes_on (after_list run list)
-step (after_list run list) (word name) = unwrap_or (option_map (λ kind. goes_on (after_kind run list kind)) (kind_of name)) fails
-step (after_kind run list kind) (argument (last text)) = ends_row (record { word = run; list = list; kind = kind; text = text })
+step (after_list run list) (word name) =
+    unwrap_or (option_map (λ kind. goes_on (after_kind run list kind)) (kind_of name)) fails
+step (after_kind run list kind) (argument (last text)) =
+    ends_row (record { word = run; list = list; kind = kind; text = text })
 step after_break (word run) = if bytes_eq run (codes "}") then ends_table else fails
 step _ _ = fails
 
@@ -74,7 +79,8 @@ tables_begin = codes "@(switch" ∷ codes "($command)" ∷ codes "{" ∷ []
 
 -- the tables of a script; `None` where it spells none
 unfoldable pub powershell_tables : List ℕ → Option (List (Table Row))
-powershell_tables script = read spelling (between_tables []) (after_words tables_begin (powershell_tokens script))
+powershell_tables script =
+    read spelling (between_tables []) (after_words tables_begin (powershell_tokens script))
 
 -- the row of an offer as it is read: with a space for each line feed of its text
 abbrev pub offer_read : Offer → Row

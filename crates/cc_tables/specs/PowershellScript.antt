@@ -97,7 +97,8 @@ words_text row = row_begin ++ row.word ++ list_begin ++ row.list
 
 -- `', [CompletionResultType]::kind, 'text')`
 unfoldable pub details_text : Row → List ℕ
-details_text row = kind_begin ++ kind_text row.kind ++ text_begin ++ powershell_escaped row.text ++ row_end
+details_text row =
+    kind_begin ++ kind_text row.kind ++ text_begin ++ powershell_escaped row.text ++ row_end
 
 -- a row
 unfoldable pub row_text : Row → List ℕ

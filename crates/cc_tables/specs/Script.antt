@@ -21,11 +21,13 @@ table_text frame row_text table =
     frame.key_begin ++ table.key ++ frame.key_end ++ flat_map row_text table.rows ++ frame.table_end
 
 -- the table of a node under a key, with the rows that a node has
-unfoldable pub node_text : {Row : Type 0} → Frame → (Row → List ℕ) → (Tree → List Row) → List ℕ → Tree → List ℕ
+unfoldable pub node_text : {Row : Type 0} → Frame → (Row → List ℕ) → (Tree → List Row) → List ℕ
+    → Tree → List ℕ
 node_text frame row_text rows key tree = table_text frame row_text (table_of rows key tree)
 
 -- the frame, for the program bin, with these tables in it
-unfoldable pub script_text : {Row : Type 0} → Frame → (Row → List ℕ) → List ℕ → List (Table Row) → List ℕ
+unfoldable pub script_text : {Row : Type 0} → Frame → (Row → List ℕ) → List ℕ → List (Table Row)
+    → List ℕ
 script_text frame row_text bin tables =
     head_text frame bin ++ flat_map (table_text frame row_text) tables ++ frame.tail
 

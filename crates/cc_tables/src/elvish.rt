@@ -11,7 +11,7 @@ use crate::tables::{Frame, Named, write_tables};
 use cc_base::{Error, Sink, TextRef, put_around, put_piece};
 use cc_command::Command;
 use cc_flat::Flat;
-use cc_lists::Generator;
+use cc_generator::Generator;
 use cc_quote::{ElvishEscape, put_escaped_piece};
 use std::alloc::Global;
 use std::io::ErrorKind;

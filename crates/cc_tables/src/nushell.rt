@@ -14,7 +14,7 @@ use crate::tables::{Frame, TableRows, write_tables};
 use cc_base::{Error, Sink, TextRef, put_around, put_piece};
 use cc_command::Command;
 use cc_flat::Flat;
-use cc_lists::Generator;
+use cc_generator::Generator;
 use cc_quote::{Replace, put_escaped_piece};
 use std::alloc::Global;
 use std::io::ErrorKind;

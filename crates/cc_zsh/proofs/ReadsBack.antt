@@ -13,7 +13,7 @@ use Rattle.cc_command.specs.Marked.{StaysIfMarked}
 use Rattle.cc_base.specs.declared.error.Error.{Error}
 use Rattle.cc_base.specs.declared.failures.Failures.{Failures}
 use Rattle.cc_base.specs.Writes.{Writes}
-use Rattle.cc_lists.specs.Generators.{Generates, IsReady}
+use Rattle.cc_generator.specs.Generators.{Generates, IsReady}
 use Rattle.cc_base.proofs.Booleans.{both_true}
 use Rattle.cc_command.specs.Names.{full_name}
 use Rattle.cc_command.specs.Plain.{is_plain_tree}

@@ -66,4 +66,7 @@ all_shown_at root = map shown_at (path_visits longer_path [] root)
 -- a function that describes the children of a node
 abbrev pub description_of : Function → Description
 description_of function =
-    record { label = underscore ∷ function_label function.name; entries = map entry_row function.entries }
+    record {
+      label = underscore ∷ function_label function.name;
+      entries = map entry_row function.entries;
+    }

@@ -15,7 +15,7 @@ use crate::texts::{
 use cc_base::{Error, Sink, as_error, put_all, put_around, put_pieces};
 use cc_command::{Command, full_name};
 use cc_flat::Flat;
-use cc_lists::Generator;
+use cc_generator::Generator;
 use std::alloc::Global;
 use std::io::ErrorKind;
 

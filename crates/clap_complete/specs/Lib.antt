@@ -60,9 +60,9 @@ pub use Rattle.cc_command.specs.Texts
 pub use Rattle.cc_command.specs.Tree
 pub use Rattle.cc_command.specs.declared.node.Node
 -- generators
-pub use Rattle.cc_lists.specs.ArgumentNames
-pub use Rattle.cc_lists.specs.Generators
-pub use Rattle.cc_lists.specs.Subcommands
+pub use Rattle.cc_generator.specs.ArgumentNames
+pub use Rattle.cc_generator.specs.Generators
+pub use Rattle.cc_generator.specs.Subcommands
 pub use Rattle.cc_visits.specs.Paths
 pub use Rattle.cc_visits.specs.Visits
 -- Elvish, Nushell and PowerShell

@@ -2,10 +2,10 @@
 //! describes.
 #![tactic(auto)]
 
-use cc_command_line::{Refusal, WRITE_FAILED, plan};
-use cc_run::run;
 use clap_complete::aot::Counted;
 use clap_complete::engine::RealFolder;
+use complgen_command_line::{Refusal, WRITE_FAILED, plan};
+use complgen_run::run;
 use std::alloc::AllocError;
 use std::convert::AsStr;
 use std::env::{self, Env};

@@ -1,0 +1,88 @@
+//! What every generator does.
+
+ghost use Rattle.std.specs.Prelude.{◌≡◌, ℕ, List, Option, Some, IsTrue, IfOk, IfErr, OnOk};
+ghost use Rattle.std.specs.String.{string_bytes};
+ghost use Rattle.cc_command.specs.Plain.{is_plain_tree};
+ghost use Rattle.cc_command.specs.PlainName.{is_plain_name};
+ghost use Rattle.cc_command.specs.Quiet.{is_quiet_tree};
+ghost use Rattle.cc_command.specs.Tree.{Tree};
+ghost use Rattle.cc_command.specs.Built.{built_under};
+ghost use Rattle.cc_generator.specs.Generators.{Generates, IsReady, LeavesBuilt};
+
+use cc_base::{Error, Sink};
+use cc_command::{Command, build_as};
+use std::alloc::Global;
+
+/// A generator of completion scripts for one shell.
+pub trait Generator {
+    // the text of the script of a tree
+    ghost script: { Self → Tree → List ℕ };
+
+    // what reading that script gives
+    ghost Reads: { Self → Tree → Type 0 };
+
+    // the label that two nodes of a tree share, where the script needs labels of its own
+    ghost clash: { Self → Tree → Option (List ℕ) };
+
+    // the name of the file for a program of this name
+    ghost file: { Self → List ℕ → List ℕ };
+
+    /// The name of the file that the shell looks for, for a program of this name. Fails with
+    /// `Memory` alone.
+    fn file_name(&self, alloc: Global, name: &str) -> Result<String, Error>
+        ensures ok { IfOk result (λ text. string_bytes text ≡ file self.now name.now) }
+        ensures memory { IfErr result (λ error. error ≡ Error.Memory) };
+
+    /// Writes the script of a command that is built and has a bin name, piece by piece.
+    ///
+    /// Fails with `Write` where the sink failed; with `LabelClash`, before anything is written,
+    /// where the script needs labels and two nodes share one; and with `Memory`. How much the sink
+    /// took before it fails with `Write` or `Memory` is left open.
+    fn generate<W: Sink>(&self, alloc: Global, command: &Command, sink: &mut W) -> Result<(), Error>
+        requires ready { IsReady command.now }
+        ensures { Generates W.taken W.failed (script self.now) (clash self.now) (Reads self.now)
+            command.now result sink.old sink.new };
+
+    /// The same as `generate`.
+    fn try_generate<W: Sink>(
+        &self,
+        alloc: Global,
+        command: &Command,
+        sink: &mut W,
+    ) -> Result<(), Error>
+        requires ready { IsReady command.now }
+        ensures { Generates W.taken W.failed (script self.now) (clash self.now) (Reads self.now)
+            command.now result sink.old sink.new }
+    {
+        self.generate(alloc, command, sink)
+    }
+}
+
+/// Sets the bin name, builds the command and writes the generator's script, which reads back where
+/// the command and the bin name are plain. What a bash script says at each command reads back where
+/// the possible values are quiet too (`Command::has_quiet_values`), which building leaves as it is.
+///
+/// Fails as `build_as` and `Generator::generate` do. Where the build fails, the command stays as it
+/// was and nothing is written; where a later step fails, the command stays built.
+pub fn generate<G: Generator + Drop, W: Sink>(
+    alloc: Global,
+    generator: G,
+    command: &mut Command,
+    bin_name: String,
+    sink: &mut W,
+) -> Result<(), Error>
+    ensures built { LeavesBuilt result command.old command.new
+        (built_under (Some (string_bytes bin_name)) command.old)
+        (W.taken sink.old) (W.taken sink.new) }
+    ensures written { Generates W.taken W.failed
+        (G.script generator) (G.clash generator) (G.Reads generator)
+        (built_under (Some (string_bytes bin_name)) command.old) result sink.old sink.new }
+    ensures plain { OnOk result (IsTrue (is_plain_tree command.old) →
+        IsTrue (is_plain_name (string_bytes bin_name)) →
+        G.Reads generator (built_under (Some (string_bytes bin_name)) command.old)) }
+    ensures quiet { OnOk result (IsTrue (is_quiet_tree command.old) →
+        IsTrue (is_quiet_tree (built_under (Some (string_bytes bin_name)) command.old))) }
+{
+    build_as(command, alloc, bin_name)?;
+    generator.generate(alloc, command, sink)
+}

@@ -1,6 +1,0 @@
-use Rattle.cc_run.proofs.ReplyLemmas.{ends_plan}
-use Rattle.cc_run.proofs.plans.run.Goals as goal
-
-pub returns-in-Candidates : goal.returns-in-Candidates
-returns-in-Candidates g c =
-    ends_plan _ _ _ _ _ _ _ _ _ _ _ _ c.in-Candidates.is c.as_slice.ensures.value c.reply.ensures

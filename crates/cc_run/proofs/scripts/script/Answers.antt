@@ -1,9 +1,0 @@
-use Rattle.cc_run.specs.Ends.{known_shell, unknown_shell}
-use Rattle.cc_run.proofs.WritingLemmas.{same}
-use Rattle.cc_run.proofs.scripts.script.Goals as goal
-
-pub returns-in-Ok : goal.returns-in-Ok
-returns-in-Ok g c = known_shell _ _ c.in-Ok.ensures c.script_by.ensures
-
-pub returns-in-Err : goal.returns-in-Err
-returns-in-Err g c = unknown_shell _ c.in-Err.ensures (same _ _ _)

@@ -1,0 +1,213 @@
+-- The command line that the program takes, what a parse of it gives, and how it fails.
+use Rattle.std.proofs.Common.{◌≡◌, ◌⊎◌, ◌||◌, inl, inr, refl, subst, sym, true, false, not, Bool}
+use Rattle.std.proofs.Common.{List, drop}
+use Rattle.std.proofs.Common.{[], ◌∷◌, Option, Some, None, is_some, option_map}
+use Rattle.std.specs.Borrow.{Bor}
+use Rattle.std.specs.Prelude.{IsSome, codes, if◌then◌else◌}
+use Rattle.std.specs.List.{list_all}
+use Rattle.std.specs.Option.{option_map_or}
+use Rattle.clap.specs.Faults.{check_fault, defaults_fault, entered_fault, level_fault, settle_fault}
+use Rattle.clap.specs.Faults.{walk_fault}
+use Rattle.clap.specs.Kinds.{HasKind, Kinds}
+use Rattle.clap.specs.Simple.{Shape, argument_words, built, entered, label_of, names_of, new_shape}
+use Rattle.clap.specs.Simple.{rows_at}
+use Rattle.clap.specs.Takes.{is_given}
+use Rattle.clap.specs.Values.{kind_of}
+use Rattle.clap.specs.Walk.{Row, Text, answers_to, finished, first_of, nothing_held, rows_after}
+use Rattle.clap.specs.Walk.{settled, walk, walk_from}
+use Rattle.clap.specs.Words.{fault_of, is_simple, is_simple_and_free, subcommand_of}
+use Rattle.clap.specs.declared.error.Error.{Error}
+use Rattle.clap.specs.declared.error.kind.ErrorKind.{ErrorKind}
+use Rattle.clap.specs.declared.error.kind.ErrorKind.TheVariants as kind
+use Rattle.clap.proofs.OnLiterals.{clap_on_literals}
+use Rattle.complgen_command_line.specs.CommandLine.{program_line}
+use Rattle.complgen_command_line.specs.Plans.{EntersOne, GivesNames, GivesWords}
+use Rattle.complgen_command_line.specs.Refusals.{IsOutOfMemory, Reports, ReportsKind}
+use Rattle.complgen_command_line.specs.declared.types.Refusal.{Refusal}
+use Rattle.complgen_command_line.proofs.GivenValues.{first_none, given_value, leaves_value, rows_kept}
+use Rattle.complgen_command_line.proofs.GivenValues.{second_none}
+
+-- clap says what a parse of it gives
+pub program_line_is_simple : is_simple program_line ≡ true
+unfolding clap_on_literals
+program_line_is_simple = refl
+
+-- and by which kinds of error it fails
+pub program_line_is_free : is_simple_and_free program_line ≡ true
+unfolding clap_on_literals
+program_line_is_free = refl
+
+pub reports_words : (kinds : Kinds) (entered : Option (Text × List Row)) (error : Error)
+    (refusal : Refusal) → HasKind kinds error → ReportsKind (kind_of error) refusal
+    → Reports kinds entered refusal
+reports_words kinds entered error refusal (inl out) refuses =
+    inl (subst (λ (kind : ErrorKind). ReportsKind kind refusal) out refuses)
+reports_words [] entered error refusal (inr among) refuses = absurd among
+reports_words (first ∷ more) entered error refusal (inr among) refuses =
+    inr (kind_of error, among, refuses)
+
+-- ---- words of which no step fails
+
+abbrev first_shape : List Shape → Shape
+first_shape [] = new_shape []
+first_shape (s ∷ subs) = s
+
+-- the subcommands, as they are built
+abbrev script_shape : Shape
+script_shape = first_shape (built program_line).subs
+
+abbrev register_shape : Shape
+register_shape = first_shape (drop 1 (built program_line).subs)
+
+abbrev candidates_shape : Shape
+candidates_shape = first_shape (drop 2 (built program_line).subs)
+
+is_entered : (has : Bool) (rows : List Row) → check_fault (built program_line).top rows has ≡ []
+    → has ≡ true
+is_entered true rows h = refl
+is_entered false rows h = cc
+
+-- this subcommand was entered, with some words, and no step of it fails
+abbrev EntersShape : Option (Text × List Row) → Shape → Type 0
+EntersShape entered s = (words : List Text)
+    × (entered ≡ Some (s.name, rows_after s.rules [] words))
+    × (level_fault s [] nothing_held words false [] ≡ [])
+
+-- so was one of the three
+abbrev EntersShapes : Option (Text × List Row) → Type 0
+EntersShapes entered = EntersShape entered script_shape
+    ⊎ (EntersShape entered register_shape ⊎ EntersShape entered candidates_shape)
+
+abbrev which : (t u v : Bool) → Option Shape
+which t u v = if t then Some script_shape
+    else (if u then Some register_shape else (if v then Some candidates_shape else None))
+
+-- what is entered is one of them
+entered_one : (stop : Option (Text × List Text))
+    → is_some (entered (built program_line) stop) ≡ true
+    → entered_fault (built program_line) stop ≡ []
+    → EntersShapes (entered (built program_line) stop)
+entered_one None has e = cc
+entered_one (Some p) has e = go (answers_to p.0 (label_of script_shape))
+    (answers_to p.0 (label_of register_shape)) (answers_to p.0 (label_of candidates_shape)) has e
+  where
+    go : (t u v : Bool) → is_some (option_map (λ s. rows_at s p.1) (which t u v)) ≡ true
+        → option_map_or (λ s. level_fault s [] nothing_held p.1 false []) (which t u v) [] ≡ []
+        → EntersShapes (option_map (λ s. rows_at s p.1) (which t u v))
+    go true u v has e = inl (p.1, refl, e)
+    go false true v has e = inr (inl (p.1, refl, e))
+    go false false true has e = inr (inr (p.1, refl, e))
+    go false false false has e = cc
+
+-- three arguments that have to be there were given, and two
+three_given : (a b d : Bool)
+    → (if not a || (not b || (not d || false)) then kind.MissingRequiredArgument ∷ [] else []) ≡ []
+    → (a ≡ true) × (b ≡ true) × (d ≡ true)
+three_given true true true h = (refl, refl, refl)
+three_given true true false h = cc
+three_given true false d h = cc
+three_given false b d h = cc
+
+two_given : (a b : Bool)
+    → (if not a || (not b || false) then kind.MissingRequiredArgument ∷ [] else []) ≡ []
+    → (a ≡ true) × (b ≡ true)
+two_given true true h = (refl, refl)
+two_given true false h = cc
+two_given false b h = cc
+
+module _ (s : Shape) (words : List Text)
+    (e : level_fault s [] nothing_held words false [] ≡ []) where
+  abbrev rows : List Row
+  rows = rows_after s.rules [] words
+
+  -- the checks after the words pass
+  checks_pass : check_fault s rows false ≡ []
+  checks_pass =
+      let end = (walk s.rules [] nothing_held words).held in
+      let after_walk = second_none (walk_fault s [] (walk_from nothing_held) words) _ e in
+      let after_last = second_none (settle_fault s.rules s.args_override_self end) _ after_walk in
+      second_none (defaults_fault (settled s.rules end).rows s.rules) _ after_last
+
+  -- what was given has a value
+  has_value : (id : Text) → list_all (leaves_value id) s.rules ≡ true → is_given id rows ≡ true
+      → IsSome (first_of id rows)
+  has_value id leaves given =
+      let after_walk = second_none (walk_fault s [] (walk_from nothing_held) words) _ e in
+      let value = given_value id _ (rows_kept s id leaves [] words (first_none _ _ e)
+      (first_none _ _ after_walk)) given in
+      subst IsSome (sym value.1) refl
+
+  gives_names : list_all (leaves_value (codes "shell")) s.rules ≡ true
+      → list_all (leaves_value (codes "bin")) s.rules ≡ true
+      → list_all (leaves_value (codes "tree")) s.rules ≡ true
+      → (is_given (codes "shell") rows ≡ true) × (is_given (codes "bin") rows ≡ true)
+      × (is_given (codes "tree") rows ≡ true) → GivesNames rows
+  gives_names shell bin tree given = (
+    has_value (codes "shell") shell given.0,
+    has_value (codes "bin") bin given.1,
+    has_value (codes "tree") tree given.2,
+  )
+
+  gives_words : list_all (leaves_value (codes "index")) s.rules ≡ true
+      → list_all (leaves_value (codes "tree")) s.rules ≡ true
+      → (is_given (codes "index") rows ≡ true) × (is_given (codes "tree") rows ≡ true)
+      → GivesWords rows
+  gives_words index tree given =
+      (has_value (codes "index") index given.0, has_value (codes "tree") tree given.1)
+
+entered_from : (words : List Text) (stop : Option (Text × List Text))
+    → level_fault (built program_line).top (names_of (built program_line)) nothing_held words
+    (is_some (entered (built program_line) stop)) (entered_fault (built program_line) stop) ≡ []
+    → (is_some (entered (built program_line) stop) ≡ true)
+    × (entered_fault (built program_line) stop ≡ [])
+entered_from words stop e =
+    let top = (built program_line).top in
+    let names = names_of (built program_line) in
+    let end = (walk top.rules names nothing_held words).held in
+    let after_walk = second_none (walk_fault top names (walk_from nothing_held) words) _ e in
+    let after_below = second_none (entered_fault (built program_line) stop) _ after_walk in
+    let settles = settle_fault top.rules top.args_override_self end in
+    let after_last = second_none settles _ after_below in
+    let checks = second_none (defaults_fault (settled top.rules end).rows top.rules) _ after_last in
+    (is_entered _ (finished top.rules end) checks, first_none _ _ after_walk)
+
+-- words of which no step fails enter a subcommand, with each argument that it has to have
+pub enters_one : (words : List Text) → fault_of program_line words ≡ []
+    → EntersOne (subcommand_of program_line words)
+enters_one words e =
+    let given = argument_words program_line words in
+    let line = built program_line in
+    let stop = (walk line.top.rules (names_of line) nothing_held given).stopped in
+    let here = entered_from given stop e in
+    elim (entered_one stop here.0 here.1) [
+      | inl l ↦ inl (record {
+        rows = rows_after script_shape.rules [] l.0;
+        is_entered = l.1;
+        has = gives_names script_shape l.0 l.2 refl refl refl
+            (three_given _ _ _ (checks_pass script_shape l.0 l.2));
+      })
+      | inr r ↦ elim r [
+        | inl l ↦ inr (inl (record {
+          rows = rows_after register_shape.rules [] l.0;
+          is_entered = l.1;
+          has = gives_names register_shape l.0 l.2 refl refl refl
+              (three_given _ _ _ (checks_pass register_shape l.0 l.2));
+        }))
+        | inr l ↦ inr (inr (record {
+          rows = rows_after candidates_shape.rules [] l.0;
+          is_entered = l.1;
+          has = gives_words candidates_shape l.0 l.2 refl refl
+              (two_given _ _ (checks_pass candidates_shape l.0 l.2));
+        }))
+      ]
+    ]
+
+pub reports_memory : (k : ErrorKind) (refusal : Refusal) → k ≡ kind.OutOfMemory
+    → ReportsKind k refusal → IsOutOfMemory refusal
+reports_memory k refusal out refuses = subst (λ (k : ErrorKind). ReportsKind k refusal) out refuses
+
+-- a text that was found by reference
+pub some_found : (o : Option (Bor Text)) (p : Option Text) → option_map (λ s. s.now) o ≡ p
+    → IsSome p → IsSome o
+some_found None p e h = subst IsSome (sym e) h
+some_found (Some s) p e h = refl

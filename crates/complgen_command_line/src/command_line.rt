@@ -1,0 +1,138 @@
+//! The command lines that the program takes.
+
+ghost use Rattle.std.specs.Prelude.{◌≡◌, IfOk, false};
+ghost use Rattle.clap.specs.Words.{app_of, rule_of};
+ghost use Rattle.clap.specs.declared.builder.command.Command.TheViews.{out-Command};
+ghost use Rattle.complgen_command_line.specs.CommandLine.{candidates_line, option_rule, program_line};
+ghost use Rattle.complgen_command_line.specs.CommandLine.{shell_line, top_line, tree_rule, words_rule};
+
+use clap::{Arg, Command};
+use std::alloc::{AllocError, Global};
+
+// The version of the crate that the scripts are those of.
+const VERSION: &str = "4.6.11";
+
+const SCRIPT_HELP: &str = "Writes a completion script to the standard output";
+
+const REGISTER_HELP: &str =
+    "Writes a script that has the shell ask the program itself for candidates";
+
+const CANDIDATES_HELP: &str = "Writes the candidates for a word to the standard output";
+
+const SCRIPT_SHELL_HELP: &str = "The shell: bash, elvish, fish, nushell, powershell or zsh";
+
+const REGISTER_SHELL_HELP: &str = "The shell: bash, elvish, fish, powershell or zsh";
+
+const BIN_HELP: &str = "The name by which the shell calls the program";
+
+const TREE_HELP: &str = "A JSON file that describes a command, with its arguments and subcommands";
+
+const INDEX_HELP: &str = "The index of the word to complete, from 0";
+
+const WORDS_HELP: &str =
+    "The words of a command line, the program's name first; after -- they may begin with -";
+
+const AFTER_HELP: &str = "\
+Shells: bash, elvish, fish, nushell (not in register), powershell, zsh
+Tree file: a JSON object that describes a command, with its arguments and subcommands
+
+Examples:
+  complgen script --shell fish --bin app tree.json
+  complgen register --shell bash --bin app tree.json
+  complgen candidates --index 1 tree.json -- app ''";
+
+// `--NAME VALUE`, which has to be there.
+fn option<'a>(
+    alloc: Global,
+    name: &'static str,
+    value_name: &'static str,
+    help: &'static str,
+) -> Arg<'a>
+    ensures rule { rule_of result ≡ option_rule name.entry.now }
+    ensures local { result.global ≡ false }
+{
+    Arg::new(alloc, name)
+        .long(name)
+        .value_name(value_name)
+        .required(true)
+        .help(help)
+}
+
+// `TREE`, which has to be there.
+fn tree<'a>(alloc: Global) -> Arg<'a>
+    ensures rule { rule_of result ≡ tree_rule }
+    ensures local { result.global ≡ false }
+{
+    Arg::new(alloc, "tree")
+        .value_name("TREE")
+        .required(true)
+        .help(TREE_HELP)
+}
+
+// `WORDS`, any number of them.
+fn words<'a>(alloc: Global) -> Arg<'a>
+    ensures rule { rule_of result ≡ words_rule }
+    ensures local { result.global ≡ false }
+{
+    Arg::new(alloc, "words")
+        .value_name("WORDS")
+        .num_args(0..)
+        .help(WORDS_HELP)
+}
+
+// `NAME --shell S --bin N TREE`
+fn for_shell<'a>(
+    alloc: Global,
+    name: &'static str,
+    about: &'static str,
+    shells: &'static str,
+) -> Result<Command<'a>, AllocError>
+    ensures shape { IfOk result (λ command. app_of command ≡ shell_line name.entry.now) }
+    ensures local { IfOk result (λ command. (out-Command command).has_globals ≡ false) }
+{
+    Command::new(alloc, name)
+        .about(about)
+        .arg(option(alloc, "shell", "SHELL", shells))?
+        .arg(option(alloc, "bin", "NAME", BIN_HELP))?
+        .arg(tree(alloc))
+}
+
+// `candidates --index I TREE WORDS..`
+fn candidates<'a>(alloc: Global) -> Result<Command<'a>, AllocError>
+    ensures shape { IfOk result (λ command. app_of command ≡ candidates_line) }
+    ensures local { IfOk result (λ command. (out-Command command).has_globals ≡ false) }
+{
+    Command::new(alloc, "candidates")
+        .about(CANDIDATES_HELP)
+        .arg(option(alloc, "index", "INDEX", INDEX_HELP))?
+        .arg(tree(alloc))?
+        .arg(words(alloc))
+}
+
+// The command line without its subcommands.
+fn top<'a>(alloc: Global) -> Result<Command<'a>, AllocError>
+    ensures { IfOk result (λ command. app_of command ≡ top_line) }
+{
+    Ok(
+        Command::new(alloc, "complgen")
+            .bin_name("complgen")?
+            .version(VERSION)
+            .about("Writes shell completions for a command that a JSON file describes")
+            .after_help(AFTER_HELP)
+            .subcommand_required(true)
+            .disable_help_subcommand(true),
+    )
+}
+
+/// The whole command line.
+pub fn command_line<'a>(alloc: Global) -> Result<Command<'a>, AllocError>
+    ensures { IfOk result (λ command. app_of command ≡ program_line) }
+{
+    let script = for_shell(alloc, "script", SCRIPT_HELP, SCRIPT_SHELL_HELP)?;
+    let register = for_shell(alloc, "register", REGISTER_HELP, REGISTER_SHELL_HELP)?;
+    let candidates = candidates(alloc)?;
+    top(alloc)?
+        .subcommand(script)?
+        .subcommand(register)?
+        .subcommand(candidates)
+}

@@ -1,0 +1,160 @@
+//! What the words of the command line ask for.
+
+ghost use Rattle.std.specs.Prelude.{◌≡◌, ◌⊎◌, [], IfOk, IfErr, IsSome, Some, codes, map, true};
+ghost use Rattle.std.specs.Prelude.{string_bytes};
+ghost use Rattle.clap.specs.Words.{fault_of, first_of, found_of, kind_of, rows_of, subcommand_of};
+ghost use Rattle.clap.specs.Words.{subcommand_rows_of, takes};
+ghost use Rattle.complgen_command_line.specs.CommandLine.{program_line};
+ghost use Rattle.complgen_command_line.specs.Plans.{AsksFor, EntersOne, GivesNames, GivesWords};
+ghost use Rattle.complgen_command_line.specs.Plans.{HasBadIndex, HasIndex, HasNames, HasWords, words_of};
+ghost use Rattle.complgen_command_line.specs.Refusals.{IsBadIndex, IsOutOfMemory, Reports, ReportsKind};
+
+use crate::command_line::command_line;
+use crate::types::{Plan, Refusal};
+use clap::ArgMatches;
+use clap::error::{Error, ErrorKind};
+use std::alloc::{AllocError, Global};
+use std::borrow::CowStr;
+
+const BAD_INDEX: &str = "index: bad number\n";
+
+/// Returns what the words ask for; the first is the program's name. Fails with status 2 where the
+/// command line doesn't take the words, or the index among them is no number that fits a `usize`;
+/// with status 0 and the help text where they ask for help; and with status 1 where it is out of
+/// memory.
+pub fn plan(alloc: Global, words: &[String]) -> Result<Plan, Refusal>
+    ensures ok { IfOk result (AsksFor (subcommand_of program_line (map string_bytes words.now))) }
+    ensures fits { IfOk result (λ _. fault_of program_line (map string_bytes words.now) ≡ []) }
+    ensures taken { IfErr result (λ refusal.
+        takes program_line (map string_bytes words.now) ≡ true
+        → Reports [] (subcommand_of program_line (map string_bytes words.now)) refusal) }
+    ensures err { IfErr result (Reports (fault_of program_line (map string_bytes words.now))
+        (subcommand_of program_line (map string_bytes words.now))) }
+{
+    let command = command_line(alloc)?;
+    match command.try_get_matches_from(words) {
+        Ok(matches) => {
+            let planned = planned(alloc, &matches);
+            drop(matches);
+            planned
+        }
+        Err(error) => Err(refusal_of(alloc, &error)),
+    }
+}
+
+// The plan of a parse.
+fn planned(alloc: Global, matches: &ArgMatches<'_>) -> Result<Plan, Refusal>
+    requires { EntersOne (subcommand_rows_of matches.now) }
+    ensures ok { IfOk result (AsksFor (subcommand_rows_of matches.now)) }
+    ensures err { IfErr result (Reports [] (subcommand_rows_of matches.now)) }
+{
+    match matches.subcommand() {
+        Some(("script", values)) => {
+            let (shell, bin, tree) = names(alloc, values)?;
+            Ok(Plan::Script(shell, bin, tree))
+        }
+        Some(("register", values)) => {
+            let (shell, bin, tree) = names(alloc, values)?;
+            Ok(Plan::Register(shell, bin, tree))
+        }
+        Some(("candidates", values)) => {
+            let (index, tree, words) = line(alloc, values)?;
+            Ok(Plan::Candidates(index, tree, words))
+        }
+        _ => unreachable!(),
+    }
+}
+
+// The values of `--shell`, `--bin` and `TREE`.
+fn names(alloc: Global, values: &ArgMatches<'_>) -> Result<(String, String, String), AllocError>
+    requires { GivesNames (rows_of (found_of values.now)) }
+    ensures { IfOk result (λ names. HasNames (string_bytes names.0) (string_bytes names.1)
+        (string_bytes names.2) (rows_of (found_of values.now))) }
+{
+    let shell = value(alloc, values, "shell")?;
+    let bin = value(alloc, values, "bin")?;
+    let tree = value(alloc, values, "tree")?;
+    Ok((shell, bin, tree))
+}
+
+// The values of `--index`, `TREE` and `WORDS`.
+fn line(alloc: Global, values: &ArgMatches<'_>) -> Result<(usize, String, Vec<String>), Refusal>
+    requires { GivesWords (rows_of (found_of values.now)) }
+    ensures ok { IfOk result (λ line. HasWords line.0 (string_bytes line.1)
+        (map string_bytes line.2.items) (rows_of (found_of values.now))) }
+    ensures err { IfErr result (λ refusal. IsOutOfMemory refusal
+        ⊎ (IsBadIndex refusal × HasBadIndex (rows_of (found_of values.now)))) }
+{
+    let index = index(values)?;
+    let tree = value(alloc, values, "tree")?;
+    let words = words(alloc, values)?;
+    Ok((index, tree, words))
+}
+
+// The value of `--index`.
+fn index(values: &ArgMatches<'_>) -> Result<usize, Refusal>
+    requires { IsSome (first_of (codes "index") (rows_of (found_of values.now))) }
+    ensures ok { IfOk result (λ index. HasIndex index (rows_of (found_of values.now))) }
+    ensures err { IfErr result (λ refusal.
+        IsBadIndex refusal × HasBadIndex (rows_of (found_of values.now))) }
+{
+    match text(values, "index").parse::<usize>() {
+        Ok(index) => Ok(index),
+        Err(_) => Err(Refusal::fixed(2, BAD_INDEX)),
+    }
+}
+
+// The values of `WORDS`.
+fn words(alloc: Global, values: &ArgMatches<'_>) -> Result<Vec<String>, AllocError>
+    ensures { IfOk result (λ words.
+        map string_bytes words.items ≡ words_of (rows_of (found_of values.now))) }
+{
+    match values.get_raw("words") {
+        Some(words) => copied(alloc, words),
+        None => Ok(Vec::new(alloc)),
+    }
+}
+
+fn copied(alloc: Global, texts: &[&str]) -> Result<Vec<String>, AllocError>
+    ensures { IfOk result (λ copy. map string_bytes copy.items ≡ map (λ text. text.now) texts.now) }
+{
+    let mut copy = Vec::new(alloc);
+    for text in texts {
+        copy.push(String::from_str(alloc, text)?)?;
+    }
+    Ok(copy)
+}
+
+// A copy of the value of an argument.
+fn value(alloc: Global, values: &ArgMatches<'_>, id: &str) -> Result<String, AllocError>
+    requires { IsSome (first_of id.now (rows_of (found_of values.now))) }
+    ensures { IfOk result (λ value. first_of id.now (rows_of (found_of values.now))
+        ≡ Some (string_bytes value)) }
+{
+    String::from_str(alloc, text(values, id))
+}
+
+// The value of an argument.
+fn text<'a>(values: &ArgMatches<'a>, id: &str) -> &'a str
+    requires { IsSome (first_of id.now (rows_of (found_of values.now))) }
+    ensures { first_of id.now (rows_of (found_of values.now)) ≡ Some result.now }
+{
+    values.get_str(id).unwrap()
+}
+
+// What a failed parse prints.
+fn refusal_of(alloc: Global, error: &Error) -> Refusal
+    ensures { ReportsKind (kind_of error.now) result }
+{
+    if matches!(error.kind(), ErrorKind::OutOfMemory) {
+        return Refusal::from(AllocError);
+    }
+    let status = if error.use_stderr() { 2 } else { 0 };
+    match error.to_string(alloc) {
+        Ok(text) => Refusal {
+            status,
+            text: CowStr::Owned(text),
+        },
+        Err(failed) => Refusal::from(failed),
+    }
+}

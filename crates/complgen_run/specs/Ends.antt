@@ -1,0 +1,52 @@
+-- How carrying out a plan ends.
+use Rattle.std.specs.Prelude.{◌≡◌, ℕ, true, false, List, Option, Result, Ok, Err, length, map, string_bytes}
+use Rattle.clap_complete.specs.Failures.{Failures}
+use Rattle.clap_complete.specs.Shell.{Shell}
+use Rattle.complgen_command_line.specs.declared.types.Plan.{Plan}
+use Rattle.complgen_command_line.specs.declared.types.Plan.TheVariants.{Candidates, Register, Script}
+use Rattle.complgen_command_line.specs.declared.types.Refusal.{Refusal}
+use Rattle.complgen_run.specs.Refusals.{FindsShell}
+use Rattle.complgen_run.specs.Registrations.{Registers, RegistrationReads, registration_for}
+use Rattle.complgen_run.specs.Replies.{IsOutOfRange, IsReply, Paths}
+use Rattle.complgen_run.specs.Scripts.{IsScript, SharesLabel}
+use Rattle.complgen_run.specs.Writing.{Finishes, Untouched}
+
+-- how a call ends that is given the name of a shell; a name that no shell has is reported before
+-- anything else is done
+pub data EndsFor {S : Type 0} (taken : S → List ℕ) (failed : S → Failures) (name : List ℕ)
+    (old new : S) (EndsBy : Shell → Result (Unit {0}) Refusal → Type 0)
+    : Result (Unit {0}) Refusal → Type 0 where
+  unknown_shell : (refusal : Refusal) → FindsShell name (Err refusal)
+      → Untouched taken failed old new → EndsFor taken failed name old new EndsBy (Err refusal)
+  known_shell : (shell : Shell) (result : Result (Unit {0}) Refusal) → FindsShell name (Ok shell)
+      → EndsBy shell result → EndsFor taken failed name old new EndsBy result
+
+-- how writing a script for the shell of this name ends
+abbrev pub EndsScript : {S : Type 0} → (S → List ℕ) → (S → Failures) → List ℕ → List ℕ
+    → Option (List ℕ) → S → S → Result (Unit {0}) Refusal → Type 0
+EndsScript taken failed name bin file old new result = EndsFor taken failed name old new
+    (λ shell. Finishes taken failed true (SharesLabel shell bin) (IsScript shell bin) old new file)
+    result
+
+-- how writing a registration for the shell of this name ends
+abbrev pub EndsRegistration : {S : Type 0} → (S → List ℕ) → (S → Failures) → List ℕ → List ℕ
+    → Option (List ℕ) → S → S → Result (Unit {0}) Refusal → Type 0
+EndsRegistration taken failed name bin file old new result = EndsFor taken failed name old new
+    (λ shell. Registers taken failed (RegistrationReads shell) bin file old new
+    (registration_for shell)) result
+
+-- how writing the candidates for the word at an index ends
+abbrev pub EndsReply : {S : Type 0} → (S → List ℕ) → (S → Failures) → Paths → List (List ℕ) → ℕ
+    → Option (List ℕ) → S → S → Result (Unit {0}) Refusal → Type 0
+EndsReply taken failed Finds words index file old new result = Finishes taken failed false
+    (IsOutOfRange (length words) index) (IsReply Finds words index) old new file result
+
+-- how carrying out a plan ends, where these paths may be found
+abbrev pub Ends : {S : Type 0} → (S → List ℕ) → (S → Failures) → Paths → Plan → Option (List ℕ)
+    → S → S → Result (Unit {0}) Refusal → Type 0
+Ends taken failed Finds (Script shell bin tree) file old new result =
+    EndsScript taken failed (string_bytes shell) (string_bytes bin) file old new result
+Ends taken failed Finds (Register shell bin tree) file old new result =
+    EndsRegistration taken failed (string_bytes shell) (string_bytes bin) file old new result
+Ends taken failed Finds (Candidates index tree words) file old new result =
+    EndsReply taken failed Finds (map string_bytes words.items) index file old new result

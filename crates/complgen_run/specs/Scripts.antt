@@ -1,0 +1,21 @@
+-- The script for the command of a tree file, and when there is none.
+use Rattle.std.specs.Prelude.{◌≡◌, ℕ, List, Some, None}
+use Rattle.clap_complete.specs.Built.{built_under}
+use Rattle.clap_complete.specs.Error.TheVariants.{LabelClash}
+use Rattle.clap_complete.specs.Shell.{Shell}
+use Rattle.clap_complete.specs.ShellGenerators.{shell_clash, shell_script}
+use Rattle.clap_complete.specs.Tree.{Tree}
+use Rattle.complgen_command_line.specs.declared.types.Refusal.{Refusal}
+use Rattle.complgen_run.specs.Refusals.{IsMade, error_line}
+
+-- two nodes of the command, built under the bin name, would share this label, and that is reported
+pub record SharesLabel (shell : Shell) (bin : List ℕ) (tree : Tree) (refusal : Refusal)
+    : Type 0 where
+  pub label : List ℕ
+  pub shared : shell_clash shell (built_under (Some bin) tree) ≡ Some label
+  pub reported : IsMade (error_line (LabelClash label)) refusal
+
+-- the script of the command, built under the bin name, of which no two nodes share a label
+pub record IsScript (shell : Shell) (bin : List ℕ) (tree : Tree) (text : List ℕ) : Type 0 where
+  pub unshared : shell_clash shell (built_under (Some bin) tree) ≡ None
+  pub is : text ≡ shell_script shell (built_under (Some bin) tree)

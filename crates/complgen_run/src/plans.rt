@@ -1,0 +1,37 @@
+//! Carries out a plan.
+
+ghost use Rattle.std.specs.Prelude.{Some, codes};
+ghost use Rattle.std.specs.Option.{option_copied};
+ghost use Rattle.clap_complete.specs.HintPaths.{PathsOf};
+ghost use Rattle.complgen_run.specs.Ends.{Ends};
+
+use crate::registrations::register;
+use crate::replies::reply;
+use crate::scripts::script;
+use clap_complete::aot::Sink;
+use clap_complete::engine::Folder;
+use complgen_command_line::{Plan, Refusal};
+use std::alloc::Global;
+
+/// Carries out the plan, over the bytes of its tree file, or `None` where that file can't be read.
+/// What is written goes to `out`. A shell is looked up before the tree is read. Paths of value
+/// hints are completed from the folder, where the current folder is `.`.
+pub fn run<D: Folder, W: Sink>(
+    alloc: Global,
+    plan: &Plan,
+    file: Option<&[u8]>,
+    folder: &D,
+    out: &mut W,
+) -> Result<(), Refusal>
+    ensures { Ends W.taken W.failed (PathsOf (D.lists folder.now) (D.tells_dir folder.now)
+        (D.tells_file folder.now) (D.tells_executable folder.now) (D.home_path folder.now)
+        (Some (codes "."))) plan.now (option_copied file.entry) out.old out.new result }
+{
+    match plan {
+        Plan::Script(shell, bin, _) => script(alloc, shell.as_str(), bin.as_str(), file, out),
+        Plan::Register(shell, bin, _) => register(alloc, shell.as_str(), bin.as_str(), file, out),
+        Plan::Candidates(index, _, words) => {
+            reply(alloc, words.as_slice(), *index, file, folder, out)
+        }
+    }
+}

@@ -1,0 +1,68 @@
+//! What is printed of an error.
+
+ghost use Rattle.complgen_run.specs.Refusals.{HasText, Reports, ReportsTree};
+
+use cc_tree_file::TreeError;
+use clap_complete::Error;
+use complgen_command_line::{Refusal, WRITE_FAILED};
+use std::alloc::{AllocError, Global};
+use std::borrow::CowStr;
+
+/// What is printed where the tree file can't be read.
+pub(crate) const UNREADABLE: &str = "tree: unreadable\n";
+
+/// What is printed where a registration for Nushell is asked for.
+pub(crate) const UNKNOWN_NUSHELL: &str = "unknown shell `nushell`, \
+    expected one of `bash`, `elvish`, `fish`, `powershell`, `zsh`\n";
+
+const NOT_JSON: &str = "tree: not JSON\n";
+
+const BAD_FORM: &str = "tree: bad form\n";
+
+const NO_COMPLETION: &str = "no completion generated\n";
+
+const NO_ARGUMENTS: &str = "no arguments\n";
+
+/// What is printed of the error of a tree file.
+pub(crate) fn tree_refusal(error: TreeError) -> Refusal
+    ensures { ReportsTree error result }
+{
+    match error {
+        TreeError::NotJson => Refusal::fixed(1, NOT_JSON),
+        TreeError::BadForm => Refusal::fixed(1, BAD_FORM),
+        TreeError::Memory => Refusal::from(AllocError),
+    }
+}
+
+/// What is printed of an error of the library.
+pub(crate) fn error_refusal(alloc: Global, error: &Error) -> Refusal
+    ensures { Reports error.now result }
+{
+    match error {
+        Error::Memory => Refusal::from(AllocError),
+        Error::Write(_) => Refusal::fixed(1, WRITE_FAILED),
+        Error::NoCompletion => Refusal::fixed(1, NO_COMPLETION),
+        Error::NoArguments => Refusal::fixed(1, NO_ARGUMENTS),
+        Error::LabelClash(label) => {
+            let label = label.as_str();
+            with_text(format!(in alloc; "two commands share the label {label}\n"))
+        }
+        Error::UnknownShell(text) | Error::InvalidVariant(text) => {
+            let text = text.as_str();
+            with_text(format!(in alloc; "{text}\n"))
+        }
+    }
+}
+
+// A refusal with this text, if there was memory for it.
+fn with_text(text: Result<String, AllocError>) -> Refusal
+    ensures { HasText text result }
+{
+    match text {
+        Ok(text) => Refusal {
+            status: 1,
+            text: CowStr::Owned(text),
+        },
+        Err(failed) => Refusal::from(failed),
+    }
+}

@@ -1,0 +1,83 @@
+//! Writes the candidates for a word of a command line.
+
+ghost use Rattle.std.specs.Prelude.{◌≡◌, IfErr, IfOk, Some, codes, length, map, string_bytes};
+ghost use Rattle.std.specs.Option.{option_copied};
+ghost use Rattle.clap_complete.specs.HintPaths.{PathsOf};
+ghost use Rattle.complgen_run.specs.Ends.{EndsReply};
+ghost use Rattle.complgen_run.specs.Replies.{AreFound, FindsNone};
+
+use crate::refusals::error_refusal;
+use crate::tree_files::tree;
+use cc_env::write_lines;
+use clap_complete::Error;
+use clap_complete::aot::Sink;
+use clap_complete::command::Command;
+use clap_complete::engine::{Completers, CompletionCandidate, Folder, complete};
+use complgen_command_line::Refusal;
+use std::alloc::{AllocError, Global};
+
+// The folder that relative paths start from.
+const CURRENT_DIR: &str = ".";
+
+/// Writes the candidates for the word at the index, as the reply to fish.
+pub(crate) fn reply<D: Folder, W: Sink>(
+    alloc: Global,
+    words: &[String],
+    index: usize,
+    file: Option<&[u8]>,
+    folder: &D,
+    out: &mut W,
+) -> Result<(), Refusal>
+    ensures { EndsReply W.taken W.failed (PathsOf (D.lists folder.now) (D.tells_dir folder.now)
+        (D.tells_file folder.now) (D.tells_executable folder.now) (D.home_path folder.now)
+        (Some (codes "."))) (map string_bytes words.now) index (option_copied file.entry)
+        out.old out.new result }
+{
+    let command = tree(alloc, file)?;
+    let words = copies(alloc, words)?;
+    let found = match candidates(alloc, command, words, index, folder) {
+        Ok(found) => found,
+        Err(error) => return Err(error_refusal(alloc, &error)),
+    };
+    match write_lines(found.as_slice(), out) {
+        Ok(()) => Ok(()),
+        Err(error) => Err(error_refusal(alloc, &error)),
+    }
+}
+
+// Copies of the words.
+fn copies(alloc: Global, words: &[String]) -> Result<Vec<String>, AllocError>
+    ensures { IfOk result (λ copies. map string_bytes copies.items ≡ map string_bytes words.now) }
+{
+    let mut copies = Vec::new(alloc);
+    for word in words {
+        copies.push(String::from_str(alloc, word.as_str())?)?;
+    }
+    Ok(copies)
+}
+
+// The candidates for the word at the index, where no completers are lent.
+fn candidates<D: Folder>(
+    alloc: Global,
+    mut command: Command,
+    words: Vec<String>,
+    index: usize,
+    folder: &D,
+) -> Result<Vec<CompletionCandidate>, Error>
+    ensures ok { IfOk result (λ found. AreFound (PathsOf (D.lists folder.now)
+        (D.tells_dir folder.now) (D.tells_file folder.now) (D.tells_executable folder.now)
+        (D.home_path folder.now) (Some (codes "."))) (map string_bytes words.items) index command
+        found.items) }
+    ensures err { IfErr result (FindsNone (length words.items) index command) }
+{
+    let lent = Completers::new(alloc, Vec::new(alloc), Vec::new(alloc));
+    complete(
+        alloc,
+        &mut command,
+        words,
+        index,
+        Some(CURRENT_DIR),
+        folder,
+        &lent,
+    )
+}

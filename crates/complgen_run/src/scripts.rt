@@ -1,0 +1,51 @@
+//! Writes a script.
+
+ghost use Rattle.std.specs.Prelude.{true};
+ghost use Rattle.std.specs.Option.{option_copied};
+ghost use Rattle.complgen_run.specs.Ends.{EndsScript};
+ghost use Rattle.complgen_run.specs.Scripts.{IsScript, SharesLabel};
+ghost use Rattle.complgen_run.specs.Writing.{Finishes};
+
+use crate::refusals::error_refusal;
+use crate::shells::shell_of;
+use crate::tree_files::tree;
+use clap_complete::aot::Sink;
+use clap_complete::{Shell, generate};
+use complgen_command_line::Refusal;
+use std::alloc::Global;
+
+/// Writes the script for the shell of this name.
+pub(crate) fn script<W: Sink>(
+    alloc: Global,
+    shell: &str,
+    bin: &str,
+    file: Option<&[u8]>,
+    out: &mut W,
+) -> Result<(), Refusal>
+    ensures { EndsScript W.taken W.failed shell.now bin.now (option_copied file.entry)
+        out.old out.new result }
+{
+    match shell_of(alloc, shell) {
+        Ok(shell) => script_by(alloc, shell, bin, file, out),
+        Err(unknown) => Err(unknown),
+    }
+}
+
+// Writes the script for this shell of a tree file.
+fn script_by<W: Sink>(
+    alloc: Global,
+    shell: Shell,
+    bin: &str,
+    file: Option<&[u8]>,
+    out: &mut W,
+) -> Result<(), Refusal>
+    ensures { Finishes W.taken W.failed true (SharesLabel shell bin.now) (IsScript shell bin.now)
+        out.old out.new (option_copied file.entry) result }
+{
+    let mut command = tree(alloc, file)?;
+    let bin = String::from_str(alloc, bin)?;
+    match generate(alloc, shell, &mut command, bin, out) {
+        Ok(()) => Ok(()),
+        Err(error) => Err(error_refusal(alloc, &error)),
+    }
+}

@@ -1,0 +1,20 @@
+//! Tree files.
+
+ghost use Rattle.std.specs.Option.{option_copied};
+ghost use Rattle.complgen_run.specs.TreeFiles.{ReadsFile};
+
+use crate::refusals::{UNREADABLE, tree_refusal};
+use cc_tree_file::read_tree;
+use clap_complete::command::Command;
+use complgen_command_line::Refusal;
+use std::alloc::Global;
+
+/// The command that a file describes; there are no bytes where it can't be read.
+pub(crate) fn tree(alloc: Global, file: Option<&[u8]>) -> Result<Command, Refusal>
+    ensures { ReadsFile (option_copied file.entry) result }
+{
+    let Some(bytes) = file else {
+        return Err(Refusal::fixed(1, UNREADABLE));
+    };
+    read_tree(alloc, bytes).map_err(tree_refusal)
+}

@@ -1,0 +1,68 @@
+//! Carrying out a plan over a tree file and a folder in memory.
+
+use crate::checks::same;
+use cc_paths::MemoryFolder;
+use clap_complete::aot::Collected;
+use complgen_command_line::{Plan, Refusal};
+use complgen_run::run;
+use std::alloc::{AllocError, Global};
+use std::convert::AsStr;
+use std::process::Abort;
+
+/// The plan of a script for `app`.
+pub(crate) fn script(alloc: Global, shell: &str) -> Result<Plan, AllocError> {
+    let bin = String::from_str(alloc, "app")?;
+    let tree = String::from_str(alloc, "tree.json")?;
+    Ok(Plan::Script(String::from_str(alloc, shell)?, bin, tree))
+}
+
+/// The plan of a registration for a program of this bin name.
+pub(crate) fn registration(alloc: Global, shell: &str, bin: &str) -> Result<Plan, AllocError> {
+    let bin = String::from_str(alloc, bin)?;
+    let tree = String::from_str(alloc, "tree.json")?;
+    Ok(Plan::Register(String::from_str(alloc, shell)?, bin, tree))
+}
+
+/// The plan of candidates for the word at the index.
+pub(crate) fn candidates(alloc: Global, index: usize, words: &[&str]) -> Result<Plan, AllocError> {
+    let mut owned = Vec::new(alloc);
+    for word in words {
+        owned.push(String::from_str(alloc, word)?)?;
+    }
+    Ok(Plan::Candidates(index, String::from_str(alloc, "tree.json")?, owned))
+}
+
+/// What the plan writes over this file, in a folder.
+pub(crate) fn written_in(
+    alloc: Global,
+    plan: &Plan,
+    file: &[u8],
+    folder: &MemoryFolder,
+) -> Result<String, Refusal> {
+    let mut out = Collected::new(alloc);
+    run(alloc, plan, Some(file), folder, &mut out)?;
+    Ok(String::from_utf8_lossy(alloc, out.as_slice())?)
+}
+
+/// What the plan writes over this file, where there are no other files.
+pub(crate) fn written(alloc: Global, plan: &Plan, file: &[u8]) -> Result<String, Refusal> {
+    written_in(alloc, plan, file, &MemoryFolder::new(&[], &[]))
+}
+
+/// Fails unless the plan, over this file, ends with this text at status 1, and nothing is written.
+pub(crate) fn fails(
+    rt: &impl Abort,
+    alloc: Global,
+    plan: Result<Plan, AllocError>,
+    file: Option<&[u8]>,
+    wanted: &str,
+) {
+    let plan = plan.expect(rt, "no plan");
+    let mut out = Collected::new(alloc);
+    let folder = MemoryFolder::new(&[], &[]);
+    match run(alloc, &plan, file, &folder, &mut out) {
+        Ok(()) => panic!(rt; "it is carried out"),
+        Err(refusal) => same(rt, (refusal.status, refusal.text.as_str()), (1, wanted)),
+    }
+    assert!(rt; out.as_slice().is_empty());
+}

@@ -1,0 +1,193 @@
+//! What a script's plan writes, and how carrying it out fails.
+
+use crate::checks::{has, same};
+use crate::runs::{fails, script, written};
+use cc_paths::MemoryFolder;
+use clap_complete::aot::Collected;
+use complgen_command_line::Refusal;
+use complgen_run::run;
+use std::alloc::{AllocError, Global};
+use std::convert::AsStr;
+
+#[test]
+fn reports_a_shell_before_the_tree(rt: HostRuntime) {
+    fails(
+        &rt,
+        rt.alloc(),
+        script(rt.alloc(), "tcsh"),
+        None,
+        "invalid variant: tcsh\n",
+    );
+}
+
+// A tree with a child.
+const PARENT: &str = "{\"name\": \"app\", \"disable_help_flag\": true, \"subcommands\": [
+    {\"name\": \"run\", \"visible_aliases\": [\"r\"], \"aliases\": [\"go\"]}]}";
+
+// The script for this shell of the tree in a file.
+fn script_of(alloc: Global, shell: &str, file: &[u8]) -> Result<String, Refusal> {
+    written(alloc, &script(alloc, shell)?, file)
+}
+
+// In the gate there is memory enough. With `rt try --test --fail-alloc 4` the first allocation of
+// `run` fails, which is in reading the tree; nothing is written.
+#[test]
+fn writes_nothing_without_memory(rt: HostRuntime) {
+    let plan = script(rt.alloc(), "elvish").expect(&rt, "no plan");
+    let mut out = Collected::new(rt.alloc());
+    let folder = MemoryFolder::new(&[], &[]);
+    match run(
+        rt.alloc(),
+        &plan,
+        Some(PARENT.as_bytes()),
+        &folder,
+        &mut out,
+    ) {
+        Ok(()) => assert!(rt; !out.as_slice().is_empty()),
+        Err(refusal) => {
+            same(&rt, refusal.text.as_str(), "out of memory\n");
+            assert!(rt; out.as_slice().is_empty());
+        }
+    }
+}
+
+#[test]
+fn writes_the_keys_of_a_child(rt: HostRuntime) {
+    let script = script_of(rt.alloc(), "elvish", PARENT.as_bytes()).expect(&rt, "no script");
+    assert!(rt; script.as_str().contains("&'app'= {"));
+    assert!(rt; script.as_str().contains("&'app;run'= {"));
+    assert!(rt; script.as_str().contains("&'app;r'= {"));
+    assert!(rt; !script.as_str().contains("app;go"));
+}
+
+#[test]
+fn writes_for_powershell(rt: HostRuntime) {
+    let head = "Register-ArgumentCompleter -Native -CommandName 'app'";
+    has(
+        &rt,
+        script_of(rt.alloc(), "powershell", PARENT.as_bytes()),
+        head,
+    );
+    has(
+        &rt,
+        script_of(rt.alloc(), "powershell", PARENT.as_bytes()),
+        "'app;r' {",
+    );
+}
+
+#[test]
+fn reports_a_file_that_is_not_there(rt: HostRuntime) {
+    fails(
+        &rt,
+        rt.alloc(),
+        script(rt.alloc(), "elvish"),
+        None,
+        "tree: unreadable\n",
+    );
+}
+
+// A brace left open, an empty file, bytes that are not UTF-8, and a number too large for a
+// float.
+const NOT_JSON: [&[u8]; 4] = [b"{", b"", b"{\"name\":\"\xff\"}", b"{\"name\":1e999}"];
+
+#[test]
+fn reports_a_file_that_is_not_json(rt: HostRuntime) {
+    for bytes in NOT_JSON {
+        fails(
+            &rt,
+            rt.alloc(),
+            script(rt.alloc(), "elvish"),
+            Some(bytes),
+            "tree: not JSON\n",
+        );
+    }
+}
+
+// The first bytes of a file that ends with its last brace, but never all of them.
+#[test]
+fn reports_each_beginning_of_a_file(rt: HostRuntime) {
+    for length in 0..PARENT.len() {
+        fails(
+            &rt,
+            rt.alloc(),
+            script(rt.alloc(), "elvish"),
+            PARENT.as_bytes().get(..length),
+            "tree: not JSON\n",
+        );
+    }
+}
+
+// Adds a text so many times.
+fn push_times(text: &mut String, part: &str, times: usize) -> Result<(), AllocError> {
+    for _ in 0..times {
+        text.push_str(part)?;
+    }
+    Ok(())
+}
+
+#[test]
+fn reports_a_million_open_brackets(rt: HostRuntime) {
+    let mut text = String::new(rt.alloc());
+    push_times(&mut text, "[", 1_000_000).expect(&rt, "no text");
+    fails(
+        &rt,
+        rt.alloc(),
+        script(rt.alloc(), "elvish"),
+        Some(text.as_bytes()),
+        "tree: not JSON\n",
+    );
+}
+
+// Each parent is an object and a list, so 63 of them and a child nest as deep as JSON may.
+fn deepest(alloc: Global) -> Result<String, AllocError> {
+    let mut text = String::new(alloc);
+    push_times(&mut text, "{\"name\":\"a\",\"subcommands\":[", 63)?;
+    text.push_str("{\"name\":\"a\"}")?;
+    push_times(&mut text, "]}", 63)?;
+    Ok(text)
+}
+
+#[test]
+fn writes_the_script_of_the_deepest_tree(rt: HostRuntime) {
+    let text = deepest(rt.alloc()).expect(&rt, "no text");
+    let script = script_of(rt.alloc(), "elvish", text.as_bytes());
+    has(&rt, script, "&'app;a;a;a'= {");
+}
+
+// In bash `a-b` has the label of `b` below `a`.
+const CLASH: &str = "{\"name\": \"app\", \"subcommands\": [
+    {\"name\": \"a-b\"}, {\"name\": \"a\", \"subcommands\": [{\"name\": \"b\"}]}]}";
+
+#[test]
+fn reports_two_commands_with_one_label(rt: HostRuntime) {
+    let wanted = "two commands share the label app__subcmd__a__subcmd__b\n";
+    fails(
+        &rt,
+        rt.alloc(),
+        script(rt.alloc(), "bash"),
+        Some(CLASH.as_bytes()),
+        wanted,
+    );
+}
+
+// A name that is no text, a mark that is no truth value, a key that there is not, and a range whose
+// bounds are exchanged.
+const BAD_FORMS: [&str; 4] = [
+    r#"{"name": 1.5}"#,
+    r#"{"name": "app", "args": [{"id": "a", "hide": 1}]}"#,
+    r#"{"name": "app", "colour": true}"#,
+    r#"{"name": "app", "args": [{"id": "a", "num_args": [2, 1]}]}"#,
+];
+
+#[test]
+fn reports_a_file_of_another_form(rt: HostRuntime) {
+    for text in BAD_FORMS {
+        fails(
+            &rt,
+            rt.alloc(),
+            script(rt.alloc(), "elvish"),
+            Some(text.as_bytes()),
+            "tree: bad form\n",
+        );
+    }
+}

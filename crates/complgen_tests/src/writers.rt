@@ -1,0 +1,103 @@
+//! Plans carried out over a writer that fails, or takes nothing, after any count of bytes.
+
+use crate::checks::same;
+use crate::runs::{candidates, registration, script, written};
+use cc_paths::MemoryFolder;
+use clap_complete::aot::Counted;
+use complgen_command_line::{Plan, Refusal};
+use complgen_run::run;
+use std::alloc::{AllocError, Global};
+use std::convert::AsStr;
+use std::io::{self, ErrorKind, Write};
+use std::process::Abort;
+
+// A writer that has room for so many bytes, and then fails; without a kind it takes nothing.
+#[derive(Drop)]
+struct Narrow {
+    held: Vec<u8>,
+    room: usize,
+    kind: Option<ErrorKind>,
+}
+
+impl Write for Narrow {
+    fn write(&mut self, bytes: &[u8]) -> io::Result<usize> {
+        let left = self.room.saturating_sub(self.held.len());
+        let taken = &bytes[..bytes.len().min(left)];
+        if taken.is_empty() && !bytes.is_empty() {
+            return match self.kind {
+                Some(kind) => Err(io::Error::from(kind)),
+                None => Ok(0),
+            };
+        }
+        self.held.extend_from_slice(taken)?;
+        Ok(taken.len())
+    }
+
+    fn flush(&mut self) -> io::Result<()> {
+        Ok(())
+    }
+}
+
+const TREE: &[u8] = br#"{"name": "app", "subcommands": [{"name": "run"}]}"#;
+
+// How a plan ends whose writer has this room, and what the writer then holds.
+fn end_of(
+    alloc: Global,
+    plan: &Plan,
+    room: usize,
+    kind: Option<ErrorKind>,
+) -> Result<(String, String), AllocError> {
+    let held = Vec::new(alloc);
+    let mut out = Counted::new(Narrow { held, room, kind });
+    let ended = run(
+        alloc,
+        plan,
+        Some(TREE),
+        &MemoryFolder::new(&[], &[]),
+        &mut out,
+    );
+    let ended = match ended {
+        Ok(()) => String::from_str(alloc, "carried out")?,
+        Err(refusal) => told(alloc, &refusal)?,
+    };
+    Ok((ended, String::from_utf8_lossy(alloc, &out.get_ref().held)?))
+}
+
+fn told(alloc: Global, refusal: &Refusal) -> Result<String, AllocError> {
+    format!(in alloc; "{} {}", refusal.status, refusal.text.as_str())
+}
+
+// Fails unless the plan ends with `write failed` wherever the writer fails, and all before that
+// place is written.
+fn fails_to_write(rt: &impl Abort, alloc: Global, plan: Result<Plan, AllocError>) {
+    let plan = plan.expect(rt, "no plan");
+    let whole = written(alloc, &plan, TREE).expect(rt, "no text");
+    for room in 0..whole.len() {
+        for kind in [Some(ErrorKind::BrokenPipe), None] {
+            let (ended, held) = end_of(alloc, &plan, room, kind).expect(rt, "out of memory");
+            same(rt, ended.as_str(), "1 write failed\n");
+            same(rt, whole.as_str().get(..room), Some(held.as_str()));
+        }
+    }
+    let (ended, held) = end_of(alloc, &plan, whole.len(), None).expect(rt, "out of memory");
+    same(
+        rt,
+        (ended.as_str(), held.as_str()),
+        ("carried out", whole.as_str()),
+    );
+}
+
+#[test]
+fn a_script_reports_that_writing_failed(rt: HostRuntime) {
+    fails_to_write(&rt, rt.alloc(), script(rt.alloc(), "elvish"));
+}
+
+#[test]
+fn a_registration_reports_that_writing_failed(rt: HostRuntime) {
+    fails_to_write(&rt, rt.alloc(), registration(rt.alloc(), "zsh", "app"));
+}
+
+#[test]
+fn candidates_report_that_writing_failed(rt: HostRuntime) {
+    fails_to_write(&rt, rt.alloc(), candidates(rt.alloc(), 1, &["app", ""]));
+}
