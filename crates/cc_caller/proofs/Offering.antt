@@ -3,7 +3,7 @@ use Rattle.std.proofs.Common.{◌≡◌, ◌∙◌, ap, inl, inr, refl, subst, s
 use Rattle.std.proofs.lemmas.Bool.{cases_Bool}
 use Rattle.std.proofs.lemmas.List.{append-nil}
 use Rattle.std.specs.Prelude.{not, ◌==◌}
-use Rattle.clap_complete.specs.Arg.{Arg}
+use Rattle.clap_complete.specs.ArgParts.{ArgParts as Arg}
 use Rattle.clap_complete.specs.Printed.{printed, printed_names, printed_values}
 use Rattle.clap_complete.specs.Sorting.{in_order}
 use Rattle.clap_complete.specs.Error.{Error}
