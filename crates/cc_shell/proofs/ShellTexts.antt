@@ -1,51 +1,51 @@
 -- That a text names at most one shell, and that no other text names one.
-use Rattle.std.proofs.Common.{◌≡◌, ◌∙◌, sym, ap, refl, ℕ, List, Option, Some, None, Bool, true}
-use Rattle.std.proofs.Common.{false, Result, Ok, Err, codes}
-use Rattle.std.specs.Prelude.{find}
+use Rattle.std.proofs.Common.{◌≡◌, ◌∙◌, ap, cond, false, refl, sym, true, ℕ, Bool, List, None}
+use Rattle.std.proofs.Common.{Option, Some, [], ◌∷◌, IfOk}
+use Rattle.std.proofs.lemmas.Slice.Eq.{bytes_eq-Decides}
+use Rattle.std.specs.Prelude.{IfSome, find, ok_or}
 use Rattle.std.specs.Str.{bytes_eq}
 use Rattle.cc_shell.specs.Shells.{ReadsShell, all_shells, shell_text}
 use Rattle.cc_shell.specs.declared.shell.InvalidShell.{InvalidShell}
 use Rattle.cc_shell.specs.declared.shell.Shell.{Shell}
-use Rattle.cc_shell.specs.declared.shell.Shell.TheVariants.{Bash, Elvish, Fish, PowerShell, Zsh}
-use Rattle.cc_shell.specs.declared.shell.Shell.TheVariants.{Nushell}
+use Rattle.cc_shell.specs.declared.shell.Shell.TheVariants.{Bash}
 
--- the shell of a text
-abbrev named : List ℕ → Option Shell
-named text = find (λ shell. bytes_eq text (shell_text shell)) all_shells
+-- the first shell of a text
+abbrev pub named : List ℕ → Option Shell
+named text = find (λ shell. bytes_eq (shell_text shell) text) all_shells
 
+-- the text of a shell is that of no shell before it
 named_by_text : (shell : Shell) → named (shell_text shell) ≡ Some shell
 named_by_text Bash = refl
-named_by_text Elvish = refl
-named_by_text Fish = refl
-named_by_text PowerShell = refl
-named_by_text Zsh = refl
-named_by_text Nushell = refl
+named_by_text _ = refl
 
-same_shell : (a b : Shell) → shell_text a ≡ shell_text b → a ≡ b
-same_shell a b e =
-    let both : Some a ≡ Some b = sym (named_by_text a) ∙ ap named e ∙ named_by_text b in cc
+-- ---- what is found passes the test
 
--- the text of a shell is read as that shell
-pub reads_shell : (text : List ℕ) (shell : Shell) → text ≡ shell_text shell
-    → ReadsShell text (Ok shell)
-reads_shell text shell is = record {
-  printed = λ other e. ap Ok (same_shell shell other (sym is ∙ e));
-  only = is;
+passes_first : {T : Type 0} (test : T → Bool) (x : T) (later : Option T) (told : Bool)
+    → test x ≡ told → IfSome later (λ y. test y ≡ true)
+    → IfSome (cond told (Some x) later) (λ y. test y ≡ true)
+passes_first test x later true e h = e
+passes_first test x later false e h = h
+
+found_passes : {T : Type 0} (test : T → Bool) (xs : List T)
+    → IfSome (find test xs) (λ x. test x ≡ true)
+found_passes test [] = tt
+found_passes test (x ∷ xs) =
+    passes_first test x (find test xs) (test x) refl (found_passes test xs)
+
+-- ---- reading
+
+only_text : (text : List ℕ) (error : InvalidShell) (found : Option Shell)
+    → IfSome found (λ shell. bytes_eq (shell_text shell) text ≡ true)
+    → IfOk (ok_or found error) (λ shell. text ≡ shell_text shell)
+only_text text error None h = tt
+only_text text error (Some shell) h = sym ((bytes_eq-Decides (shell_text shell) text).0 h)
+
+-- the first shell of a text is what the text is read as
+pub reads_named : (text : List ℕ) (error : InvalidShell)
+    → ReadsShell text (ok_or (named text) error)
+reads_named text error = record {
+  printed = λ shell e. ap (λ t. ok_or (named t) error) e
+      ∙ ap (λ found. ok_or found error) (named_by_text shell);
+  only = only_text text error (named text)
+      (found_passes (λ shell. bytes_eq (shell_text shell) text) all_shells);
 }
-
--- the text of no shell is not read
-pub reads_none : (text : List ℕ) (error : InvalidShell) → (text ≡ codes "bash" → ⊥)
-    → (text ≡ codes "elvish" → ⊥) → (text ≡ codes "fish" → ⊥) → (text ≡ codes "powershell" → ⊥)
-    → (text ≡ codes "zsh" → ⊥) → (text ≡ codes "nushell" → ⊥) → ReadsShell text (Err error)
-reads_none text error bash elvish fish powershell zsh nushell = record {
-  printed = none;
-  only = tt;
-}
-  where
-    none : (shell : Shell) → text ≡ shell_text shell → Err error ≡ Ok shell
-    none Bash e = absurd (bash e)
-    none Elvish e = absurd (elvish e)
-    none Fish e = absurd (fish e)
-    none PowerShell e = absurd (powershell e)
-    none Zsh e = absurd (zsh e)
-    none Nushell e = absurd (nushell e)

@@ -1,12 +1,14 @@
 //! The shells for which scripts are written, as one type.
 
-ghost use Rattle.std.specs.Prelude.{◌≡◌, ◌++◌, ℕ, Some, None, IfOk, IfErr, IsSome, codes, ◌⊎◌};
+ghost use Rattle.std.specs.Prelude.{◌≡◌, ◌++◌, ℕ, Some, None, IfOk, IfErr, IsSome, codes, find, ◌⊎◌};
 ghost use Rattle.std.specs.Option.{option_and_then, option_copied};
+ghost use Rattle.std.specs.List.{list_any};
 ghost use Rattle.std.specs.Path.{path_file_stem};
+ghost use Rattle.std.specs.Str.{bytes_eq};
 ghost use Rattle.cc_base.specs.declared.error.Error.{Error};
 ghost use Rattle.cc_arg.specs.PossibleValues.{new_possible_value};
 ghost use Rattle.cc_shell.specs.Shells.{ReadsShell, all_shells, invalid_variant, shell_of_path};
-ghost use Rattle.cc_shell.specs.Shells.{shell_of_program, shell_text};
+ghost use Rattle.cc_shell.specs.Shells.{programs, shell_of_program, shell_text};
 
 use cc_arg::PossibleValue;
 use cc_base::{Error, Sink, Text};
@@ -43,14 +45,58 @@ pub enum Shell {
 #[derive(Clone, Copy, PartialEq, Eq, Debug)]
 pub struct InvalidShell;
 
-const ALL: &[Shell] = &[
-    Shell::Bash,
-    Shell::Elvish,
-    Shell::Fish,
-    Shell::PowerShell,
-    Shell::Zsh,
-    Shell::Nushell,
-];
+/// One line for each shell: its variant, which is named as its generator, its text, and the names
+/// of its programs. `$part!` is given the lines, after what is asked for.
+#[macro_export]
+macro_rules! each_shell {
+    ($part:ident! $($asked:tt)*) => {
+        $part! {
+            [$($asked)*]
+            Bash "bash" ("bash"),
+            Elvish "elvish" ("elvish"),
+            Fish "fish" ("fish"),
+            PowerShell "powershell" ("powershell" || "pwsh" || "powershell_ise"),
+            Zsh "zsh" ("zsh"),
+            Nushell "nushell" ("nu"),
+        }
+    };
+}
+
+// The shells.
+macro_rules! all {
+    ([] $($variant:ident $text:literal $programs:tt,)*) => {
+        &[$(Shell::$variant),*]
+    };
+}
+
+// The text of a shell.
+macro_rules! text {
+    ([$shell:tt] $($variant:ident $text:literal $programs:tt,)*) => {
+        match $shell {
+            $(Shell::$variant => $text,)*
+        }
+    };
+}
+
+// Whether a shell has a program of this name.
+macro_rules! program {
+    ([$shell:tt, $name:tt] $($variant:ident $text:literal ($($program:literal)||+),)*) => {
+        match $shell {
+            $(Shell::$variant => $($name == $program)||+,)*
+        }
+    };
+}
+
+// A call of the generator of a shell.
+macro_rules! generator {
+    ([$shell:tt, $call:ident $arguments:tt] $($variant:ident $text:literal $programs:tt,)*) => {
+        match $shell {
+            $(Shell::$variant => $variant.$call $arguments,)*
+        }
+    };
+}
+
+const ALL: &[Shell] = each_shell!(all!);
 
 impl Shell {
     /// All shells, in the order of the type.
@@ -108,30 +154,38 @@ impl Shell {
     fn name(&self) -> &'static str
         ensures { result.now ≡ shell_text self.now }
     {
-        match self {
-            Shell::Bash => "bash",
-            Shell::Elvish => "elvish",
-            Shell::Fish => "fish",
-            Shell::PowerShell => "powershell",
-            Shell::Zsh => "zsh",
-            Shell::Nushell => "nushell",
-        }
+        each_shell!(text! self)
     }
+
+    // Whether a program of this name is the shell's.
+    fn runs_as(&self, program: &str) -> bool
+        ensures { result ≡ list_any (bytes_eq program.now) (programs self.now) }
+    {
+        each_shell!(program! self, program)
+    }
+}
+
+// The first shell of this text.
+fn with_text<'s>(shells: &'s [Shell], text: &str) -> Option<&'s Shell>
+    ensures { option_copied result
+        ≡ find (λ shell. bytes_eq (shell_text shell) text.now) shells.now }
+{
+    shells.iter().find(|shell| shell.name() == text)
+}
+
+// The first shell that runs as this program.
+fn with_program<'s>(shells: &'s [Shell], name: &str) -> Option<&'s Shell>
+    ensures { option_copied result
+        ≡ find (λ shell. list_any (bytes_eq name.now) (programs shell)) shells.now }
+{
+    shells.iter().find(|shell| shell.runs_as(name))
 }
 
 // The shell that runs as this program.
 fn from_program(name: &str) -> Option<Shell>
     ensures { result ≡ shell_of_program name.now }
 {
-    match name {
-        "bash" => Some(Shell::Bash),
-        "elvish" => Some(Shell::Elvish),
-        "fish" => Some(Shell::Fish),
-        "powershell" | "pwsh" | "powershell_ise" => Some(Shell::PowerShell),
-        "zsh" => Some(Shell::Zsh),
-        "nu" => Some(Shell::Nushell),
-        _ => None,
-    }
+    with_program(ALL, name).copied()
 }
 
 // The message that no shell has this text.
@@ -149,15 +203,7 @@ impl FromStr for Shell {
 
     /// The shell of this text, in this very case. Fails where no shell has the text.
     fn from_str(text: &str) -> Result<Shell, InvalidShell> {
-        match text {
-            "bash" => Ok(Shell::Bash),
-            "elvish" => Ok(Shell::Elvish),
-            "fish" => Ok(Shell::Fish),
-            "powershell" => Ok(Shell::PowerShell),
-            "zsh" => Ok(Shell::Zsh),
-            "nushell" => Ok(Shell::Nushell),
-            _ => Err(InvalidShell),
-        }
+        with_text(ALL, text).copied().ok_or(InvalidShell)
     }
 }
 
@@ -185,14 +231,7 @@ impl Generator for Shell {
     ghost file = { shell_file };
 
     fn file_name(&self, alloc: Global, name: &str) -> Result<String, Error> {
-        match self {
-            Shell::Bash => Bash.file_name(alloc, name),
-            Shell::Elvish => Elvish.file_name(alloc, name),
-            Shell::Fish => Fish.file_name(alloc, name),
-            Shell::PowerShell => PowerShell.file_name(alloc, name),
-            Shell::Zsh => Zsh.file_name(alloc, name),
-            Shell::Nushell => Nushell.file_name(alloc, name),
-        }
+        each_shell!(generator! self, file_name(alloc, name))
     }
 
     fn generate<W: Sink>(
@@ -201,13 +240,6 @@ impl Generator for Shell {
         command: &Command,
         sink: &mut W,
     ) -> Result<(), Error> {
-        match self {
-            Shell::Bash => Bash.generate(alloc, command, sink),
-            Shell::Elvish => Elvish.generate(alloc, command, sink),
-            Shell::Fish => Fish.generate(alloc, command, sink),
-            Shell::PowerShell => PowerShell.generate(alloc, command, sink),
-            Shell::Zsh => Zsh.generate(alloc, command, sink),
-            Shell::Nushell => Nushell.generate(alloc, command, sink),
-        }
+        each_shell!(generator! self, generate(alloc, command, sink))
     }
 }

@@ -154,6 +154,7 @@ pub use Rattle.cc_adapters.specs.Builtins as BuiltinShells
 pub use Rattle.cc_adapters.specs.Replies as AdapterReplies
 pub use Rattle.cc_adapters.specs.ShellNames
 pub use Rattle.cc_adapters.specs.Shells as OfferedShells
+pub use Rattle.cc_adapters.specs.declared.builtin.Builtin
 pub use Rattle.cc_requests.specs.Arguments as RequestArguments
 pub use Rattle.cc_requests.specs.Asked as RequestedShell
 pub use Rattle.cc_requests.specs.Steps as RequestSteps

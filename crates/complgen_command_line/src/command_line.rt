@@ -19,9 +19,31 @@ const REGISTER_HELP: &str =
 
 const CANDIDATES_HELP: &str = "Writes the candidates for a word to the standard output";
 
-const SCRIPT_SHELL_HELP: &str = "The shell: bash, elvish, fish, nushell, powershell or zsh";
+// The shells of `script`, between these texts.
+macro_rules! script_shells {
+    ($before:literal, $after:literal) => {
+        concat!(
+            $before,
+            "bash, elvish, fish, nushell, powershell or zsh",
+            $after
+        )
+    };
+}
+
+const SCRIPT_SHELL_HELP: &str = script_shells!("The shell: ", "");
 
 const REGISTER_SHELL_HELP: &str = "The shell: bash, elvish, fish, powershell or zsh";
+
+const AFTER_HELP: &str = script_shells!(
+    "Shells: ",
+    " (fewer in register)
+Tree file: a JSON object that describes a command, with its arguments and subcommands
+
+Examples:
+  complgen script --shell fish --bin app tree.json
+  complgen register --shell bash --bin app tree.json
+  complgen candidates --index 1 tree.json -- app ''"
+);
 
 const BIN_HELP: &str = "The name by which the shell calls the program";
 
@@ -31,15 +53,6 @@ const INDEX_HELP: &str = "The index of the word to complete, from 0";
 
 const WORDS_HELP: &str =
     "The words of a command line, the program's name first; after -- they may begin with -";
-
-const AFTER_HELP: &str = "\
-Shells: bash, elvish, fish, nushell (not in register), powershell, zsh
-Tree file: a JSON object that describes a command, with its arguments and subcommands
-
-Examples:
-  complgen script --shell fish --bin app tree.json
-  complgen register --shell bash --bin app tree.json
-  complgen candidates --index 1 tree.json -- app ''";
 
 // `--NAME VALUE`, which has to be there.
 fn option<'a>(

@@ -6,7 +6,8 @@ use Rattle.complgen_command_line.specs.declared.types.Plan.{Plan}
 use Rattle.complgen_command_line.specs.declared.types.Plan.TheVariants.{Candidates, Register, Script}
 use Rattle.complgen_command_line.specs.declared.types.Refusal.{Refusal}
 use Rattle.complgen_run.specs.Refusals.{FindsShell}
-use Rattle.complgen_run.specs.Registrations.{Registers, RegistrationReads, registration_for}
+use Rattle.complgen_run.specs.Registrations.{Registers, RegistrationReads, no_registration_text}
+use Rattle.complgen_run.specs.Registrations.{registration_for}
 use Rattle.complgen_run.specs.Replies.{IsOutOfRange, IsReply, Paths}
 use Rattle.complgen_run.specs.Scripts.{IsScript, SharesLabel}
 use Rattle.complgen_run.specs.Writing.{Finishes, Untouched}
@@ -32,8 +33,8 @@ EndsScript taken failed name bin file old new result = EndsFor taken failed name
 abbrev pub EndsRegistration : {S : Type 0} → (S → List ℕ) → (S → Failures) → List ℕ → List ℕ
     → Option (List ℕ) → S → S → Result (Unit {0}) Refusal → Type 0
 EndsRegistration taken failed name bin file old new result = EndsFor taken failed name old new
-    (λ shell. Registers taken failed (RegistrationReads shell) bin file old new
-    (registration_for shell)) result
+    (λ shell. Registers taken failed (RegistrationReads shell) (no_registration_text shell) bin file
+    old new (registration_for shell)) result
 
 -- how writing the candidates for the word at an index ends
 abbrev pub EndsReply : {S : Type 0} → (S → List ℕ) → (S → Failures) → Paths → List (List ℕ) → ℕ

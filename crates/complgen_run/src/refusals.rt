@@ -1,9 +1,13 @@
 //! What is printed of an error.
 
-ghost use Rattle.complgen_run.specs.Refusals.{HasText, Reports, ReportsTree};
+ghost use Rattle.std.specs.Prelude.{◌≡◌};
+ghost use Rattle.clap_complete.specs.Error.TheVariants.{UnknownShell};
+ghost use Rattle.complgen_run.specs.Refusals.{HasText, Reports, ReportsTree, error_line};
+ghost use Rattle.complgen_run.specs.Registrations.{no_registration_text};
 
+use cc_shell::each_shell;
 use cc_tree_file::TreeError;
-use clap_complete::Error;
+use clap_complete::{Error, Shell};
 use complgen_command_line::{Refusal, WRITE_FAILED};
 use std::alloc::{AllocError, Global};
 use std::borrow::CowStr;
@@ -11,17 +15,33 @@ use std::borrow::CowStr;
 /// What is printed where the tree file can't be read.
 pub(crate) const UNREADABLE: &str = "tree: unreadable\n";
 
-/// What is printed where a registration for Nushell is asked for.
-pub(crate) const UNKNOWN_NUSHELL: &str = "unknown shell `nushell`, \
-    expected one of `bash`, `elvish`, `fish`, `powershell`, `zsh`\n";
-
 const NOT_JSON: &str = "tree: not JSON\n";
 
 const BAD_FORM: &str = "tree: bad form\n";
 
+// What is printed of a shell that has no registration, with the names of those that have one.
+macro_rules! no_registration {
+    ([$shell:tt] $($variant:ident $text:literal $programs:tt,)*) => {
+        match $shell {
+            $(Shell::$variant => concat!(
+                "unknown shell `", $text,
+                "`, expected one of `bash`, `elvish`, `fish`, `powershell`, `zsh`\n"
+            ),)*
+        }
+    };
+}
+
 const NO_COMPLETION: &str = "no completion generated\n";
 
 const NO_ARGUMENTS: &str = "no arguments\n";
+
+/// What is printed where a registration is asked for and this shell has none.
+#[tactic(auto, unfolding(clap_complete::specs::RequestedShell::unknown_shell))]
+pub(crate) fn no_registration(shell: Shell) -> &'static str
+    ensures { result.now ≡ error_line (UnknownShell (no_registration_text shell)) }
+{
+    each_shell!(no_registration! shell)
+}
 
 /// What is printed of the error of a tree file.
 pub(crate) fn tree_refusal(error: TreeError) -> Refusal

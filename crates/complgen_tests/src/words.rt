@@ -86,7 +86,7 @@ fn shows_help(rt: HostRuntime) {
         register    Writes a script that has the shell ask the program itself for candidates\n  \
         candidates  Writes the candidates for a word to the standard output\n\n\
         Options:\n  -h, --help     Print help\n  -V, --version  Print version\n\n\
-        Shells: bash, elvish, fish, nushell (not in register), powershell, zsh\n\
+        Shells: bash, elvish, fish, nushell, powershell or zsh (fewer in register)\n\
         Tree file: a JSON object that describes a command, with its arguments and subcommands\n\n\
         Examples:\n  \
         complgen script --shell fish --bin app tree.json\n  \

@@ -1,10 +1,19 @@
-use Rattle.complgen_run.proofs.RegisterLemmas.{has_registration, without_registration}
+use Rattle.std.proofs.lemmas.Result.{err_from_is_err_and}
+use Rattle.complgen_run.proofs.RegisterLemmas.{register_failed, registered}
+use Rattle.complgen_run.proofs.WritingLemmas.{ends_unread}
 use Rattle.complgen_run.proofs.registrations.register_by.Goals as goal
 
-pub returns-in-Nushell : goal.returns-in-Nushell
-returns-in-Nushell g c =
-    without_registration _ _ _ _ _ _ _ _ c.in-Nushell.is
-    (record { status = c.fixed.ensures.status; text_is = c.fixed.ensures.text })
+pub returns-in_err-command : goal.returns-in_err-command
+returns-in_err-command g c =
+    let p = err_from_is_err_and c.from_residual.result c.from_residual.ensures.1 in
+    rw (p.1, p.2) (ends_unread _ _ _ _ _ _ _ _ c.in_err-command.ensures)
 
-pub register_known-requires : goal.register_known-requires
-register_known-requires g c = has_registration _ c.in_default.not-Nushell
+pub returns-in-Ok : goal.returns-in-Ok
+returns-in-Ok g c =
+    registered _ _ _ _ _ _ _ _ _ _ c.in_ok-command.ensures c.get_name.ensures
+    c.in-Ok.ensures.written c.in-Ok.ensures.read_back
+
+pub returns : goal.returns
+returns g c =
+    register_failed _ _ _ _ _ _ _ _ _ _ _ _ c.in_ok-command.ensures c.get_name.ensures
+    c.in-Err.ensures.written c.in-Err.ensures.read_back c.error_refusal.ensures
