@@ -36,7 +36,6 @@ const NO_COMPLETION: &str = "no completion generated\n";
 const NO_ARGUMENTS: &str = "no arguments\n";
 
 /// What is printed where a registration is asked for and this shell has none.
-#[tactic(auto, unfolding(clap_complete::specs::RequestedShell::unknown_shell))]
 pub(crate) fn no_registration(shell: Shell) -> &'static str
     ensures { result.now ≡ error_line (UnknownShell (no_registration_text shell)) }
 {

@@ -10,10 +10,10 @@ returns-in_err-command g c =
 
 pub returns-in-Ok : goal.returns-in-Ok
 returns-in-Ok g c =
-    registered _ _ _ _ _ _ _ _ _ _ c.in_ok-command.ensures c.get_name.ensures
+    registered _ _ _ _ _ _ _ _ _ _ c.in_ok-command.ensures c.get_name-name.ensures
     c.in-Ok.ensures.written c.in-Ok.ensures.read_back
 
 pub returns : goal.returns
 returns g c =
-    register_failed _ _ _ _ _ _ _ _ _ _ _ _ c.in_ok-command.ensures c.get_name.ensures
+    register_failed _ _ _ _ _ _ _ _ _ _ _ _ c.in_ok-command.ensures c.get_name-name.ensures
     c.in-Err.ensures.written c.in-Err.ensures.read_back c.error_refusal.ensures
