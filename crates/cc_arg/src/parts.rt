@@ -68,73 +68,91 @@ pub struct ArgParts {
     pub allow_hyphen_values: bool,
 }
 
+// One line for each part besides the id: its kind, which says how it is copied, with the first
+// value of those kinds that leave it open. `$all!` makes of the lines what is asked for.
+macro_rules! each_part {
+    ($all:ident! $($asked:tt)*) => {
+        $all! {
+            [$($asked)*]
+            short: plain(None),
+            short_aliases: characters,
+            visible_short_aliases: characters,
+            long: text,
+            aliases: texts,
+            visible_aliases: texts,
+            help: text,
+            action: plain(None),
+            num_args: plain(None),
+            value_names: texts,
+            possible_values: values,
+            value_hint: plain(ValueHint::Unknown),
+            value_terminator: text,
+            help_heading: text,
+            value_delimiter: plain(None),
+            completer: plain(None),
+            candidates: plain(None),
+            index: plain(None),
+            display_order: plain(None),
+            conflicts: texts,
+            required: plain(false),
+            last: plain(false),
+            global: plain(false),
+            hide: plain(false),
+            allow_hyphen_values: plain(false),
+        }
+    };
+}
+
+// The parts of an argument of which only the id was given.
+macro_rules! first_parts {
+    ([$id:ident, $alloc:ident] $($part:ident: $kind:ident $(($first:expr))?,)*) => {
+        ArgParts {
+            $id,
+            $($part: first!($kind $(($first))?, $alloc),)*
+        }
+    };
+}
+
+// The first value of a part.
+macro_rules! first {
+    (plain($first:expr), $alloc:ident) => { $first };
+    (text, $alloc:ident) => { None };
+    (values, $alloc:ident) => { None };
+    ($items:ident, $alloc:ident) => { Items::new($alloc) };
+}
+
+// A copy of all parts.
+macro_rules! copied_parts {
+    ([$parts:ident, $alloc:ident] $($part:ident: $kind:ident $(($first:expr))?,)*) => {
+        ArgParts {
+            id: $parts.id.try_clone($alloc)?,
+            $($part: copy!($kind $parts.$part, $alloc),)*
+        }
+    };
+}
+
+// A copy of a part.
+macro_rules! copy {
+    (plain $part:expr, $alloc:ident) => { $part };
+    (characters $part:expr, $alloc:ident) => { Items::copy_of($alloc, $part.as_slice())? };
+    (text $part:expr, $alloc:ident) => { copy_of_some($alloc, &$part)? };
+    (texts $part:expr, $alloc:ident) => { Items::copy_of_texts($alloc, $part.as_slice())? };
+    (values $part:expr, $alloc:ident) => { copy_of_given($alloc, &$part)? };
+}
+
 impl ArgParts {
     /// An argument with this id and nothing else; its lists allocate from `alloc`.
     pub fn new(alloc: Global, id: Text) -> ArgParts
         ensures { result ≡ new_arg id }
     {
-        ArgParts {
-            id,
-            short: None,
-            short_aliases: Items::new(alloc),
-            visible_short_aliases: Items::new(alloc),
-            long: None,
-            aliases: Items::new(alloc),
-            visible_aliases: Items::new(alloc),
-            help: None,
-            action: None,
-            num_args: None,
-            value_names: Items::new(alloc),
-            possible_values: None,
-            value_hint: ValueHint::Unknown,
-            value_terminator: None,
-            help_heading: None,
-            value_delimiter: None,
-            completer: None,
-            candidates: None,
-            index: None,
-            display_order: None,
-            conflicts: Items::new(alloc),
-            required: false,
-            last: false,
-            global: false,
-            hide: false,
-            allow_hyphen_values: false,
-        }
+        each_part!(first_parts! id, alloc)
     }
 
     // An equal copy.
     pub(crate) fn try_clone(&self, alloc: Global) -> Result<ArgParts, AllocError>
         ensures { IfOk result (λ copy. copy ≡ self.now) }
     {
-        Ok(ArgParts {
-            id: self.id.try_clone(alloc)?,
-            short: self.short,
-            short_aliases: Items::copy_of(alloc, self.short_aliases.as_slice())?,
-            visible_short_aliases: Items::copy_of(alloc, self.visible_short_aliases.as_slice())?,
-            long: copy_of_some(alloc, &self.long)?,
-            aliases: Items::copy_of_texts(alloc, self.aliases.as_slice())?,
-            visible_aliases: Items::copy_of_texts(alloc, self.visible_aliases.as_slice())?,
-            help: copy_of_some(alloc, &self.help)?,
-            action: self.action,
-            num_args: self.num_args,
-            value_names: Items::copy_of_texts(alloc, self.value_names.as_slice())?,
-            possible_values: copy_of_given(alloc, &self.possible_values)?,
-            value_hint: self.value_hint,
-            value_terminator: copy_of_some(alloc, &self.value_terminator)?,
-            help_heading: copy_of_some(alloc, &self.help_heading)?,
-            value_delimiter: self.value_delimiter,
-            completer: self.completer,
-            candidates: self.candidates,
-            index: self.index,
-            display_order: self.display_order,
-            conflicts: Items::copy_of_texts(alloc, self.conflicts.as_slice())?,
-            required: self.required,
-            last: self.last,
-            global: self.global,
-            hide: self.hide,
-            allow_hyphen_values: self.allow_hyphen_values,
-        })
+        Ok(each_part!(copied_parts! self, alloc))
     }
 }
 
