@@ -7,38 +7,47 @@ ghost use Rattle.cc_tree_file.specs.ArgumentForm as form;
 ghost use Rattle.cc_tree_file.specs.TreeForm.{Gives, GivesSame, Sets, set_all};
 
 use crate::error::TreeError;
+use crate::keys::{all_keys, only_in, set_group};
 use crate::values::{FromValue, set};
 use cc_arg::{Arg, ArgParts};
 use cc_base::Text;
 use cc_json::{Value, has_only_keys, member};
 use std::alloc::Global;
 
-const KEYS: [&str; 24] = [
-    "id",
-    "short",
-    "long",
-    "help",
-    "help_heading",
-    "action",
-    "num_args",
-    "value_names",
-    "value_delimiter",
-    "possible_values",
-    "value_hint",
-    "index",
-    "display_order",
-    "value_terminator",
-    "conflicts_with",
-    "required",
-    "last",
-    "global",
-    "hide",
-    "allow_hyphen_values",
-    "short_aliases",
-    "visible_short_aliases",
-    "aliases",
-    "visible_aliases",
-];
+// One line for each key: its group, and the field that it sets. The id is read first.
+macro_rules! each_key {
+    ($all:ident! $($asked:tt)*) => {
+        $all! {
+            [$($asked)*]
+            "id" id id,
+            "short" names short,
+            "long" names long,
+            "help" names help,
+            "help_heading" names help_heading,
+            "action" values action,
+            "num_args" values num_args,
+            "value_names" values value_names,
+            "value_delimiter" values value_delimiter,
+            "possible_values" values possible_values,
+            "value_hint" values value_hint,
+            "index" surroundings index,
+            "display_order" surroundings display_order,
+            "value_terminator" surroundings value_terminator,
+            "conflicts_with" surroundings conflicts,
+            "required" flags required,
+            "last" flags last,
+            "global" flags global,
+            "hide" flags hide,
+            "allow_hyphen_values" flags allow_hyphen_values,
+            "short_aliases" aliases short_aliases,
+            "visible_short_aliases" aliases visible_short_aliases,
+            "aliases" aliases aliases,
+            "visible_aliases" aliases visible_aliases,
+        }
+    };
+}
+
+const KEYS: &[&str] = each_key!(all_keys!);
 
 /// The argument that an object describes.
 #[tactic(auto, unfolding(crate::specs::ArgumentForm::argument_of))]
@@ -64,7 +73,7 @@ fn id(alloc: Global, tree: &Value<'_>) -> Result<Text, TreeError>
 fn has_argument_keys(tree: &Value<'_>) -> bool
     ensures { result ≡ has_only form.argument_keys (view tree.now) }
 {
-    has_only_keys(tree, KEYS.as_slice())
+    has_only_keys(tree, KEYS)
 }
 
 // What the keys besides the id say.
@@ -81,62 +90,34 @@ fn set_rest(parts: &mut ArgParts, alloc: Global, tree: &Value<'_>) -> Result<(),
 fn set_names(parts: &mut ArgParts, alloc: Global, tree: &Value<'_>) -> Result<(), TreeError>
     ensures { Sets result (set_all form.names (view tree.now)) parts.old parts.new }
 {
-    set(&mut parts.short, alloc, tree, "short")?;
-    set(&mut parts.long, alloc, tree, "long")?;
-    set(&mut parts.help, alloc, tree, "help")?;
-    set(&mut parts.help_heading, alloc, tree, "help_heading")?;
+    each_key!(set_group! names, parts, alloc, tree);
     Ok(())
 }
 
 fn set_values(parts: &mut ArgParts, alloc: Global, tree: &Value<'_>) -> Result<(), TreeError>
     ensures { Sets result (set_all form.values (view tree.now)) parts.old parts.new }
 {
-    set(&mut parts.action, alloc, tree, "action")?;
-    set(&mut parts.num_args, alloc, tree, "num_args")?;
-    set(&mut parts.value_names, alloc, tree, "value_names")?;
-    set(&mut parts.value_delimiter, alloc, tree, "value_delimiter")?;
-    set(&mut parts.possible_values, alloc, tree, "possible_values")?;
-    set(&mut parts.value_hint, alloc, tree, "value_hint")?;
+    each_key!(set_group! values, parts, alloc, tree);
     Ok(())
 }
 
 fn set_surroundings(parts: &mut ArgParts, alloc: Global, tree: &Value<'_>) -> Result<(), TreeError>
     ensures { Sets result (set_all form.surroundings (view tree.now)) parts.old parts.new }
 {
-    set(&mut parts.index, alloc, tree, "index")?;
-    set(&mut parts.display_order, alloc, tree, "display_order")?;
-    set(&mut parts.value_terminator, alloc, tree, "value_terminator")?;
-    set(&mut parts.conflicts, alloc, tree, "conflicts_with")?;
+    each_key!(set_group! surroundings, parts, alloc, tree);
     Ok(())
 }
 
 fn set_flags(parts: &mut ArgParts, alloc: Global, tree: &Value<'_>) -> Result<(), TreeError>
     ensures { Sets result (set_all form.flags (view tree.now)) parts.old parts.new }
 {
-    set(&mut parts.required, alloc, tree, "required")?;
-    set(&mut parts.last, alloc, tree, "last")?;
-    set(&mut parts.global, alloc, tree, "global")?;
-    set(&mut parts.hide, alloc, tree, "hide")?;
-    set(
-        &mut parts.allow_hyphen_values,
-        alloc,
-        tree,
-        "allow_hyphen_values",
-    )?;
+    each_key!(set_group! flags, parts, alloc, tree);
     Ok(())
 }
 
 fn set_aliases(parts: &mut ArgParts, alloc: Global, tree: &Value<'_>) -> Result<(), TreeError>
     ensures { Sets result (set_all form.aliases (view tree.now)) parts.old parts.new }
 {
-    set(&mut parts.short_aliases, alloc, tree, "short_aliases")?;
-    set(
-        &mut parts.visible_short_aliases,
-        alloc,
-        tree,
-        "visible_short_aliases",
-    )?;
-    set(&mut parts.aliases, alloc, tree, "aliases")?;
-    set(&mut parts.visible_aliases, alloc, tree, "visible_aliases")?;
+    each_key!(set_group! aliases, parts, alloc, tree);
     Ok(())
 }

@@ -9,30 +9,40 @@ ghost use Rattle.cc_tree_file.specs.TreeForm.{Gives, GivesSame, Sets, set_all};
 
 use crate::args::arg;
 use crate::error::TreeError;
+use crate::keys::{all_keys, only_in, set_group};
 use crate::values::{FromValue, set};
 use cc_base::Text;
 use cc_command::{Command, Node, add_argument, add_child, from_node};
 use cc_json::{Value, has_only_keys, member};
 use std::alloc::Global;
 
-const KEYS: [&str; 16] = [
-    "name",
-    "bin_name",
-    "about",
-    "version",
-    "subcommand_help_heading",
-    "aliases",
-    "visible_aliases",
-    "display_order",
-    "hide",
-    "disable_help_flag",
-    "disable_version_flag",
-    "disable_help_subcommand",
-    "allow_external_subcommands",
-    "no_binary_name",
-    "args",
-    "subcommands",
-];
+// One line for each key: its group, and the field that it sets. The name, the arguments and the
+// children are read by functions of their own.
+macro_rules! each_key {
+    ($all:ident! $($asked:tt)*) => {
+        $all! {
+            [$($asked)*]
+            "name" name name,
+            "bin_name" texts bin_name,
+            "about" texts about,
+            "version" texts version,
+            "subcommand_help_heading" texts subcommand_help_heading,
+            "aliases" names aliases,
+            "visible_aliases" names visible_aliases,
+            "display_order" names display_order,
+            "hide" flags hide,
+            "disable_help_flag" flags disable_help_flag,
+            "disable_version_flag" flags disable_version_flag,
+            "disable_help_subcommand" flags disable_help_subcommand,
+            "allow_external_subcommands" flags allow_external_subcommands,
+            "no_binary_name" flags no_binary_name,
+            "args" lists arguments,
+            "subcommands" lists children,
+        }
+    };
+}
+
+const KEYS: &[&str] = each_key!(all_keys!);
 
 /// The command that an object describes, with its children.
 #[cycle(commands)]
@@ -83,7 +93,7 @@ fn name(alloc: Global, tree: &Value<'_>) -> Result<Text, TreeError>
 fn has_command_keys(tree: &Value<'_>) -> bool
     ensures { result ≡ has_only form.command_keys (view tree.now) }
 {
-    has_only_keys(tree, KEYS.as_slice())
+    has_only_keys(tree, KEYS)
 }
 
 // What the keys besides the name and the children say.
@@ -99,56 +109,21 @@ fn set_rest(node: &mut Node, alloc: Global, tree: &Value<'_>) -> Result<(), Tree
 fn set_texts(node: &mut Node, alloc: Global, tree: &Value<'_>) -> Result<(), TreeError>
     ensures { Sets result (set_all form.texts (view tree.now)) node.old node.new }
 {
-    set(&mut node.bin_name, alloc, tree, "bin_name")?;
-    set(&mut node.about, alloc, tree, "about")?;
-    set(&mut node.version, alloc, tree, "version")?;
-    set(
-        &mut node.subcommand_help_heading,
-        alloc,
-        tree,
-        "subcommand_help_heading",
-    )?;
+    each_key!(set_group! texts, node, alloc, tree);
     Ok(())
 }
 
 fn set_names(node: &mut Node, alloc: Global, tree: &Value<'_>) -> Result<(), TreeError>
     ensures { Sets result (set_all form.names (view tree.now)) node.old node.new }
 {
-    set(&mut node.aliases, alloc, tree, "aliases")?;
-    set(&mut node.visible_aliases, alloc, tree, "visible_aliases")?;
-    set(&mut node.display_order, alloc, tree, "display_order")?;
+    each_key!(set_group! names, node, alloc, tree);
     Ok(())
 }
 
 fn set_flags(node: &mut Node, alloc: Global, tree: &Value<'_>) -> Result<(), TreeError>
     ensures { Sets result (set_all form.flags (view tree.now)) node.old node.new }
 {
-    set(&mut node.hide, alloc, tree, "hide")?;
-    set(
-        &mut node.disable_help_flag,
-        alloc,
-        tree,
-        "disable_help_flag",
-    )?;
-    set(
-        &mut node.disable_version_flag,
-        alloc,
-        tree,
-        "disable_version_flag",
-    )?;
-    set(
-        &mut node.disable_help_subcommand,
-        alloc,
-        tree,
-        "disable_help_subcommand",
-    )?;
-    set(
-        &mut node.allow_external_subcommands,
-        alloc,
-        tree,
-        "allow_external_subcommands",
-    )?;
-    set(&mut node.no_binary_name, alloc, tree, "no_binary_name")?;
+    each_key!(set_group! flags, node, alloc, tree);
     Ok(())
 }
 

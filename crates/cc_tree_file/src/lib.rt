@@ -4,6 +4,7 @@
 mod args;
 mod commands;
 mod error;
+mod keys;
 mod possible_values;
 mod values;
 

@@ -12,7 +12,7 @@ use cc_arg::PossibleValue;
 use cc_json::{Value, has_only_keys, member};
 use std::alloc::Global;
 
-const KEYS: [&str; 3] = ["name", "help", "hide"];
+const KEYS: &[&str] = &["name", "help", "hide"];
 
 impl FromValue for PossibleValue {
     ghost form = { form.possible_value_of };
@@ -44,7 +44,7 @@ fn name(alloc: Global, tree: &Value<'_>) -> Result<String, TreeError>
 fn has_value_keys(tree: &Value<'_>) -> bool
     ensures { result ≡ has_only form.value_keys (view tree.now) }
 {
-    has_only_keys(tree, KEYS.as_slice())
+    has_only_keys(tree, KEYS)
 }
 
 fn with_help(

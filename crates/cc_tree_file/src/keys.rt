@@ -1,0 +1,32 @@
+//! What is made of the list of the keys that an object of a tree file may have. A list has one line
+//! for each key: the key, its group, and the field that it sets.
+
+// The keys.
+macro_rules! all_keys {
+    ([] $($key:literal $group:ident $field:ident,)*) => {
+        &[$($key),*]
+    };
+}
+
+// Sets the field of each key of a group.
+macro_rules! set_group {
+    ([$asked:ident, $parts:ident, $alloc:ident, $tree:ident]
+        $($key:literal $group:ident $field:ident,)*) => {
+        $(only_in!($asked $group set(&mut $parts.$field, $alloc, $tree, $key)?);)*
+    };
+}
+
+// What is done for a key, where it is of the group that is asked for.
+macro_rules! only_in {
+    (aliases aliases $done:expr) => { $done };
+    (flags flags $done:expr) => { $done };
+    (names names $done:expr) => { $done };
+    (surroundings surroundings $done:expr) => { $done };
+    (texts texts $done:expr) => { $done };
+    (values values $done:expr) => { $done };
+    ($asked:ident $group:ident $done:expr) => {};
+}
+
+pub(crate) use all_keys;
+pub(crate) use only_in;
+pub(crate) use set_group;
