@@ -5,7 +5,7 @@ mod command;
 mod node;
 
 pub use crate::command::{
-    Command, Flags, NameAndVisibleAliases, Options, Positionals, add_argument, add_child, build_as,
-    first_with, from_node, full_name, has_name, is_plain_name,
+    Arguments, Command, NameAndVisibleAliases, add_argument, add_child, build_as, first_with,
+    from_node, full_name, has_name, is_plain_name,
 };
 pub use crate::node::Node;

@@ -5,4 +5,4 @@ pub use cc_arg::{
     ValueRange,
 };
 pub use cc_base::Text;
-pub use cc_command::{Command, Flags, NameAndVisibleAliases, Options, Positionals, is_plain_name};
+pub use cc_command::{Arguments, Command, NameAndVisibleAliases, is_plain_name};

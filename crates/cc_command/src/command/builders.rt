@@ -190,7 +190,8 @@ impl Command {
 // What adds in place is a free function, so that `clap_complete` need not re-export it.
 
 /// Adds an argument to a node, which is then not built. One that is no positional takes the node's
-/// next display order, unless it has its own; the order is used up all the same.
+/// next display order, unless it has its own; the order is used up all the same. Fails where the
+/// allocation fails, and then drops the argument.
 pub fn add_argument(node: &mut Node, mut argument: Arg) -> Result<(), AllocError>
     ensures ok { OnOk result (node.new ≡ with_argument node.old argument) }
     ensures built { node.new.built ≡ false }
@@ -205,7 +206,8 @@ pub fn add_argument(node: &mut Node, mut argument: Arg) -> Result<(), AllocError
 }
 
 /// Adds a child to a command, which is then not built. The child takes the command's next display
-/// order, unless it has its own; the order is used up all the same.
+/// order, unless it has its own; the order is used up all the same. Fails where the allocation
+/// fails, and then drops the child.
 pub fn add_child(command: &mut Command, mut child: Command) -> Result<(), AllocError>
     ensures ok { OnOk result (command.new ≡ with_child command.old child) }
 {

@@ -5,10 +5,9 @@ ghost use Rattle.std.specs.Option.{option_copied};
 ghost use Rattle.cc_command.specs.Names.{has_name, contains_name, full_name, visible_names};
 ghost use Rattle.cc_command.specs.ArgumentLists.{flags, options, positionals};
 ghost use Rattle.cc_command.specs.Marked.{StaysIfMarked};
-ghost use Rattle.cc_command.specs.Iterators.{flags_left, names_left, options_left};
-ghost use Rattle.cc_command.specs.Iterators.{positionals_left};
+ghost use Rattle.cc_command.specs.Iterators.{arguments_left, names_left};
 
-use crate::command::{Command, Flags, NameAndVisibleAliases, Options, Positionals};
+use crate::command::{Arguments, Command, NameAndVisibleAliases};
 use cc_arg::Arg;
 use cc_base::Text;
 use cc_candidates::SubcommandCandidates;
@@ -117,25 +116,25 @@ impl Command {
 
     /// The options: the arguments that are no positionals and take values, in the order in which
     /// they were added.
-    pub fn get_opts(&self) -> Options<'_>
-        ensures { options_left result ≡ options self.now.node }
+    pub fn get_opts(&self) -> Arguments<'_>
+        ensures { arguments_left result ≡ options self.now.node }
     {
-        Options::new(self.node.arguments.as_slice())
+        Arguments::options(self.node.arguments.as_slice())
     }
 
     /// The flags: the arguments that are no positionals and take no values, in the order in which
     /// they were added. `clap` has no such iterator.
-    pub fn get_flags(&self) -> Flags<'_>
-        ensures { flags_left result ≡ flags self.now.node }
+    pub fn get_flags(&self) -> Arguments<'_>
+        ensures { arguments_left result ≡ flags self.now.node }
     {
-        Flags::new(self.node.arguments.as_slice())
+        Arguments::flags(self.node.arguments.as_slice())
     }
 
     /// The positionals, in the order in which they were added.
-    pub fn get_positionals(&self) -> Positionals<'_>
-        ensures { positionals_left result ≡ positionals self.now.node }
+    pub fn get_positionals(&self) -> Arguments<'_>
+        ensures { arguments_left result ≡ positionals self.now.node }
     {
-        Positionals::new(self.node.arguments.as_slice())
+        Arguments::positionals(self.node.arguments.as_slice())
     }
 
     /// Whether the command was built and nothing was set since.

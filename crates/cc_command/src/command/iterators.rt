@@ -1,121 +1,71 @@
 //! The iterators over a command's arguments of one kind, and over its visible names.
 
 ghost use Rattle.std.specs.Prelude.{◌≡◌};
-ghost use Rattle.cc_command.specs.ArgumentLists.{is_flag, is_option};
+ghost use Rattle.cc_command.specs.Iterators.{is_of_kind};
 
 use cc_arg::Arg;
 use cc_base::Text;
 
-/// The options of a command, in the order in which they were added.
+// A kind of arguments.
+#[derive(Clone, Copy)]
+enum Kind {
+    Option,
+    Flag,
+    Positional,
+}
+
+/// The arguments of a command that are of one kind, in the order in which they were added.
 #[derive(Drop)]
-pub struct Options<'a> {
+pub struct Arguments<'a> {
     arguments: &'a [Arg],
+    kind: Kind,
 }
 
-impl<'a> Options<'a> {
-    ghost use Rattle.std.specs.Prelude.{◌≡◌, filter};
-    ghost use Rattle.cc_command.specs.ArgumentLists.{is_option};
-    ghost use Rattle.cc_command.specs.Iterators.{options_left};
-
-    pub(super) fn new(arguments: &'a [Arg]) -> Options<'a>
-        ensures { options_left result ≡ filter is_option arguments.now }
-    {
-        Options { arguments }
-    }
-}
-
-impl<'a> Iterator for Options<'a> {
-    ghost use Rattle.std.specs.Iterator.{YieldsFirstRef, item_count};
-    ghost use Rattle.cc_command.specs.Iterators.{options_left};
-
-    type Item = &'a Arg;
-
-    ghost next_gives = { YieldsFirstRef options_left };
-
-    ghost remaining = { item_count options_left };
-
-    fn next(&mut self) -> Option<&'a Arg> {
-        while let Some((first, others)) = self.arguments.split_first() {
-            self.arguments = others;
-            if is_option(first) {
-                return Some(first);
-            }
-        }
-        None
-    }
-}
-
-/// The flags of a command, in the order in which they were added.
-#[derive(Drop)]
-pub struct Flags<'a> {
-    arguments: &'a [Arg],
-}
-
-impl<'a> Flags<'a> {
-    ghost use Rattle.std.specs.Prelude.{◌≡◌, filter};
-    ghost use Rattle.cc_command.specs.ArgumentLists.{is_flag};
-    ghost use Rattle.cc_command.specs.Iterators.{flags_left};
-
-    pub(super) fn new(arguments: &'a [Arg]) -> Flags<'a>
-        ensures { flags_left result ≡ filter is_flag arguments.now }
-    {
-        Flags { arguments }
-    }
-}
-
-impl<'a> Iterator for Flags<'a> {
-    ghost use Rattle.std.specs.Iterator.{YieldsFirstRef, item_count};
-    ghost use Rattle.cc_command.specs.Iterators.{flags_left};
-
-    type Item = &'a Arg;
-
-    ghost next_gives = { YieldsFirstRef flags_left };
-
-    ghost remaining = { item_count flags_left };
-
-    fn next(&mut self) -> Option<&'a Arg> {
-        while let Some((first, others)) = self.arguments.split_first() {
-            self.arguments = others;
-            if is_flag(first) {
-                return Some(first);
-            }
-        }
-        None
-    }
-}
-
-/// The positionals of a command, in the order in which they were added.
-#[derive(Drop)]
-pub struct Positionals<'a> {
-    arguments: &'a [Arg],
-}
-
-impl<'a> Positionals<'a> {
+impl<'a> Arguments<'a> {
     ghost use Rattle.std.specs.Prelude.{◌≡◌, filter};
     ghost use Rattle.cc_arg.specs.Arguments.{is_positional};
-    ghost use Rattle.cc_command.specs.Iterators.{positionals_left};
+    ghost use Rattle.cc_command.specs.ArgumentLists.{is_flag, is_option};
+    ghost use Rattle.cc_command.specs.Iterators.{arguments_left};
 
-    pub(super) fn new(arguments: &'a [Arg]) -> Positionals<'a>
-        ensures { positionals_left result ≡ filter is_positional arguments.now }
+    // The options among these.
+    pub(super) fn options(arguments: &'a [Arg]) -> Arguments<'a>
+        ensures { arguments_left result ≡ filter is_option arguments.now }
     {
-        Positionals { arguments }
+        let kind = Kind::Option;
+        Arguments { arguments, kind }
+    }
+
+    // The flags among these.
+    pub(super) fn flags(arguments: &'a [Arg]) -> Arguments<'a>
+        ensures { arguments_left result ≡ filter is_flag arguments.now }
+    {
+        let kind = Kind::Flag;
+        Arguments { arguments, kind }
+    }
+
+    // The positionals among these.
+    pub(super) fn positionals(arguments: &'a [Arg]) -> Arguments<'a>
+        ensures { arguments_left result ≡ filter is_positional arguments.now }
+    {
+        let kind = Kind::Positional;
+        Arguments { arguments, kind }
     }
 }
 
-impl<'a> Iterator for Positionals<'a> {
+impl<'a> Iterator for Arguments<'a> {
     ghost use Rattle.std.specs.Iterator.{YieldsFirstRef, item_count};
-    ghost use Rattle.cc_command.specs.Iterators.{positionals_left};
+    ghost use Rattle.cc_command.specs.Iterators.{arguments_left};
 
     type Item = &'a Arg;
 
-    ghost next_gives = { YieldsFirstRef positionals_left };
+    ghost next_gives = { YieldsFirstRef arguments_left };
 
-    ghost remaining = { item_count positionals_left };
+    ghost remaining = { item_count arguments_left };
 
     fn next(&mut self) -> Option<&'a Arg> {
         while let Some((first, others)) = self.arguments.split_first() {
             self.arguments = others;
-            if first.is_positional() {
+            if is_of_kind(self.kind, first) {
                 return Some(first);
             }
         }
@@ -164,14 +114,12 @@ impl<'a> Iterator for NameAndVisibleAliases<'a> {
     }
 }
 
-fn is_option(argument: &Arg) -> bool
-    ensures { result ≡ is_option argument.now }
+fn is_of_kind(kind: Kind, argument: &Arg) -> bool
+    ensures { result ≡ is_of_kind kind argument.now }
 {
-    !argument.is_positional() && argument.takes_values()
-}
-
-fn is_flag(argument: &Arg) -> bool
-    ensures { result ≡ is_flag argument.now }
-{
-    !argument.is_positional() && !argument.takes_values()
+    match kind {
+        Kind::Option => !argument.is_positional() && argument.takes_values(),
+        Kind::Flag => !argument.is_positional() && !argument.takes_values(),
+        Kind::Positional => argument.is_positional(),
+    }
 }

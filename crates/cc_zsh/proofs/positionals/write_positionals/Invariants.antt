@@ -1,6 +1,6 @@
 use Rattle.std.proofs.Common.{◌≡◌, ◌++◌, false, flat_map}
 use Rattle.cc_command.specs.ArgumentLists.{positionals}
-use Rattle.cc_command.specs.Iterators.{positionals_left}
+use Rattle.cc_command.specs.Iterators.{arguments_left}
 use Rattle.cc_zsh.specs.Positionals.{positional_text, shown_positionals}
 use Rattle.cc_zsh.proofs.positionals.write_positionals.Given as goal
 
@@ -8,7 +8,7 @@ use Rattle.cc_zsh.proofs.positionals.write_positionals.Given as goal
 abbrev pub invariant-loop-positional : goal.invariant-loop-positional
 invariant-loop-positional g l = record {
   whole : g.W.Sink.taken l.sink ++ flat_map (positional_text l.has_children)
-      (shown_positionals l.has_children l.taken (positionals_left l.positional-iterator))
+      (shown_positionals l.has_children l.taken (arguments_left l.positional-iterator))
       ≡ g.W.Sink.taken l.initial.sink ++ flat_map (positional_text l.has_children)
       (shown_positionals l.has_children false (positionals l.command.node));
   failures : g.W.Sink.failed l.sink ≡ g.W.Sink.failed l.initial.sink;

@@ -1,10 +1,10 @@
 use Rattle.std.proofs.Common.{◌≡◌, length}
-use Rattle.cc_command.specs.Iterators.{options_left}
-use Rattle.cc_command.proofs.command.iterators.OptionsIterator.next.Given as goal
+use Rattle.cc_command.specs.Iterators.{arguments_left}
+use Rattle.cc_command.proofs.command.iterators.ArgumentsIterator.next.Given as goal
 
 -- the arguments that were passed over are of another kind
 abbrev pub invariant-loop-first : goal.invariant-loop-first
-invariant-loop-first l = options_left l.self ≡ options_left l.initial.self
+invariant-loop-first l = arguments_left l.self ≡ arguments_left l.initial.self
 
 abbrev pub decreases-loop-first : goal.decreases-loop-first
 decreases-loop-first l = length l.self.arguments.now
