@@ -3,10 +3,11 @@
 
 use crate::arguments::with_shorts;
 use crate::checks::{is, same};
-use crate::fixtures::{NESTED, built, tree};
+use crate::fixtures::{built, tree};
 use cc_arg::{Arg, ArgAction};
 use cc_base::{Error, Text};
 use cc_command::Command;
+use cc_fixtures::trees::NESTED;
 use std::alloc::Global;
 use std::process::Abort;
 

@@ -3,13 +3,8 @@
 use crate::checks::is;
 use cc_arg::{ArgAction, ValueHint, ValueRange};
 use cc_base::{Error, Failures, Items, Text};
-use std::alloc::{AllocError, Global};
-use std::fmt::Debug;
+use cc_fixtures::words::shown;
 use std::io::ErrorKind;
-
-fn shown<T: Debug + Drop>(alloc: Global, value: T) -> Result<String, AllocError> {
-    format!(in alloc; "{value:?}")
-}
 
 #[test]
 fn an_action_shows_its_variant(rt: HostRuntime) {

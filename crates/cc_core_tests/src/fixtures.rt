@@ -2,13 +2,13 @@
 //! prove a drop that no call is takes seconds in each function.
 
 use cc_command::Command;
-use cc_tree_file::read_tree;
+use cc_fixtures::trees::read;
 use std::alloc::Global;
 use std::process::Abort;
 
 /// The command that a tree file describes.
 pub(crate) fn tree(rt: &impl Abort, alloc: Global, text: &str) -> Command {
-    read_tree(alloc, text.as_bytes()).expect(rt, "no command")
+    read(alloc, text).expect(rt, "no command")
 }
 
 /// A command that was built.
@@ -23,26 +23,10 @@ pub(crate) fn built_tree(rt: &impl Abort, alloc: Global, text: &str) -> Command 
     built(rt, alloc, tree(rt, alloc, text))
 }
 
-/// `app` with a flag `-v`, `--verbose` and an option `--out`.
-pub(crate) const APP: &str = r#"{"name": "app", "args": [
-    {"id": "verbose", "short": "v", "long": "verbose", "help": "Be loud", "action": "SetTrue"},
-    {"id": "out", "long": "out", "action": "Set"}]}"#;
-
 /// `app` with a positional `input` too.
 pub(crate) const APP_WITH_INPUT: &str = r#"{"name": "app", "args": [
     {"id": "verbose", "short": "v", "long": "verbose", "help": "Be loud", "action": "SetTrue"},
     {"id": "out", "long": "out", "action": "Set"}, {"id": "input"}]}"#;
-
-/// `app` with a positional whose id holds a quote.
-pub(crate) const QUOTED: &str =
-    r#"{"name": "app", "disable_help_flag": true, "args": [{"id": "it's"}]}"#;
-
-/// `app` with a child `run`, shown as `r` too, that has a child `job`; nothing is generated.
-pub(crate) const NESTED: &str = r#"{"name": "app", "disable_help_flag": true,
-    "disable_help_subcommand": true, "subcommands": [
-        {"name": "run", "disable_help_flag": true, "disable_help_subcommand": true,
-            "visible_aliases": ["r"], "subcommands": [
-                {"name": "job", "disable_help_flag": true, "disable_help_subcommand": true}]}]}"#;
 
 /// `app` with a child `run`, as `NESTED` has it, and a child `list`; nothing is generated.
 pub(crate) const NESTED_AND_LIST: &str = r#"{"name": "app", "disable_help_flag": true,
@@ -62,13 +46,6 @@ pub(crate) const MY_APP: &str = r#"{"name": "myapp", "bin_name": "my-cmd", "vers
                 "action": "SetTrue"}],
             "subcommands": [{"name": "config"}]},
         {"name": "hello"}]}"#;
-
-/// `app` with a global flag `--json`, which excludes `yaml`, a flag `--yaml` and a child `run`.
-pub(crate) const GLOBAL: &str = r#"{"name": "app", "args": [
-    {"id": "json", "long": "json", "action": "SetTrue", "global": true,
-        "conflicts_with": ["yaml"]},
-    {"id": "yaml", "long": "yaml", "action": "SetTrue"}],
-    "subcommands": [{"name": "run"}]}"#;
 
 /// `app` with the flags `-q`, `--yaml`, `-y`, which has the id `yaml` too, and `--json`, which
 /// excludes `yaml`, `toml`, which is the id of no argument, and `quiet`, in this order.

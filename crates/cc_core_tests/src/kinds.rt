@@ -2,9 +2,10 @@
 //! quiet values.
 
 use crate::checks::same;
-use crate::fixtures::{APP_WITH_INPUT, NESTED, QUOTED, built_tree, tree};
+use crate::fixtures::{APP_WITH_INPUT, built_tree, tree};
 use cc_arg::Arg;
 use cc_command::{Command, is_plain_name};
+use cc_fixtures::trees::{NESTED, QUOTED};
 use std::alloc::Global;
 use std::process::Abort;
 

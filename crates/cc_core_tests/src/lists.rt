@@ -1,9 +1,10 @@
 //! The lists that generators share.
 
 use crate::checks::is;
-use crate::fixtures::{MY_APP, NESTED, built_tree};
+use crate::fixtures::{MY_APP, built_tree};
 use cc_base::Error;
 use cc_command::Command;
+use cc_fixtures::trees::NESTED;
 use cc_generator::utils;
 use std::alloc::Global;
 use std::fmt::Write;

@@ -1,9 +1,10 @@
 //! Trees, as their getters answer them.
 
 use crate::checks::{is, same};
-use crate::fixtures::{APP, EXCLUDING, GLOBAL, MY_APP, NESTED, built, built_tree, tree};
+use crate::fixtures::{EXCLUDING, MY_APP, built, built_tree, tree};
 use cc_base::Error;
 use cc_command::Command;
+use cc_fixtures::trees::{APP, GLOBAL, NESTED};
 use cc_generator::utils::find_subcommand_with_path;
 use std::alloc::Global;
 use std::fmt::Write;

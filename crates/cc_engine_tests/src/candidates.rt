@@ -1,8 +1,9 @@
 //! Candidates for the words of a command line.
 
-use crate::fixtures::{COLORED, DELIMITED, HIDDEN, HYPHENS, NAMELESS, TESTED};
+use crate::fixtures::{COLORED, DELIMITED, HIDDEN, NAMELESS};
 use crate::offered::{found_at, offered};
 use cc_base::Error;
+use cc_fixtures::trees::{HYPHENS, TESTED};
 use cc_paths::MemoryFolder;
 use std::process::Abort;
 

@@ -8,10 +8,6 @@ pub(crate) const COLORED: &str = r#"{"name": "app", "args": [
     {"id": "verbose", "short": "v", "long": "verbose", "action": "SetTrue",
         "visible_aliases": ["loud"], "aliases": ["noisy"]}]}"#;
 
-/// `app` with a child `test` that is shown as `t` too.
-pub(crate) const TESTED: &str = r#"{"name": "app", "subcommands": [
-    {"name": "test", "visible_aliases": ["t"]}]}"#;
-
 /// `app` with a child `test` that has the hidden alias `tst` and a flag `--deep`.
 pub(crate) const HIDDEN: &str = r#"{"name": "app", "subcommands": [
     {"name": "test", "aliases": ["tst"], "args": [
@@ -23,21 +19,10 @@ pub(crate) const NAMELESS: &str = r#"{"name": "app", "no_binary_name": true, "su
     {"name": "test", "args": [
         {"id": "deep", "long": "deep", "action": "SetTrue"}]}]}"#;
 
-/// `app` with an option `--opt`, a positional `first` that takes words with hyphens, and a
-/// positional `second` that is `x` or `y`.
-pub(crate) const HYPHENS: &str = r#"{"name": "app", "args": [
-    {"id": "opt", "long": "opt", "action": "Set"},
-    {"id": "first", "allow_hyphen_values": true},
-    {"id": "second", "possible_values": [{"name": "x"}, {"name": "y"}]}]}"#;
-
 /// `app` with a positional of several values in one word, and no flag.
 pub(crate) const DELIMITED: &str = r#"{"name": "app", "disable_help_flag": true, "args": [
     {"id": "kinds", "value_delimiter": ",", "possible_values": [
         {"name": "ca"}, {"name": "cb"}, {"name": "d"}]}]}"#;
-
-/// `app` with a positional that is a file's path, and no flag.
-pub(crate) const FILE: &str = r#"{"name": "app", "disable_help_flag": true, "args": [
-    {"id": "file", "value_hint": "FilePath"}]}"#;
 
 /// `app` with a positional that is a folder's path, and no flag.
 pub(crate) const DIR: &str = r#"{"name": "app", "disable_help_flag": true, "args": [
@@ -46,10 +31,6 @@ pub(crate) const DIR: &str = r#"{"name": "app", "disable_help_flag": true, "args
 /// `app` with a positional that is the path of an executable file, and no flag.
 pub(crate) const EXECUTABLE: &str = r#"{"name": "app", "disable_help_flag": true, "args": [
     {"id": "program", "value_hint": "ExecutablePath"}]}"#;
-
-/// `app` with a positional that is any path, and no flag.
-pub(crate) const ANY: &str = r#"{"name": "app", "disable_help_flag": true, "args": [
-    {"id": "path", "value_hint": "AnyPath"}]}"#;
 
 /// `app` with a positional whose hint names no paths, and no flag.
 pub(crate) const OTHER: &str = r#"{"name": "app", "disable_help_flag": true, "args": [
@@ -61,8 +42,3 @@ pub(crate) const PRINTED: &str = r#"{"name": "app", "args": [
     {"id": "o", "long": "o", "value_names": ["N"], "num_args": [0, 2]},
     {"id": "p", "required": true, "num_args": [2, 2]},
     {"id": "v", "short": "v", "action": "Count"}]}"#;
-
-/// `n199` with a flag `--end`; nothing is generated.
-pub(crate) const DEEPEST: &str = r#"{"name": "n199", "disable_help_flag": true,
-    "disable_help_subcommand": true, "args": [
-        {"id": "end", "long": "end", "action": "SetTrue"}]}"#;

@@ -1,15 +1,13 @@
 //! Commands whose arguments hold numbers of completers and lists, for which a tree file has no keys.
 
-use crate::offered::command_of;
 use cc_arg::{Arg, ValueRange};
 use cc_base::Error;
 use cc_candidates::{ArgValueCandidates, ArgValueCompleter, SubcommandCandidates};
 use cc_command::Command;
+use cc_fixtures::trees::{BARE, read};
 use std::alloc::Global;
 
 const APP: &str = r#"{"name": "app"}"#;
-
-const WITHOUT_FLAGS: &str = r#"{"name": "app", "disable_help_flag": true}"#;
 
 // `app` with a child `test` that is shown as `t` too, and names of other programs.
 const EXTERNAL: &str = r#"{"name": "app", "disable_help_flag": true,
@@ -23,7 +21,7 @@ pub(crate) fn with_two_options(alloc: Global) -> Result<Command, Error> {
         col.num_args(ValueRange::new(0, 1))
             .add(ArgValueCompleter::new(0))
     });
-    with(with(command_of(alloc, APP), col), port(alloc))
+    with(with(read(alloc, APP), col), port(alloc))
 }
 
 fn port(alloc: Global) -> Result<Arg, Error> {
@@ -42,7 +40,7 @@ pub(crate) fn with_positional(
             .num_args(values)
             .add(ArgValueCompleter::new(completer))
     });
-    with(command_of(alloc, WITHOUT_FLAGS), positional)
+    with(read(alloc, BARE), positional)
 }
 
 /// `app` with an option `--pair` of two values, of the completer 1, and no flag.
@@ -51,7 +49,7 @@ pub(crate) fn with_pair(alloc: Global) -> Result<Command, Error> {
         pair.num_args(ValueRange::new(2, 2))
             .add(ArgValueCompleter::new(1))
     });
-    with(command_of(alloc, WITHOUT_FLAGS), pair)
+    with(read(alloc, BARE), pair)
 }
 
 /// `app` with a positional of several values in one word, of the completer 1, and no flag.
@@ -59,7 +57,7 @@ pub(crate) fn with_delimiter(alloc: Global) -> Result<Command, Error> {
     let positional = positional(alloc).map(|positional| positional
         .value_delimiter(',')
         .add(ArgValueCompleter::new(1)));
-    with(command_of(alloc, WITHOUT_FLAGS), positional)
+    with(read(alloc, BARE), positional)
 }
 
 /// `app` with a positional whose values are those of this list, and no flag.
@@ -67,7 +65,7 @@ pub(crate) fn with_list(alloc: Global, list: usize) -> Result<Command, Error> {
     let positional = positional(alloc).map(|positional| positional.add_candidates(
         ArgValueCandidates::new(list),
     ));
-    with(command_of(alloc, WITHOUT_FLAGS), positional)
+    with(read(alloc, BARE), positional)
 }
 
 /// `app` with a positional that has the completer 1 and the list 0, and no flag.
@@ -77,12 +75,12 @@ pub(crate) fn with_completer_and_list(alloc: Global) -> Result<Command, Error> {
             .add_candidates(ArgValueCandidates::new(0))
             .add(ArgValueCompleter::new(1))
     });
-    with(command_of(alloc, WITHOUT_FLAGS), positional)
+    with(read(alloc, BARE), positional)
 }
 
 /// `app` with a child `test`, shown as `t` too, and the names of this list as other programs.
 pub(crate) fn with_programs(alloc: Global, list: usize) -> Result<Command, Error> {
-    command_of(alloc, EXTERNAL).map(|command| command.add(SubcommandCandidates::new(list)))
+    read(alloc, EXTERNAL).map(|command| command.add(SubcommandCandidates::new(list)))
 }
 
 fn with(command: Result<Command, Error>, argument: Result<Arg, Error>) -> Result<Command, Error> {

@@ -1,11 +1,12 @@
 //! Words that nobody types, many words, long words, and a deep tree.
 
-use crate::fixtures::{COLORED, DEEPEST};
-use crate::offered::{command_of, offered, text_of};
+use crate::fixtures::COLORED;
+use crate::offered::{offered, text_of};
 use cc_base::Error;
 use cc_candidates::Completers;
 use cc_command::Command;
 use cc_engine::complete;
+use cc_fixtures::trees::{chain, read};
 use cc_paths::MemoryFolder;
 use std::alloc::{AllocError, Global};
 use std::process::Abort;
@@ -68,24 +69,9 @@ fn repeated(alloc: Global, word: &str, times: usize) -> Result<Vec<String>, Allo
 #[test]
 fn a_thousand_words(rt: HostRuntime) {
     let alloc = rt.alloc();
-    offers_for(
-        &rt,
-        command_of(alloc, COLORED),
-        repeated(alloc, "x", 1000),
-        ALL,
-    );
-    offers_for(
-        &rt,
-        command_of(alloc, COLORED),
-        repeated(alloc, "-v", 1000),
-        ALL,
-    );
-    offers_for(
-        &rt,
-        command_of(alloc, COLORED),
-        repeated(alloc, "--", 1000),
-        "",
-    );
+    offers_for(&rt, read(alloc, COLORED), repeated(alloc, "x", 1000), ALL);
+    offers_for(&rt, read(alloc, COLORED), repeated(alloc, "-v", 1000), ALL);
+    offers_for(&rt, read(alloc, COLORED), repeated(alloc, "--", 1000), "");
 }
 
 // A megabyte of `v`.
@@ -105,35 +91,10 @@ fn a_word_of_a_megabyte(rt: HostRuntime) {
     let alloc = rt.alloc();
     offers_for(
         &rt,
-        command_of(alloc, COLORED),
+        read(alloc, COLORED),
         repeated(alloc, flags.as_str(), 1),
         ALL,
     );
-}
-
-// The chain `app`, `n1` to `n199`, each the only child of the one before, and the last with a flag
-// `--end`; nothing is generated. A tree file nests less deep.
-fn chain(alloc: Global) -> Result<Command, Error> {
-    let mut chain = command_of(alloc, DEEPEST);
-    for number in (1..199).rev() {
-        chain = above(alloc, format!(in alloc; "n{number}"), chain);
-    }
-    above(alloc, String::from_str(alloc, "app"), chain)
-}
-
-// A command of this name with one child; nothing is generated.
-fn above(
-    alloc: Global,
-    name: Result<String, AllocError>,
-    child: Result<Command, Error>,
-) -> Result<Command, Error> {
-    let name = name?;
-    child.and_then(|child| {
-        Command::new(alloc, name)
-            .disable_help_flag(true)
-            .disable_help_subcommand(true)
-            .subcommand(child)
-    })
 }
 
 // `app`, `n1` to `n199`, and an empty word.

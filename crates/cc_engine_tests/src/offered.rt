@@ -4,8 +4,9 @@ use cc_base::Error;
 use cc_candidates::{Completers, CompletionCandidate};
 use cc_command::Command;
 use cc_engine::complete;
+use cc_fixtures::trees::read;
+use cc_fixtures::words::copies;
 use cc_paths::{Folder, MemoryFolder};
-use cc_tree_file::read_tree;
 use std::alloc::{AllocError, Global};
 use std::process::Abort;
 
@@ -38,8 +39,8 @@ pub(crate) fn found_at<D: Folder>(
     current_dir: Option<&str>,
     folder: &D,
 ) -> Result<Vec<CompletionCandidate>, Error> {
-    let mut command = command_of(alloc, tree)?;
-    let words = owned(alloc, words)?;
+    let mut command = read(alloc, tree)?;
+    let words = copies(alloc, words)?;
     let lent = Completers::new(alloc, Vec::new(alloc), Vec::new(alloc));
     let found = complete(
         alloc,
@@ -64,16 +65,8 @@ pub(crate) fn found_last<D: Folder>(
     lent: &Completers,
 ) -> Result<Vec<CompletionCandidate>, Error> {
     let index = words.len().saturating_sub(1);
-    let words = owned(alloc, words)?;
+    let words = copies(alloc, words)?;
     complete(alloc, command, words, index, current_dir, folder, lent)
-}
-
-/// The command of a tree file that describes one.
-pub(crate) fn command_of(alloc: Global, tree: &str) -> Result<Command, Error> {
-    match read_tree(alloc, tree.as_bytes()) {
-        Ok(command) => Ok(command),
-        Err(_) => Err(Error::Memory),
-    }
 }
 
 /// The values of the candidates that were found, each with a space after it.
@@ -82,14 +75,6 @@ pub(crate) fn text_of<R: Abort + AllocGlobal>(
     found: Result<Vec<CompletionCandidate>, Error>,
 ) -> String {
     values(rt.alloc(), found.expect(rt, "no candidates")).expect(rt, "no text")
-}
-
-fn owned(alloc: Global, words: &[&str]) -> Result<Vec<String>, AllocError> {
-    let mut owned = Vec::new(alloc);
-    for word in words {
-        owned.push(String::from_str(alloc, word)?)?;
-    }
-    Ok(owned)
 }
 
 fn values(alloc: Global, found: Vec<CompletionCandidate>) -> Result<String, AllocError> {

@@ -1,9 +1,10 @@
 //! Paths of value hints.
 
-use crate::fixtures::{ANY, DIR, EXECUTABLE, FILE, OTHER};
-use crate::offered::{command_of, found_last, offered_in};
+use crate::fixtures::{DIR, EXECUTABLE, OTHER};
+use crate::offered::{found_last, offered_in};
 use cc_base::Error;
 use cc_candidates::Completers;
+use cc_fixtures::trees::{ANY, FILE, read};
 use cc_paths::MemoryFolder;
 use std::process::Abort;
 
@@ -72,7 +73,7 @@ fn a_folder_that_is_out_of_memory(rt: HostRuntime) {
     let folder = work().out_of_memory();
     let alloc = rt.alloc();
     let lent = Completers::new(alloc, Vec::new(alloc), Vec::new(alloc));
-    let mut command = command_of(rt.alloc(), FILE).expect(&rt, "no command");
+    let mut command = read(rt.alloc(), FILE).expect(&rt, "no command");
     let words = ["app", ""];
     let found = found_last(
         rt.alloc(),

@@ -1,10 +1,10 @@
 //! Printed forms of arguments.
 
 use crate::fixtures::PRINTED;
-use crate::offered::command_of;
 use cc_arg::Arg;
 use cc_base::Error;
 use cc_command::Command;
+use cc_fixtures::trees::read;
 use std::alloc::{AllocError, Global};
 use std::process::Abort;
 
@@ -26,6 +26,6 @@ fn prints<R: Abort + AllocGlobal>(rt: &R, command: Result<Command, Error>, wante
 
 #[test]
 fn options_positionals_and_counted_flags(rt: HostRuntime) {
-    let command = command_of(rt.alloc(), PRINTED);
+    let command = read(rt.alloc(), PRINTED);
     prints(&rt, command, "--o [<N>...]\n<p> <p>\n-v...\n");
 }

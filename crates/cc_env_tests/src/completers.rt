@@ -3,11 +3,12 @@
 
 use cc_adapters::{Builtin, EnvCompleter};
 use cc_base::{Collected, Error};
+use cc_fixtures::words::{after, word};
 use cc_quote::{
     bash_double_word, elvish_word, fish_double, fish_word, posix_word, powershell_word,
 };
 use cc_registrations::is_plain_path;
-use std::alloc::{AllocError, Global};
+use std::alloc::Global;
 use std::process::Abort;
 
 #[test]
@@ -100,17 +101,4 @@ fn read_twice(alloc: Global, text: &str) -> Result<Option<String>, Error> {
         return Ok(None);
     };
     Ok(word(fish_word(alloc, after(arguments.as_str(), "V=fish "))?))
-}
-
-// What follows the first place of a mark; nothing where it stands nowhere.
-fn after<'t>(text: &'t str, mark: &str) -> &'t str {
-    match text.split_once(mark) {
-        Some((_, rest)) => rest,
-        None => "",
-    }
-}
-
-fn word(read: Option<(String, &str)>) -> Option<String> {
-    let (word, _) = read?;
-    Some(word)
 }

@@ -1,9 +1,5 @@
 //! Small trees, as tree files.
 
-/// `app` with a child `test` that is shown as `t` too.
-pub(crate) const TESTED: &str = r#"{"name": "app", "subcommands": [
-    {"name": "test", "visible_aliases": ["t"]}]}"#;
-
 /// `app` with a positional that may be `a:b`, and no flag.
 pub(crate) const COLONS: &str = r#"{"name": "app", "disable_help_flag": true, "args": [
     {"id": "at", "possible_values": [{"name": "a:b", "help": "c:d"}]}]}"#;

@@ -4,8 +4,9 @@ use cc_adapters::EnvCompleter;
 use cc_base::{Collected, Error};
 use cc_candidates::Completers;
 use cc_env::EnvValues;
+use cc_fixtures::trees::read;
+use cc_fixtures::words::copies;
 use cc_paths::MemoryFolder;
-use cc_tree_file::read_tree;
 use std::alloc::{AllocError, Global};
 use std::process::Abort;
 
@@ -46,10 +47,8 @@ fn reply<E: EnvCompleter>(
     words: &[&str],
     sink: &mut Collected,
 ) -> Result<(), Error> {
-    let Ok(mut command) = read_tree(alloc, tree.as_bytes()) else {
-        return Err(Error::Memory);
-    };
-    let words = owned(alloc, words)?;
+    let mut command = read(alloc, tree)?;
+    let words = copies(alloc, words)?;
     let values = environment(alloc, index)?;
     let folder = MemoryFolder::new(&[], &[]);
     let lent = Completers::new(alloc, Vec::new(alloc), Vec::new(alloc));
@@ -72,12 +71,4 @@ fn environment(alloc: Global, index: &str) -> Result<EnvValues, AllocError> {
     let name = String::from_str(alloc, "_CLAP_COMPLETE_INDEX")?;
     variables.push((name, String::from_str(alloc, index)?))?;
     Ok(EnvValues::new(variables))
-}
-
-fn owned(alloc: Global, words: &[&str]) -> Result<Vec<String>, AllocError> {
-    let mut owned = Vec::new(alloc);
-    for word in words {
-        owned.push(String::from_str(alloc, word)?)?;
-    }
-    Ok(owned)
 }

@@ -1,8 +1,9 @@
 //! Replies for the words of a command line.
 
-use crate::fixtures::{COLONS, TESTED};
+use crate::fixtures::COLONS;
 use crate::replied::{refuses, replies};
 use cc_adapters::{Bash, Builtin, Elvish, Fish, Powershell, Zsh};
+use cc_fixtures::trees::TESTED;
 
 const LINES: &str =
     "t\nhelp\tPrint this message or the help of the given subcommand(s)\n--help\tPrint help\n";

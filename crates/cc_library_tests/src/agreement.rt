@@ -1,10 +1,12 @@
 //! The bash script of a command beside what live completion offers, by the calls of `cc_agreement`.
 
 use crate::checks::{holds, is, same};
-use crate::fixtures::{CLASHING, tree};
+use crate::fixtures::tree;
 use crate::sinks::{BROKEN, ZERO, kind_of, narrow_sink, state_of};
 use crate::written::script;
 use cc_agreement::{bash_script_and_candidates, has_no_hidden_alias};
+use cc_fixtures::trees::CLASHING;
+use cc_fixtures::words::copies;
 use clap_complete::Error;
 use clap_complete::aot::{Bash, Collected, Sink};
 use clap_complete::command::Command;
@@ -25,17 +27,9 @@ const CALLED: &str = r#"{"name": "app", "aliases": ["a"], "disable_help_flag": t
                     "aliases": ["j"],
                     "args": [{"id": "deep", "long": "deep", "action": "SetTrue"}]}]}]}"#;
 
-fn owned(alloc: Global, words: &[&str]) -> Result<Vec<String>, AllocError> {
-    let mut owned = Vec::new(alloc);
-    for word in words {
-        owned.push(String::from_str(alloc, word)?)?;
-    }
-    Ok(owned)
-}
-
 // Fails unless the call answers so for these words and the command of a tree file.
 fn has_none<R: Abort + AllocGlobal>(rt: &R, text: &str, words: &[&str], wanted: bool) {
-    let words = owned(rt.alloc(), words).expect(rt, "no words");
+    let words = copies(rt.alloc(), words).expect(rt, "no words");
     let command = tree(rt, text);
     same(rt, has_no_hidden_alias(&command, words.as_slice()), wanted);
     drop(command);
@@ -113,7 +107,7 @@ fn values(alloc: Global, candidates: &[CompletionCandidate]) -> Result<String, A
 
 // The command line of these words after `app`, and an empty word.
 fn line_of(alloc: Global, words: &[&str]) -> Result<Vec<String>, AllocError> {
-    let mut line = owned(alloc, &["app"])?;
+    let mut line = copies(alloc, &["app"])?;
     for word in words {
         line.push(String::from_str(alloc, word)?)?;
     }
@@ -172,7 +166,7 @@ fn a_hidden_alias_leads_the_candidates_alone(rt: HostRuntime) {
 fn failure<R: Abort + AllocGlobal>(rt: &R, text: &str, index: usize) -> (Option<Error>, usize) {
     let mut command = tree(rt, text);
     let mut sink = Collected::new(rt.alloc());
-    let words = owned(rt.alloc(), &["app"]).expect(rt, "no words");
+    let words = copies(rt.alloc(), &["app"]).expect(rt, "no words");
     let returned = called(rt.alloc(), &mut command, &mut sink, words, index);
     assert!(rt; command.is_built());
     drop(command);

@@ -1,9 +1,10 @@
 //! What the callers of `cc_caller` write.
 
 use crate::checks::same;
-use crate::fixtures::{self, tree};
+use crate::fixtures::tree;
 use crate::written::script;
 use cc_caller::{write_bash_if_quiet, write_if_plain};
+use cc_fixtures::trees;
 use clap_complete::aot::{Bash, Collected, Elvish};
 use std::process::Abort;
 
@@ -35,20 +36,20 @@ fn bash_ends<R: Abort + AllocGlobal>(rt: &R, text: &str, name: &str, is_quiet: b
 
 #[test]
 fn a_plain_command_is_written(rt: HostRuntime) {
-    let wanted = script(&rt, Elvish, fixtures::NESTED).expect(&rt, "no script");
-    ends(&rt, fixtures::NESTED, "app", true, wanted.as_str());
+    let wanted = script(&rt, Elvish, trees::NESTED).expect(&rt, "no script");
+    ends(&rt, trees::NESTED, "app", true, wanted.as_str());
 }
 
 #[test]
 fn a_command_or_name_that_is_not_plain_is_not_written(rt: HostRuntime) {
-    ends(&rt, fixtures::QUOTED, "app", false, "");
-    ends(&rt, fixtures::NESTED, "a--b", false, "");
+    ends(&rt, trees::QUOTED, "app", false, "");
+    ends(&rt, trees::NESTED, "a--b", false, "");
 }
 
 #[test]
 fn a_plain_command_with_quiet_values_is_written_for_bash(rt: HostRuntime) {
-    let wanted = script(&rt, Bash, fixtures::COLORED).expect(&rt, "no script");
-    bash_ends(&rt, fixtures::COLORED, "app", true, wanted.as_str());
+    let wanted = script(&rt, Bash, trees::COLORED).expect(&rt, "no script");
+    bash_ends(&rt, trees::COLORED, "app", true, wanted.as_str());
 }
 
 #[test]
@@ -56,6 +57,6 @@ fn a_plain_command_with_a_value_that_is_not_quiet_is_not_written_for_bash(rt: Ho
     let wanted = script(&rt, Elvish, BLANK).expect(&rt, "no script");
     ends(&rt, BLANK, "app", true, wanted.as_str());
     bash_ends(&rt, BLANK, "app", false, "");
-    bash_ends(&rt, fixtures::QUOTED, "app", false, "");
-    bash_ends(&rt, fixtures::COLORED, "a--b", false, "");
+    bash_ends(&rt, trees::QUOTED, "app", false, "");
+    bash_ends(&rt, trees::COLORED, "a--b", false, "");
 }

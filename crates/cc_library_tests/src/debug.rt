@@ -1,14 +1,9 @@
 //! What `Debug` shows of generators and errors.
 
 use crate::checks::is;
+use cc_fixtures::words::shown;
 use clap_complete::Error;
 use clap_complete::aot::{Bash, Elvish, Fish, Nushell, PowerShell, Zsh};
-use std::alloc::{AllocError, Global};
-use std::fmt::Debug;
-
-fn shown<T: Debug + Drop>(alloc: Global, value: T) -> Result<String, AllocError> {
-    format!(in alloc; "{value:?}")
-}
 
 #[test]
 fn shows_generators_and_errors(rt: HostRuntime) {

@@ -2,8 +2,9 @@
 //! in docs/CALLING.md.
 
 use crate::checks::has;
-use crate::fixtures::{APP, tree};
+use crate::fixtures::tree;
 use crate::shell::{FILES, folder, holds_script_in, remove};
+use cc_fixtures::trees::APP;
 use clap_complete::aot::{Collected, Elvish};
 use clap_complete::command::{Arg, Command};
 use clap_complete::{Error, Shell, generate, generate_to};

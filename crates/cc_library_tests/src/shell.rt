@@ -1,8 +1,9 @@
 //! `Shell` by text, path and value, its methods, and scripts written to files.
 
 use crate::checks::{is, same};
-use crate::fixtures::{APP, CLASHING, NESTED, tree};
+use crate::fixtures::tree;
 use crate::written::{script, twice};
+use cc_fixtures::trees::{APP, CLASHING, NESTED};
 use clap_complete::aot::{Bash, Elvish, Fish, InvalidShell, Nushell, PowerShell, Zsh};
 use clap_complete::command::Command;
 use clap_complete::{Error, Generator, Shell, generate_to};

@@ -1,45 +1,16 @@
 //! Scripts written to sinks that take little, fail, take nothing, or measure what they take.
 
 use crate::checks::{holds, is};
-use crate::fixtures::{APP, COLORED, COLORED_ALONE, HELPED, NESTED, many, tree};
+use crate::fixtures::{COLORED_ALONE, many, tree};
 use crate::written::{script, write_script};
+use cc_fixtures::trees::{APP, COLORED, HELPED, NESTED};
+use cc_fixtures::writers::Narrow;
 use clap_complete::aot::{Counted, Sink};
 use clap_complete::command::Command;
 use clap_complete::{Error, Shell, generate};
 use std::alloc::{AllocError, Global};
 use std::io::{self, ErrorKind, Write};
 use std::process::Abort;
-
-/// A writer that takes one byte a call, and fails once it holds `room` bytes; with no kind it then
-/// takes nothing.
-#[derive(Drop)]
-pub(crate) struct Narrow {
-    held: Vec<u8>,
-    room: usize,
-    kind: Option<ErrorKind>,
-}
-
-impl Write for Narrow {
-    fn write(&mut self, bytes: &[u8]) -> io::Result<usize> {
-        if self.held.len() >= self.room {
-            return match self.kind {
-                Some(kind) => Err(io::Error::from(kind)),
-                None => Ok(0),
-            };
-        }
-        match bytes.first() {
-            None => Ok(0),
-            Some(byte) => {
-                self.held.push(*byte)?;
-                Ok(1)
-            }
-        }
-    }
-
-    fn flush(&mut self) -> io::Result<()> {
-        Ok(())
-    }
-}
 
 // A writer that takes all it is given, and counts the most at once and all of it.
 #[derive(Drop)]
@@ -61,8 +32,7 @@ impl Write for Measured {
 }
 
 pub(crate) fn narrow_sink(alloc: Global, room: usize, kind: Option<ErrorKind>) -> Counted<Narrow> {
-    let held = Vec::new(alloc);
-    Counted::new(Narrow { held, room, kind })
+    Counted::new(Narrow::new(alloc, room, kind))
 }
 
 // The script as a writer takes it that takes one byte a call.

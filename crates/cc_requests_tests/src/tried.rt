@@ -5,34 +5,24 @@ use cc_base::{Collected, Error, Sink};
 use cc_candidates::Completers;
 use cc_command::Command;
 use cc_env::EnvValues;
+use cc_fixtures::trees::{TESTED, read};
+use cc_fixtures::words::copies;
 use cc_paths::MemoryFolder;
 use cc_requests::CompleteEnv;
-use cc_tree_file::read_tree;
 use std::alloc::{AllocError, Global};
 use std::process::Abort;
-
-// `app` with a child `test` that is shown as `t` too.
-const TESTED: &str = r#"{"name": "app", "subcommands": [
-    {"name": "test", "visible_aliases": ["t"]}]}"#;
 
 // A command whose name is not its bin name.
 const NAMED: &str = r#"{"name": "VAR-x", "bin_name": "my-bin"}"#;
 
 /// The command `app`, which has a child.
 pub(crate) fn tested(alloc: Global) -> Result<Command, Error> {
-    tree(alloc, TESTED)
+    read(alloc, TESTED)
 }
 
 /// The command `VAR-x`, whose bin name is `my-bin`.
 pub(crate) fn named(alloc: Global) -> Result<Command, Error> {
-    tree(alloc, NAMED)
-}
-
-fn tree(alloc: Global, file: &str) -> Result<Command, Error> {
-    match read_tree(alloc, file.as_bytes()) {
-        Ok(command) => Ok(command),
-        Err(_) => Err(Error::Memory),
-    }
+    read(alloc, NAMED)
 }
 
 /// Fails unless the program of `app` writes or fails as this text says, for these variables,
@@ -95,7 +85,7 @@ pub(crate) fn tried<F: Fn(Global) -> Result<Command, Error> + Drop, W: Sink>(
 {
     program.try_complete(
         alloc,
-        owned(alloc, arguments)?,
+        copies(alloc, arguments)?,
         current_dir,
         &environment(alloc, variables)?,
         &MemoryFolder::new(&[], &[]),
@@ -120,12 +110,4 @@ fn environment(alloc: Global, variables: &[(&str, &str)]) -> Result<EnvValues, A
         values.push((name, value))?;
     }
     Ok(EnvValues::new(values))
-}
-
-fn owned(alloc: Global, texts: &[&str]) -> Result<Vec<String>, AllocError> {
-    let mut owned = Vec::new(alloc);
-    for text in texts {
-        owned.push(String::from_str(alloc, text)?)?;
-    }
-    Ok(owned)
 }

@@ -2,41 +2,11 @@
 
 use crate::tried::{ends, tested, tried};
 use cc_base::{Counted, Error};
+use cc_fixtures::writers::Narrow;
 use cc_requests::CompleteEnv;
 use std::alloc::Global;
-use std::io::{self, ErrorKind, Write};
+use std::io::ErrorKind;
 use std::process::Abort;
-
-// A writer that takes one byte a call, and fails once it holds `room` bytes; with no kind it then
-// takes nothing.
-#[derive(Drop)]
-struct Narrow {
-    held: Vec<u8>,
-    room: usize,
-    kind: Option<ErrorKind>,
-}
-
-impl Write for Narrow {
-    fn write(&mut self, bytes: &[u8]) -> io::Result<usize> {
-        if self.held.len() >= self.room {
-            return match self.kind {
-                Some(kind) => Err(io::Error::from(kind)),
-                None => Ok(0),
-            };
-        }
-        match bytes.first() {
-            None => Ok(0),
-            Some(byte) => {
-                self.held.push(*byte)?;
-                Ok(1)
-            }
-        }
-    }
-
-    fn flush(&mut self) -> io::Result<()> {
-        Ok(())
-    }
-}
 
 const FISH: [(&str, &str); 1] = [("COMPLETE", "fish")];
 
@@ -73,8 +43,7 @@ fn fails<R: Abort + AllocGlobal>(
     room: usize,
     kind: Option<ErrorKind>,
 ) {
-    let held = Vec::new(rt.alloc());
-    let mut sink = Counted::new(Narrow { held, room, kind });
+    let mut sink = Counted::new(Narrow::new(rt.alloc(), room, kind));
     let program = CompleteEnv::with_factory(|alloc: Global| tested(alloc));
     let done = tried(rt.alloc(), program, &FISH, arguments, None, &mut sink);
     let wanted = kind.unwrap_or(ErrorKind::WriteZero);

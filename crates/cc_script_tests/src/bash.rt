@@ -5,6 +5,7 @@ use crate::fixtures::{self, chain, hinted, tree};
 use crate::written::{script, script_for, script_of, twice};
 use cc_base::{Collected, Error};
 use cc_bash::Bash;
+use cc_fixtures::trees;
 use cc_generator::{Generator, generate};
 use std::alloc::{AllocError, Global};
 use std::fmt::Write;
@@ -128,11 +129,7 @@ fi
 
 #[test]
 fn the_whole_script(rt: HostRuntime) {
-    is(
-        &rt,
-        script_for(&rt, Bash, fixtures::HELPED, "my-app"),
-        HELPED,
-    );
+    is(&rt, script_for(&rt, Bash, trees::HELPED, "my-app"), HELPED);
 }
 
 // The part of a script that leads the words of the line from label to label.
@@ -173,7 +170,7 @@ const LABELS: &str = "my__app my__app my__app__subcmd__test my__app__subcmd__tes
 
 #[test]
 fn words_lead_through_the_table(rt: HostRuntime) {
-    let script = script_for(&rt, Bash, fixtures::HELPED, "my-app");
+    let script = script_for(&rt, Bash, trees::HELPED, "my-app");
     let script = script.expect(&rt, "no script");
     is(&rt, labels(rt.alloc(), table(script.as_str())), LABELS);
 }
@@ -241,7 +238,7 @@ fn is_clash(outcome: &Result<(), Error>, label: &str) -> bool {
 fn clash<R: Abort + AllocGlobal>(rt: &R) -> (bool, usize) {
     let bin_name = String::from_str(rt.alloc(), "p").expect(rt, "no name");
     let mut sink = Collected::new(rt.alloc());
-    let mut command = tree(rt, fixtures::CLASHING);
+    let mut command = tree(rt, trees::CLASHING);
     let result = generate(rt.alloc(), Bash, &mut command, bin_name, &mut sink);
     drop(command);
     let reported = is_clash(&result, "p__subcmd__a__subcmd__b");
@@ -268,8 +265,8 @@ const COLORED: &str = "
 #[test]
 fn values_that_are_shown_are_offered(rt: HostRuntime) {
     let opts = "opts=\"-c -h --color --help run help\"";
-    has(&rt, script(&rt, Bash, fixtures::COLORED), opts);
-    has(&rt, script(&rt, Bash, fixtures::COLORED), COLORED);
+    has(&rt, script(&rt, Bash, trees::COLORED), opts);
+    has(&rt, script(&rt, Bash, trees::COLORED), COLORED);
 }
 
 const GLOBAL: &str = "
@@ -280,7 +277,7 @@ const GLOBAL: &str = "
 
 #[test]
 fn a_child_has_the_global_flag_of_its_parent(rt: HostRuntime) {
-    has(&rt, script(&rt, Bash, fixtures::GLOBAL), GLOBAL);
+    has(&rt, script(&rt, Bash, trees::GLOBAL), GLOBAL);
 }
 
 const CASES: &str = "
@@ -421,7 +418,7 @@ fn the_last_of_two_hundred_commands_has_the_level_two_hundred(rt: HostRuntime) {
 
 #[test]
 fn the_methods_write_the_script(rt: HostRuntime) {
-    let written = twice(&rt, &Bash, fixtures::HELPED, "my-app");
+    let written = twice(&rt, &Bash, trees::HELPED, "my-app");
     is_twice(&rt, written, HELPED);
 }
 

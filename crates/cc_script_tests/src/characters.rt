@@ -4,6 +4,7 @@
 use crate::written::script;
 use cc_base::Error;
 use cc_fish::Fish;
+use cc_fixtures::words::{after, word};
 use cc_generator::Generator;
 use cc_quote::{elvish_word, fish_double, fish_word, posix_word, powershell_word, zsh_unescape};
 use cc_tables::{Elvish, Nushell, PowerShell};
@@ -113,19 +114,6 @@ fn line_that_begins<'t>(text: &'t str, begins: &str) -> &'t str {
         }
     }
     ""
-}
-
-// What follows the first place of a mark; nothing where it stands nowhere.
-fn after<'t>(text: &'t str, mark: &str) -> &'t str {
-    match text.split_once(mark) {
-        Some((_, rest)) => rest,
-        None => "",
-    }
-}
-
-fn word(read: Option<(String, &str)>) -> Option<String> {
-    let (word, _) = read?;
-    Some(word)
 }
 
 #[test]

@@ -3,6 +3,7 @@
 use crate::checks::{has, same};
 use crate::fixtures::{self, chain};
 use crate::written::{script, script_of};
+use cc_fixtures::trees;
 use cc_tables::Elvish;
 use std::alloc::{AllocError, Global};
 use std::fmt::Write;
@@ -135,17 +136,17 @@ fn has_tables<R: Abort + AllocGlobal>(rt: &R, text: &str, wanted: &str) {
 
 #[test]
 fn a_command_without_arguments_has_an_empty_table(rt: HostRuntime) {
-    has_tables(&rt, fixtures::BARE, BARE);
+    has_tables(&rt, trees::BARE, BARE);
 }
 
 #[test]
 fn options_stand_before_flags(rt: HostRuntime) {
-    has_tables(&rt, fixtures::APP, APP);
+    has_tables(&rt, trees::APP, APP);
 }
 
 #[test]
 fn every_visible_path_has_a_key(rt: HostRuntime) {
-    has_tables(&rt, fixtures::NESTED, NESTED);
+    has_tables(&rt, trees::NESTED, NESTED);
 }
 
 #[test]
@@ -155,7 +156,7 @@ fn an_about_is_escaped(rt: HostRuntime) {
 
 #[test]
 fn a_child_has_the_global_flag_of_its_parent(rt: HostRuntime) {
-    has(&rt, script(&rt, Elvish, fixtures::GLOBAL), GLOBAL);
+    has(&rt, script(&rt, Elvish, trees::GLOBAL), GLOBAL);
 }
 
 #[test]

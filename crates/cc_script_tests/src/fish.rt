@@ -4,6 +4,7 @@ use crate::checks::{ends, has, is, is_twice, same};
 use crate::fixtures::{self, chain, hinted};
 use crate::written::{script, script_for, script_of, twice};
 use cc_fish::Fish;
+use cc_fixtures::trees;
 use cc_generator::Generator;
 use std::process::Abort;
 
@@ -47,7 +48,7 @@ complete -c my-app -n \"__fish_my_app_using_subcommand help; and not __fish_seen
 fn the_whole_script(rt: HostRuntime) {
     is(
         &rt,
-        script_for(&rt, Fish, fixtures::COLORED, "my-app"),
+        script_for(&rt, Fish, trees::COLORED, "my-app"),
         COLORED,
     );
 }
@@ -58,9 +59,9 @@ complete -c app -n \"__fish_app_needs_command\" -s c -l color -d 'Colour' -r -f 
 
 #[test]
 fn values_that_are_shown_are_offered(rt: HostRuntime) {
-    has(&rt, script(&rt, Fish, fixtures::COLORED), OPTION);
+    has(&rt, script(&rt, Fish, trees::COLORED), OPTION);
     let specs = "\n    string join \\n c/color= h/help\n";
-    has(&rt, script(&rt, Fish, fixtures::COLORED), specs);
+    has(&rt, script(&rt, Fish, trees::COLORED), specs);
 }
 
 #[test]
@@ -125,7 +126,7 @@ complete -c app -n \"__fish_app_using_subcommand run\" -s h -l help -d 'Print he
 
 #[test]
 fn a_child_has_the_global_flag_of_its_parent(rt: HostRuntime) {
-    has(&rt, script(&rt, Fish, fixtures::GLOBAL), GLOBAL);
+    has(&rt, script(&rt, Fish, trees::GLOBAL), GLOBAL);
 }
 
 // The last line of the head, and all records.
@@ -188,7 +189,7 @@ fn each_hint_has_its_marks(rt: HostRuntime) {
 
 #[test]
 fn the_methods_write_the_script(rt: HostRuntime) {
-    let written = twice(&rt, &Fish, fixtures::COLORED, "my-app");
+    let written = twice(&rt, &Fish, trees::COLORED, "my-app");
     is_twice(&rt, written, COLORED);
 }
 

@@ -3,6 +3,7 @@
 use crate::checks::{has, is};
 use crate::fixtures;
 use crate::written::script;
+use cc_fixtures::trees;
 use cc_generator::Generator;
 use cc_tables::Nushell;
 
@@ -63,7 +64,7 @@ fn a_line_feed_in_the_help_of_a_long_is_a_space(rt: HostRuntime) {
 
 #[test]
 fn a_child_has_the_global_flag_of_its_parent(rt: HostRuntime) {
-    has(&rt, script(&rt, Nushell, fixtures::GLOBAL), GLOBAL);
+    has(&rt, script(&rt, Nushell, trees::GLOBAL), GLOBAL);
 }
 
 #[test]

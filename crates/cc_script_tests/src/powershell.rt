@@ -1,8 +1,8 @@
 //! PowerShell scripts.
 
 use crate::checks::{has, same};
-use crate::fixtures;
 use crate::written::script;
+use cc_fixtures::trees;
 use cc_tables::PowerShell;
 use std::process::Abort;
 
@@ -106,17 +106,17 @@ fn has_tables<R: Abort + AllocGlobal>(rt: &R, text: &str, wanted: &str) {
 
 #[test]
 fn options_stand_before_flags(rt: HostRuntime) {
-    has_tables(&rt, fixtures::APP, APP);
+    has_tables(&rt, trees::APP, APP);
 }
 
 #[test]
 fn every_visible_path_has_a_key(rt: HostRuntime) {
-    has_tables(&rt, fixtures::NESTED, NESTED);
+    has_tables(&rt, trees::NESTED, NESTED);
 }
 
 #[test]
 fn a_child_has_the_global_flag_of_its_parent(rt: HostRuntime) {
-    has(&rt, script(&rt, PowerShell, fixtures::GLOBAL), GLOBAL);
+    has(&rt, script(&rt, PowerShell, trees::GLOBAL), GLOBAL);
 }
 
 #[test]

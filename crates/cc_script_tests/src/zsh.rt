@@ -3,6 +3,7 @@
 use crate::checks::{has, is};
 use crate::fixtures;
 use crate::written::{script, script_for};
+use cc_fixtures::trees;
 use cc_generator::Generator;
 use cc_zsh::Zsh;
 
@@ -110,11 +111,7 @@ fi
 
 #[test]
 fn the_whole_script(rt: HostRuntime) {
-    is(
-        &rt,
-        script_for(&rt, Zsh, fixtures::HELPED, "my-app"),
-        HELPED,
-    );
+    is(&rt, script_for(&rt, Zsh, trees::HELPED, "my-app"), HELPED);
 }
 
 const COLORED: &str = "
@@ -124,7 +121,7 @@ const COLORED: &str = "
 
 #[test]
 fn values_that_are_shown_are_offered(rt: HostRuntime) {
-    has(&rt, script(&rt, Zsh, fixtures::COLORED), COLORED);
+    has(&rt, script(&rt, Zsh, trees::COLORED), COLORED);
 }
 
 const COUNTED: &str = "
@@ -149,7 +146,7 @@ _arguments \"${_arguments_options[@]}\" : \\
 
 #[test]
 fn a_global_flag_is_in_conflict_with_what_its_parent_has(rt: HostRuntime) {
-    has(&rt, script(&rt, Zsh, fixtures::GLOBAL), GLOBAL);
+    has(&rt, script(&rt, Zsh, trees::GLOBAL), GLOBAL);
 }
 
 const PLACED: &str = "

@@ -2,29 +2,11 @@
 
 use crate::checks::is;
 use crate::runs::{candidates, fails, written, written_in};
+use cc_fixtures::trees::{ANY, FILE, HYPHENS, TESTED};
 use cc_paths::MemoryFolder;
 use complgen_command_line::Refusal;
 use std::alloc::Global;
 use std::process::Abort;
-
-// `app` with a child `test` that is shown as `t` too.
-const TESTED: &str = r#"{"name": "app", "subcommands": [
-    {"name": "test", "visible_aliases": ["t"]}]}"#;
-
-// `app` with an option `--opt`, a positional `first` that takes words with hyphens, and a
-// positional `second` that is `x` or `y`.
-const HYPHENS: &str = r#"{"name": "app", "args": [
-    {"id": "opt", "long": "opt", "action": "Set"},
-    {"id": "first", "allow_hyphen_values": true},
-    {"id": "second", "possible_values": [{"name": "x"}, {"name": "y"}]}]}"#;
-
-// `app` with a positional that is any path, and no flag.
-const ANY_PATH: &str = r#"{"name": "app", "disable_help_flag": true, "args": [
-    {"id": "path", "value_hint": "AnyPath"}]}"#;
-
-// `app` with a positional that is a file's path, and no flag.
-const FILE: &str = r#"{"name": "app", "disable_help_flag": true, "args": [
-    {"id": "file", "value_hint": "FilePath"}]}"#;
 
 // What is written of the candidates for the last of the words.
 fn last_of(alloc: Global, tree: &str, words: &[&str]) -> Result<String, Refusal> {
@@ -106,7 +88,7 @@ fn writes_the_paths_of_the_current_folder(rt: HostRuntime) {
         &[(".", &["foo", "foobar", "bar"]), ("./foo", &[])],
         &["./foobar", "./bar"],
     );
-    let shown = path_of(rt.alloc(), ANY_PATH, "foo/.", &folder);
+    let shown = path_of(rt.alloc(), ANY, "foo/.", &folder);
     is(&rt, shown, "foo/\nfoobar\n");
 }
 
@@ -127,9 +109,5 @@ fn writes_files_and_then_folders(rt: HostRuntime) {
 fn writes_the_paths_of_the_home_folder(rt: HostRuntime) {
     let folder = MemoryFolder::new(&[("/home/u", &["src"]), ("/home/u/src", &[])], &[]);
     let folder = folder.with_home("/home/u");
-    is(
-        &rt,
-        path_of(rt.alloc(), ANY_PATH, "~/s", &folder),
-        "~/src/\n",
-    );
+    is(&rt, path_of(rt.alloc(), ANY, "~/s", &folder), "~/src/\n");
 }

@@ -1,7 +1,8 @@
 //! What the words of `register` and `candidates` ask for.
 
 use crate::checks::{is, same};
-use crate::words::{failed, planned, shows, texts};
+use crate::words::{failed, planned, shows};
+use cc_fixtures::words::copies;
 use complgen_command_line::Plan;
 use std::alloc::{AllocError, Global};
 use std::convert::AsStr;
@@ -39,7 +40,7 @@ fn asks(rt: &impl Abort, alloc: Global, line: &[&str], index: usize, words: &[&s
     match planned(rt, alloc, line).expect(rt, "no plan") {
         Plan::Candidates(at, tree, given) => {
             same(rt, (at, tree.as_str()), (index, "tree.json"));
-            same(rt, given, texts(alloc, words).expect(rt, "no words"));
+            same(rt, given, copies(alloc, words).expect(rt, "no words"));
         }
         _ => panic!(rt; "no candidates"),
     }

@@ -1,6 +1,7 @@
 //! Carrying out a plan over a tree file and a folder in memory.
 
 use crate::checks::same;
+use cc_fixtures::words::copies;
 use cc_paths::MemoryFolder;
 use clap_complete::aot::Collected;
 use complgen_command_line::{Plan, Refusal};
@@ -25,11 +26,8 @@ pub(crate) fn registration(alloc: Global, shell: &str, bin: &str) -> Result<Plan
 
 /// The plan of candidates for the word at the index.
 pub(crate) fn candidates(alloc: Global, index: usize, words: &[&str]) -> Result<Plan, AllocError> {
-    let mut owned = Vec::new(alloc);
-    for word in words {
-        owned.push(String::from_str(alloc, word)?)?;
-    }
-    Ok(Plan::Candidates(index, String::from_str(alloc, "tree.json")?, owned))
+    let words = copies(alloc, words)?;
+    Ok(Plan::Candidates(index, String::from_str(alloc, "tree.json")?, words))
 }
 
 /// What the plan writes over this file, in a folder.

@@ -1,24 +1,16 @@
 //! What the words of the command line ask for.
 
 use crate::checks::{is, same};
+use cc_fixtures::words::copies;
 use clap_complete::Shell;
 use complgen_command_line::{Plan, Refusal, plan};
 use std::alloc::{AllocError, Global};
 use std::convert::AsStr;
 use std::process::Abort;
 
-/// Copies of these words.
-pub(crate) fn texts(alloc: Global, words: &[&str]) -> Result<Vec<String>, AllocError> {
-    let mut all = Vec::new(alloc);
-    for word in words {
-        all.push(String::from_str(alloc, word)?)?;
-    }
-    Ok(all)
-}
-
 /// What `plan` returns for these words.
 pub(crate) fn planned(rt: &impl Abort, alloc: Global, words: &[&str]) -> Result<Plan, Refusal> {
-    let words = texts(alloc, words).expect(rt, "no words");
+    let words = copies(alloc, words).expect(rt, "no words");
     plan(alloc, words.as_slice())
 }
 

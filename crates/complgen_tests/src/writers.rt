@@ -2,41 +2,15 @@
 
 use crate::checks::same;
 use crate::runs::{candidates, registration, script, written};
+use cc_fixtures::writers::Narrow;
 use cc_paths::MemoryFolder;
 use clap_complete::aot::Counted;
 use complgen_command_line::{Plan, Refusal};
 use complgen_run::run;
 use std::alloc::{AllocError, Global};
 use std::convert::AsStr;
-use std::io::{self, ErrorKind, Write};
+use std::io::ErrorKind;
 use std::process::Abort;
-
-// A writer that has room for so many bytes, and then fails; without a kind it takes nothing.
-#[derive(Drop)]
-struct Narrow {
-    held: Vec<u8>,
-    room: usize,
-    kind: Option<ErrorKind>,
-}
-
-impl Write for Narrow {
-    fn write(&mut self, bytes: &[u8]) -> io::Result<usize> {
-        let left = self.room.saturating_sub(self.held.len());
-        let taken = &bytes[..bytes.len().min(left)];
-        if taken.is_empty() && !bytes.is_empty() {
-            return match self.kind {
-                Some(kind) => Err(io::Error::from(kind)),
-                None => Ok(0),
-            };
-        }
-        self.held.extend_from_slice(taken)?;
-        Ok(taken.len())
-    }
-
-    fn flush(&mut self) -> io::Result<()> {
-        Ok(())
-    }
-}
 
 const TREE: &[u8] = br#"{"name": "app", "subcommands": [{"name": "run"}]}"#;
 
@@ -47,8 +21,7 @@ fn end_of(
     room: usize,
     kind: Option<ErrorKind>,
 ) -> Result<(String, String), AllocError> {
-    let held = Vec::new(alloc);
-    let mut out = Counted::new(Narrow { held, room, kind });
+    let mut out = Counted::new(Narrow::new(alloc, room, kind));
     let ended = run(
         alloc,
         plan,
