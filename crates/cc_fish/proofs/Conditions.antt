@@ -9,9 +9,9 @@ use Rattle.cc_command.specs.Tree.{Forest, none, more}
 use Rattle.cc_base.specs.Bytes as ascii
 use Rattle.cc_quote.specs.FishQuote.{is_fish_safe}
 use Rattle.cc_quote.proofs.FishWords.{IsSafe, safe_is_not, safe_bytes}
-use Rattle.cc_fish.specs.FishScript.{seen_text, spaced_name, not_seen, excluded_text}
-use Rattle.cc_fish.specs.FishTable.{child_names, function_name, function_begin, condition_at}
-use Rattle.cc_fish.specs.RecordReader.{pieces_from, without_semicolon, after_beginning, seen_function, a_name, nothing, asked, condition_from, condition_of_pieces, condition_of}
+use Rattle.cc_fish.specs.Script.{seen_text, spaced_name, not_seen, excluded_text}
+use Rattle.cc_fish.specs.Table.{child_names, function_name, function_begin, condition_at}
+use Rattle.cc_fish.specs.Reader.{pieces_from, without_semicolon, after_beginning, seen_function, a_name, nothing, asked, condition_from, condition_of_pieces, condition_of}
 use Rattle.cc_fish.specs.Records.{Condition}
 use Rattle.cc_fish.proofs.RecordWords.{is_kept, IsKept}
 
@@ -179,7 +179,11 @@ safe_kept : (text : List ℕ) → IsSafe text → list_all is_kept text ≡ true
 unfolding is_fish_safe
 safe_kept [] h = refl
 safe_kept (byte ∷ text) (h, hs) =
-    rw (safe_is_not byte ascii.double_quote h refl, safe_is_not byte ascii.backslash h refl, safe_is_not byte ascii.dollar h refl) (safe_kept text hs)
+    rw (
+      safe_is_not byte ascii.double_quote h refl,
+      safe_is_not byte ascii.backslash h refl,
+      safe_is_not byte ascii.dollar h refl,
+    ) (safe_kept text hs)
 
 kept_append : (a b : List ℕ) → list_all is_kept a ≡ true → list_all is_kept b ≡ true → list_all is_kept (a ++ b) ≡ true
 kept_append a b h k = list_all-append is_kept a b ∙ rw (h, k)

@@ -12,11 +12,11 @@ use Rattle.cc_quote.specs.FishQuote.FishPlace.{bare}
 use Rattle.cc_quote.specs.FishTokens.{in_word, commands_from, fish_commands}
 use Rattle.cc_quote.proofs.FishWords.{IsSafe}
 use Rattle.cc_quote.proofs.FishCutting.{Adds, adds_word, adds_flat_map, safe_goes_on, word_ends}
-use Rattle.cc_fish.specs.FishScript.{slash_text, first_short, first_long, spec_word, spec_text, specs_text, optspecs_begin, optspecs_join, needs_command_begin, needs_command_parse, needs_command_answer, using_subcommand_call, using_subcommand_answer, head_text}
-use Rattle.cc_fish.specs.FishTable.{function_name}
-use Rattle.cc_fish.specs.RecordReader.{records_of, records}
+use Rattle.cc_fish.specs.Script.{slash_text, first_short, first_long, spec_word, spec_text, specs_text, optspecs_begin, optspecs_join, needs_command_begin, needs_command_parse, needs_command_answer, using_subcommand_call, using_subcommand_answer, head_text}
+use Rattle.cc_fish.specs.Table.{function_name}
+use Rattle.cc_fish.specs.Reader.{records_of, records}
 use Rattle.cc_fish.specs.Records.{Record}
-use Rattle.cc_fish.proofs.FishNames.{IsName, name_safe, name_spelled, IsShortName, plain_shorts, plain_longs}
+use Rattle.cc_fish.proofs.Names.{IsName, name_safe, name_spelled, IsShortName, plain_shorts, plain_longs}
 use Rattle.cc_fish.proofs.Conditions.{safe_append, function_safe}
 use Rattle.cc_fish.proofs.RecordsRead.{Yields, yields_none, unchanged}
 

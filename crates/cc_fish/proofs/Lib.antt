@@ -1,6 +1,6 @@
 pub mod Conditions
 pub mod Examples
-pub mod FishNames
+pub mod Names
 pub mod HeadRead
 pub mod RecordWords
 pub mod RecordsRead

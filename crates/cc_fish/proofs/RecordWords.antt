@@ -22,10 +22,10 @@ use Rattle.cc_quote.specs.FishTokens.{between, in_word, commands_from, fish_comm
 use Rattle.cc_quote.proofs.FishEscaped.{fish_escaped_composed}
 use Rattle.cc_quote.proofs.FishWords.{safe_sign, safe_bytes, safe_in_double, double_read, single_quoted_read, fish_quoted_read, advance-append}
 use Rattle.cc_quote.proofs.FishCutting.{Spells, word_read, Adds, adds_none, adds_word, adds_append, adds_flat_map, command_read}
-use Rattle.cc_fish.specs.FishScript.{condition_text, short_text, long_text, help_text, value_text, value_lines, list_begin, listed_text, hint_text, value_part, values_text, names_text, front_text}
-use Rattle.cc_fish.specs.FishTable.{value_word}
-use Rattle.cc_fish.specs.RecordReader.{joined_words, offered_of}
-use Rattle.cc_fish.proofs.FishNames.{IsName, letter_safe, joiner_safe, name_safe, name_spelled, IsShortName, plain_shorts, plain_longs}
+use Rattle.cc_fish.specs.Script.{condition_text, short_text, long_text, help_text, value_text, value_lines, list_begin, listed_text, hint_text, value_part, values_text, names_text, front_text}
+use Rattle.cc_fish.specs.Table.{value_word}
+use Rattle.cc_fish.specs.Reader.{joined_words, offered_of}
+use Rattle.cc_fish.proofs.Names.{IsName, letter_safe, joiner_safe, name_safe, name_spelled, IsShortName, plain_shorts, plain_longs}
 
 -- ---- words in `"`
 

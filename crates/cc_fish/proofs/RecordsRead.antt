@@ -18,11 +18,11 @@ use Rattle.cc_quote.specs.FishQuote.{fish_sign}
 use Rattle.cc_quote.specs.FishTokens.{between, commands_from, fish_commands}
 use Rattle.cc_quote.proofs.FishWords.{IsSafe}
 use Rattle.cc_quote.proofs.FishCutting.{word_read, Adds, adds_append}
-use Rattle.cc_fish.specs.FishScript.{names_text, values_text, help_text, front_text, argument_text, child_text, children_text, node_text, options_text, flags_text, below_text}
-use Rattle.cc_fish.specs.FishTable.{condition_at, child_names, has_positionals, hint_marks, hint_offers, value_marks, value_offers, short_names, flag_record, option_record, child_record, child_records, node_records}
-use Rattle.cc_fish.specs.RecordReader.{joined_words, offered_of, condition, condition_of, told_once, record_from, an_option, the_operand, no_record, records_of, records}
+use Rattle.cc_fish.specs.Script.{names_text, values_text, help_text, front_text, argument_text, child_text, children_text, node_text, options_text, flags_text, below_text}
+use Rattle.cc_fish.specs.Table.{condition_at, child_names, has_positionals, hint_marks, hint_offers, value_marks, value_offers, short_names, flag_record, option_record, child_record, child_records, node_records}
+use Rattle.cc_fish.specs.Reader.{joined_words, offered_of, condition, condition_of, told_once, record_from, an_option, the_operand, no_record, records_of, records}
 use Rattle.cc_fish.specs.Records.{Condition, Record}
-use Rattle.cc_fish.proofs.FishNames.{IsName, name_safe, name_spelled, plain_name}
+use Rattle.cc_fish.proofs.Names.{IsName, name_safe, name_spelled, plain_name}
 use Rattle.cc_fish.proofs.RecordWords.{front_words, names_words, short_words, long_words, help_words, values_words, hint_words, shown_of, part_words, names_adds, values_adds, help_adds, values_twice, record_read, child_offer_adds, no_files_mark_adds}
 use Rattle.cc_fish.proofs.Conditions.{path_condition, condition_read, condition_kept}
 
@@ -36,7 +36,11 @@ condition_operand : (bin_name text : List ℕ) (when : Option Condition) (words 
     → record_from (the_operand condition) (at bin_name None) (text ∷ words) ≡ record_from an_option (at bin_name when) words
 condition_operand bin_name text None words h k = absurd (cc)
 condition_operand bin_name text (Some when) words h k =
-    ap (λ o. elim (option_map (λ when. at bin_name (Some when)) o) as (λ x. Option Record) [ Some next ↦ record_from an_option next words | None ↦ None ]) h
+    ap
+    (λ o. elim (option_map (λ when. at bin_name (Some when)) o) as (λ x. Option Record) [
+      | Some next ↦ record_from an_option next words
+      | None ↦ None
+    ]) h
 
 unconditional : (bin_name : List ℕ) (path : List (List ℕ)) (children : Forest) → path_condition bin_name path children ≡ None → None ≡ condition_at bin_name path children
 unconditional bin_name [] none e = refl
@@ -200,7 +204,12 @@ record_yields bin_name path children text words read is adds h =
       read = λ rest.
           ap records (append_assoc front (text ++ line_feed ∷ []) rest ∙ ap (λ t. front ++ t) (append_assoc text (line_feed ∷ []) rest))
           ∙ ap records_of (record_read bin_name (path_condition bin_name path children) text words rest is.command (condition_kept bin_name path children (name_safe bin_name is.command) is.names is.excluded) adds)
-          ∙ ap (λ o. elim o as (λ x. Option (List Record)) [ Some read ↦ option_map (λ later. read ∷ later) (records rest) | None ↦ None ])
+          ∙ ap
+          (λ o. elim o as (λ x. Option (List Record)) [
+            | Some read ↦ option_map
+                (λ later. read ∷ later) (records rest)
+            | None ↦ None
+          ])
           (front_read bin_name path children words (name_safe bin_name is.command) is.names is.excluded ∙ h);
     }
 

@@ -17,12 +17,12 @@ use Rattle.cc_visits.proofs.Entered.{entered_visits}
 use Rattle.cc_visits.proofs.PlainVisits.{IsPlainVisit, plain_visits}
 use Rattle.cc_visits.proofs.SameVisits.{rekeyed-path_visits}
 use Rattle.cc_visits.proofs.VisitedPaths.{paths_cover}
-use Rattle.cc_fish.specs.FishReads.{FishReads}
-use Rattle.cc_fish.specs.FishScript.{seen_text, excluded_text, fish_key, key_condition, front_text, node_text, visit_text, head_text, body_text, script_text, fish_script}
-use Rattle.cc_fish.specs.FishTable.{function_name, condition_at, has_positionals, option_record, flag_record, child_record, child_records, node_records, table, tables}
-use Rattle.cc_fish.specs.RecordReader.{records}
+use Rattle.cc_fish.specs.Reads.{FishReads}
+use Rattle.cc_fish.specs.Script.{seen_text, excluded_text, fish_key, key_condition, front_text, node_text, visit_text, head_text, body_text, script_text, fish_script}
+use Rattle.cc_fish.specs.Table.{function_name, condition_at, has_positionals, option_record, flag_record, child_record, child_records, node_records, table, tables}
+use Rattle.cc_fish.specs.Reader.{records}
 use Rattle.cc_fish.specs.Records.{Condition, Record, condition_path, record_path}
-use Rattle.cc_fish.proofs.FishNames.{IsName, plain_name, path_safe, children_safe}
+use Rattle.cc_fish.proofs.Names.{IsName, plain_name, path_safe, children_safe}
 use Rattle.cc_fish.proofs.Conditions.{path_condition}
 use Rattle.cc_fish.proofs.RecordsRead.{Yields, yields_append, yields_flat_map, path_front, node_yields}
 use Rattle.cc_fish.proofs.HeadRead.{head_yields}

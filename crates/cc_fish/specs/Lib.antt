@@ -1,5 +1,5 @@
-pub mod FishReads
-pub mod FishScript
-pub mod FishTable
-pub mod RecordReader
+pub mod Reader
+pub mod Reads
 pub mod Records
+pub mod Script
+pub mod Table

@@ -6,7 +6,7 @@ ghost use Rattle.cc_base.specs.Writes.{Writes};
 ghost use Rattle.cc_command.specs.Names.{full_name};
 ghost use Rattle.cc_flat.specs.Flat.{tree_at};
 ghost use Rattle.cc_visits.specs.Visits.{where_entered};
-ghost use Rattle.cc_fish.specs.FishScript.{body_text, fish_script, script_text, visit_text};
+ghost use Rattle.cc_fish.specs.Script.{body_text, fish_script, script_text, visit_text};
 
 use crate::function::function_name;
 use crate::head::write_head;
@@ -24,7 +24,7 @@ use std::alloc::Global;
 pub struct Fish;
 
 impl Generator for Fish {
-    ghost use Rattle.cc_fish.specs.FishReads.{FishReads};
+    ghost use Rattle.cc_fish.specs.Reads.{FishReads};
 
     ghost script = { λ _ root. fish_script root };
 
@@ -60,7 +60,7 @@ fn write_script<W: Sink>(alloc: Global, flat: &Flat<'_>, sink: &mut W) -> Result
     write_parts(alloc, flat, bin_name, function.as_str(), sink)
 }
 
-#[tactic(auto, unfolding(crate::specs::FishScript::script_text))]
+#[tactic(auto, unfolding(crate::specs::Script::script_text))]
 fn write_parts<W: Sink>(
     alloc: Global,
     flat: &Flat<'_>,

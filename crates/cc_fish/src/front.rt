@@ -4,21 +4,21 @@ ghost use Rattle.std.specs.Prelude.{◌≡◌, ◌++◌, [], flat_map, IfOk, OnO
 ghost use Rattle.std.specs.String.{string_bytes};
 ghost use Rattle.cc_command.specs.Names.{visible_names};
 ghost use Rattle.cc_command.specs.Tree.{forest_of};
-ghost use Rattle.cc_fish.specs.FishScript.{
+ghost use Rattle.cc_fish.specs.Script.{
   condition_text,
   excluded_text,
   front_text,
   key_condition,
   spaced_name,
 };
-ghost use Rattle.cc_fish.specs.FishTable.{child_names};
+ghost use Rattle.cc_fish.specs.Table.{child_names};
 
 use crate::texts::not_seen;
 use cc_command::Command;
 use std::alloc::{AllocError, Global};
 
 /// What each record of a node begins with.
-#[tactic(auto, unfolding(crate::specs::FishScript::front_text))]
+#[tactic(auto, unfolding(crate::specs::Script::front_text))]
 pub(crate) fn front(
     alloc: Global,
     bin_name: &str,
@@ -35,7 +35,7 @@ pub(crate) fn front(
     Ok(front)
 }
 
-#[tactic(auto, unfolding(crate::specs::FishScript::key_condition))]
+#[tactic(auto, unfolding(crate::specs::Script::key_condition))]
 fn push_condition(
     front: &mut String,
     function: &str,
@@ -56,7 +56,7 @@ fn push_condition(
 }
 
 // The records of the root hold until a subcommand is given. Without children there is none to give.
-#[tactic(auto, unfolding(crate::specs::FishScript::key_condition))]
+#[tactic(auto, unfolding(crate::specs::Script::key_condition))]
 fn push_root(front: &mut String, function: &str, command: &Command) -> Result<(), AllocError>
     ensures { OnOk result (string_bytes front.new ≡ string_bytes front.old
         ++ condition_text (key_condition function.now [] command.now.children)) }

@@ -2,7 +2,7 @@
 
 ghost use Rattle.std.specs.Prelude.{◌≡◌, IfOk};
 ghost use Rattle.std.specs.String.{string_bytes};
-ghost use Rattle.cc_fish.specs.FishTable.{function_name};
+ghost use Rattle.cc_fish.specs.Table.{function_name};
 
 use cc_quote::{Replace, escape_text};
 use std::alloc::{AllocError, Global};

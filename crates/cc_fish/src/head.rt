@@ -4,7 +4,7 @@ ghost use Rattle.std.specs.Prelude.{◌≡◌, ◌++◌, filter, flat_map, not, 
 ghost use Rattle.cc_arg.specs.Arguments.{is_positional, takes_values};
 ghost use Rattle.cc_arg.specs.ShownNames.{shown_longs, shown_shorts};
 ghost use Rattle.cc_base.specs.Writes.{Writes, as_write};
-ghost use Rattle.cc_fish.specs.FishScript.{
+ghost use Rattle.cc_fish.specs.Script.{
   first_long,
   first_short,
   head_text,
@@ -22,7 +22,7 @@ use cc_command::Command;
 use std::io::ErrorKind;
 
 /// Fails with the kind of the put that failed.
-#[tactic(auto, unfolding(crate::specs::FishScript::head_text))]
+#[tactic(auto, unfolding(crate::specs::Script::head_text))]
 pub(crate) fn write_head<W: Sink>(
     function: &str,
     command: &Command,
@@ -59,7 +59,7 @@ fn write_specs<W: Sink>(arguments: &[Arg], sink: &mut W) -> Result<(), ErrorKind
     Ok(())
 }
 
-#[tactic(auto, unfolding(crate::specs::FishScript::spec_text))]
+#[tactic(auto, unfolding(crate::specs::Script::spec_text))]
 fn write_spec<W: Sink>(argument: &Arg, sink: &mut W) -> Result<(), ErrorKind>
     ensures { Writes W.taken W.failed (as_write result) sink.old sink.new (spec_text argument.now) }
 {

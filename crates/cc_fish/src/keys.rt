@@ -9,7 +9,7 @@ use std::alloc::{AllocError, Global};
 pub struct FishKeys;
 
 impl Keys for FishKeys {
-    ghost use Rattle.cc_fish.specs.FishScript.{fish_key};
+    ghost use Rattle.cc_fish.specs.Script.{fish_key};
 
     ghost longer = { λ _. fish_key };
 

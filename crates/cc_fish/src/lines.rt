@@ -5,6 +5,7 @@ ghost use Rattle.std.specs.Prelude.{
   ◌++◌,
   ◌∷◌,
   [],
+  filter,
   flat_map,
   not,
   codes,
@@ -14,25 +15,23 @@ ghost use Rattle.std.specs.Prelude.{
 ghost use Rattle.std.specs.Option.{option_copied};
 ghost use Rattle.cc_arg.specs.ShownNames.{shown_longs, shown_shorts};
 ghost use Rattle.cc_base.specs.Writes.{Writes, as_write};
-ghost use Rattle.cc_command.specs.ArgumentLists.{flags, options};
 ghost use Rattle.cc_command.specs.Names.{visible_names};
 ghost use Rattle.cc_command.specs.Tree.{forest_of};
 ghost use Rattle.cc_visits.specs.Meaning.{visit_of};
-ghost use Rattle.cc_fish.specs.FishScript.{
+ghost use Rattle.cc_fish.specs.Script.{
   argument_text,
   below_text,
   child_text,
   children_text,
-  flags_text,
   help_text,
+  is_of_kind,
   long_text,
   names_text,
   node_text,
-  options_text,
   short_text,
   visit_text,
 };
-ghost use Rattle.cc_fish.specs.FishTable.{has_positionals};
+ghost use Rattle.cc_fish.specs.Table.{has_positionals};
 
 use crate::front::front;
 use crate::values::write_values;
@@ -44,7 +43,7 @@ use cc_visits::Visit;
 use std::alloc::Global;
 use std::io::ErrorKind;
 
-#[tactic(auto, unfolding(crate::specs::FishScript::visit_text))]
+#[tactic(auto, unfolding(crate::specs::Script::visit_text))]
 pub(crate) fn write_visit<W: Sink>(
     alloc: Global,
     bin_name: &str,
@@ -60,39 +59,45 @@ pub(crate) fn write_visit<W: Sink>(
 }
 
 // Each record begins with the front.
-#[tactic(auto, unfolding(crate::specs::FishScript::node_text))]
+#[tactic(auto, unfolding(crate::specs::Script::node_text, crate::specs::Script::options_text, crate::specs::Script::flags_text))]
 fn write_node<W: Sink>(front: &str, command: &Command, sink: &mut W) -> Result<(), Error>
     ensures { Writes W.taken W.failed result sink.old sink.new (node_text front.now command.now) }
 {
-    write_options(front, command, sink)?;
-    write_flags(front, command, sink)?;
+    write_arguments(front, true, command.get_arguments(), sink)?;
+    write_arguments(front, false, command.get_arguments(), sink)?;
     as_error(write_below(front, command, sink))
 }
 
-#[tactic(auto, unfolding(crate::specs::FishScript::options_text))]
-fn write_options<W: Sink>(front: &str, command: &Command, sink: &mut W) -> Result<(), Error>
+// Those of the arguments that are options, or those that are flags.
+fn write_arguments<W: Sink>(
+    front: &str,
+    takes: bool,
+    arguments: &[Arg],
+    sink: &mut W,
+) -> Result<(), Error>
     ensures { Writes W.taken W.failed result sink.old sink.new
-        (options_text front.now command.now.node) }
+        (flat_map (argument_text front.now takes) (filter (is_of_kind takes) arguments.now)) }
 {
-    for option in command.get_opts() {
-        write_argument(front, true, option, sink)?;
+    for argument in arguments {
+        if !is_of_kind(takes, argument) {
+            continue;
+        }
+        write_argument(front, takes, argument, sink)?;
     }
     Ok(())
 }
 
-#[tactic(auto, unfolding(crate::specs::FishScript::flags_text))]
-fn write_flags<W: Sink>(front: &str, command: &Command, sink: &mut W) -> Result<(), Error>
-    ensures { Writes W.taken W.failed result sink.old sink.new
-        (flags_text front.now command.now.node) }
+fn is_of_kind(takes: bool, argument: &Arg) -> bool
+    ensures { result ≡ is_of_kind takes argument.now }
 {
-    for flag in command.get_flags() {
-        write_argument(front, false, flag, sink)?;
+    if takes {
+        return !argument.is_positional() && argument.takes_values();
     }
-    Ok(())
+    !argument.is_positional() && !argument.takes_values()
 }
 
 // An option takes values, a flag takes none.
-#[tactic(auto, unfolding(crate::specs::FishScript::argument_text))]
+#[tactic(auto, unfolding(crate::specs::Script::argument_text))]
 fn write_argument<W: Sink>(
     front: &str,
     takes: bool,
@@ -108,7 +113,7 @@ fn write_argument<W: Sink>(
     put_all(sink, "\n".as_bytes())
 }
 
-#[tactic(auto, unfolding(crate::specs::FishScript::names_text))]
+#[tactic(auto, unfolding(crate::specs::Script::names_text))]
 fn write_names<W: Sink>(argument: &Arg, sink: &mut W) -> Result<(), ErrorKind>
     ensures { Writes W.taken W.failed (as_write result) sink.old sink.new
         (names_text argument.now) }
@@ -166,7 +171,7 @@ fn write_help<W: Sink>(help: Option<&str>, sink: &mut W) -> Result<(), ErrorKind
     put_piece(sink, "'".as_bytes())
 }
 
-#[tactic(auto, unfolding(crate::specs::FishScript::below_text))]
+#[tactic(auto, unfolding(crate::specs::Script::below_text))]
 fn write_below<W: Sink>(front: &str, command: &Command, sink: &mut W) -> Result<(), ErrorKind>
     ensures { Writes W.taken W.failed (as_write result) sink.old sink.new
         (below_text front.now command.now) }
@@ -215,7 +220,7 @@ fn write_child<W: Sink>(
     Ok(())
 }
 
-#[tactic(auto, unfolding(crate::specs::FishScript::child_text))]
+#[tactic(auto, unfolding(crate::specs::Script::child_text))]
 fn write_name<W: Sink>(
     front: &str,
     no_files: bool,

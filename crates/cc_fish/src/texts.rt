@@ -1,7 +1,7 @@
 //! The fixed texts of a script, as the definitions have them.
 
 ghost use Rattle.std.specs.Prelude.{◌≡◌};
-ghost use Rattle.cc_fish.specs.FishScript.{
+ghost use Rattle.cc_fish.specs.Script.{
   optspecs_begin,
   optspecs_join,
   needs_command_begin,
@@ -13,7 +13,7 @@ ghost use Rattle.cc_fish.specs.FishScript.{
   not_seen,
 };
 
-#[tactic(auto, unfolding(crate::specs::FishScript::optspecs_begin))]
+#[tactic(auto, unfolding(crate::specs::Script::optspecs_begin))]
 pub(crate) fn optspecs_begin() -> &'static str
     ensures { result.now ≡ optspecs_begin }
 {
@@ -21,7 +21,7 @@ pub(crate) fn optspecs_begin() -> &'static str
 function __fish_"
 }
 
-#[tactic(auto, unfolding(crate::specs::FishScript::optspecs_join))]
+#[tactic(auto, unfolding(crate::specs::Script::optspecs_join))]
 pub(crate) fn optspecs_join() -> &'static str
     ensures { result.now ≡ optspecs_join }
 {
@@ -29,7 +29,7 @@ pub(crate) fn optspecs_join() -> &'static str
     string join \\n"
 }
 
-#[tactic(auto, unfolding(crate::specs::FishScript::needs_command_begin))]
+#[tactic(auto, unfolding(crate::specs::Script::needs_command_begin))]
 pub(crate) fn needs_command_begin() -> &'static str
     ensures { result.now ≡ needs_command_begin }
 {
@@ -39,7 +39,7 @@ end
 function __fish_"
 }
 
-#[tactic(auto, unfolding(crate::specs::FishScript::needs_command_parse))]
+#[tactic(auto, unfolding(crate::specs::Script::needs_command_parse))]
 pub(crate) fn needs_command_parse() -> &'static str
     ensures { result.now ≡ needs_command_parse }
 {
@@ -50,7 +50,7 @@ pub(crate) fn needs_command_parse() -> &'static str
     argparse -s (__fish_"
 }
 
-#[tactic(auto, unfolding(crate::specs::FishScript::needs_command_answer))]
+#[tactic(auto, unfolding(crate::specs::Script::needs_command_answer))]
 pub(crate) fn needs_command_answer() -> &'static str
     ensures { result.now ≡ needs_command_answer }
 {
@@ -67,7 +67,7 @@ end
 function __fish_"
 }
 
-#[tactic(auto, unfolding(crate::specs::FishScript::using_subcommand_call))]
+#[tactic(auto, unfolding(crate::specs::Script::using_subcommand_call))]
 pub(crate) fn using_subcommand_call() -> &'static str
     ensures { result.now ≡ using_subcommand_call }
 {
@@ -75,7 +75,7 @@ pub(crate) fn using_subcommand_call() -> &'static str
     set -l cmd (__fish_"
 }
 
-#[tactic(auto, unfolding(crate::specs::FishScript::using_subcommand_answer))]
+#[tactic(auto, unfolding(crate::specs::Script::using_subcommand_answer))]
 pub(crate) fn using_subcommand_answer() -> &'static str
     ensures { result.now ≡ using_subcommand_answer }
 {
@@ -88,14 +88,14 @@ end
 "
 }
 
-#[tactic(auto, unfolding(crate::specs::FishScript::not_seen))]
+#[tactic(auto, unfolding(crate::specs::Script::not_seen))]
 pub(crate) fn not_seen() -> &'static str
     ensures { result.now ≡ not_seen }
 {
     "; and not __fish_seen_subcommand_from"
 }
 
-#[tactic(auto, unfolding(crate::specs::FishScript::list_begin))]
+#[tactic(auto, unfolding(crate::specs::Script::list_begin))]
 pub(crate) fn list_begin() -> &'static str
     ensures { result.now ≡ list_begin }
 {

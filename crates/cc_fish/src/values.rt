@@ -5,7 +5,7 @@ ghost use Rattle.std.specs.Option.{option_copied};
 ghost use Rattle.cc_base.specs.Bytes.{line_feed};
 ghost use Rattle.cc_base.specs.Joined.{separator};
 ghost use Rattle.cc_base.specs.Writes.{Writes};
-ghost use Rattle.cc_fish.specs.FishScript.{
+ghost use Rattle.cc_fish.specs.Script.{
   hint_text,
   listed_text,
   value_lines,
@@ -19,7 +19,7 @@ use cc_base::{Error, Sink, put_all, put_separator};
 use cc_quote::{put_fish_help_for_eval, put_fish_quoted_for_eval};
 
 /// Nothing, where the argument takes no values.
-#[tactic(auto, unfolding(crate::specs::FishScript::values_text))]
+#[tactic(auto, unfolding(crate::specs::Script::values_text))]
 pub(crate) fn write_values<W: Sink>(takes: bool, argument: &Arg, sink: &mut W) -> Result<(), Error>
     ensures { Writes W.taken W.failed result sink.old sink.new (values_text takes argument.now) }
 {
@@ -32,7 +32,7 @@ pub(crate) fn write_values<W: Sink>(takes: bool, argument: &Arg, sink: &mut W) -
     }
 }
 
-#[tactic(auto, unfolding(crate::specs::FishScript::listed_text))]
+#[tactic(auto, unfolding(crate::specs::Script::listed_text))]
 fn write_listed<W: Sink>(values: &[PossibleValue], sink: &mut W) -> Result<(), Error>
     ensures { Writes W.taken W.failed result sink.old sink.new
         (listed_text values.now) }
@@ -42,7 +42,7 @@ fn write_listed<W: Sink>(values: &[PossibleValue], sink: &mut W) -> Result<(), E
     put_all(sink, "\"".as_bytes())
 }
 
-#[tactic(auto, unfolding(crate::specs::FishScript::value_lines))]
+#[tactic(auto, unfolding(crate::specs::Script::value_lines))]
 fn write_lines<W: Sink>(values: &[PossibleValue], sink: &mut W) -> Result<(), Error>
     ensures { Writes W.taken W.failed result sink.old sink.new (value_lines values.now) }
 {
@@ -62,7 +62,7 @@ fn is_shown(value: &PossibleValue) -> bool
     !value.is_hide_set()
 }
 
-#[tactic(auto, unfolding(crate::specs::FishScript::value_text))]
+#[tactic(auto, unfolding(crate::specs::Script::value_text))]
 fn write_value<W: Sink>(begun: &mut bool, value: &PossibleValue, sink: &mut W) -> Result<(), Error>
     ensures written { Writes W.taken W.failed result sink.old sink.new
         (separator (line_feed ∷ []) begun.old ++ value_text value.now) }
@@ -93,7 +93,7 @@ const USERS: &str = " -r -f -a \"(__fish_complete_users)\"";
 const HOSTS: &str = " -r -f -a \"(__fish_print_hostnames)\"";
 
 // Where no values are listed.
-#[tactic(auto, unfolding(crate::specs::FishScript::hint_text))]
+#[tactic(auto, unfolding(crate::specs::Script::hint_text))]
 fn hint_marks(hint: ValueHint) -> &'static str
     ensures { result.now ≡ hint_text hint }
 {

@@ -8,8 +8,8 @@ use Rattle.cc_bash.specs.Labels.{shared_label}
 use Rattle.cc_bash.specs.Reads.{BashReads}
 use Rattle.cc_bash.specs.Script.{tree_script as bash_script}
 use Rattle.cc_command.specs.Tree.{Tree}
-use Rattle.cc_fish.specs.FishReads.{FishReads}
-use Rattle.cc_fish.specs.FishScript.{fish_script}
+use Rattle.cc_fish.specs.Reads.{FishReads}
+use Rattle.cc_fish.specs.Script.{fish_script}
 use Rattle.cc_shell.specs.declared.shell.InvalidShell.{InvalidShell}
 use Rattle.cc_shell.specs.declared.shell.Shell.{Shell}
 use Rattle.cc_shell.specs.declared.shell.Shell.TheVariants.{Bash, Elvish, Fish, PowerShell, Zsh}

@@ -91,11 +91,11 @@ pub use Rattle.cc_bash.specs.Texts as BashTexts
 pub use Rattle.cc_bash.specs.Walk as BashWalk
 pub use Rattle.cc_bash.specs.Words as BashWords
 -- fish
-pub use Rattle.cc_fish.specs.FishReads
-pub use Rattle.cc_fish.specs.FishScript
-pub use Rattle.cc_fish.specs.FishTable
-pub use Rattle.cc_fish.specs.RecordReader as FishReader
+pub use Rattle.cc_fish.specs.Reader as FishReader
+pub use Rattle.cc_fish.specs.Reads as FishReads
 pub use Rattle.cc_fish.specs.Records as FishRecords
+pub use Rattle.cc_fish.specs.Script as FishScript
+pub use Rattle.cc_fish.specs.Table as FishTable
 -- the shells as one type, and scripts in files
 pub use Rattle.cc_shell.specs.Files as ScriptFiles
 pub use Rattle.cc_shell.specs.Generators as ShellGenerators

@@ -1,6 +1,6 @@
 use Rattle.std.proofs.Common.{◌≡◌, ◌++◌, flat_map, length}
 use Rattle.cc_visits.specs.Visits.{where_entered}
-use Rattle.cc_fish.specs.FishScript.{visit_text}
+use Rattle.cc_fish.specs.Script.{visit_text}
 use Rattle.cc_fish.proofs.fish.write_steps.Given as goal
 
 -- what was taken and what is left make the whole; no put failed

@@ -1,7 +1,7 @@
 use Rattle.std.proofs.Common.{◌≡◌, ◌++◌, drop, flat_map, string_bytes}
 use Rattle.cc_command.specs.Tree.{forest_of}
-use Rattle.cc_fish.specs.FishScript.{spaced_name}
-use Rattle.cc_fish.specs.FishTable.{child_names}
+use Rattle.cc_fish.specs.Script.{spaced_name}
+use Rattle.cc_fish.specs.Table.{child_names}
 use Rattle.cc_fish.proofs.front.push_children.Given as goal
 
 -- what was added and the names that are left make the whole

@@ -1,7 +1,7 @@
 use Rattle.std.proofs.Common.{◌≡◌, ◌++◌, flat_map, string_bytes}
 use Rattle.cc_command.specs.Iterators.{names_left}
 use Rattle.cc_command.specs.Names.{visible_names}
-use Rattle.cc_fish.specs.FishScript.{spaced_name}
+use Rattle.cc_fish.specs.Script.{spaced_name}
 use Rattle.cc_fish.proofs.front.push_names.Given as goal
 
 -- what was added and the names that are left make the whole

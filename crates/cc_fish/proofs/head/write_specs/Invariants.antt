@@ -1,6 +1,6 @@
 use Rattle.std.proofs.Common.{◌≡◌, ◌++◌, drop, flat_map, filter, not}
 use Rattle.cc_arg.specs.Arguments.{is_positional}
-use Rattle.cc_fish.specs.FishScript.{spec_text}
+use Rattle.cc_fish.specs.Script.{spec_text}
 use Rattle.cc_fish.proofs.head.write_specs.Given as goal
 
 -- what was taken and what is left make the whole; no put failed

@@ -1,7 +1,7 @@
 use Rattle.std.proofs.Common.{◌≡◌, ◌++◌, flat_map}
 use Rattle.cc_command.specs.Iterators.{names_left}
 use Rattle.cc_command.specs.Names.{visible_names}
-use Rattle.cc_fish.specs.FishScript.{child_text}
+use Rattle.cc_fish.specs.Script.{child_text}
 use Rattle.cc_fish.proofs.lines.write_child.Given as goal
 
 -- what was taken and what is left make the whole; no put failed

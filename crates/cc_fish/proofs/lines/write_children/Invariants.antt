@@ -1,6 +1,6 @@
 use Rattle.std.proofs.Common.{◌≡◌, ◌++◌, drop}
 use Rattle.cc_command.specs.Tree.{forest_of}
-use Rattle.cc_fish.specs.FishScript.{children_text}
+use Rattle.cc_fish.specs.Script.{children_text}
 use Rattle.cc_fish.proofs.lines.write_children.Given as goal
 
 -- what was taken and what is left make the whole; no put failed

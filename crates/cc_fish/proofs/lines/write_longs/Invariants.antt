@@ -1,7 +1,7 @@
 use Rattle.std.proofs.Common.{◌≡◌, ◌++◌, flat_map}
 use Rattle.cc_arg.specs.Aliases.{longs_left}
 use Rattle.cc_arg.specs.ShownNames.{shown_longs}
-use Rattle.cc_fish.specs.FishScript.{long_text}
+use Rattle.cc_fish.specs.Script.{long_text}
 use Rattle.cc_fish.proofs.lines.write_longs.Given as goal
 
 -- what was taken and what is left make the whole; no put failed

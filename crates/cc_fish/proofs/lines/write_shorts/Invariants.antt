@@ -1,7 +1,7 @@
 use Rattle.std.proofs.Common.{◌≡◌, ◌++◌, flat_map}
 use Rattle.cc_arg.specs.Aliases.{shorts_left}
 use Rattle.cc_arg.specs.ShownNames.{shown_shorts}
-use Rattle.cc_fish.specs.FishScript.{short_text}
+use Rattle.cc_fish.specs.Script.{short_text}
 use Rattle.cc_fish.proofs.lines.write_shorts.Given as goal
 
 -- what was taken and what is left make the whole; no put failed

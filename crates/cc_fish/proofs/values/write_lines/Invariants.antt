@@ -1,7 +1,7 @@
 use Rattle.std.proofs.Common.{◌≡◌, ◌++◌, ◌∷◌, [], drop, map, filter, not}
 use Rattle.cc_base.specs.Joined.{joined, joined_after}
 use Rattle.cc_base.specs.Bytes.{line_feed}
-use Rattle.cc_fish.specs.FishScript.{value_text}
+use Rattle.cc_fish.specs.Script.{value_text}
 use Rattle.cc_fish.proofs.values.write_lines.Given as goal
 
 -- what was taken and what is left make the whole; no put failed

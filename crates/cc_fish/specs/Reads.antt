@@ -5,9 +5,9 @@ use Rattle.cc_command.specs.Names.{full_name}
 use Rattle.cc_command.specs.Tree.{Tree}
 use Rattle.cc_visits.specs.Paths.{CoversPaths}
 use Rattle.cc_visits.specs.Visits.{Keyed, path_visits, longer_path}
-use Rattle.cc_fish.specs.FishScript.{fish_script}
-use Rattle.cc_fish.specs.FishTable.{table, tables}
-use Rattle.cc_fish.specs.RecordReader.{records}
+use Rattle.cc_fish.specs.Script.{fish_script}
+use Rattle.cc_fish.specs.Table.{table, tables}
+use Rattle.cc_fish.specs.Reader.{records}
 use Rattle.cc_fish.specs.Records.{record_path}
 
 -- The script reads to the tables of the visits, one after another, and to nothing else. The visits

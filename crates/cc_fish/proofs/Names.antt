@@ -17,7 +17,7 @@ use Rattle.cc_command.proofs.PlainParts.{IsPlainName, IsPlainShort, IsPlainArgum
 use Rattle.cc_quote.specs.FishQuote.{begins_word, is_fish_safe}
 use Rattle.cc_quote.proofs.FishWords.{IsSafe, safe_sign, safe_bare}
 use Rattle.cc_quote.proofs.FishCutting.{Spells}
-use Rattle.cc_fish.specs.FishTable.{child_names}
+use Rattle.cc_fish.specs.Table.{child_names}
 
 -- bytes that need no quotes, one at least
 abbrev pub IsName : List ℕ → Type 0
