@@ -16,7 +16,7 @@ use Rattle.cc_bash.specs.Reader.{Table, pattern_of, bare_text, double_text, is_e
 use Rattle.cc_bash.specs.Reader.State.{between_details, at_reply, at_values, after_reply}
 use Rattle.cc_bash.specs.Script.{offered_text, reply_text, mode_word, mode_text, moded_text, detail_text}
 use Rattle.cc_bash.specs.Words.{words_text}
-use Rattle.cc_bash.specs.Texts.{detail_begins, detail_word_ends, separator_kept, separator_back, reply_begins, reply_ends, values_begin, values_end, files_offered, word_offered, mode_begins, mode_ends, filenames_word, plusdirs_word, nospace_word, detail_ends}
+use Rattle.cc_bash.specs.Texts.{detail_begins, detail_word_ends, separator_kept, separator_back, reply_begins, reply_ends, values_begin, values_end, files_offered, word_offered, mode_begins, mode_ends, detail_ends}
 use Rattle.cc_bash.proofs.ReadsCases.{reading, pattern_found}
 use Rattle.cc_bash.proofs.WordsRead.{Lacks, words_read, IsKept-words}
 
@@ -32,15 +32,7 @@ pub record IsReadableDetail (detail : Detail) : Type 0 where
   pub no_star : bytes_eq detail.word (codes "*") ≡ false
   pub offered : IsReadableOffer detail.offered
 
--- each of these texts begins a line
-mode_line : (mode : Mode) (rest : List ℕ) → IsLine (mode_text mode ++ rest)
-unfolding mode_text mode_begins
-mode_line mode rest = line _
-
-reply_line : (offered : Offered) (rest : List ℕ) → IsLine (reply_text offered ++ rest)
-unfolding reply_text reply_begins
-reply_line offered rest = line _
-
+-- the reply with its mode begins a line
 moded_line : (mode : Option Mode) (offered : Offered) (rest : List ℕ) →
     IsLine (moded_text mode offered ++ rest)
 unfolding moded_text reply_text reply_begins separator_kept
@@ -48,14 +40,6 @@ moded_line None offered rest = line _
 moded_line (Some filenames) offered rest = line _
 moded_line (Some plusdirs) offered rest = line _
 moded_line (Some nospace) offered rest = line _
-
-back_line : (rest : List ℕ) → IsLine (separator_back ++ rest)
-unfolding separator_back
-back_line rest = line _
-
-end_line : (rest : List ℕ) → IsLine (detail_ends ++ rest)
-unfolding detail_ends
-end_line rest = line _
 
 -- a detail begins a line
 pub detail_line : (detail : Detail) (rest : List ℕ) → IsLine (detail_text detail ++ rest)
@@ -110,7 +94,7 @@ module _ (whole : Bool) where
       IsLine rest →
       reading whole (after_reply table arm detail) between (mode_text mode ++ rest)
       ≡ reading whole (after_reply table arm (record detail { mode = Some mode })) between rest
-  unfolding mode_text mode_word mode_begins mode_ends filenames_word plusdirs_word nospace_word sign byte_of cut is_word bare_text mode_named next read
+  unfolding mode_text mode_word mode_begins mode_ends sign byte_of cut is_word bare_text mode_named next read
   mode_reads table arm detail filenames rest (line tail) = refl
   mode_reads table arm detail plusdirs rest (line tail) = refl
   mode_reads table arm detail nospace rest (line tail) = refl
@@ -128,13 +112,27 @@ module _ (whole : Bool) where
   unfolding separator_back sign byte_of cut is_word next read
   separator_back_read table arm detail rest (line tail) = refl
 
+  -- the reply, and the mode after it
+  plain_reads : (table : Table) (arm : Arm) (word : List ℕ) (mode : Mode) (offered : Offered)
+      (rest : List ℕ) → IsReadableOffer offered → IsLine rest →
+      reading whole (at_reply table arm (new_detail word)) between
+      ((reply_text offered ++ mode_text mode) ++ rest)
+      ≡ reading whole (after_reply table arm
+      (record { word = word; offered = offered; mode = Some mode })) between rest
+  unfolding mode_text mode_begins
+  plain_reads table arm word mode offered rest h l =
+      ap (reading whole (at_reply table arm (new_detail word)) between)
+      (append_assoc (reply_text offered) (mode_text mode) rest)
+      ∙ reply_reads table arm word offered (mode_text mode ++ rest) h (line _)
+      ∙ mode_reads table arm (record { word = word; offered = offered; mode = None }) mode rest l
+
   -- the reply with its mode
   moded_reads : (table : Table) (arm : Arm) (word : List ℕ) (mode : Option Mode) (offered : Offered)
       (rest : List ℕ) → IsReadableOffer offered → IsLine rest →
       reading whole (at_reply table arm (new_detail word)) between (moded_text mode offered ++ rest)
       ≡ reading whole (after_reply table arm
       (record { word = word; offered = offered; mode = mode })) between rest
-  unfolding moded_text
+  unfolding moded_text reply_text reply_begins mode_text mode_begins separator_kept separator_back
   moded_reads table arm word None offered rest h l = reply_reads table arm word offered rest h l
   moded_reads table arm word (Some filenames) offered rest h l =
       let after : List ℕ = mode_text filenames ++ rest in
@@ -145,10 +143,10 @@ module _ (whole : Bool) where
       regroup_moded separator_kept (reply_text offered) separator_back (mode_text filenames)
       rest in e)
       ∙ separator_read table arm (new_detail word) (reply_text offered ++ (separator_back ++ after))
-      (reply_line offered (separator_back ++ after))
-      ∙ reply_reads table arm word offered (separator_back ++ after) h (back_line after)
+      (line _)
+      ∙ reply_reads table arm word offered (separator_back ++ after) h (line _)
       ∙ separator_back_read table arm (record { word = word; offered = offered; mode = None }) after
-      (mode_line filenames rest)
+      (line _)
       ∙ mode_reads table arm (record { word = word; offered = offered; mode = None })
       filenames rest l
     where
@@ -156,16 +154,9 @@ module _ (whole : Bool) where
           (((a ++ b) ++ c) ++ d) ++ e ≡ a ++ (b ++ (c ++ (d ++ e)))
       regroup_moded a b c d e = simp append_assoc
   moded_reads table arm word (Some plusdirs) offered rest h l =
-      ap (reading whole (at_reply table arm (new_detail word)) between)
-      (append_assoc (reply_text offered) (mode_text plusdirs) rest)
-      ∙ reply_reads table arm word offered (mode_text plusdirs ++ rest) h (mode_line plusdirs rest)
-      ∙ mode_reads table arm (record { word = word; offered = offered; mode = None })
-      plusdirs rest l
+      plain_reads table arm word plusdirs offered rest h l
   moded_reads table arm word (Some nospace) offered rest h l =
-      ap (reading whole (at_reply table arm (new_detail word)) between)
-      (append_assoc (reply_text offered) (mode_text nospace) rest)
-      ∙ reply_reads table arm word offered (mode_text nospace ++ rest) h (mode_line nospace rest)
-      ∙ mode_reads table arm (record { word = word; offered = offered; mode = None }) nospace rest l
+      plain_reads table arm word nospace offered rest h l
 
   -- a detail ends
   detail_closes : (table : Table) (arm : Arm) (detail : Detail) (rest : List ℕ) → IsLine rest →
@@ -196,7 +187,7 @@ module _ (whole : Bool) where
       IsReadableDetail detail → IsLine rest →
       reading whole (between_details table arm) between (detail_text detail ++ rest)
       ≡ reading whole (between_details table (with_detail arm detail)) between rest
-  unfolding detail_text detail_begins sign byte_of cut
+  unfolding detail_text detail_begins detail_ends sign byte_of cut
   detail_reads table arm detail rest h l =
       let after : List ℕ = detail_ends ++ rest in
       let moded : List ℕ = moded_text detail.mode detail.offered ++ after in
@@ -210,7 +201,7 @@ module _ (whole : Bool) where
       (bare_word detail.word (detail_word_ends ++ moded) h.word)
       ∙ pattern_reads table arm detail.word moded h.no_paren h.no_star
       (moded_line detail.mode detail.offered after)
-      ∙ moded_reads table arm detail.word detail.mode detail.offered after h.offered (end_line rest)
+      ∙ moded_reads table arm detail.word detail.mode detail.offered after h.offered (line _)
       ∙ detail_closes table arm detail rest l
     where
       regroup_detail : (a b c d e f : List ℕ) →

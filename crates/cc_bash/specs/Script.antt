@@ -1,12 +1,12 @@
 -- The text of a bash script.
-use Rattle.std.specs.Prelude.{ℕ, List, [], ◌++◌, flat_map, Option, Some, None}
+use Rattle.std.specs.Prelude.{ℕ, List, [], ◌++◌, codes, flat_map, Option, Some, None}
 use Rattle.cc_command.specs.Tree.{Tree}
 use Rattle.cc_command.specs.Names.{full_name}
 use Rattle.cc_bash.specs.Labels.{root_label}
 use Rattle.cc_bash.specs.CaseTable.{Case, tree_cases}
 use Rattle.cc_bash.specs.Arms.{Offered, values, files, typed, nothing, Mode, filenames, plusdirs, nospace, Detail, Arm, tree_arms}
 use Rattle.cc_bash.specs.Words.{words_text}
-use Rattle.cc_bash.specs.Texts.{function_begins, function_head, cases_begin, arms_begin, arms_end, unsorted, otherwise, sorted, script_ends, case_begins, case_comma, case_sets, case_ends, arm_begins, arm_words, arm_level, arm_details, arm_ends, detail_begins, detail_word_ends, separator_kept, separator_back, reply_begins, reply_ends, values_begin, values_end, files_offered, word_offered, mode_begins, mode_ends, filenames_word, plusdirs_word, nospace_word, detail_ends}
+use Rattle.cc_bash.specs.Texts.{function_begins, function_head, cases_begin, arms_begin, arms_end, unsorted, otherwise, sorted, script_ends, case_begins, case_comma, case_sets, case_ends, arm_begins, arm_words, arm_level, arm_details, arm_ends, detail_begins, detail_word_ends, separator_kept, separator_back, reply_begins, reply_ends, values_begin, values_end, files_offered, word_offered, mode_begins, mode_ends, detail_ends}
 
 -- a case: the label and the word, then the label that is set
 unfoldable pub case_text : Case → List ℕ
@@ -25,9 +25,9 @@ reply_text offered = (reply_begins ++ offered_text offered) ++ reply_ends
 
 -- the word of a mode, and what tells bash the mode
 unfoldable pub mode_word : Mode → List ℕ
-mode_word filenames = filenames_word
-mode_word plusdirs = plusdirs_word
-mode_word nospace = nospace_word
+mode_word filenames = codes "filenames"
+mode_word plusdirs = codes "plusdirs"
+mode_word nospace = codes "nospace"
 
 unfoldable pub mode_text : Mode → List ℕ
 mode_text mode = (mode_begins ++ mode_word mode) ++ mode_ends

@@ -1,5 +1,5 @@
 -- The fixed texts of a bash script.
-use Rattle.std.specs.Prelude.{ℕ, List, ◌++◌, codes}
+use Rattle.std.specs.Prelude.{⊤, ℕ, List, ◌++◌, codes}
 
 -- what a script begins with, up to the label of its root
 unfoldable pub function_begins : List ℕ
@@ -172,16 +172,11 @@ mode_begins =
 unfoldable pub mode_ends : List ℕ
 mode_ends = codes "\n                    fi"
 
--- the words of the modes
-unfoldable pub filenames_word : List ℕ
-filenames_word = codes "filenames"
-
-unfoldable pub plusdirs_word : List ℕ
-plusdirs_word = codes "plusdirs"
-
-unfoldable pub nospace_word : List ℕ
-nospace_word = codes "nospace"
-
 -- what ends a detail
 unfoldable pub detail_ends : List ℕ
 detail_ends = codes "\n                    return 0\n                    ;;"
+
+-- what opens each of them
+unfoldable pub fixed_texts : ⊤
+unfolding function_begins function_head cases_begin arms_begin arms_end unsorted otherwise sorted script_ends case_begins case_comma case_sets case_ends arm_begins arm_words arm_level arm_details arm_ends detail_begins detail_word_ends separator_kept separator_back reply_begins reply_ends values_begin values_end files_offered word_offered mode_begins mode_ends detail_ends
+fixed_texts = tt

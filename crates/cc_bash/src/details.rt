@@ -10,9 +10,9 @@ ghost use Rattle.cc_bash.specs.Script.{detail_text, moded_text, offered_text, re
 ghost use Rattle.cc_bash.specs.Texts.{mode_begins, mode_ends};
 
 use crate::texts::{
-    detail_begins, detail_ends, detail_word_ends, filenames_word, files_offered, mode_begins,
-    mode_ends, nospace_word, plusdirs_word, reply_begins, reply_ends, separator_back,
-    separator_kept, values_begin, values_end, word_offered,
+    detail_begins, detail_ends, detail_word_ends, files_offered, mode_begins, mode_ends,
+    reply_begins, reply_ends, separator_back, separator_kept, values_begin, values_end,
+    word_offered,
 };
 use crate::words::write_shown_values;
 use cc_arg::{Arg, ValueHint, possible_values, shown_longs, shown_shorts};
@@ -97,15 +97,15 @@ fn write_moded<W: Sink>(argument: &Arg, sink: &mut W) -> Result<(), ErrorKind>
             put_piece(sink, separator_kept().as_bytes())?;
             write_reply(argument, sink)?;
             put_piece(sink, separator_back().as_bytes())?;
-            write_mode(filenames_word(), sink)
+            write_mode("filenames", sink)
         }
         ValueHint::DirPath => {
             write_reply(argument, sink)?;
-            write_mode(plusdirs_word(), sink)
+            write_mode("plusdirs", sink)
         }
         ValueHint::Other => {
             write_reply(argument, sink)?;
-            write_mode(nospace_word(), sink)
+            write_mode("nospace", sink)
         }
         _ => write_reply(argument, sink),
     }

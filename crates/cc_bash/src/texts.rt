@@ -1,24 +1,23 @@
 //! The fixed texts of a script, as the definitions have them. They have any lifetime, since all
 //! pieces that are put together must have one.
+#![tactic(auto, unfolding(crate::specs::Texts::fixed_texts))]
 
 ghost use Rattle.std.specs.Prelude.{◌≡◌};
 ghost use Rattle.cc_bash.specs.Texts.{arm_begins, arm_details, arm_ends, arm_level, arm_words};
 ghost use Rattle.cc_bash.specs.Texts.{arms_begin, arms_end, case_begins, case_comma, case_ends};
 ghost use Rattle.cc_bash.specs.Texts.{case_sets, cases_begin, detail_begins, detail_ends};
-ghost use Rattle.cc_bash.specs.Texts.{detail_word_ends, filenames_word, files_offered};
-ghost use Rattle.cc_bash.specs.Texts.{function_begins, function_head, mode_begins, mode_ends};
-ghost use Rattle.cc_bash.specs.Texts.{nospace_word, otherwise, plusdirs_word, reply_begins};
-ghost use Rattle.cc_bash.specs.Texts.{reply_ends, script_ends, separator_back, separator_kept};
-ghost use Rattle.cc_bash.specs.Texts.{sorted, unsorted, values_begin, values_end, word_offered};
+ghost use Rattle.cc_bash.specs.Texts.{detail_word_ends, files_offered, function_begins};
+ghost use Rattle.cc_bash.specs.Texts.{function_head, mode_begins, mode_ends, otherwise};
+ghost use Rattle.cc_bash.specs.Texts.{reply_begins, reply_ends, script_ends, separator_back};
+ghost use Rattle.cc_bash.specs.Texts.{separator_kept, sorted, unsorted, values_begin};
+ghost use Rattle.cc_bash.specs.Texts.{values_end, word_offered};
 
-#[tactic(auto, unfolding(crate::specs::Texts::function_begins))]
 pub(crate) fn function_begins<'a>() -> &'a str
     ensures { result.now ≡ function_begins }
 {
     "_"
 }
 
-#[tactic(auto, unfolding(crate::specs::Texts::function_head))]
 pub(crate) fn function_head<'a>() -> &'a str
     ensures { result.now ≡ function_head }
 {
@@ -41,7 +40,6 @@ pub(crate) fn function_head<'a>() -> &'a str
                 cmd=\""
 }
 
-#[tactic(auto, unfolding(crate::specs::Texts::cases_begin))]
 pub(crate) fn cases_begin<'a>() -> &'a str
     ensures { result.now ≡ cases_begin }
 {
@@ -49,7 +47,6 @@ pub(crate) fn cases_begin<'a>() -> &'a str
                 ;;"
 }
 
-#[tactic(auto, unfolding(crate::specs::Texts::arms_begin))]
 pub(crate) fn arms_begin<'a>() -> &'a str
     ensures { result.now ≡ arms_begin }
 {
@@ -62,7 +59,6 @@ pub(crate) fn arms_begin<'a>() -> &'a str
     case \"${cmd}\" in"
 }
 
-#[tactic(auto, unfolding(crate::specs::Texts::arms_end))]
 pub(crate) fn arms_end<'a>() -> &'a str
     ensures { result.now ≡ arms_end }
 {
@@ -75,14 +71,12 @@ if [[ \"${BASH_VERSINFO[0]}\" -eq 4 && \"${BASH_VERSINFO[1]}\" -ge 4 \
     complete -F _"
 }
 
-#[tactic(auto, unfolding(crate::specs::Texts::unsorted))]
 pub(crate) fn unsorted<'a>() -> &'a str
     ensures { result.now ≡ unsorted }
 {
     " -o nosort -o bashdefault -o default "
 }
 
-#[tactic(auto, unfolding(crate::specs::Texts::otherwise))]
 pub(crate) fn otherwise<'a>() -> &'a str
     ensures { result.now ≡ otherwise }
 {
@@ -91,14 +85,12 @@ else
     complete -F _"
 }
 
-#[tactic(auto, unfolding(crate::specs::Texts::sorted))]
 pub(crate) fn sorted<'a>() -> &'a str
     ensures { result.now ≡ sorted }
 {
     " -o bashdefault -o default "
 }
 
-#[tactic(auto, unfolding(crate::specs::Texts::script_ends))]
 pub(crate) fn script_ends<'a>() -> &'a str
     ensures { result.now ≡ script_ends }
 {
@@ -107,7 +99,6 @@ fi
 "
 }
 
-#[tactic(auto, unfolding(crate::specs::Texts::case_begins))]
 pub(crate) fn case_begins<'a>() -> &'a str
     ensures { result.now ≡ case_begins }
 {
@@ -115,14 +106,12 @@ pub(crate) fn case_begins<'a>() -> &'a str
             "
 }
 
-#[tactic(auto, unfolding(crate::specs::Texts::case_comma))]
 pub(crate) fn case_comma<'a>() -> &'a str
     ensures { result.now ≡ case_comma }
 {
     ","
 }
 
-#[tactic(auto, unfolding(crate::specs::Texts::case_sets))]
 pub(crate) fn case_sets<'a>() -> &'a str
     ensures { result.now ≡ case_sets }
 {
@@ -130,7 +119,6 @@ pub(crate) fn case_sets<'a>() -> &'a str
                 cmd=\""
 }
 
-#[tactic(auto, unfolding(crate::specs::Texts::case_ends))]
 pub(crate) fn case_ends<'a>() -> &'a str
     ensures { result.now ≡ case_ends }
 {
@@ -138,7 +126,6 @@ pub(crate) fn case_ends<'a>() -> &'a str
                 ;;"
 }
 
-#[tactic(auto, unfolding(crate::specs::Texts::arm_begins))]
 pub(crate) fn arm_begins<'a>() -> &'a str
     ensures { result.now ≡ arm_begins }
 {
@@ -146,7 +133,6 @@ pub(crate) fn arm_begins<'a>() -> &'a str
         "
 }
 
-#[tactic(auto, unfolding(crate::specs::Texts::arm_words))]
 pub(crate) fn arm_words<'a>() -> &'a str
     ensures { result.now ≡ arm_words }
 {
@@ -154,7 +140,6 @@ pub(crate) fn arm_words<'a>() -> &'a str
             opts=\""
 }
 
-#[tactic(auto, unfolding(crate::specs::Texts::arm_level))]
 pub(crate) fn arm_level<'a>() -> &'a str
     ensures { result.now ≡ arm_level }
 {
@@ -162,7 +147,6 @@ pub(crate) fn arm_level<'a>() -> &'a str
             if [[ ${cur} == -* || ${COMP_CWORD} -eq "
 }
 
-#[tactic(auto, unfolding(crate::specs::Texts::arm_details))]
 pub(crate) fn arm_details<'a>() -> &'a str
     ensures { result.now ≡ arm_details }
 {
@@ -173,7 +157,6 @@ pub(crate) fn arm_details<'a>() -> &'a str
             case \"${prev}\" in"
 }
 
-#[tactic(auto, unfolding(crate::specs::Texts::arm_ends))]
 pub(crate) fn arm_ends<'a>() -> &'a str
     ensures { result.now ≡ arm_ends }
 {
@@ -187,7 +170,6 @@ pub(crate) fn arm_ends<'a>() -> &'a str
             ;;"
 }
 
-#[tactic(auto, unfolding(crate::specs::Texts::detail_begins))]
 pub(crate) fn detail_begins<'a>() -> &'a str
     ensures { result.now ≡ detail_begins }
 {
@@ -195,14 +177,12 @@ pub(crate) fn detail_begins<'a>() -> &'a str
                 "
 }
 
-#[tactic(auto, unfolding(crate::specs::Texts::detail_word_ends))]
 pub(crate) fn detail_word_ends<'a>() -> &'a str
     ensures { result.now ≡ detail_word_ends }
 {
     ")"
 }
 
-#[tactic(auto, unfolding(crate::specs::Texts::separator_kept))]
 pub(crate) fn separator_kept<'a>() -> &'a str
     ensures { result.now ≡ separator_kept }
 {
@@ -214,7 +194,6 @@ pub(crate) fn separator_kept<'a>() -> &'a str
                     IFS=$'\\n'"
 }
 
-#[tactic(auto, unfolding(crate::specs::Texts::separator_back))]
 pub(crate) fn separator_back<'a>() -> &'a str
     ensures { result.now ≡ separator_back }
 {
@@ -224,7 +203,6 @@ pub(crate) fn separator_back<'a>() -> &'a str
                     fi"
 }
 
-#[tactic(auto, unfolding(crate::specs::Texts::reply_begins))]
 pub(crate) fn reply_begins<'a>() -> &'a str
     ensures { result.now ≡ reply_begins }
 {
@@ -232,42 +210,36 @@ pub(crate) fn reply_begins<'a>() -> &'a str
                     COMPREPLY=("
 }
 
-#[tactic(auto, unfolding(crate::specs::Texts::reply_ends))]
 pub(crate) fn reply_ends<'a>() -> &'a str
     ensures { result.now ≡ reply_ends }
 {
     ")"
 }
 
-#[tactic(auto, unfolding(crate::specs::Texts::values_begin))]
 pub(crate) fn values_begin<'a>() -> &'a str
     ensures { result.now ≡ values_begin }
 {
     "$(compgen -W \""
 }
 
-#[tactic(auto, unfolding(crate::specs::Texts::values_end))]
 pub(crate) fn values_end<'a>() -> &'a str
     ensures { result.now ≡ values_end }
 {
     "\" -- \"${cur}\")"
 }
 
-#[tactic(auto, unfolding(crate::specs::Texts::files_offered))]
 pub(crate) fn files_offered<'a>() -> &'a str
     ensures { result.now ≡ files_offered }
 {
     "$(compgen -f \"${cur}\")"
 }
 
-#[tactic(auto, unfolding(crate::specs::Texts::word_offered))]
 pub(crate) fn word_offered<'a>() -> &'a str
     ensures { result.now ≡ word_offered }
 {
     "\"${cur}\""
 }
 
-#[tactic(auto, unfolding(crate::specs::Texts::mode_begins))]
 pub(crate) fn mode_begins<'a>() -> &'a str
     ensures { result.now ≡ mode_begins }
 {
@@ -276,7 +248,6 @@ pub(crate) fn mode_begins<'a>() -> &'a str
                         compopt -o "
 }
 
-#[tactic(auto, unfolding(crate::specs::Texts::mode_ends))]
 pub(crate) fn mode_ends<'a>() -> &'a str
     ensures { result.now ≡ mode_ends }
 {
@@ -284,28 +255,6 @@ pub(crate) fn mode_ends<'a>() -> &'a str
                     fi"
 }
 
-#[tactic(auto, unfolding(crate::specs::Texts::filenames_word))]
-pub(crate) fn filenames_word<'a>() -> &'a str
-    ensures { result.now ≡ filenames_word }
-{
-    "filenames"
-}
-
-#[tactic(auto, unfolding(crate::specs::Texts::plusdirs_word))]
-pub(crate) fn plusdirs_word<'a>() -> &'a str
-    ensures { result.now ≡ plusdirs_word }
-{
-    "plusdirs"
-}
-
-#[tactic(auto, unfolding(crate::specs::Texts::nospace_word))]
-pub(crate) fn nospace_word<'a>() -> &'a str
-    ensures { result.now ≡ nospace_word }
-{
-    "nospace"
-}
-
-#[tactic(auto, unfolding(crate::specs::Texts::detail_ends))]
 pub(crate) fn detail_ends<'a>() -> &'a str
     ensures { result.now ≡ detail_ends }
 {
