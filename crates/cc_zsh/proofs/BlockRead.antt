@@ -20,7 +20,7 @@ use Rattle.cc_zsh.specs.Positionals.{positionals_text}
 use Rattle.cc_zsh.specs.Reader.{Block, Path, ZshOption, first_named, is_name_byte, named_function, new_block, next, next_place, option_of, place_after, read, read_option, text_after, with_word, word_of}
 use Rattle.cc_zsh.specs.Reader.State.{after_block, at_block, at_ret, before_blocks, in_block}
 use Rattle.cc_zsh.specs.Table.{node_rows}
-use Rattle.cc_zsh.proofs.OptionWords.{AreNameBytes, colon_none, star_none, not_space}
+use Rattle.cc_zsh.proofs.OptionWords.{AreNameBytes, colon_none, name_byte-differs, star_none}
 use Rattle.cc_zsh.proofs.LinesRead.{reading, with_options, first_named-none, in_parts}
 use Rattle.cc_zsh.proofs.PlainNames.{name_other, plain_name_bytes}
 use Rattle.cc_zsh.proofs.OptionLines.{node_adds}
@@ -37,7 +37,7 @@ pub replaced_bytes : (by text : List ℕ) → AreNameBytes by → AreFullBytes t
 replaced_bytes by [] h k = tt
 replaced_bytes by (byte ∷ text) h (inl k, ks) =
     AllByRecursion-append (λ b. is_name_byte b ≡ true) (cond (byte == 32) by (byte ∷ [])) (replaced 32 by text)
-    (let e : byte == 32 ≡ false = not_space byte k in rw e (k, tt)) (replaced_bytes by text h ks)
+    (let e : byte == 32 ≡ false = name_byte-differs 32 byte refl k in rw e (k, tt)) (replaced_bytes by text h ks)
 replaced_bytes by (byte ∷ text) h (inr e, ks) =
     AllByRecursion-append (λ b. is_name_byte b ≡ true) (cond (byte == 32) by (byte ∷ [])) (replaced 32 by text)
     (rw e h) (replaced_bytes by text h ks)
@@ -95,13 +95,14 @@ first_word function outer blocks block =
     word_step (double (codes ":: :_" ++ function) ∷ []) (Some (95 ∷ function)) outer blocks block
     refl (colon_none ((codes ": :_" ++ function) ++ [])) refl
 
-second_word : (name : List ℕ) (outer : List Path) (blocks : List Block) (block : Block) →
-    next (in_block outer blocks block) (double (codes "*::: :->" ++ name) ∷ [])
+-- a word that begins with a star and a colon changes nothing
+star_word : (text : List ℕ) (outer : List Path) (blocks : List Block) (block : Block) →
+    next (in_block outer blocks block) (double (codes "*:" ++ text) ∷ [])
     ≡ in_block outer blocks block
 unfolding is_word word_of named_function text_after
-second_word name outer blocks block =
-    word_step (double (codes "*::: :->" ++ name) ∷ []) None outer blocks block
-    refl (star_none [] ((codes ":: :->" ++ name) ++ [])) refl
+star_word text outer blocks block =
+    word_step (double (codes "*:" ++ text) ∷ []) None outer blocks block
+    refl (star_none [] (text ++ [])) refl
     ∙ ap (λ f. in_block outer blocks (with_function block f)) (first_named-none block.function)
 
 -- the words of the children name their function
@@ -125,23 +126,15 @@ children_read node outer blocks block rest label name =
     ∙ ap (read (in_block outer blocks named))
     (double_run node.name (state_ends ++ rest) [] (codes "*::: :->")
     (IsKept-IsOther node.name (name_other node.name name)))
-    ∙ ap (λ s. read s (tokens_from between rest)) (second_word node.name outer blocks named)
-
-external_word : (outer : List Path) (blocks : List Block) (block : Block) →
-    next (in_block outer blocks block) (double (codes "*::external_command:_default") ∷ [])
-    ≡ in_block outer blocks block
-unfolding is_word word_of named_function text_after
-external_word outer blocks block =
-    word_step (double (codes "*::external_command:_default") ∷ []) None outer blocks block
-    refl (star_none [] (codes ":external_command:_default")) refl
-    ∙ ap (λ f. in_block outer blocks (with_function block f)) (first_named-none block.function)
+    ∙ ap (λ s. read s (tokens_from between rest)) (star_word (codes ":: :->" ++ node.name) outer blocks named)
 
 external_read : (outer : List Path) (blocks : List Block) (block : Block) (rest : List ℕ) →
     reading (in_block outer blocks block) between (external_text ++ rest)
     ≡ reading (in_block outer blocks block) between rest
 unfolding external_text sign byte_of cut read
 external_read outer blocks block rest =
-    ap (λ s. read s (tokens_from between rest)) (external_word outer blocks block)
+    ap (λ s. read s (tokens_from between rest))
+    (star_word (codes ":external_command:_default") outer blocks block)
 
 -- ---- the block
 

@@ -1,7 +1,6 @@
 -- The functions of a script are read back.
-use Rattle.std.proofs.Common.{◌≡◌, ◌==◌, ℕ, true, false, cond, List, [], ◌∷◌, ◌++◌, map, flat_map, fold, Option, Some, None, option_map, codes, refl, sym, ◌∙◌, ap, append_assoc, append-nil, arith}
+use Rattle.std.proofs.Common.{◌≡◌, ◌==◌, ℕ, true, false, cond, List, [], ◌∷◌, ◌++◌, map, flat_map, fold, Option, Some, None, option_map, codes, refl, sym, ◌∙◌, ap, append_assoc, append-nil}
 use Rattle.std.specs.List.{AllByRecursion}
-use Rattle.std.proofs.lemmas.Bool.Decides.{nat_tests}
 use Rattle.cc_base.proofs.Lines.{IsLine}
 use Rattle.cc_base.proofs.Lines.IsLine.{line}
 use Rattle.cc_base.proofs.ReadInTurn.{in_turn}
@@ -16,24 +15,16 @@ use Rattle.cc_quote.proofs.PosixCutting.{tokens_from, bare_run}
 use Rattle.cc_quote.proofs.ZshWords.{help_composed, marks-kept, marked_unescaped}
 use Rattle.cc_zsh.specs.Functions.{Entry, Function, unless_defined, function_begins, commands_begin, describe_begins, describe_ends, entry_text, entries_end, entries_text, function_text}
 use Rattle.cc_zsh.specs.Nested.{function_label}
-use Rattle.cc_zsh.specs.Reader.{Block, Description, Parts, State, entry_from, entry_of, function_name, is_name_byte, next, next_function, read, text_before, with_description, word_of}
+use Rattle.cc_zsh.specs.Reader.{Block, Description, Parts, State, entry_from, entry_of, function_name, next, next_function, read, text_before, with_description, word_of}
 use Rattle.cc_zsh.specs.Reader.State.{at_list, between_functions, in_list, malformed}
 use Rattle.cc_zsh.specs.Table.{description_of, entry_row}
 use Rattle.cc_zsh.proofs.Cutting.{Escapes, escapes_append, escapes_same, NoQuote, quoted_token, single_cut, single_run, token_quoted, not_word, word_of-quoted}
-use Rattle.cc_zsh.proofs.OptionWords.{AreNameBytes}
+use Rattle.cc_zsh.proofs.OptionWords.{AreNameBytes, name_byte-differs}
 use Rattle.cc_zsh.proofs.LastBytes.{before-last, before-other}
 use Rattle.cc_zsh.proofs.LinesRead.{in_parts, reading}
 use Rattle.cc_zsh.proofs.PlainNames.{name_other, name_no_quote}
 
 -- ---- one description
-
-not_slash : (byte : ℕ) → is_name_byte byte ≡ true → byte == 92 ≡ false
-unfolding is_name_byte
-not_slash byte h = grind (arith, nat_tests)
-
-not_colon : (byte : ℕ) → is_name_byte byte ≡ true → byte == 58 ≡ false
-unfolding is_name_byte
-not_colon byte h = grind (arith, nat_tests)
 
 entry_name : (name rest word : List ℕ) → AreNameBytes name →
     entry_from word (marks_from false (name ++ rest))
@@ -42,12 +33,12 @@ unfolding entry_from
 entry_name [] rest word h =
     ap (λ w. entry_from w (marks_from false rest)) (sym (append-nil word))
 entry_name (byte ∷ name) rest word (h, hs) =
-    ap (entry_from word) (marks-kept byte (name ++ rest) (not_slash byte h))
+    ap (entry_from word) (marks-kept byte (name ++ rest) (name_byte-differs 92 byte refl h))
     ∙ ap (λ b. elim b as (λ x. Option Entry) [
       | true ↦ option_map (λ help. let e : Entry = record { word = word; help = help } in e)
           (unmarked (marks_from false (name ++ rest)))
       | false ↦ entry_from (word ++ byte ∷ []) (marks_from false (name ++ rest))
-    ]) (not_colon byte h)
+    ]) (name_byte-differs 58 byte refl h)
     ∙ entry_name name rest (word ++ byte ∷ []) hs
     ∙ ap (λ w. entry_from w (marks_from false rest)) (append_assoc word (byte ∷ []) name)
 

@@ -17,7 +17,7 @@ use Rattle.cc_command.proofs.SiblingNames.{not_shared, first_differs}
 use Rattle.cc_zsh.specs.Functions.{Function, function_of, functions_below}
 use Rattle.cc_quote.specs.Escapes.{replaced}
 use Rattle.cc_zsh.specs.Nested.{function_label}
-use Rattle.cc_zsh.proofs.OptionWords.{AreNameBytes, not_space}
+use Rattle.cc_zsh.proofs.OptionWords.{AreNameBytes, name_byte-differs}
 use Rattle.cc_zsh.proofs.PlainNames.{plain_name_bytes}
 use Rattle.cc_zsh.proofs.PlainTree.{IsNamed}
 
@@ -95,7 +95,7 @@ stem name = replaced 32 (codes "__subcmd__") name
 stem-name : (name : List ℕ) → AreNameBytes name → stem name ≡ name
 stem-name [] h = refl
 stem-name (byte ∷ name) (h, hs) =
-    ap (λ b. cond b (codes "__subcmd__") (byte ∷ []) ++ stem name) (not_space byte h)
+    ap (λ b. cond b (codes "__subcmd__") (byte ∷ []) ++ stem name) (name_byte-differs 32 byte refl h)
     ∙ ap (λ t. byte ∷ t) (stem-name name hs)
 
 stem-joined : (parent name : List ℕ) → AreNameBytes name →

@@ -35,21 +35,19 @@ bracket_escapes alone = escapes_same [] tt
 bracket_escapes after_plus = escapes_same (codes "+") (refl, tt)
 bracket_escapes after_equals = escapes_same (codes "=") (refl, tt)
 
-help_escapes : (help : List ℕ) →
-    Escapes (zsh_escaped_help help) (marked is_help_marked (line_feeds_as_spaces help))
-help_escapes help = record { is = help_composed help }
+bracket_where : (bracket : Bracket) (b : Bool) →
+    cond b (bracket_text bracket) [] ≡ bracket_text (cond b bracket alone)
+bracket_where bracket true = refl
+bracket_where bracket false = refl
 
 -- what stands between the quotes of an option's line
-abbrev inner : Bool → List (List ℕ) → Bool → List ℕ → Bracket → List ℕ → List ℕ → List ℕ
-inner has_front words repeated name bracket help values =
-    front_of has_front words ++ (star_of repeated ++ (name ++ (bracket_text bracket
-    ++ (codes "[" ++ (zsh_escaped_help help ++ (codes "]" ++ values))))))
-
-inner_escapes : (has_front : Bool) (words : List (List ℕ)) (repeated : Bool) (name : List ℕ)
+word_escapes : (has_front : Bool) (words : List (List ℕ)) (repeated : Bool) (name : List ℕ)
     (bracket : Bracket) (help values : List ℕ) (v : IsEscaped values) → IsFront has_front words →
-    IsDashed name → Escapes (inner has_front words repeated name bracket help values)
-    (option_word has_front words repeated name bracket (line_feeds_as_spaces help) v.word)
-inner_escapes has_front words repeated name bracket help values v front dashed =
+    IsDashed name →
+    Escapes (option_word has_front words repeated name bracket (zsh_escaped_help help) values)
+    (option_word has_front words repeated name bracket
+    (marked is_help_marked (line_feeds_as_spaces help)) v.word)
+word_escapes has_front words repeated name bracket help values v front dashed =
     escapes_append (front_of has_front words) _ (front_of has_front words) _
     (escapes_same (front_of has_front words) (front_no_quote has_front words front))
     (escapes_append (star_of repeated) _ (star_of repeated) _ (star_escapes repeated)
@@ -57,7 +55,7 @@ inner_escapes has_front words repeated name bracket help values v front dashed =
     (escapes_append (bracket_text bracket) _ (bracket_text bracket) _ (bracket_escapes bracket)
     (escapes_append (codes "[") _ (codes "[") _ (escapes_same (codes "[") (refl, tt))
     (escapes_append (zsh_escaped_help help) _ (marked is_help_marked (line_feeds_as_spaces help)) _
-    (help_escapes help)
+    (record { is = help_composed help })
     (escapes_append (codes "]") values (codes "]") v.word (escapes_same (codes "]") (refl, tt))
     v.escapes))))))
 
@@ -80,31 +78,17 @@ module _ (above node : Node) (above_plain : AllByRecursion IsPlainArgument above
   -- a line under one name
   line_of : (name : List ℕ) (bracket : Bracket) (values : List ℕ) → IsEscaped values →
       IsDashed name →
-      Adds (39 ∷ (inner has_front words (is_repeated argument) name bracket help values
-      ++ line_end)) (option_row above node argument bracket name ∷ [])
+      Adds (39 ∷ (option_word has_front words (is_repeated argument) name bracket
+      (zsh_escaped_help help) values ++ line_end)) (option_row above node argument bracket name ∷ [])
   line_of name bracket values v dashed =
-      line_adds (inner has_front words (is_repeated argument) name bracket help values)
-      (option_word has_front words (is_repeated argument) name bracket
-      (line_feeds_as_spaces help) v.word) (option_row above node argument bracket name ∷ [])
-      (inner_escapes has_front words (is_repeated argument) name bracket help values v front dashed)
+      line_adds _ _ (option_row above node argument bracket name ∷ [])
+      (word_escapes has_front words (is_repeated argument) name bracket help values v front dashed)
       (ap option_to_list (option_read has_front words (is_repeated argument) name bracket
       (line_feeds_as_spaces help) v.word front dashed))
 
-  star_is : (b : Bool) → cond b (codes "*") [] ≡ star_of b
-  star_is true = refl
-  star_is false = refl
-
   sign_is : (name : ShownName) → value_sign argument name ≡ bracket_text (bracket_after argument name)
-  sign_is (Short short) = by_test (takes_values argument)
-    where
-      by_test : (b : Bool) → cond b (codes "+") [] ≡ bracket_text (cond b after_plus alone)
-      by_test true = refl
-      by_test false = refl
-  sign_is (Long long) = by_test (takes_values argument)
-    where
-      by_test : (b : Bool) → cond b (codes "=") [] ≡ bracket_text (cond b after_equals alone)
-      by_test true = refl
-      by_test false = refl
+  sign_is (Short short) = bracket_where after_plus (takes_values argument)
+  sign_is (Long long) = bracket_where after_equals (takes_values argument)
 
   abbrev line : List ℕ → List ℕ → List ℕ → List ℕ → List ℕ
   line front repeated name sign =
@@ -134,8 +118,6 @@ module _ (above node : Node) (above_plain : AllByRecursion IsPlainArgument above
   line_is name =
       ap (λ t. line t (repeated_text argument) (name_word name) (value_sign argument name))
       (conflicts_front (conflicts_of above node argument))
-      ∙ ap (λ t. line (front_of has_front words) t (name_word name) (value_sign argument name))
-      (star_is (is_repeated argument))
       ∙ ap (line (front_of has_front words) (star_of (is_repeated argument)) (name_word name))
       (sign_is name)
 
@@ -145,11 +127,7 @@ module _ (above node : Node) (above_plain : AllByRecursion IsPlainArgument above
       subst (λ t. Adds t
       (option_row above node argument (bracket_after argument name) (name_word name) ∷ []))
       (sym (line_is name))
-      (adds_one (name_word name) (bracket_after argument name) (dashed_word name dashed))
-    where
-      dashed_word : (name : ShownName) → IsDashedName name → IsDashed (name_word name)
-      dashed_word (Short short) h = h
-      dashed_word (Long long) h = h
+      (adds_one (name_word name) (bracket_after argument name) dashed)
 
   argument_adds : Adds (argument_text above node argument) (argument_rows above node argument)
   unfolding argument_text

@@ -1,7 +1,9 @@
 -- The word of an option is read back to it, and the words that tell none.
-use Rattle.std.proofs.Common.{◌≡◌, ◌==◌, ℕ, Bool, true, false, cond, ◌&&◌, IsTrue, List, [], ◌∷◌, ◌++◌, Some, None, codes, refl, sym, ◌∙◌, ap, subst, arith, append_assoc, append-nil}
+use Rattle.std.proofs.Common.{◌≡◌, ◌==◌, ℕ, Bool, true, false, cond, ◌&&◌, ◌||◌, IsTrue, List, [], ◌∷◌, ◌++◌, Some, None, codes, refl, sym, ◌∙◌, ap, subst, inl, inr, arith, append_assoc, append-nil}
+use Rattle.std.specs.Char.{is_ascii_alphanumeric}
 use Rattle.std.specs.List.{AllByRecursion, list_all}
-use Rattle.std.proofs.lemmas.Bool.Decides.{nat_tests}
+use Rattle.std.proofs.lemmas.Bool.{cases_Bool}
+use Rattle.std.proofs.lemmas.Bool.Decides.{Decides-eqb, nat_tests}
 use Rattle.cc_base.specs.Joined.{joined, joined_after}
 use Rattle.cc_quote.specs.Escapes.{marked_byte, marked}
 use Rattle.cc_quote.specs.ZshQuote.{is_help_marked, is_value_marked}
@@ -24,13 +26,16 @@ pub record IsDashed (text : List ℕ) : Type 0 where
   pub starts : StartsDashed text
   pub typed : IsTrue (is_typed_name text)
 
-pub not_close : (byte : ℕ) → is_name_byte byte ≡ true → byte == 41 ≡ false
+-- a byte of names differs from one that stands in no name
+pub name_byte-differs : (other byte : ℕ) →
+    (is_ascii_alphanumeric other || other == 45 || other == 95) ≡ false → is_name_byte byte ≡ true →
+    byte == other ≡ false
 unfolding is_name_byte
-not_close byte h = grind (arith, nat_tests)
-
-pub not_space : (byte : ℕ) → is_name_byte byte ≡ true → byte == 32 ≡ false
-unfolding is_name_byte
-not_space byte h = grind (arith, nat_tests)
+name_byte-differs other byte outside h = elim (cases_Bool (byte == other)) [
+  | inl t ↦
+      let wrong : false ≡ true = sym outside ∙ ap is_name_byte (sym ((Decides-eqb byte other).0 t)) ∙ h in cc
+  | inr f ↦ f
+]
 
 dash_is_name : is_name_byte 45 ≡ true
 unfolding is_name_byte
@@ -127,9 +132,9 @@ conflict_read [] rest name names h =
 conflict_read (byte ∷ text) rest name names (h, hs) =
     ap (λ b. place_after (cond b (after_conflicts (with_name names name))
     (cond (byte == 32) (in_conflicts (with_name names name) [])
-    (in_conflicts names (name ++ byte ∷ [])))) (text ++ rest)) (not_close byte h)
+    (in_conflicts names (name ++ byte ∷ [])))) (text ++ rest)) (name_byte-differs 41 byte refl h)
     ∙ ap (λ b. place_after (cond b (in_conflicts (with_name names name) [])
-    (in_conflicts names (name ++ byte ∷ []))) (text ++ rest)) (not_space byte h)
+    (in_conflicts names (name ++ byte ∷ []))) (text ++ rest)) (name_byte-differs 32 byte refl h)
     ∙ conflict_read text rest (name ++ byte ∷ []) names hs
     ∙ ap (λ n. place_after (in_conflicts names n) rest) (append_assoc name (byte ∷ []) text)
 
@@ -177,14 +182,17 @@ front_of false words = []
 front_of true words = codes "(" ++ (joined (codes " ") words ++ codes ")")
 
 abbrev pub star_of : Bool → List ℕ
-star_of true = codes "*"
-star_of false = []
+star_of repeated = cond repeated (codes "*") []
 
--- the word of an option
+-- what stands after the name
+abbrev pub after_name_text : Bracket → List ℕ → List ℕ → List ℕ
+after_name_text bracket help values =
+    bracket_text bracket ++ (codes "[" ++ (help ++ (codes "]" ++ values)))
+
+-- the word of an option whose help is written so
 abbrev pub option_word : Bool → List (List ℕ) → Bool → List ℕ → Bracket → List ℕ → List ℕ → List ℕ
 option_word has_front words repeated name bracket help values =
-    front_of has_front words ++ (star_of repeated ++ (name ++ (bracket_text bracket
-    ++ (codes "[" ++ (marked is_help_marked help ++ (codes "]" ++ values))))))
+    front_of has_front words ++ (star_of repeated ++ (name ++ after_name_text bracket help values))
 
 abbrev option_with : List (List ℕ) → Bool → List ℕ → Bracket → List ℕ → ZshOption
 option_with words repeated name bracket help = record {
@@ -198,38 +206,30 @@ option_with words repeated name bracket help = record {
 -- from the first byte of the name on
 rest_read : (words : List (List ℕ)) (repeated : Bool) (name : List ℕ) (bracket : Bracket)
     (help values : List ℕ) → AreNameBytes name →
-    place_after (in_name words repeated (45 ∷ [])) (name ++ (bracket_text bracket
-    ++ (codes "[" ++ (marked is_help_marked help ++ (codes "]" ++ values)))))
+    place_after (in_name words repeated (45 ∷ []))
+    (name ++ after_name_text bracket (marked is_help_marked help) values)
     ≡ after_help (option_with words repeated (45 ∷ name) bracket help)
 rest_read words repeated name bracket help values h =
-    name_read name (bracket_text bracket
-    ++ (codes "[" ++ (marked is_help_marked help ++ (codes "]" ++ values)))) (45 ∷ []) words repeated h
+    name_read name (after_name_text bracket (marked is_help_marked help) values) (45 ∷ []) words repeated h
     ∙ bracket_read bracket (marked is_help_marked help ++ (codes "]" ++ values)) (45 ∷ name) words repeated
     ∙ help_read help values (new_option words repeated (45 ∷ name) bracket)
 
--- after the names in conflict, and where there are none
-conflicted : (words : List (List ℕ)) (repeated : Bool) (name : List ℕ) (bracket : Bracket)
-    (help values : List ℕ) → StartsDashed name →
-    place_after (after_conflicts words) (star_of repeated ++ (name ++ (bracket_text bracket
-    ++ (codes "[" ++ (marked is_help_marked help ++ (codes "]" ++ values))))))
+-- from the star on, at a place from which a star and a dash lead on as after these names in conflict
+star_read : (place : OptionPlace) (words : List (List ℕ)) →
+    ((rest : List ℕ) → place_after place (42 ∷ rest) ≡ place_after (after_star words) rest) →
+    ((rest : List ℕ) → place_after place (45 ∷ rest) ≡ place_after (in_name words false (45 ∷ [])) rest) →
+    (repeated : Bool) (name : List ℕ) (bracket : Bracket) (help values : List ℕ) → StartsDashed name →
+    place_after place
+    (star_of repeated ++ (name ++ after_name_text bracket (marked is_help_marked help) values))
     ≡ after_help (option_with words repeated name bracket help)
 unfolding place_after next_place
-conflicted words repeated [] bracket help values h = absurd h
-conflicted words true (byte ∷ name) bracket help values (e, h) =
-    rw e (rest_read words true name bracket help values h)
-conflicted words false (byte ∷ name) bracket help values (e, h) =
-    rw e (rest_read words false name bracket help values h)
-
-alone_read : (repeated : Bool) (name : List ℕ) (bracket : Bracket) (help values : List ℕ) →
-    StartsDashed name → place_after before_option (star_of repeated ++ (name ++ (bracket_text bracket
-    ++ (codes "[" ++ (marked is_help_marked help ++ (codes "]" ++ values))))))
-    ≡ after_help (option_with [] repeated name bracket help)
-unfolding place_after next_place
-alone_read repeated [] bracket help values h = absurd h
-alone_read true (byte ∷ name) bracket help values (e, h) =
-    rw e (rest_read [] true name bracket help values h)
-alone_read false (byte ∷ name) bracket help values (e, h) =
-    rw e (rest_read [] false name bracket help values h)
+star_read place words star dash repeated [] bracket help values h = absurd h
+star_read place words star dash true (byte ∷ name) bracket help values (e, h) =
+    star ((byte ∷ name) ++ after_name_text bracket (marked is_help_marked help) values)
+    ∙ rw e (rest_read words true name bracket help values h)
+star_read place words star dash false (byte ∷ name) bracket help values (e, h) =
+    rw e (dash (name ++ after_name_text bracket (marked is_help_marked help) values)
+    ∙ rest_read words false name bracket help values h)
 
 -- without a front there are no names in conflict
 abbrev pub IsFront : Bool → List (List ℕ) → Type 0
@@ -256,20 +256,22 @@ typed_kept words repeated name bracket help are h =
 -- an option's word tells the option
 pub option_read : (has_front : Bool) (words : List (List ℕ)) (repeated : Bool) (name : List ℕ)
     (bracket : Bracket) (help values : List ℕ) → IsFront has_front words → IsDashed name →
-    option_of (option_word has_front words repeated name bracket help values)
+    option_of (option_word has_front words repeated name bracket (marked is_help_marked help) values)
     ≡ Some (option_with words repeated name bracket help)
-unfolding option_of
+unfolding option_of place_after next_place
 option_read false words repeated name bracket help values none h =
-    ap read_option (alone_read repeated name bracket help values h.starts)
+    ap read_option (star_read before_option [] (λ rest. refl) (λ rest. refl) repeated name bracket
+    help values h.starts)
     ∙ typed_kept [] repeated name bracket help tt h
     ∙ ap (λ ws. Some (option_with ws repeated name bracket help)) (sym none)
 option_read true words repeated name bracket help values are h =
-    let rest : List ℕ = star_of repeated ++ (name ++ (bracket_text bracket
-    ++ (codes "[" ++ (marked is_help_marked help ++ (codes "]" ++ values))))) in
+    let rest : List ℕ = star_of repeated
+    ++ (name ++ after_name_text bracket (marked is_help_marked help) values) in
     ap (λ t. read_option (place_after before_option (codes "(" ++ t)))
     (append_assoc (joined (codes " ") words) (codes ")") rest)
     ∙ ap read_option (conflicts_read words rest are
-    ∙ conflicted words repeated name bracket help values h.starts)
+    ∙ star_read (after_conflicts words) words (λ rest. refl) (λ rest. refl) repeated name bracket
+    help values h.starts)
     ∙ typed_kept words repeated name bracket help are h
 
 -- ---- words that tell none

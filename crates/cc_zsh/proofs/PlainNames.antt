@@ -25,7 +25,7 @@ use Rattle.cc_zsh.specs.Conflicts.{conflict_scope, conflicts_of, short_word, lon
 use Rattle.cc_zsh.specs.Options.{name_word}
 use Rattle.cc_zsh.specs.Reader.{is_name_byte, is_typed_name}
 use Rattle.cc_zsh.proofs.Cutting.{NoQuote}
-use Rattle.cc_zsh.proofs.OptionWords.{AreNameBytes, IsDashed, StartsDashed, IsFront, dashed_bytes, front_of}
+use Rattle.cc_zsh.proofs.OptionWords.{AreNameBytes, name_byte-differs, IsDashed, StartsDashed, IsFront, dashed_bytes, front_of}
 
 -- ---- bytes
 
@@ -60,13 +60,9 @@ pub name_other : (text : List ℕ) → AreNameBytes text → IsOther text
 name_other text h = AllByRecursion-weaker (λ byte. is_name_byte byte ≡ true)
     (λ byte. sign byte ≡ other byte) name_byte_other text h
 
-pub name_byte_no_quote : (byte : ℕ) → is_name_byte byte ≡ true → byte == 39 ≡ false
-unfolding is_name_byte
-name_byte_no_quote byte h = grind (arith, nat_tests)
-
 pub name_no_quote : (text : List ℕ) → AreNameBytes text → NoQuote text
 name_no_quote text h = AllByRecursion-weaker (λ byte. is_name_byte byte ≡ true)
-    (λ byte. byte == 39 ≡ false) name_byte_no_quote text h
+    (λ byte. byte == 39 ≡ false) (λ byte. name_byte-differs 39 byte refl) text h
 
 -- ---- names of arguments
 

@@ -20,8 +20,8 @@ use Rattle.cc_command.proofs.PlainParts.{IsPlainName, IsPlainArgument, IsPlainNo
 use Rattle.cc_zsh.specs.Functions.{Function, entry, entries_of, function_of, functions_below, function_below, is_again, once_after, sorted_functions}
 use Rattle.cc_zsh.specs.Reader.{is_name_byte}
 use Rattle.cc_zsh.proofs.Cutting.{NoQuote}
-use Rattle.cc_zsh.proofs.OptionWords.{AreNameBytes}
-use Rattle.cc_zsh.proofs.PlainNames.{plain_name_bytes, name_byte_no_quote}
+use Rattle.cc_zsh.proofs.OptionWords.{AreNameBytes, name_byte-differs}
+use Rattle.cc_zsh.proofs.PlainNames.{plain_name_bytes}
 use Rattle.cc_zsh.proofs.BlockRead.{AreFullBytes, label_bytes}
 use Rattle.cc_zsh.proofs.ArmsRead.{AreReadable}
 use Rattle.cc_zsh.proofs.FunctionsRead.{IsFunction}
@@ -107,7 +107,7 @@ full_no_quote name h = AllByRecursion-weaker (λ byte. (is_name_byte byte ≡ tr
     (λ byte. byte == 39 ≡ false) one name h
   where
     one : (byte : ℕ) → (is_name_byte byte ≡ true) ⊎ (byte ≡ 32) → byte == 39 ≡ false
-    one byte (inl k) = name_byte_no_quote byte k
+    one byte (inl k) = name_byte-differs 39 byte refl k
     one byte (inr e) = ap (λ b. b == 39) e
 
 -- ---- nodes and functions

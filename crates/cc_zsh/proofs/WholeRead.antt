@@ -20,7 +20,7 @@ use Rattle.cc_zsh.specs.Reader.{Block, Description, State, parts_at_end, functio
 use Rattle.cc_zsh.specs.Reader.State.{after_block, after_nested, before_blocks, between_functions, in_block}
 use Rattle.cc_zsh.specs.Script.{compdef_begins, autoloads, body_begins, begin_text, body_ends, if_called, then_call, else_define, if_ends, end_text, functions_text, script_text, zsh_script}
 use Rattle.cc_zsh.specs.Table.{description_of}
-use Rattle.cc_zsh.proofs.OptionWords.{AreNameBytes, not_close}
+use Rattle.cc_zsh.proofs.OptionWords.{AreNameBytes, name_byte-differs}
 use Rattle.cc_zsh.proofs.LinesRead.{reading, in_parts}
 use Rattle.cc_zsh.proofs.PlainNames.{name_other, plain_name_bytes}
 use Rattle.cc_zsh.proofs.BlockRead.{IsReadable, block_with, context_bytes, root_block_read}
@@ -127,7 +127,7 @@ lacks_bracket last (byte ∷ next ∷ text) (h, hs) =
 
 name_lacks : (name : List ℕ) → AreNameBytes name → text_before 41 name ≡ None
 name_lacks name h = lacks_bracket 41 name (AllByRecursion-weaker (λ b. is_name_byte b ≡ true)
-    (λ b. b == 41 ≡ false) not_close name h)
+    (λ b. b == 41 ≡ false) (λ b. name_byte-differs 41 b refl) name h)
 
 underscore : is_name_byte 95 ≡ true
 unfolding is_name_byte

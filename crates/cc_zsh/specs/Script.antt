@@ -1,10 +1,11 @@
 -- The text of a zsh script.
-use Rattle.std.specs.Prelude.{ℕ, List, ◌++◌, codes}
+use Rattle.std.specs.Prelude.{⊤, ℕ, List, ◌++◌, codes}
 use Rattle.std.specs.List.{flat_map}
 use Rattle.cc_command.specs.Names.{full_name}
 use Rattle.cc_command.specs.Tree.{Tree}
-use Rattle.cc_zsh.specs.Functions.{function_text, tree_functions}
-use Rattle.cc_zsh.specs.Nested.{root_text}
+use Rattle.cc_zsh.specs.Functions.{unless_defined, function_begins, commands_begin, describe_begins, describe_ends, entries_end, function_text, tree_functions}
+use Rattle.cc_zsh.specs.Nested.{block_begins, block_ends, external_text, command_begins, state_begins, state_ends, case_state, set_words, set_context, context_command, case_line, case_line_in, nested_ends, arm_ends, root_text}
+use Rattle.cc_zsh.specs.Options.{line_end}
 
 unfoldable pub compdef_begins : List ℕ
 compdef_begins = codes "#compdef "
@@ -67,3 +68,8 @@ script_text bin_name root =
 -- the script of a tree
 abbrev pub zsh_script : Tree → List ℕ
 zsh_script root = script_text (full_name root.node) root
+
+-- what opens each fixed text of a script
+unfoldable pub fixed_texts : ⊤
+unfolding compdef_begins autoloads body_begins body_ends if_called then_call else_define if_ends line_end block_begins block_ends external_text command_begins state_begins state_ends case_state set_words set_context context_command case_line case_line_in nested_ends arm_ends unless_defined function_begins commands_begin describe_begins describe_ends entries_end
+fixed_texts = tt

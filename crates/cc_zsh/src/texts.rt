@@ -1,5 +1,6 @@
 //! The fixed texts of a script, as the definitions have them. They have any lifetime, since all
 //! pieces that are put together must have one.
+#![tactic(auto, unfolding(crate::specs::Script::fixed_texts))]
 
 ghost use Rattle.std.specs.Prelude.{◌≡◌};
 ghost use Rattle.cc_zsh.specs.Functions.{entries_end, unless_defined, function_begins, commands_begin, describe_begins, describe_ends};
@@ -7,14 +8,12 @@ ghost use Rattle.cc_zsh.specs.Nested.{arm_ends, command_begins, state_begins, st
 ghost use Rattle.cc_zsh.specs.Options.{line_end};
 ghost use Rattle.cc_zsh.specs.Script.{compdef_begins, autoloads, body_begins, if_called, then_call, else_define, if_ends, body_ends};
 
-#[tactic(auto, unfolding(crate::specs::Script::compdef_begins))]
 pub(crate) fn compdef_begins<'a>() -> &'a str
     ensures { result.now ≡ compdef_begins }
 {
     "#compdef "
 }
 
-#[tactic(auto, unfolding(crate::specs::Script::autoloads))]
 pub(crate) fn autoloads<'a>() -> &'a str
     ensures { result.now ≡ autoloads }
 {
@@ -25,7 +24,6 @@ autoload -U is-at-least
 _"
 }
 
-#[tactic(auto, unfolding(crate::specs::Script::body_begins))]
 pub(crate) fn body_begins<'a>() -> &'a str
     ensures { result.now ≡ body_begins }
 {
@@ -44,7 +42,6 @@ pub(crate) fn body_begins<'a>() -> &'a str
     "
 }
 
-#[tactic(auto, unfolding(crate::specs::Script::body_ends))]
 pub(crate) fn body_ends<'a>() -> &'a str
     ensures { result.now ≡ body_ends }
 {
@@ -54,7 +51,6 @@ pub(crate) fn body_ends<'a>() -> &'a str
 "
 }
 
-#[tactic(auto, unfolding(crate::specs::Script::if_called))]
 pub(crate) fn if_called<'a>() -> &'a str
     ensures { result.now ≡ if_called }
 {
@@ -62,7 +58,6 @@ pub(crate) fn if_called<'a>() -> &'a str
 if [ \"$funcstack[1]\" = \"_"
 }
 
-#[tactic(auto, unfolding(crate::specs::Script::then_call))]
 pub(crate) fn then_call<'a>() -> &'a str
     ensures { result.now ≡ then_call }
 {
@@ -70,7 +65,6 @@ pub(crate) fn then_call<'a>() -> &'a str
     _"
 }
 
-#[tactic(auto, unfolding(crate::specs::Script::else_define))]
 pub(crate) fn else_define<'a>() -> &'a str
     ensures { result.now ≡ else_define }
 {
@@ -79,7 +73,6 @@ else
     compdef _"
 }
 
-#[tactic(auto, unfolding(crate::specs::Script::if_ends))]
 pub(crate) fn if_ends<'a>() -> &'a str
     ensures { result.now ≡ if_ends }
 {
@@ -88,7 +81,6 @@ fi
 "
 }
 
-#[tactic(auto, unfolding(crate::specs::Options::line_end))]
 pub(crate) fn line_end<'a>() -> &'a str
     ensures { result.now ≡ line_end }
 {
@@ -96,7 +88,6 @@ pub(crate) fn line_end<'a>() -> &'a str
 "
 }
 
-#[tactic(auto, unfolding(crate::specs::Nested::block_begins))]
 pub(crate) fn block_begins<'a>() -> &'a str
     ensures { result.now ≡ block_begins }
 {
@@ -104,14 +95,12 @@ pub(crate) fn block_begins<'a>() -> &'a str
 "
 }
 
-#[tactic(auto, unfolding(crate::specs::Nested::block_ends))]
 pub(crate) fn block_ends<'a>() -> &'a str
     ensures { result.now ≡ block_ends }
 {
     "&& ret=0"
 }
 
-#[tactic(auto, unfolding(crate::specs::Nested::external_text))]
 pub(crate) fn external_text<'a>() -> &'a str
     ensures { result.now ≡ external_text }
 {
@@ -119,14 +108,12 @@ pub(crate) fn external_text<'a>() -> &'a str
 "
 }
 
-#[tactic(auto, unfolding(crate::specs::Nested::command_begins))]
 pub(crate) fn command_begins<'a>() -> &'a str
     ensures { result.now ≡ command_begins }
 {
     "\":: :_"
 }
 
-#[tactic(auto, unfolding(crate::specs::Nested::state_begins))]
 pub(crate) fn state_begins<'a>() -> &'a str
     ensures { result.now ≡ state_begins }
 {
@@ -134,7 +121,6 @@ pub(crate) fn state_begins<'a>() -> &'a str
 \"*::: :->"
 }
 
-#[tactic(auto, unfolding(crate::specs::Nested::state_ends))]
 pub(crate) fn state_ends<'a>() -> &'a str
     ensures { result.now ≡ state_ends }
 {
@@ -142,7 +128,6 @@ pub(crate) fn state_ends<'a>() -> &'a str
 "
 }
 
-#[tactic(auto, unfolding(crate::specs::Nested::case_state))]
 pub(crate) fn case_state<'a>() -> &'a str
     ensures { result.now ≡ case_state }
 {
@@ -151,7 +136,6 @@ pub(crate) fn case_state<'a>() -> &'a str
     ("
 }
 
-#[tactic(auto, unfolding(crate::specs::Nested::set_words))]
 pub(crate) fn set_words<'a>() -> &'a str
     ensures { result.now ≡ set_words }
 {
@@ -159,7 +143,6 @@ pub(crate) fn set_words<'a>() -> &'a str
         words=($line["
 }
 
-#[tactic(auto, unfolding(crate::specs::Nested::set_context))]
 pub(crate) fn set_context<'a>() -> &'a str
     ensures { result.now ≡ set_context }
 {
@@ -168,14 +151,12 @@ pub(crate) fn set_context<'a>() -> &'a str
         curcontext=\"${curcontext%:*:*}:"
 }
 
-#[tactic(auto, unfolding(crate::specs::Nested::context_command))]
 pub(crate) fn context_command<'a>() -> &'a str
     ensures { result.now ≡ context_command }
 {
     "-command-$line["
 }
 
-#[tactic(auto, unfolding(crate::specs::Nested::case_line))]
 pub(crate) fn case_line<'a>() -> &'a str
     ensures { result.now ≡ case_line }
 {
@@ -183,7 +164,6 @@ pub(crate) fn case_line<'a>() -> &'a str
         case $line["
 }
 
-#[tactic(auto, unfolding(crate::specs::Nested::case_line_in))]
 pub(crate) fn case_line_in<'a>() -> &'a str
     ensures { result.now ≡ case_line_in }
 {
@@ -191,7 +171,6 @@ pub(crate) fn case_line_in<'a>() -> &'a str
             "
 }
 
-#[tactic(auto, unfolding(crate::specs::Nested::nested_ends))]
 pub(crate) fn nested_ends<'a>() -> &'a str
     ensures { result.now ≡ nested_ends }
 {
@@ -200,7 +179,6 @@ pub(crate) fn nested_ends<'a>() -> &'a str
 esac"
 }
 
-#[tactic(auto, unfolding(crate::specs::Nested::arm_ends))]
 pub(crate) fn arm_ends<'a>() -> &'a str
     ensures { result.now ≡ arm_ends }
 {
@@ -209,14 +187,12 @@ pub(crate) fn arm_ends<'a>() -> &'a str
 "
 }
 
-#[tactic(auto, unfolding(crate::specs::Functions::unless_defined))]
 pub(crate) fn unless_defined<'a>() -> &'a str
     ensures { result.now ≡ unless_defined }
 {
     "(( $+functions[_"
 }
 
-#[tactic(auto, unfolding(crate::specs::Functions::function_begins))]
 pub(crate) fn function_begins<'a>() -> &'a str
     ensures { result.now ≡ function_begins }
 {
@@ -224,7 +200,6 @@ pub(crate) fn function_begins<'a>() -> &'a str
 _"
 }
 
-#[tactic(auto, unfolding(crate::specs::Functions::commands_begin))]
 pub(crate) fn commands_begin<'a>() -> &'a str
     ensures { result.now ≡ commands_begin }
 {
@@ -232,7 +207,6 @@ pub(crate) fn commands_begin<'a>() -> &'a str
     local commands; commands=("
 }
 
-#[tactic(auto, unfolding(crate::specs::Functions::describe_begins))]
 pub(crate) fn describe_begins<'a>() -> &'a str
     ensures { result.now ≡ describe_begins }
 {
@@ -240,7 +214,6 @@ pub(crate) fn describe_begins<'a>() -> &'a str
     _describe -t commands '"
 }
 
-#[tactic(auto, unfolding(crate::specs::Functions::describe_ends))]
 pub(crate) fn describe_ends<'a>() -> &'a str
     ensures { result.now ≡ describe_ends }
 {
@@ -249,7 +222,6 @@ pub(crate) fn describe_ends<'a>() -> &'a str
 "
 }
 
-#[tactic(auto, unfolding(crate::specs::Functions::entries_end))]
 pub(crate) fn entries_end<'a>() -> &'a str
     ensures { result.now ≡ entries_end }
 {
