@@ -1,8 +1,10 @@
 //! What every generator of completion scripts needs: the trait, the call that builds and writes,
-//! and the lists of names in `utils`.
+//! the lists of names in `utils`, and words with spaces between them.
 #![tactic(auto)]
 
 pub mod generator;
 pub mod utils;
+mod words;
 
 pub use crate::generator::{Generator, generate};
+pub use crate::words::put_word;
