@@ -1,40 +1,17 @@
 -- The arms of a tree are those of its nodes, each at its label.
-use Rattle.std.proofs.Common.{◌≡◌, ℕ, suc, Bool, List, [], ◌∷◌, ◌++◌, length, map}
-use Rattle.std.proofs.Common.{inl, inr, refl, sym, ap, ◌∙◌, subst}
+use Rattle.std.proofs.Common.{◌≡◌, ℕ, suc, List, [], ◌∷◌, ◌++◌, length, map}
+use Rattle.std.proofs.Common.{refl, sym, ap, ◌∙◌, subst}
 use Rattle.std.specs.List.Sorted.{IsPermutation}
-use Rattle.std.proofs.lemmas.Bool.{cases_Bool}
 use Rattle.std.proofs.lemmas.List.{map-append}
-use Rattle.std.proofs.lemmas.List.Sorted.{IsPermutation-refl, IsPermutation-cons}
-use Rattle.std.proofs.lemmas.List.Sorted.{IsPermutation-trans, IsPermutation-middle}
-use Rattle.std.proofs.lemmas.List.Sorted.{IsPermutation-map}
-use Rattle.cc_base.specs.Sorting.{placed, in_order}
+use Rattle.std.proofs.lemmas.List.Sorted.{IsPermutation-cons, IsPermutation-map}
+use Rattle.cc_base.specs.Sorting.{in_order}
+use Rattle.cc_generator.proofs.InOrder.{in_order-permutes}
 use Rattle.cc_command.specs.Tree.{Forest, none, more, Tree}
 use Rattle.cc_bash.specs.Arms.{Arm, arm_of, arm_below, node_arm, tree_arms}
 use Rattle.cc_bash.specs.Labels.{child_label, labelled_under, labelled, root_label}
 use Rattle.cc_bash.specs.Reads.{place_arm}
 use Rattle.cc_bash.specs.Walk.{all_places, label_at, places_below}
 use Rattle.cc_bash.proofs.CaseWalk.{label_at-more, length-more}
-
--- ---- a list in order has the elements of the list
-
-module _ {X : Type 0} (below : X → X → Bool) where
-  placed-permutes : (x : X) (ys : List X) → IsPermutation (x ∷ ys) (placed below x ys)
-  unfolding placed
-  placed-permutes x [] = IsPermutation-refl (x ∷ [])
-  placed-permutes x (y ∷ ys) = elim (cases_Bool (below y x)) [
-    | inl t ↦ rw t (IsPermutation-trans (x ∷ y ∷ ys) (y ∷ x ∷ ys) (y ∷ placed below x ys)
-        (IsPermutation-middle (x ∷ []) y ys)
-        (IsPermutation-cons y (x ∷ ys) (placed below x ys) (placed-permutes x ys)))
-    | inr f ↦ rw f (IsPermutation-refl (x ∷ y ∷ ys))
-  ]
-
-  in_order-permutes : (xs : List X) → IsPermutation xs (in_order below xs)
-  unfolding in_order
-  in_order-permutes [] = IsPermutation-refl []
-  in_order-permutes (x ∷ xs) =
-      IsPermutation-trans (x ∷ xs) (x ∷ in_order below xs) (placed below x (in_order below xs))
-      (IsPermutation-cons x xs (in_order below xs) (in_order-permutes xs))
-      (placed-permutes x (in_order below xs))
 
 -- ---- the nodes with their labels are the places
 

@@ -1,10 +1,10 @@
 -- The arms of a bash script are read back.
-use Rattle.std.proofs.Common.{◌≡◌, ℕ, Bool, List, [], ◌∷◌, ◌++◌, flat_map, fold, Some, codes, refl, sym, ap, ◌∙◌, append_assoc, append-nil}
+use Rattle.std.proofs.Common.{◌≡◌, ℕ, Bool, List, [], ◌∷◌, ◌++◌, flat_map, Some, codes, refl, ap, ◌∙◌}
 use Rattle.std.specs.List.{AllByRecursion}
 use Rattle.cc_base.specs.Bytes.{close_parenthesis}
 use Rattle.cc_base.proofs.Lines.{IsLine}
 use Rattle.cc_base.proofs.Lines.IsLine.{line}
-use Rattle.cc_base.proofs.ReadInTurn.{in_turn}
+use Rattle.cc_generator.proofs.ReadInTurn.{in_parts, in_turn, lines}
 use Rattle.cc_quote.specs.PosixTokens.{sign, byte_of, cut, double}
 use Rattle.cc_quote.specs.Tokens.{Token, is_word}
 use Rattle.cc_quote.specs.Tokens.Piece.{bare}
@@ -36,24 +36,6 @@ arm_line arm rest = line _
 ends_line : (rest : List ℕ) → IsLine (arm_ends ++ rest)
 unfolding arm_ends
 ends_line rest = line _
-
-details_line : (details : List Detail) (rest : List ℕ) → IsLine rest →
-    IsLine (flat_map detail_text details ++ rest)
-details_line [] rest l = l
-details_line (detail ∷ details) rest l =
-    rw (append_assoc (detail_text detail) (flat_map detail_text details) rest)
-    (detail_line detail (flat_map detail_text details ++ rest))
-
-fold_arms : (table : Table) (arms : List Arm) →
-    fold with_arm table arms ≡ record table { arms = table.arms ++ arms }
-fold_arms table [] = ap (λ many. record table { arms = many }) (sym (append-nil table.arms))
-fold_arms table (arm ∷ arms) = fold_arms (with_arm table arm) arms
-    ∙ ap (λ many. record table { arms = many }) (append_assoc table.arms (arm ∷ []) arms)
-
-regroup_arm : (a b c d e f g h i rest : List ℕ) →
-    ((((((((a ++ b) ++ c) ++ d) ++ e) ++ f) ++ g) ++ h) ++ i) ++ rest
-    ≡ a ++ (b ++ (c ++ (d ++ (e ++ (f ++ (g ++ (h ++ (i ++ rest))))))))
-regroup_arm a b c d e f g h i rest = simp append_assoc
 
 module _ (whole : Bool) where
   arm_opens : (table : Table) (token : Token) (label : List ℕ) → pattern_of token ≡ Some label →
@@ -116,8 +98,8 @@ module _ (whole : Bool) where
         details = [];
       } in
       ap (reading whole (between_arms table) between)
-      (regroup_arm arm_begins arm.label arm_words (words_text arm.words)
-      arm_level arm.level arm_details (flat_map detail_text arm.details) arm_ends rest)
+      (in_parts arm_begins (arm.label ∷ arm_words ∷ words_text arm.words ∷ arm_level ∷ arm.level
+      ∷ arm_details ∷ flat_map detail_text arm.details ∷ arm_ends ∷ []) rest)
       ∙ ap (read whole (between_arms table)) (bare_word arm.label (arm_words ++ words) h.label)
       ∙ ap (λ s. read whole s (tokens_from (in_double (bare (codes "opts=") ∷ []) []) words))
       (arm_opens table (bare (arm.label ++ close_parenthesis ∷ []) ∷ []) arm.label
@@ -130,7 +112,7 @@ module _ (whole : Bool) where
       (words_open table (new_arm arm.label) arm.words h.words)
       ∙ level_read table worded level
       ∙ details_open table worded arm.level details h.level
-      (details_line arm.details ended (ends_line rest))
+      (lines detail_text detail_line arm.details ended (ends_line rest))
       ∙ details_read whole table levelled arm.details ended h.details (ends_line rest)
       ∙ arm_closes table arm rest l
 
@@ -140,6 +122,6 @@ module _ (whole : Bool) where
       reading whole (between_arms table) between (flat_map arm_text arms ++ rest)
       ≡ reading whole (between_arms (record table { arms = table.arms ++ arms })) between rest
   arms_read table arms rest h l =
-      in_turn (λ t. reading whole (between_arms t) between)
-      arm_text with_arm IsReadableArm arm_line arm_reads table arms rest h l
-      ∙ ap (λ t. reading whole (between_arms t) between rest) (fold_arms table arms)
+      in_turn (λ many. reading whole (between_arms (record table { arms = many })) between)
+      arm_text IsReadableArm arm_line (λ many. arm_reads (record table { arms = many }))
+      table.arms arms rest h l

@@ -1,8 +1,9 @@
 -- A bash script is read back to the table that it was written from.
-use Rattle.std.proofs.Common.{◌≡◌, ℕ, Bool, true, false, List, [], ◌∷◌, ◌++◌, flat_map, Some, codes, refl, ap, ◌∙◌, append_assoc, drop}
+use Rattle.std.proofs.Common.{◌≡◌, ℕ, Bool, true, false, List, [], ◌∷◌, ◌++◌, flat_map, Some, codes, refl, ap, ◌∙◌, drop}
 use Rattle.std.specs.List.{AllByRecursion}
 use Rattle.cc_base.proofs.Lines.{IsLine}
 use Rattle.cc_base.proofs.Lines.IsLine.{line}
+use Rattle.cc_generator.proofs.ReadInTurn.{in_parts, lines}
 use Rattle.cc_quote.specs.PosixTokens.{sign, byte_of, cut, posix_tokens, double}
 use Rattle.cc_quote.specs.Tokens.{Token, is_word}
 use Rattle.cc_quote.specs.Tokens.Piece.{bare}
@@ -43,28 +44,12 @@ module _ (whole : Bool) where
   head_reads label rest h l =
       let cases : List ℕ = cases_begin ++ rest in
       ap (reading whole begins between)
-      (regroup_head function_begins label function_head label cases_begin rest)
+      (in_parts function_begins (label ∷ function_head ∷ label ∷ cases_begin ∷ []) rest)
       ∙ ap (read whole begins) (bare_run label (function_head ++ (label ++ cases)) [] (codes "_") h)
       ∙ ap (read whole at_root_label) (double_run label cases (bare (codes "cmd=") ∷ []) []
       (IsKept-IsOther label h))
       ∙ ap (λ s. read whole s (tokens_from (in_bare [] (codes ";;")) rest)) (root_set label)
       ∙ root_closes label rest l
-    where
-      regroup_head : (a b c d e f : List ℕ) →
-          ((((a ++ b) ++ c) ++ d) ++ e) ++ f ≡ a ++ (b ++ (c ++ (d ++ (e ++ f))))
-      regroup_head a b c d e f = simp append_assoc
-
-cases_line : (cases : List Case) (rest : List ℕ) → IsLine rest →
-    IsLine (flat_map case_text cases ++ rest)
-cases_line [] rest l = l
-cases_line (c ∷ cases) rest l = rw (append_assoc (case_text c) (flat_map case_text cases) rest)
-    (case_line c (flat_map case_text cases ++ rest))
-
-arms_line : (arms : List Arm) (rest : List ℕ) → IsLine rest →
-    IsLine (flat_map arm_text arms ++ rest)
-arms_line [] rest l = l
-arms_line (arm ∷ arms) rest l = rw (append_assoc (arm_text arm) (flat_map arm_text arms) rest)
-    (arm_line arm (flat_map arm_text arms ++ rest))
 
 begin_line : (rest : List ℕ) → IsLine (arms_begin ++ rest)
 unfolding arms_begin
@@ -94,18 +79,10 @@ tail_reads : (table : Table) (label bin : List ℕ) →
 unfolding tail_text arms_end sign byte_of cut is_word pattern_of next read
 tail_reads table label bin =
     ap (reading true (between_arms table) between)
-    (regroup_tail arms_end label unsorted bin otherwise sorted script_ends)
+    (in_parts arms_end
+    (label ∷ unsorted ∷ bin ∷ otherwise ∷ label ∷ sorted ∷ bin ∷ []) script_ends)
     ∙ read_finished table (tokens_from between (drop 10 arms_end
     ++ (label ++ (unsorted ++ (bin ++ (otherwise ++ (label ++ (sorted ++ (bin ++ script_ends)))))))))
-  where
-    regroup_tail : (a b c d e f g : List ℕ) →
-        (((((((a ++ b) ++ c) ++ d) ++ e) ++ b) ++ f) ++ d) ++ g
-        ≡ a ++ (b ++ (c ++ (d ++ (e ++ (b ++ (f ++ (d ++ g)))))))
-    regroup_tail a b c d e f g = simp append_assoc
-
-regroup_script : (a b c d e : List ℕ) →
-    (((a ++ b) ++ c) ++ d) ++ e ≡ a ++ (b ++ (c ++ (d ++ e)))
-regroup_script a b c d e = simp append_assoc
 
 -- a script is read back to its table
 pub bash_reads_back : (label bin : List ℕ) (cases : List Case) (arms : List Arm) → IsOther label →
@@ -116,13 +93,13 @@ unfolding bash_table bash_script posix_tokens
 bash_reads_back label bin cases arms h k m =
     let tail : List ℕ = tail_text label bin in
     let armed : List ℕ = flat_map arm_text arms ++ tail in
-    ap (reading true begins between) (regroup_script (head_text label) (flat_map case_text cases)
-    arms_begin (flat_map arm_text arms) (tail_text label bin))
+    ap (reading true begins between) (in_parts (head_text label) (flat_map case_text cases ∷ arms_begin
+    ∷ flat_map arm_text arms ∷ []) (tail_text label bin))
     ∙ head_reads true label (flat_map case_text cases ++ (arms_begin ++ armed)) h
-    (cases_line cases (arms_begin ++ armed) (begin_line armed))
+    (lines case_text case_line cases (arms_begin ++ armed) (begin_line armed))
     ∙ cases_read true (new_table label) cases (arms_begin ++ armed) k (begin_line armed)
     ∙ arms_open (record { root = label; cases = cases; arms = [] }) armed
-    (arms_line arms tail (tail_line label bin))
+    (lines arm_text arm_line arms tail (tail_line label bin))
     ∙ arms_read true (record { root = label; cases = cases; arms = [] }) arms tail m
     (tail_line label bin)
     ∙ tail_reads (record { root = label; cases = cases; arms = arms }) label bin
@@ -147,9 +124,9 @@ pub bash_cases_back : (label bin : List ℕ) (cases : List Case) (arms : List Ar
 unfolding bash_cases bash_script posix_tokens
 bash_cases_back label bin cases arms h k =
     let armed : List ℕ = flat_map arm_text arms ++ tail_text label bin in
-    ap (reading false begins between) (regroup_script (head_text label) (flat_map case_text cases)
-    arms_begin (flat_map arm_text arms) (tail_text label bin))
+    ap (reading false begins between) (in_parts (head_text label) (flat_map case_text cases ∷ arms_begin
+    ∷ flat_map arm_text arms ∷ []) (tail_text label bin))
     ∙ head_reads false label (flat_map case_text cases ++ (arms_begin ++ armed)) h
-    (cases_line cases (arms_begin ++ armed) (begin_line armed))
+    (lines case_text case_line cases (arms_begin ++ armed) (begin_line armed))
     ∙ cases_read false (new_table label) cases (arms_begin ++ armed) k (begin_line armed)
     ∙ cases_close (record { root = label; cases = cases; arms = [] }) armed

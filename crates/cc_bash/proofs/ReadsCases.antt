@@ -1,10 +1,10 @@
 -- The case table of a bash script is read back.
-use Rattle.std.proofs.Common.{◌≡◌, ℕ, Bool, List, [], ◌∷◌, ◌++◌, flat_map, fold, Option, Some, codes, refl, sym, ap, ◌∙◌, append_assoc, append-nil}
+use Rattle.std.proofs.Common.{◌≡◌, ℕ, Bool, List, [], ◌∷◌, ◌++◌, flat_map, Option, Some, codes, refl, ap, ◌∙◌, append_assoc}
 use Rattle.std.specs.List.{AllByRecursion}
 use Rattle.cc_base.specs.Bytes.{comma, close_parenthesis}
 use Rattle.cc_base.proofs.Lines.{IsLine}
 use Rattle.cc_base.proofs.Lines.IsLine.{line}
-use Rattle.cc_base.proofs.ReadInTurn.{in_turn}
+use Rattle.cc_generator.proofs.ReadInTurn.{in_parts, in_turn}
 use Rattle.cc_quote.specs.PosixTokens.{Place, sign, byte_of, cut, double}
 use Rattle.cc_quote.specs.Tokens.{Token, is_word}
 use Rattle.cc_quote.specs.Tokens.Piece.{bare}
@@ -43,21 +43,10 @@ case_found c h =
     ap (λ p. case_by p c.to) (append_assoc c.from (comma ∷ []) c.word)
     ∙ (let e = parted_at comma c.from c.word h in rw e)
 
-regroup_case : (a b c d e f g rest : List ℕ) →
-    ((((((a ++ b) ++ c) ++ d) ++ e) ++ f) ++ g) ++ rest
-    ≡ a ++ (b ++ (c ++ (d ++ (e ++ (f ++ (g ++ rest))))))
-regroup_case a b c d e f g rest = simp append_assoc
-
 -- a case begins a line
 pub case_line : (c : Case) (rest : List ℕ) → IsLine (case_text c ++ rest)
 unfolding case_text case_begins
 case_line c rest = line _
-
-fold_cases : (table : Table) (cases : List Case) →
-    fold with_case table cases ≡ record table { cases = table.cases ++ cases }
-fold_cases table [] = ap (λ cs. record table { cases = cs }) (sym (append-nil table.cases))
-fold_cases table (c ∷ cases) = fold_cases (with_case table c) cases
-    ∙ ap (λ cs. record table { cases = cs }) (append_assoc table.cases (c ∷ []) cases)
 
 module _ (whole : Bool) where
   -- the state after a pattern, and after a label that is set
@@ -93,7 +82,7 @@ module _ (whole : Bool) where
       h.word_no_paren in
       let set : List ℕ = case_sets ++ (c.to ++ (case_ends ++ rest)) in
       ap (reading whole (between_cases table) between)
-      (regroup_case case_begins c.from case_comma c.word case_sets c.to case_ends rest)
+      (in_parts case_begins (c.from ∷ case_comma ∷ c.word ∷ case_sets ∷ c.to ∷ case_ends ∷ []) rest)
       ∙ ap (read whole (between_cases table))
       (bare_word c.from (case_comma ++ (c.word ++ set)) h.from)
       ∙ ap (read whole (between_cases table))
@@ -113,6 +102,6 @@ module _ (whole : Bool) where
       reading whole (between_cases table) between (flat_map case_text cases ++ rest)
       ≡ reading whole (between_cases (record table { cases = table.cases ++ cases })) between rest
   cases_read table cases rest h l =
-      in_turn (λ t. reading whole (between_cases t) between)
-      case_text with_case IsReadableCase case_line case_reads table cases rest h l
-      ∙ ap (λ t. reading whole (between_cases t) between rest) (fold_cases table cases)
+      in_turn (λ many. reading whole (between_cases (record table { cases = many })) between)
+      case_text IsReadableCase case_line (λ many. case_reads (record table { cases = many }))
+      table.cases cases rest h l

@@ -1,11 +1,11 @@
 -- The details of a bash script are read back.
-use Rattle.std.proofs.Common.{◌≡◌, ℕ, Bool, false, List, [], ◌∷◌, ◌++◌, flat_map, fold, Option, Some, None, codes, refl, sym, ap, ◌∙◌, append_assoc, append-nil}
+use Rattle.std.proofs.Common.{◌≡◌, ℕ, Bool, false, List, [], ◌∷◌, ◌++◌, flat_map, Option, Some, None, codes, refl, ap, ◌∙◌, append_assoc}
 use Rattle.std.specs.Prelude.{bytes_eq}
 use Rattle.std.specs.List.{AllByRecursion}
 use Rattle.cc_base.specs.Bytes.{close_parenthesis}
 use Rattle.cc_base.proofs.Lines.{IsLine}
 use Rattle.cc_base.proofs.Lines.IsLine.{line}
-use Rattle.cc_base.proofs.ReadInTurn.{in_turn}
+use Rattle.cc_generator.proofs.ReadInTurn.{in_parts, in_turn}
 use Rattle.cc_quote.specs.PosixTokens.{sign, byte_of, cut, double}
 use Rattle.cc_quote.specs.Tokens.{Token, is_word}
 use Rattle.cc_quote.specs.Tokens.Piece.{bare}
@@ -45,13 +45,6 @@ moded_line (Some nospace) offered rest = line _
 pub detail_line : (detail : Detail) (rest : List ℕ) → IsLine (detail_text detail ++ rest)
 unfolding detail_text detail_begins
 detail_line detail rest = line _
-
-fold_details : (arm : Arm) (details : List Detail) →
-    fold with_detail arm details ≡ record arm { details = arm.details ++ details }
-fold_details arm [] = ap (λ ds. record arm { details = ds }) (sym (append-nil arm.details))
-fold_details arm (detail ∷ details) =
-    fold_details (with_detail arm detail) details
-    ∙ ap (λ ds. record arm { details = ds }) (append_assoc arm.details (detail ∷ []) details)
 
 module _ (whole : Bool) where
   at_values_read : (table : Table) (arm : Arm) (detail : Detail) (names : List (List ℕ)) →
@@ -137,11 +130,7 @@ module _ (whole : Bool) where
   moded_reads table arm word (Some filenames) offered rest h l =
       let after : List ℕ = mode_text filenames ++ rest in
       ap (reading whole (at_reply table arm (new_detail word)) between)
-      (let e : (((separator_kept ++ reply_text offered) ++ separator_back) ++ mode_text filenames)
-      ++ rest
-      ≡ separator_kept ++ (reply_text offered ++ (separator_back ++ after)) =
-      regroup_moded separator_kept (reply_text offered) separator_back (mode_text filenames)
-      rest in e)
+      (in_parts separator_kept (reply_text offered ∷ separator_back ∷ mode_text filenames ∷ []) rest)
       ∙ separator_read table arm (new_detail word) (reply_text offered ++ (separator_back ++ after))
       (line _)
       ∙ reply_reads table arm word offered (separator_back ++ after) h (line _)
@@ -149,10 +138,6 @@ module _ (whole : Bool) where
       (line _)
       ∙ mode_reads table arm (record { word = word; offered = offered; mode = None })
       filenames rest l
-    where
-      regroup_moded : (a b c d e : List ℕ) →
-          (((a ++ b) ++ c) ++ d) ++ e ≡ a ++ (b ++ (c ++ (d ++ e)))
-      regroup_moded a b c d e = simp append_assoc
   moded_reads table arm word (Some plusdirs) offered rest h l =
       plain_reads table arm word plusdirs offered rest h l
   moded_reads table arm word (Some nospace) offered rest h l =
@@ -192,21 +177,14 @@ module _ (whole : Bool) where
       let after : List ℕ = detail_ends ++ rest in
       let moded : List ℕ = moded_text detail.mode detail.offered ++ after in
       ap (reading whole (between_details table arm) between)
-      (let e : ((((detail_begins ++ detail.word) ++ detail_word_ends)
-      ++ moded_text detail.mode detail.offered) ++ detail_ends) ++ rest
-      ≡ detail_begins ++ (detail.word ++ (detail_word_ends ++ moded)) =
-      regroup_detail detail_begins detail.word detail_word_ends
-      (moded_text detail.mode detail.offered) detail_ends rest in e)
+      (in_parts detail_begins (detail.word ∷ detail_word_ends
+      ∷ moded_text detail.mode detail.offered ∷ detail_ends ∷ []) rest)
       ∙ ap (read whole (between_details table arm))
       (bare_word detail.word (detail_word_ends ++ moded) h.word)
       ∙ pattern_reads table arm detail.word moded h.no_paren h.no_star
       (moded_line detail.mode detail.offered after)
       ∙ moded_reads table arm detail.word detail.mode detail.offered after h.offered (line _)
       ∙ detail_closes table arm detail rest l
-    where
-      regroup_detail : (a b c d e f : List ℕ) →
-          ((((a ++ b) ++ c) ++ d) ++ e) ++ f ≡ a ++ (b ++ (c ++ (d ++ (e ++ f))))
-      regroup_detail a b c d e f = simp append_assoc
 
   -- details are read one after another
   pub details_read : (table : Table) (arm : Arm) (details : List Detail) (rest : List ℕ) →
@@ -215,7 +193,6 @@ module _ (whole : Bool) where
       ≡ reading whole (between_details table (record arm { details = arm.details ++ details }))
       between rest
   details_read table arm details rest h l =
-      in_turn (λ a. reading whole (between_details table a) between)
-      detail_text with_detail IsReadableDetail detail_line (detail_reads table)
-      arm details rest h l
-      ∙ ap (λ a. reading whole (between_details table a) between rest) (fold_details arm details)
+      in_turn (λ many. reading whole (between_details table (record arm { details = many })) between)
+      detail_text IsReadableDetail detail_line (λ many. detail_reads table (record arm { details = many }))
+      arm.details details rest h l

@@ -12,8 +12,9 @@ ghost use Rattle.cc_bash.specs.Words.{words_after, words_text};
 ghost use Rattle.cc_bash.specs.declared.words.Part.TheVariants.{Values};
 
 use cc_arg::{Arg, PossibleValue, possible_values};
-use cc_base::{Sink, put_pieces};
+use cc_base::Sink;
 use cc_command::Command;
+use cc_generator::put_word;
 use std::io::ErrorKind;
 
 // The words of all arguments that stand together.
@@ -194,22 +195,4 @@ fn write_names<W: Sink>(command: &Command, begun: &mut bool, sink: &mut W) -> Re
         put_word("", name, begun, sink)?;
     }
     Ok(())
-}
-
-// A space comes before it where `begun` says that a word does.
-fn put_word<W: Sink>(
-    dashes: &str,
-    name: &str,
-    begun: &mut bool,
-    sink: &mut W,
-) -> Result<(), ErrorKind>
-    ensures written { Writes W.taken W.failed (as_write result) sink.old sink.new
-        (separator (codes " ") begun.old ++ (dashes.now ++ name.now)) }
-    ensures begun { OnOk result (begun.new ≡ true) }
-{
-    if *begun {
-        return put_pieces(sink, &[" ".as_bytes(), dashes.as_bytes(), name.as_bytes()]);
-    }
-    *begun = true;
-    put_pieces(sink, &[dashes.as_bytes(), name.as_bytes()])
 }
