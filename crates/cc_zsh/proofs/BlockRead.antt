@@ -14,6 +14,7 @@ use Rattle.cc_quote.specs.PosixTokens.Place.{between, in_double}
 use Rattle.cc_quote.specs.Tokens.{Token, is_word}
 use Rattle.cc_quote.proofs.PosixCutting.{IsKept-IsOther, tokens_from, double_run}
 use Rattle.cc_quote.specs.Escapes.{replaced}
+use Rattle.cc_generator.proofs.ReadInTurn.{in_parts}
 use Rattle.cc_zsh.specs.Nested.{function_label, block_begins, block_ends, external_text, command_begins, state_begins, state_ends, children_text, below_text, block_text}
 use Rattle.cc_zsh.specs.Options.{options_text, flags_text}
 use Rattle.cc_zsh.specs.Positionals.{positionals_text}
@@ -21,7 +22,7 @@ use Rattle.cc_zsh.specs.Reader.{Block, Path, ZshOption, first_named, is_name_byt
 use Rattle.cc_zsh.specs.Reader.State.{after_block, at_block, at_ret, before_blocks, in_block}
 use Rattle.cc_zsh.specs.Table.{node_rows}
 use Rattle.cc_zsh.proofs.OptionWords.{AreNameBytes, colon_none, name_byte-differs, star_none}
-use Rattle.cc_zsh.proofs.LinesRead.{reading, with_options, first_named-none, in_parts}
+use Rattle.cc_zsh.proofs.LinesRead.{reading, with_options, first_named-none}
 use Rattle.cc_zsh.proofs.PlainNames.{name_other, plain_name_bytes}
 use Rattle.cc_zsh.proofs.OptionLines.{node_adds}
 use Rattle.cc_zsh.proofs.PositionalsRead.{positionals_add}

@@ -1,9 +1,10 @@
 -- The functions of a script are read back.
-use Rattle.std.proofs.Common.{◌≡◌, ◌==◌, ℕ, true, false, cond, List, [], ◌∷◌, ◌++◌, map, flat_map, fold, Option, Some, None, option_map, codes, refl, sym, ◌∙◌, ap, append_assoc, append-nil}
+use Rattle.std.proofs.Common.{◌≡◌, ◌==◌, ℕ, true, false, cond, List, [], ◌∷◌, ◌++◌, map, flat_map, Option, Some, None, option_map, codes, refl, sym, ◌∙◌, ap, append_assoc, append-nil}
 use Rattle.std.specs.List.{AllByRecursion}
+use Rattle.std.proofs.lemmas.List.{map-append}
 use Rattle.cc_base.proofs.Lines.{IsLine}
 use Rattle.cc_base.proofs.Lines.IsLine.{line}
-use Rattle.cc_base.proofs.ReadInTurn.{in_turn}
+use Rattle.cc_generator.proofs.ReadInTurn.{in_parts, in_turn, lines}
 use Rattle.cc_quote.specs.PosixTokens.{sign, byte_of, cut}
 use Rattle.cc_quote.specs.PosixTokens.Place.{between, in_bare, in_single}
 use Rattle.cc_quote.specs.QuotedWord.{line_feeds_as_spaces}
@@ -21,7 +22,7 @@ use Rattle.cc_zsh.specs.Table.{description_of, entry_row}
 use Rattle.cc_zsh.proofs.Cutting.{Escapes, escapes_append, escapes_same, NoQuote, quoted_token, single_cut, single_run, token_quoted, not_word, word_of-quoted}
 use Rattle.cc_zsh.proofs.OptionWords.{AreNameBytes, name_byte-differs}
 use Rattle.cc_zsh.proofs.LastBytes.{before-last, before-other}
-use Rattle.cc_zsh.proofs.LinesRead.{in_parts, reading}
+use Rattle.cc_zsh.proofs.LinesRead.{reading}
 use Rattle.cc_zsh.proofs.PlainNames.{name_other, name_no_quote}
 
 -- ---- one description
@@ -72,26 +73,25 @@ entry_escapes e h =
 -- ---- a list
 
 module _ (blocks : List Block) (ds : List Description) (label : List ℕ) where
+  -- after some entries
   abbrev listing : List Entry → List ℕ → Option Parts
-  listing entries text = reading (in_list blocks ds label entries) between text
+  listing es text = reading (in_list blocks ds label (map entry_row es)) between text
 
-  abbrev with_entry : List Entry → Entry → List Entry
-  with_entry entries e = entries ++ entry_row e ∷ []
-
-  entry_next : (entries : List Entry) (e : Entry) → AreNameBytes e.word →
-      next (in_list blocks ds label entries) (quoted_token (entry_word e))
-      ≡ in_list blocks ds label (with_entry entries e)
+  entry_next : (es : List Entry) (e : Entry) → AreNameBytes e.word →
+      next (in_list blocks ds label (map entry_row es)) (quoted_token (entry_word e))
+      ≡ in_list blocks ds label (map entry_row (es ++ e ∷ []))
   unfolding next
-  entry_next entries e h =
-      ap (λ b. cond b (between_functions blocks (with_description ds label entries))
+  entry_next es e h =
+      ap (λ b. cond b (between_functions blocks (with_description ds label (map entry_row es)))
       (elim (entry_of (word_of (quoted_token (entry_word e)))) as (λ x. State) [
-        | Some entry ↦ in_list blocks ds label (entries ++ entry ∷ [])
+        | Some entry ↦ in_list blocks ds label (map entry_row es ++ entry ∷ [])
         | None ↦ malformed
       ])) (not_word (codes ")") (quoted_token (entry_word e)) (token_quoted (entry_word e)))
       ∙ ap (λ o. elim o as (λ x. State) [
-        | Some entry ↦ in_list blocks ds label (entries ++ entry ∷ [])
+        | Some entry ↦ in_list blocks ds label (map entry_row es ++ entry ∷ [])
         | None ↦ malformed
       ]) (ap entry_of (word_of-quoted (entry_word e)) ∙ entry_told e h)
+      ∙ ap (in_list blocks ds label) (sym (map-append entry_row es (e ∷ [])))
 
   entry_line : (e : Entry) (rest : List ℕ) → IsLine (entry_text e ++ rest)
   unfolding entry_text
@@ -101,34 +101,23 @@ module _ (blocks : List Block) (ds : List Description) (label : List ℕ) where
       ((((a ++ b) ++ c) ++ d) ++ e) ++ rest ≡ a ++ ((b ++ (c ++ d)) ++ (e ++ rest))
   regroup_entry a b c d e rest = simp append_assoc
 
-  entry_read : (entries : List Entry) (e : Entry) (rest : List ℕ) → AreNameBytes e.word →
-      IsLine rest → listing entries (entry_text e ++ rest) ≡ listing (with_entry entries e) rest
+  entry_read : (es : List Entry) (e : Entry) (rest : List ℕ) → AreNameBytes e.word →
+      IsLine rest → listing es (entry_text e ++ rest) ≡ listing (es ++ e ∷ []) rest
   unfolding entry_text sign cut read
-  entry_read entries e rest h (line tail) =
-      ap (reading (in_list blocks ds label entries) between)
+  entry_read es e rest h (line tail) =
+      ap (listing es)
       (regroup_entry (codes "\n'") e.word (codes ":") (zsh_escaped_help e.help) (codes "' \\") (10 ∷ tail)
       ∙ ap (λ t. codes "\n'" ++ (t ++ (codes "' \\\n" ++ tail))) (entry_escapes e h).is)
-      ∙ ap (read (in_list blocks ds label entries)) (single_cut (entry_word e) tail [] [])
-      ∙ ap (λ s. read s (tokens_from between tail)) (entry_next entries e h)
-
-  fold_entries : (entries es : List Entry) →
-      fold with_entry entries es ≡ entries ++ map entry_row es
-  fold_entries entries [] = sym (append-nil entries)
-  fold_entries entries (e ∷ es) = fold_entries (with_entry entries e) es
-      ∙ append_assoc entries (entry_row e ∷ []) (map entry_row es)
-
-  entries_read : (es : List Entry) (rest : List ℕ) → AllByRecursion (λ e. AreNameBytes e.word) es →
-      IsLine rest → listing [] (flat_map entry_text es ++ rest) ≡ listing (map entry_row es) rest
-  entries_read es rest h l =
-      in_turn listing entry_text with_entry (λ e. AreNameBytes e.word) entry_line entry_read [] es rest h l
-      ∙ ap (λ entries. listing entries rest) (fold_entries [] es)
+      ∙ ap (read (in_list blocks ds label (map entry_row es))) (single_cut (entry_word e) tail [] [])
+      ∙ ap (λ s. read s (tokens_from between tail)) (entry_next es e h)
 
   -- the list ends
-  end_read : (entries : List Entry) (rest : List ℕ) →
-      listing entries (entries_end ++ (describe_begins ++ rest))
-      ≡ reading (between_functions blocks (with_description ds label entries)) (in_single [] []) rest
+  end_read : (es : List Entry) (rest : List ℕ) →
+      listing es (entries_end ++ (describe_begins ++ rest))
+      ≡ reading (between_functions blocks (with_description ds label (map entry_row es)))
+      (in_single [] []) rest
   unfolding entries_end describe_begins sign byte_of cut is_word next next_function function_name text_before read
-  end_read entries rest = refl
+  end_read es rest = refl
 
   end_line : (rest : List ℕ) → IsLine (entries_end ++ rest)
   unfolding entries_end
@@ -146,18 +135,15 @@ module _ (blocks : List Block) (ds : List Description) (label : List ℕ) where
       let end : List ℕ = entries_end ++ (describe_begins ++ rest) in
       ap (reading (at_list blocks ds label) (in_bare [] (codes "commands=(")))
       (append_assoc (flat_map entry_text (e ∷ es)) entries_end (describe_begins ++ rest))
-      ∙ opens (flat_map entry_text (e ∷ es) ++ end) (first_line e es end)
-      ∙ entries_read (e ∷ es) end h (end_line (describe_begins ++ rest))
-      ∙ end_read (map entry_row (e ∷ es)) rest
+      ∙ opens (flat_map entry_text (e ∷ es) ++ end)
+      (lines entry_text entry_line (e ∷ es) end (end_line (describe_begins ++ rest)))
+      ∙ in_turn listing entry_text (λ e. AreNameBytes e.word) entry_line entry_read [] (e ∷ es) end h
+      (end_line (describe_begins ++ rest))
+      ∙ end_read (e ∷ es) rest
     where
       opens : (text : List ℕ) → IsLine text →
           reading (at_list blocks ds label) (in_bare [] (codes "commands=(")) text ≡ listing [] text
       opens text (line tail) = refl
-
-      first_line : (e : Entry) (es : List Entry) (end : List ℕ) →
-          IsLine (flat_map entry_text (e ∷ es) ++ end)
-      first_line e es end = rw (append_assoc (entry_text e) (flat_map entry_text es) end)
-          (entry_line e (flat_map entry_text es ++ end))
 
 -- ---- one function
 

@@ -1,5 +1,5 @@
 -- Lines of a block add options to it.
-use Rattle.std.proofs.Common.{◌≡◌, ℕ, cond, List, [], ◌∷◌, ◌++◌, map, flat_map, fold, Option, Some, None, codes, refl, sym, ◌∙◌, ap, append_assoc, append-nil}
+use Rattle.std.proofs.Common.{◌≡◌, ℕ, cond, List, [], ◌∷◌, ◌++◌, map, flat_map, Option, Some, None, codes, refl, sym, ◌∙◌, ap, append_assoc, append-nil}
 use Rattle.std.specs.List.{AllByRecursion}
 use Rattle.std.specs.Option.{option_to_list}
 use Rattle.cc_quote.specs.PosixTokens.{Place, sign, cut}
@@ -23,18 +23,6 @@ abbrev pub Adds : List ℕ → List ZshOption → Type 0
 Adds text options = (outer : List Path) (blocks : List Block) (block : Block) (rest : List ℕ) →
     reading (in_block outer blocks block) between (text ++ rest)
     ≡ reading (in_block outer blocks (with_options block options)) between rest
-
--- texts one after another, before another text
-abbrev pub followed : List (List ℕ) → List ℕ → List ℕ
-followed [] rest = rest
-followed (text ∷ texts) rest = text ++ followed texts rest
-
--- as they are written, and as they are read
-pub in_parts : (first : List ℕ) (texts : List (List ℕ)) (rest : List ℕ) →
-    fold (λ front text. front ++ text) first texts ++ rest ≡ first ++ followed texts rest
-in_parts first [] rest = refl
-in_parts first (text ∷ texts) rest =
-    in_parts (first ++ text) texts rest ∙ append_assoc first text (followed texts rest)
 
 pub adds_none : Adds [] []
 adds_none outer blocks block rest =

@@ -16,13 +16,14 @@ use Rattle.cc_quote.specs.ZshQuote.{is_value_marked, zsh_escaped_value, zsh_repl
 use Rattle.cc_quote.proofs.ByteEscapes.{composed, same_bytes}
 use Rattle.cc_quote.proofs.PosixWords.{posix_escaped_byte}
 use Rattle.cc_quote.proofs.ZshWords.{value_composed}
+use Rattle.cc_generator.proofs.ReadInTurn.{in_parts}
 use Rattle.cc_zsh.specs.Options.{line_end}
 use Rattle.cc_zsh.specs.Positionals.{takes_rest, rest_text, count_text, is_bracket_or_colon, is_positional_escaped, positional_escaped, positional_help, positional_text, is_left_out, shown_positionals, takes_all, positionals_text}
 use Rattle.cc_zsh.specs.Values.{value_text}
 use Rattle.cc_zsh.specs.Reader.{option_of}
 use Rattle.cc_zsh.proofs.Cutting.{Escapes, escapes_append, escapes_same, IsEscaped, escaped_append, escaped_same, escaped_of}
 use Rattle.cc_zsh.proofs.OptionWords.{colon_none, star_none}
-use Rattle.cc_zsh.proofs.LinesRead.{Adds, adds_nothing, in_parts, line_adds}
+use Rattle.cc_zsh.proofs.LinesRead.{Adds, adds_nothing, line_adds}
 use Rattle.cc_zsh.proofs.EscapedValues.{no_quote, escaped_value_text}
 
 same_byte : (byte : ℕ) → escaped_byte is_positional_escaped zsh_replacement byte

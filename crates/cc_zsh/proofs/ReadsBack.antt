@@ -3,8 +3,8 @@ use Rattle.std.proofs.Common.{◌≡◌, ◌≢◌, ℕ, Bool, true, false, cond
 use Rattle.std.specs.List.{AllByRecursion}
 use Rattle.std.proofs.lemmas.Slice.Eq.{bytes_eq-Decides}
 use Rattle.cc_base.specs.Differ.{AllDifferBy}
-use Rattle.cc_base.specs.Sorting.{in_order, placed}
-use Rattle.cc_base.proofs.Differing.{AllDifferBy-map, AllDifferBy-finer}
+use Rattle.cc_base.specs.Sorting.{in_order}
+use Rattle.cc_base.proofs.Differing.{AllDifferBy-map, AllDifferBy-finer, AllDifferBy-permutation}
 use Rattle.cc_base.proofs.Members.{IsIn, AllByRecursion-IsIn, AllByRecursion-from_IsIn, AllByRecursion-append, AllByRecursion-flat_map, AllByRecursion-weaker, IsIn-append_left, IsIn-append_right, map-IsIn}
 use Rattle.cc_base.proofs.Sorted.{in_order-IsIn, AllByRecursion-in_order}
 use Rattle.cc_command.specs.declared.node.Node.{Node}
@@ -13,6 +13,7 @@ use Rattle.cc_command.specs.Marked.{StaysIfMarked}
 use Rattle.cc_base.specs.declared.error.Error.{Error}
 use Rattle.cc_base.specs.declared.failures.Failures.{Failures}
 use Rattle.cc_base.specs.Writes.{Writes}
+use Rattle.cc_generator.proofs.InOrder.{in_order-permutes}
 use Rattle.cc_generator.specs.Generators.{Generates, IsReady}
 use Rattle.cc_base.proofs.Booleans.{both_true}
 use Rattle.cc_command.specs.Names.{full_name}
@@ -59,40 +60,6 @@ once_same last (function ∷ functions) differ h =
     ∙ ap (λ fs. function ∷ fs) (once_same (Some function.name) functions differ.1
     (λ other e. let is : function.name ≡ other = cc in
     subst (λ name. AllByRecursion (λ f. function_label name ≢ label f) functions) is differ.0))
-
--- in order labels differ too
-placed_all : (P : Function → Type 0) (function : Function) (functions : List Function) → P function →
-    AllByRecursion P functions → AllByRecursion P (placed function_below function functions)
-unfolding placed
-placed_all P function [] h hs = (h, tt)
-placed_all P function (first ∷ rest) h (k, ks) =
-    by_test (function_below first function) (placed_all P function rest h ks)
-  where
-    by_test : (b : Bool) → AllByRecursion P (placed function_below function rest) →
-        AllByRecursion P (cond b (first ∷ placed function_below function rest) (function ∷ first ∷ rest))
-    by_test true again = (k, again)
-    by_test false again = (h, (k, ks))
-
-differ_placed : (function : Function) (functions : List Function) →
-    AllByRecursion (λ other. label function ≢ label other) functions → AllDifferBy label functions →
-    AllDifferBy label (placed function_below function functions)
-unfolding placed
-differ_placed function [] h differ = (tt, tt)
-differ_placed function (first ∷ rest) (h, hs) (k, ks) =
-    by_test (function_below first function) (differ_placed function rest hs ks)
-  where
-    by_test : (b : Bool) → AllDifferBy label (placed function_below function rest) →
-        AllDifferBy label (cond b (first ∷ placed function_below function rest) (function ∷ first ∷ rest))
-    by_test true again = (placed_all (λ other. label first ≢ label other) function rest (λ e. h (sym e)) k, again)
-    by_test false again = ((h, hs), (k, ks))
-
-differ_in_order : (functions : List Function) → AllDifferBy label functions →
-    AllDifferBy label (in_order function_below functions)
-unfolding in_order
-differ_in_order [] h = tt
-differ_in_order (function ∷ functions) (h, hs) = differ_placed function (in_order function_below functions)
-    (AllByRecursion-in_order function_below (λ other. label function ≢ label other) functions h)
-    (differ_in_order functions hs)
 
 -- ---- the function that is sought
 
@@ -203,7 +170,8 @@ module _ (root : Tree) (plain : IsTrue (is_plain_tree root)) (built : built_tree
   apart_all : AllDifferBy label (root_function ∷ in_order function_below unsorted)
   apart_all = (
     AllByRecursion-in_order function_below (λ other. label root_function ≢ label other) unsorted labels_differ.0,
-    differ_in_order unsorted labels_differ.1,
+    AllDifferBy-permutation label bytes_eq bytes_eq-Decides unsorted (in_order function_below unsorted)
+        (in_order-permutes function_below unsorted) labels_differ.1,
   )
 
   once : tree_functions root ≡ root_function ∷ in_order function_below unsorted

@@ -14,6 +14,7 @@ use Rattle.cc_quote.specs.Tokens.{is_word}
 use Rattle.cc_quote.specs.Tokens.Piece.{bare}
 use Rattle.cc_quote.proofs.PosixCutting.{IsOther, IsKept-IsOther, tokens_from, bare_word, bare_run, double_run}
 use Rattle.cc_visits.specs.Visits.{longer_path, path_visits, paths_below}
+use Rattle.cc_generator.proofs.ReadInTurn.{in_parts}
 use Rattle.cc_zsh.specs.Functions.{function_text, tree_functions}
 use Rattle.cc_zsh.specs.Nested.{block_text, nested_begins, case_text, case_state, nested_ends, nested_text, arms_text, root_text, context_text}
 use Rattle.cc_zsh.specs.Reader.{Block, Description, State, parts_at_end, function_name, is_name_byte, next, next_arm, next_function, read, text_before, zsh_parts}
@@ -21,7 +22,7 @@ use Rattle.cc_zsh.specs.Reader.State.{after_block, after_nested, before_blocks, 
 use Rattle.cc_zsh.specs.Script.{compdef_begins, autoloads, body_begins, begin_text, body_ends, if_called, then_call, else_define, if_ends, end_text, functions_text, script_text, zsh_script}
 use Rattle.cc_zsh.specs.Table.{description_of}
 use Rattle.cc_zsh.proofs.OptionWords.{AreNameBytes, name_byte-differs}
-use Rattle.cc_zsh.proofs.LinesRead.{reading, in_parts}
+use Rattle.cc_zsh.proofs.LinesRead.{reading}
 use Rattle.cc_zsh.proofs.PlainNames.{name_other, plain_name_bytes}
 use Rattle.cc_zsh.proofs.BlockRead.{IsReadable, block_with, context_bytes, root_block_read}
 use Rattle.cc_zsh.proofs.ArmsRead.{AreReadable, block_at, root_nested_read}

@@ -9,8 +9,9 @@ ghost use Rattle.cc_command.specs.ArgumentLists.{first_with};
 ghost use Rattle.cc_zsh.specs.Conflicts.{conflict_scope, conflict_words, conflicts_of, conflicts_text, has_arguments, long_words, own_words, short_words, with_ids};
 
 use cc_arg::{Arg, conflicting_ids};
-use cc_base::{Sink, Text, put_piece, put_pieces};
+use cc_base::{Sink, Text, put_piece};
 use cc_command::{Command, first_with};
+use cc_generator::put_word;
 use std::io::ErrorKind;
 
 /// `above` is the command above this one: there the conflicts of a global argument are looked up.
@@ -124,22 +125,4 @@ fn write_long_word<W: Sink>(argument: &Arg, begun: &mut bool, sink: &mut W) -> R
         return Ok(());
     };
     put_word("--", long, begun, sink)
-}
-
-// A space comes before it where `begun` says that a word does.
-fn put_word<W: Sink>(
-    dashes: &str,
-    name: &str,
-    begun: &mut bool,
-    sink: &mut W,
-) -> Result<(), ErrorKind>
-    ensures written { Writes W.taken W.failed (as_write result) sink.old sink.new
-        (separator (codes " ") begun.old ++ (dashes.now ++ name.now)) }
-    ensures begun { OnOk result (begun.new ≡ true) }
-{
-    if *begun {
-        return put_pieces(sink, &[" ".as_bytes(), dashes.as_bytes(), name.as_bytes()]);
-    }
-    *begun = true;
-    put_pieces(sink, &[dashes.as_bytes(), name.as_bytes()])
 }
