@@ -38,7 +38,8 @@ pub replaced_bytes : (by text : List ℕ) → AreNameBytes by → AreFullBytes t
 replaced_bytes by [] h k = tt
 replaced_bytes by (byte ∷ text) h (inl k, ks) =
     AllByRecursion-append (λ b. is_name_byte b ≡ true) (cond (byte == 32) by (byte ∷ [])) (replaced 32 by text)
-    (let e : byte == 32 ≡ false = name_byte-differs 32 byte refl k in rw e (k, tt)) (replaced_bytes by text h ks)
+    (let e : byte == 32 ≡ false = name_byte-differs 32 byte refl k in rw e (k, tt))
+    (replaced_bytes by text h ks)
 replaced_bytes by (byte ∷ text) h (inr e, ks) =
     AllByRecursion-append (λ b. is_name_byte b ≡ true) (cond (byte == 32) by (byte ∷ [])) (replaced 32 by text)
     (rw e h) (replaced_bytes by text h ks)
@@ -127,7 +128,8 @@ children_read node outer blocks block rest label name =
     ∙ ap (read (in_block outer blocks named))
     (double_run node.name (state_ends ++ rest) [] (codes "*::: :->")
     (IsKept-IsOther node.name (name_other node.name name)))
-    ∙ ap (λ s. read s (tokens_from between rest)) (star_word (codes ":: :->" ++ node.name) outer blocks named)
+    ∙ ap (λ s. read s (tokens_from between rest))
+    (star_word (codes ":: :->" ++ node.name) outer blocks named)
 
 external_read : (outer : List Path) (blocks : List Block) (block : Block) (rest : List ℕ) →
     reading (in_block outer blocks block) between (external_text ++ rest)

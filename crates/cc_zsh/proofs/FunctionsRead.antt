@@ -108,7 +108,8 @@ module _ (blocks : List Block) (ds : List Description) (label : List ℕ) where
       ap (listing es)
       (regroup_entry (codes "\n'") e.word (codes ":") (zsh_escaped_help e.help) (codes "' \\") (10 ∷ tail)
       ∙ ap (λ t. codes "\n'" ++ (t ++ (codes "' \\\n" ++ tail))) (entry_escapes e h).is)
-      ∙ ap (read (in_list blocks ds label (map entry_row es))) (single_cut (entry_word e) tail [] [])
+      ∙ ap (read (in_list blocks ds label (map entry_row es)))
+      (single_cut (entry_word e) tail [] [])
       ∙ ap (λ s. read s (tokens_from between tail)) (entry_next es e h)
 
   -- the list ends
@@ -137,8 +138,8 @@ module _ (blocks : List Block) (ds : List Description) (label : List ℕ) where
       (append_assoc (flat_map entry_text (e ∷ es)) entries_end (describe_begins ++ rest))
       ∙ opens (flat_map entry_text (e ∷ es) ++ end)
       (lines entry_text entry_line (e ∷ es) end (end_line (describe_begins ++ rest)))
-      ∙ in_turn listing entry_text (λ e. AreNameBytes e.word) entry_line entry_read [] (e ∷ es) end h
-      (end_line (describe_begins ++ rest))
+      ∙ in_turn listing entry_text (λ e. AreNameBytes e.word) entry_line entry_read [] (e ∷ es) end
+      h (end_line (describe_begins ++ rest))
       ∙ end_read (e ∷ es) rest
     where
       opens : (text : List ℕ) → IsLine text →

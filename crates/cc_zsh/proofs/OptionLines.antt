@@ -79,7 +79,8 @@ module _ (above node : Node) (above_plain : AllByRecursion IsPlainArgument above
   line_of : (name : List ℕ) (bracket : Bracket) (values : List ℕ) → IsEscaped values →
       IsDashed name →
       Adds (39 ∷ (option_word has_front words (is_repeated argument) name bracket
-      (zsh_escaped_help help) values ++ line_end)) (option_row above node argument bracket name ∷ [])
+      (zsh_escaped_help help) values ++ line_end))
+      (option_row above node argument bracket name ∷ [])
   line_of name bracket values v dashed =
       line_adds _ _ (option_row above node argument bracket name ∷ [])
       (word_escapes has_front words (is_repeated argument) name bracket help values v front dashed)

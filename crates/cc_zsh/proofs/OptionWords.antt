@@ -33,7 +33,8 @@ pub name_byte-differs : (other byte : ℕ) →
 unfolding is_name_byte
 name_byte-differs other byte outside h = elim (cases_Bool (byte == other)) [
   | inl t ↦
-      let wrong : false ≡ true = sym outside ∙ ap is_name_byte (sym ((Decides-eqb byte other).0 t)) ∙ h in cc
+      let same : other ≡ byte = sym ((Decides-eqb byte other).0 t) in
+      let wrong : false ≡ true = sym outside ∙ ap is_name_byte same ∙ h in cc
   | inr f ↦ f
 ]
 
@@ -210,16 +211,19 @@ rest_read : (words : List (List ℕ)) (repeated : Bool) (name : List ℕ) (brack
     (name ++ after_name_text bracket (marked is_help_marked help) values)
     ≡ after_help (option_with words repeated (45 ∷ name) bracket help)
 rest_read words repeated name bracket help values h =
-    name_read name (after_name_text bracket (marked is_help_marked help) values) (45 ∷ []) words repeated h
-    ∙ bracket_read bracket (marked is_help_marked help ++ (codes "]" ++ values)) (45 ∷ name) words repeated
+    name_read name (after_name_text bracket (marked is_help_marked help) values) (45 ∷ []) words
+    repeated h
+    ∙ bracket_read bracket (marked is_help_marked help ++ (codes "]" ++ values)) (45 ∷ name) words
+    repeated
     ∙ help_read help values (new_option words repeated (45 ∷ name) bracket)
 
--- from the star on, at a place from which a star and a dash lead on as after these names in conflict
+-- from the star on, where a star and a dash lead on as after these names in conflict
 star_read : (place : OptionPlace) (words : List (List ℕ)) →
     ((rest : List ℕ) → place_after place (42 ∷ rest) ≡ place_after (after_star words) rest) →
-    ((rest : List ℕ) → place_after place (45 ∷ rest) ≡ place_after (in_name words false (45 ∷ [])) rest) →
-    (repeated : Bool) (name : List ℕ) (bracket : Bracket) (help values : List ℕ) → StartsDashed name →
-    place_after place
+    ((rest : List ℕ) → place_after place (45 ∷ rest)
+    ≡ place_after (in_name words false (45 ∷ [])) rest) →
+    (repeated : Bool) (name : List ℕ) (bracket : Bracket) (help values : List ℕ) →
+    StartsDashed name → place_after place
     (star_of repeated ++ (name ++ after_name_text bracket (marked is_help_marked help) values))
     ≡ after_help (option_with words repeated name bracket help)
 unfolding place_after next_place
@@ -256,7 +260,8 @@ typed_kept words repeated name bracket help are h =
 -- an option's word tells the option
 pub option_read : (has_front : Bool) (words : List (List ℕ)) (repeated : Bool) (name : List ℕ)
     (bracket : Bracket) (help values : List ℕ) → IsFront has_front words → IsDashed name →
-    option_of (option_word has_front words repeated name bracket (marked is_help_marked help) values)
+    option_of
+    (option_word has_front words repeated name bracket (marked is_help_marked help) values)
     ≡ Some (option_with words repeated name bracket help)
 unfolding option_of place_after next_place
 option_read false words repeated name bracket help values none h =

@@ -170,8 +170,9 @@ module _ (root : Tree) (plain : IsTrue (is_plain_tree root)) (built : built_tree
   apart_all : AllDifferBy label (root_function ∷ in_order function_below unsorted)
   apart_all = (
     AllByRecursion-in_order function_below (λ other. label root_function ≢ label other) unsorted labels_differ.0,
-    AllDifferBy-permutation label bytes_eq bytes_eq-Decides unsorted (in_order function_below unsorted)
-        (in_order-permutes function_below unsorted) labels_differ.1,
+    AllDifferBy-permutation label bytes_eq bytes_eq-Decides unsorted
+        (in_order function_below unsorted) (in_order-permutes function_below unsorted)
+        labels_differ.1,
   )
 
   once : tree_functions root ≡ root_function ∷ in_order function_below unsorted

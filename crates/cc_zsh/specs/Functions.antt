@@ -82,6 +82,7 @@ describe_ends = codes " commands' commands \"$@\"\n}\n"
 
 -- a child's name with its description, on a line of its own
 unfoldable pub entry_text : Entry → List ℕ
+unfolding zsh_escaped_help
 entry_text e =
     (((codes "\n'" ++ e.word) ++ codes ":") ++ zsh_escaped_help e.help) ++ codes "' \\"
 

@@ -30,6 +30,7 @@ repeated_text argument = if is_repeated argument then codes "*" else []
 
 -- the help, or nothing, in square brackets
 unfoldable pub help_text : Arg → List ℕ
+unfolding zsh_escaped_help
 help_text argument = (codes "[" ++ zsh_escaped_help (unwrap_or argument.help [])) ++ codes "]"
 
 -- what each line ends with

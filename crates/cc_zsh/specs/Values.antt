@@ -22,10 +22,12 @@ is_described value = not value.hide && is_some value.help
 
 -- what follows the name of a value: its help, or an empty one
 unfoldable pub item_help : List ℕ → List ℕ
+unfolding zsh_escaped_help
 item_help help = (codes "\\:\"" ++ zsh_escaped_help help) ++ codes "\""
 
 -- a value in a list of names, and in one of names with helps
 unfoldable pub item_text : Form → PossibleValue → List ℕ
+unfolding zsh_escaped_value
 item_text Names value = zsh_escaped_value value.name
 item_text Helps value = zsh_escaped_value value.name ++ item_help (unwrap_or value.help [])
 

@@ -178,7 +178,7 @@ fn write_child<W: Sink>(child: &Command, sink: &mut W) -> Result<(), ErrorKind>
     Ok(())
 }
 
-#[tactic(auto, unfolding(crate::specs::Functions::entry_text, cc_quote::specs::ZshQuote::zsh_escaped_help))]
+#[tactic(auto, unfolding(crate::specs::Functions::entry_text))]
 fn write_entry<W: Sink>(name: &str, child: &Command, sink: &mut W) -> Result<(), ErrorKind>
     ensures { Writes W.taken W.failed (as_write result) sink.old sink.new
         (entry_text (entry child.now.node name.now)) }

@@ -107,7 +107,7 @@ fn value_sign(argument: &Arg, name: &ShownName<'_>) -> &'static str
 }
 
 // The brackets stand where there is no help, too.
-#[tactic(auto, unfolding(crate::specs::Options::help_text, cc_quote::specs::ZshQuote::zsh_escaped_help))]
+#[tactic(auto, unfolding(crate::specs::Options::help_text))]
 fn write_help<W: Sink>(argument: &Arg, sink: &mut W) -> Result<(), ErrorKind>
     ensures { Writes W.taken W.failed (as_write result) sink.old sink.new
         (help_text argument.now) }

@@ -125,7 +125,7 @@ fn write_items<W: Sink>(form: Form, values: &[PossibleValue], sink: &mut W) -> R
 }
 
 // What separates the items comes before one where `begun` says that another does.
-#[tactic(auto, unfolding(crate::specs::Values::item_text, cc_quote::specs::ZshQuote::zsh_escaped_value))]
+#[tactic(auto, unfolding(crate::specs::Values::item_text))]
 fn write_item<W: Sink>(
     form: Form,
     value: &PossibleValue,
@@ -156,7 +156,7 @@ fn item_separator(form: Form) -> &'static str
     }
 }
 
-#[tactic(auto, unfolding(crate::specs::Values::item_help, cc_quote::specs::ZshQuote::zsh_escaped_help))]
+#[tactic(auto, unfolding(crate::specs::Values::item_help))]
 fn write_help<W: Sink>(help: &str, sink: &mut W) -> Result<(), ErrorKind>
     ensures { Writes W.taken W.failed (as_write result) sink.old sink.new (item_help help.now) }
 {
