@@ -93,8 +93,8 @@ unfolding bash_table bash_script posix_tokens
 bash_reads_back label bin cases arms h k m =
     let tail : List ℕ = tail_text label bin in
     let armed : List ℕ = flat_map arm_text arms ++ tail in
-    ap (reading true begins between) (in_parts (head_text label) (flat_map case_text cases ∷ arms_begin
-    ∷ flat_map arm_text arms ∷ []) (tail_text label bin))
+    ap (reading true begins between) (in_parts (head_text label)
+    (flat_map case_text cases ∷ arms_begin ∷ flat_map arm_text arms ∷ []) (tail_text label bin))
     ∙ head_reads true label (flat_map case_text cases ++ (arms_begin ++ armed)) h
     (lines case_text case_line cases (arms_begin ++ armed) (begin_line armed))
     ∙ cases_read true (new_table label) cases (arms_begin ++ armed) k (begin_line armed)
@@ -124,8 +124,8 @@ pub bash_cases_back : (label bin : List ℕ) (cases : List Case) (arms : List Ar
 unfolding bash_cases bash_script posix_tokens
 bash_cases_back label bin cases arms h k =
     let armed : List ℕ = flat_map arm_text arms ++ tail_text label bin in
-    ap (reading false begins between) (in_parts (head_text label) (flat_map case_text cases ∷ arms_begin
-    ∷ flat_map arm_text arms ∷ []) (tail_text label bin))
+    ap (reading false begins between) (in_parts (head_text label)
+    (flat_map case_text cases ∷ arms_begin ∷ flat_map arm_text arms ∷ []) (tail_text label bin))
     ∙ head_reads false label (flat_map case_text cases ++ (arms_begin ++ armed)) h
     (lines case_text case_line cases (arms_begin ++ armed) (begin_line armed))
     ∙ cases_read false (new_table label) cases (arms_begin ++ armed) k (begin_line armed)

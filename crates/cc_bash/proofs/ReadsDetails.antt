@@ -130,7 +130,8 @@ module _ (whole : Bool) where
   moded_reads table arm word (Some filenames) offered rest h l =
       let after : List ℕ = mode_text filenames ++ rest in
       ap (reading whole (at_reply table arm (new_detail word)) between)
-      (in_parts separator_kept (reply_text offered ∷ separator_back ∷ mode_text filenames ∷ []) rest)
+      (in_parts separator_kept
+      (reply_text offered ∷ separator_back ∷ mode_text filenames ∷ []) rest)
       ∙ separator_read table arm (new_detail word) (reply_text offered ++ (separator_back ++ after))
       (line _)
       ∙ reply_reads table arm word offered (separator_back ++ after) h (line _)
@@ -193,6 +194,7 @@ module _ (whole : Bool) where
       ≡ reading whole (between_details table (record arm { details = arm.details ++ details }))
       between rest
   details_read table arm details rest h l =
-      in_turn (λ many. reading whole (between_details table (record arm { details = many })) between)
-      detail_text IsReadableDetail detail_line (λ many. detail_reads table (record arm { details = many }))
-      arm.details details rest h l
+      in_turn
+      (λ many. reading whole (between_details table (record arm { details = many })) between)
+      detail_text IsReadableDetail detail_line
+      (λ many. detail_reads table (record arm { details = many })) arm.details details rest h l

@@ -30,10 +30,12 @@ mode_word plusdirs = codes "plusdirs"
 mode_word nospace = codes "nospace"
 
 unfoldable pub mode_text : Mode → List ℕ
+unfolding mode_word
 mode_text mode = (mode_begins ++ mode_word mode) ++ mode_ends
 
 -- the reply of a detail with its mode; around names of files the separator of words is a line feed
 unfoldable pub moded_text : Option Mode → Offered → List ℕ
+unfolding mode_text
 moded_text None offered = reply_text offered
 moded_text (Some filenames) offered =
     ((separator_kept ++ reply_text offered) ++ separator_back) ++ mode_text filenames

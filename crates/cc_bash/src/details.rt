@@ -87,7 +87,7 @@ fn write_detail<'a, W: Sink>(
     put_piece(sink, detail_ends().as_bytes())
 }
 
-#[tactic(auto, unfolding(crate::specs::Script::moded_text, crate::specs::Script::mode_text, crate::specs::Script::mode_word))]
+#[tactic(auto, unfolding(crate::specs::Script::moded_text))]
 fn write_moded<W: Sink>(argument: &Arg, sink: &mut W) -> Result<(), ErrorKind>
     ensures { Writes W.taken W.failed (as_write result) sink.old sink.new
         (moded_text (mode_of argument.now) (offered_by argument.now)) }
