@@ -5,6 +5,5 @@ pub mod JoinedTexts
 pub mod Lines
 pub mod Lists
 pub mod Members
-pub mod ReadInTurn
 pub mod Sorted
 pub mod WrittenTexts
