@@ -61,7 +61,7 @@ pub(crate) fn call<R: Files + AllocGlobal>(
     let (done, shell) = name.split_once(' ').unwrap_or((name, ""));
     match done {
         "build" => command.build(alloc),
-        "complete" => completed(alloc, shell, command, sink),
+        "complete" => complete_word(alloc, shell, command, sink),
         "generate" => {
             let shell = Shell::parse(alloc, shell)?;
             generate(alloc, shell, command, String::from_str(alloc, "app")?, sink)
@@ -72,15 +72,15 @@ pub(crate) fn call<R: Files + AllocGlobal>(
             let path = generate_to(rt, alloc, shell, command, name, ".")?;
             put_all(sink, path.as_str().as_bytes())
         }
-        "write_registration" => registered(alloc, shell, sink),
-        "write_complete" => replied(alloc, shell, command, sink),
-        _ => tried(alloc, shell, sink),
+        "write_registration" => register(alloc, shell, sink),
+        "write_complete" => reply(alloc, shell, command, sink),
+        _ => attempt(alloc, shell, sink),
     }
 }
 
 // Puts the value of each candidate: the names of children and options, the possible values of an
 // option, or paths.
-fn completed(
+fn complete_word(
     alloc: Global,
     asked: &str,
     command: &mut Command,
@@ -103,7 +103,7 @@ fn completed(
     Ok(())
 }
 
-fn registered(alloc: Global, shell: &str, sink: &mut Counted<Narrow>) -> Result<(), Error> {
+fn register(alloc: Global, shell: &str, sink: &mut Counted<Narrow>) -> Result<(), Error> {
     match Shells::builtins().completer(shell) {
         Some(shell) => {
             shell.write_registration(alloc, "COMPLETE", "app", "my app", "/o'p/app", sink)
@@ -112,7 +112,7 @@ fn registered(alloc: Global, shell: &str, sink: &mut Counted<Narrow>) -> Result<
     }
 }
 
-fn replied(
+fn reply(
     alloc: Global,
     shell: &str,
     command: &mut Command,
@@ -140,7 +140,7 @@ fn replied(
 }
 
 // What a program does which a shell asks for its registration, or for a reply.
-fn tried(alloc: Global, asked: &str, sink: &mut Counted<Narrow>) -> Result<(), Error> {
+fn attempt(alloc: Global, asked: &str, sink: &mut Counted<Narrow>) -> Result<(), Error> {
     let (asked, shell) = asked.split_once(' ').unwrap_or((asked, ""));
     let variables = [("COMPLETE", shell), ("_CLAP_COMPLETE_INDEX", "2")];
     let words: &[&str] = if asked == "register" {

@@ -58,19 +58,19 @@ fn call(alloc: Global, name: &str, command: &mut Command) -> Result<(), Error> {
             Ok(())
         }
         "build" => command.build(alloc),
-        "all_subcommands" => listed(alloc, command),
-        "generate" => generated(alloc, command),
-        "complete" => completed(alloc, command),
+        "all_subcommands" => list(alloc, command),
+        "generate" => write_script(alloc, command),
+        "complete" => complete_word(alloc, command),
         _ => Ok(()),
     }
 }
 
-fn listed(alloc: Global, command: &mut Command) -> Result<(), Error> {
+fn list(alloc: Global, command: &mut Command) -> Result<(), Error> {
     command.build(alloc)?;
     utils::all_subcommands(alloc, command).map(drop)
 }
 
-fn generated(alloc: Global, command: &mut Command) -> Result<(), Error> {
+fn write_script(alloc: Global, command: &mut Command) -> Result<(), Error> {
     let mut sink = Collected::new(alloc);
     generate(
         alloc,
@@ -81,7 +81,7 @@ fn generated(alloc: Global, command: &mut Command) -> Result<(), Error> {
     )
 }
 
-fn completed(alloc: Global, command: &mut Command) -> Result<(), Error> {
+fn complete_word(alloc: Global, command: &mut Command) -> Result<(), Error> {
     let mut words = Vec::new(alloc);
     words.push(String::from_str(alloc, "c")?)?;
     words.push(String::from_str(alloc, "")?)?;

@@ -88,7 +88,7 @@ fn attempt_twice<R: Files + Print + AllocGlobal>(
     attempt_again(rt, name, spent, command)
 }
 
-// The line `begin` stands before the call and `end` after it, then how it ended, how many bytes the
+// The line `begin` is before the call and `end` after it, then how it ended, how many bytes the
 // sink took, and what the command is then.
 fn attempt_first<R: Files + Print + AllocGlobal>(
     rt: &R,

@@ -1,4 +1,4 @@
-//! What some getters say of a command and of all below it: texts, places and numbers, and whether
+//! What some getters say of a command and of all below it: texts, orders and numbers, and whether
 //! it is built.
 
 use clap_complete::command::{Arg, Command};

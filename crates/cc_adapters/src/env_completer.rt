@@ -73,7 +73,7 @@ pub trait EnvCompleter {
     /// Writes the reply for the words of a command line: the candidates for the word that the shell
     /// asks for, of the command, which is built first.
     ///
-    /// Fails with `NoCompletion` where no word stands at the index that is asked for, or the
+    /// Fails with `NoCompletion` where no word is at the index that is asked for, or the
     /// program's name does; the command is built all the same. Fails with `Memory`, and the command
     /// is then as it was or built. Nothing is written in both cases. Fails with `Write` where the
     /// sink fails; how much it took before is left open.

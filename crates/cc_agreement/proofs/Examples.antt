@@ -2,7 +2,7 @@
 use Rattle.std.proofs.Common.{◌≡◌, ℕ, List, [], ◌∷◌, codes, refl}
 use Rattle.std.specs.Fmt.{digits}
 use Rattle.std.specs.Char.{encode_utf8}
-use Rattle.cc_base.specs.Sorting.{placed, in_order}
+use Rattle.cc_base.specs.Sorting.{insert, in_order}
 use Rattle.cc_bash.specs.Arms.{tree_arms, words_at, details_at}
 use Rattle.cc_bash.specs.CaseTable.{tree_cases}
 use Rattle.cc_command.specs.Made.{new_node, new_tree}
@@ -25,7 +25,7 @@ no_alias = refl
 
 -- the word leads to the child, whose label and arm are found
 to_child : BashLeadsTo app words run
-unfolding placed in_order tree_cases tree_arms words_at details_at digits encode_utf8
+unfolding insert in_order tree_cases tree_arms words_at details_at digits encode_utf8
 to_child = record { label = refl; node = refl; arm = refl }
 
 -- and not to the root
@@ -34,5 +34,5 @@ not_to_root leads = let e : run ≡ app = leads.node in cc
 
 -- no words lead to the root
 to_root : BashLeadsTo app [] app
-unfolding placed in_order tree_cases tree_arms words_at details_at digits encode_utf8
+unfolding insert in_order tree_cases tree_arms words_at details_at digits encode_utf8
 to_root = record { label = refl; node = refl; arm = refl }

@@ -5,8 +5,8 @@ use Rattle.cc_base.specs.declared.error.Error.TheVariants.{LabelClash, Memory, N
 use Rattle.cc_bash.specs.Arms.{tree_arms}
 use Rattle.cc_bash.specs.CaseTable.{tree_cases, run_end}
 use Rattle.cc_bash.specs.Labels.{root_label, shared_label}
-use Rattle.cc_bash.specs.Reads.{BashReads, arm_at, place_arm, place_label}
-use Rattle.cc_bash.specs.Walk.{root_place, walk}
+use Rattle.cc_bash.specs.Reads.{BashReads, arm_at, position_arm, position_label}
+use Rattle.cc_bash.specs.Walk.{root_position, walk}
 use Rattle.cc_candidates.specs.declared.candidate.CompletionCandidate.{CompletionCandidate}
 use Rattle.cc_command.specs.Tree.{Tree}
 use Rattle.cc_engine.specs.Completion.{Offers, is_in_range, words_before}
@@ -14,14 +14,14 @@ use Rattle.cc_values.specs.Values.{Lent}
 use Rattle.cc_walk.specs.declared.state.State.{State}
 use Rattle.cc_walk.specs.Line.{IsLine, IsOnlyLine}
 
--- Over the words the cases of the root's script lead to the label of the place at which the walk by
--- visible names ends. This node stands at that place, and the arm at that label is its arm.
+-- Over the words the cases of the root's script lead to the label of the position at which the walk by
+-- visible names ends. This node is at that position, and the arm at that label is its arm.
 pub record BashLeadsTo (root : Tree) (words : List (List ℕ)) (tree : Tree) : Type 0 where
   pub label : run_end (tree_cases root) (root_label root) words
-      ≡ place_label root (walk (root_place root) words)
-  pub node : (walk (root_place root) words).tree ≡ tree
+      ≡ position_label root (walk (root_position root) words)
+  pub node : (walk (root_position root) words).tree ≡ tree
   pub arm : arm_at (tree_arms root) (run_end (tree_cases root) (root_label root) words)
-      ≡ Some (place_arm root (walk (root_place root) words))
+      ≡ Some (position_arm root (walk (root_position root) words))
 
 -- The words before the index lead to one node and one state, and to no others. The candidates are
 -- some that may be offered there for the word at the index. The bash script of the root reads back,

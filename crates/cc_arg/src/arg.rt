@@ -553,7 +553,7 @@ pub fn conflicting_ids(argument: &Arg) -> &[Text]
 // Filling in is done by free functions, so that `clap_complete` need not re-export them.
 
 /// Fills in the range and the action where none was given, as building a command does.
-pub fn fill(argument: &mut Arg)
+pub fn fill_range_and_action(argument: &mut Arg)
     ensures { argument.new ≡ filled argument.old }
 {
     let range = argument.counted_range();

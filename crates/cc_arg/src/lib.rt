@@ -14,7 +14,9 @@ mod value_hint;
 
 pub use crate::action::ArgAction;
 pub use crate::aliases::{LongAndVisibleAliases, ShortAndVisibleAliases};
-pub use crate::arg::{Arg, conflicting_ids, fill, fill_display_order, fill_index, possible_values};
+pub use crate::arg::{
+    Arg, conflicting_ids, fill_display_order, fill_index, fill_range_and_action, possible_values,
+};
 pub use crate::names::{ShownName, ShownNames, shown_longs, shown_names, shown_shorts};
 pub use crate::parts::ArgParts;
 pub use crate::possible_value::PossibleValue;

@@ -5,7 +5,7 @@ use Rattle.std.specs.List.{AllByRecursion}
 use Rattle.std.specs.List.Sorted.{IsSortedBy, IsStableBy, ties}
 use Rattle.std.proofs.lemmas.Bool.{cases_Bool}
 use Rattle.std.proofs.lemmas.List.Sorted.{sorted_far}
-use Rattle.cc_base.specs.Sorting.{placed, in_order}
+use Rattle.cc_base.specs.Sorting.{insert, in_order}
 use Rattle.cc_base.proofs.Members.{IsIn, AllByRecursion-IsIn, AllByRecursion-from_IsIn}
 
 module _ {X : Type 0} (lt : X → X → Bool) (o : IsStrictWeakOrder lt) where
@@ -36,27 +36,27 @@ module _ {X : Type 0} (lt : X → X → Bool) (o : IsStrictWeakOrder lt) where
   none_below-trans x y [] e h = tt
   none_below-trans x y (z ∷ ys) e h = (o.chain z y x h.0 e, none_below-trans x y ys e h.1)
 
-  none_below-placed : (z x : X) (ys : List X) → lt x z ≡ false → NoneBelow z ys →
-      NoneBelow z (placed lt x ys)
-  unfolding placed
-  none_below-placed z x [] e h = (e, tt)
-  none_below-placed z x (y ∷ ys) e h = elim (cases_Bool (lt y x)) [
-    | inl t ↦ rw t (h.0, none_below-placed z x ys e h.1)
+  none_below-insert : (z x : X) (ys : List X) → lt x z ≡ false → NoneBelow z ys →
+      NoneBelow z (insert lt x ys)
+  unfolding insert
+  none_below-insert z x [] e h = (e, tt)
+  none_below-insert z x (y ∷ ys) e h = elim (cases_Bool (lt y x)) [
+    | inl t ↦ rw t (h.0, none_below-insert z x ys e h.1)
     | inr f ↦ rw f (e, h)
   ]
 
-  up-placed : (x : X) (ys : List X) → Up ys → Up (placed lt x ys)
-  unfolding placed
-  up-placed x [] h = (tt, tt)
-  up-placed x (y ∷ ys) h = elim (cases_Bool (lt y x)) [
-    | inl t ↦ rw t (none_below-placed y x ys (o.one_way y x t) h.0, up-placed x ys h.1)
+  up-insert : (x : X) (ys : List X) → Up ys → Up (insert lt x ys)
+  unfolding insert
+  up-insert x [] h = (tt, tt)
+  up-insert x (y ∷ ys) h = elim (cases_Bool (lt y x)) [
+    | inl t ↦ rw t (none_below-insert y x ys (o.one_way y x t) h.0, up-insert x ys h.1)
     | inr f ↦ rw f ((f, none_below-trans x y ys f h.0), h)
   ]
 
   up-in_order : (xs : List X) → Up (in_order lt xs)
   unfolding in_order
   up-in_order [] = tt
-  up-in_order (x ∷ xs) = up-placed x (in_order lt xs) (up-in_order xs)
+  up-in_order (x ∷ xs) = up-insert x (in_order lt xs) (up-in_order xs)
 
   -- where one of two elements is below the other, they do not both tie with z
   apart : (z x y : X) → lt y x ≡ true → ties lt z x ≡ true → ties lt z y ≡ true → ⊥
@@ -74,12 +74,12 @@ module _ {X : Type 0} (lt : X → X → Bool) (o : IsStrictWeakOrder lt) where
       none true e = cc
       none false e = refl
 
-  stable-placed : (z x : X) (ys : List X) →
-      filter (ties lt z) (placed lt x ys) ≡ filter (ties lt z) (x ∷ ys)
-  unfolding placed
-  stable-placed z x [] = refl
-  stable-placed z x (y ∷ ys) = elim (cases_Bool (lt y x)) [
-    | inl t ↦ rw t (ap (λ rest. cond (ties lt z y) (y ∷ rest) rest) (stable-placed z x ys)
+  stable-insert : (z x : X) (ys : List X) →
+      filter (ties lt z) (insert lt x ys) ≡ filter (ties lt z) (x ∷ ys)
+  unfolding insert
+  stable-insert z x [] = refl
+  stable-insert z x (y ∷ ys) = elim (cases_Bool (lt y x)) [
+    | inl t ↦ rw t (ap (λ rest. cond (ties lt z y) (y ∷ rest) rest) (stable-insert z x ys)
         ∙ order (ties lt z x) (ties lt z y) refl refl t)
     | inr f ↦ rw f
   ]
@@ -99,7 +99,7 @@ module _ {X : Type 0} (lt : X → X → Bool) (o : IsStrictWeakOrder lt) where
   unfolding in_order
   stable-in_order z [] = refl
   stable-in_order z (x ∷ xs) =
-      stable-placed z x (in_order lt xs)
+      stable-insert z x (in_order lt xs)
       ∙ ap (λ rest. cond (ties lt z x) (x ∷ rest) rest) (stable-in_order z xs)
 
   not_below_itself : (x : X) → lt x x ≡ false
@@ -137,7 +137,7 @@ module _ {X : Type 0} (lt : X → X → Bool) (o : IsStrictWeakOrder lt) where
       by true e = cc
       by false e = e
 
-  -- two lists in order whose ties stand alike are one
+  -- two lists in order whose ties are alike are one
   one_order : (ys zs : List X) → Up ys → Up zs →
       ((x : X) → filter (ties lt x) ys ≡ filter (ties lt x) zs) → ys ≡ zs
   one_order [] [] up down h = refl
@@ -165,12 +165,12 @@ module _ {X : Type 0} (lt : X → X → Bool) (o : IsStrictWeakOrder lt) where
 
 -- order by what a function makes of the elements
 module _ {X Y : Type 0} (f : X → Y) (lt : Y → Y → Bool) where
-  map-placed : (x : X) (ys : List X) →
-      map f (placed (λ a b. lt (f a) (f b)) x ys) ≡ placed lt (f x) (map f ys)
-  unfolding placed
-  map-placed x [] = refl
-  map-placed x (y ∷ ys) = elim (cases_Bool (lt (f y) (f x))) [
-    | inl t ↦ rw t (ap (λ rest. f y ∷ rest) (map-placed x ys))
+  map-insert : (x : X) (ys : List X) →
+      map f (insert (λ a b. lt (f a) (f b)) x ys) ≡ insert lt (f x) (map f ys)
+  unfolding insert
+  map-insert x [] = refl
+  map-insert x (y ∷ ys) = elim (cases_Bool (lt (f y) (f x))) [
+    | inl t ↦ rw t (ap (λ rest. f y ∷ rest) (map-insert x ys))
     | inr n ↦ rw n
   ]
 
@@ -178,34 +178,34 @@ module _ {X Y : Type 0} (f : X → Y) (lt : Y → Y → Bool) where
       ≡ in_order lt (map f xs)
   unfolding in_order
   map-in_order [] = refl
-  map-in_order (x ∷ xs) = map-placed x (in_order (λ a b. lt (f a) (f b)) xs)
-      ∙ ap (placed lt (f x)) (map-in_order xs)
+  map-in_order (x ∷ xs) = map-insert x (in_order (λ a b. lt (f a) (f b)) xs)
+      ∙ ap (insert lt (f x)) (map-in_order xs)
 
 -- the same elements in order
 module _ {X : Type 0} (below : X → X → Bool) where
-  IsIn-placed : (x y : X) (ys : List X) → IsIn (placed below x ys) y → IsIn (x ∷ ys) y
-  unfolding placed
-  IsIn-placed x y [] h = h
-  IsIn-placed x y (z ∷ ys) h = elim (cases_Bool (below z x)) [
-    | inl t ↦ swapped (IsIn-placed x y ys) (let k : IsIn (z ∷ placed below x ys) y = rw t at h in k)
+  IsIn-insert : (x y : X) (ys : List X) → IsIn (insert below x ys) y → IsIn (x ∷ ys) y
+  unfolding insert
+  IsIn-insert x y [] h = h
+  IsIn-insert x y (z ∷ ys) h = elim (cases_Bool (below z x)) [
+    | inl t ↦ swapped (IsIn-insert x y ys) (let k : IsIn (z ∷ insert below x ys) y = rw t at h in k)
     | inr f ↦ rw f at h
   ]
     where
-      swapped : (IsIn (placed below x ys) y → IsIn (x ∷ ys) y) → IsIn (z ∷ placed below x ys) y →
+      swapped : (IsIn (insert below x ys) y → IsIn (x ∷ ys) y) → IsIn (z ∷ insert below x ys) y →
           IsIn (x ∷ z ∷ ys) y
       swapped again (inl e) = inr (inl e)
       swapped again (inr k) = elim (again k) [ inl e ↦ inl e | inr l ↦ inr (inr l) ]
 
-  placed-IsIn : (x y : X) (ys : List X) → IsIn (x ∷ ys) y → IsIn (placed below x ys) y
-  unfolding placed
-  placed-IsIn x y [] h = h
-  placed-IsIn x y (z ∷ ys) h = elim (cases_Bool (below z x)) [
-    | inl t ↦ rw t (swapped (placed-IsIn x y ys) h)
+  insert-IsIn : (x y : X) (ys : List X) → IsIn (x ∷ ys) y → IsIn (insert below x ys) y
+  unfolding insert
+  insert-IsIn x y [] h = h
+  insert-IsIn x y (z ∷ ys) h = elim (cases_Bool (below z x)) [
+    | inl t ↦ rw t (swapped (insert-IsIn x y ys) h)
     | inr f ↦ rw f h
   ]
     where
-      swapped : (IsIn (x ∷ ys) y → IsIn (placed below x ys) y) → IsIn (x ∷ z ∷ ys) y →
-          IsIn (z ∷ placed below x ys) y
+      swapped : (IsIn (x ∷ ys) y → IsIn (insert below x ys) y) → IsIn (x ∷ z ∷ ys) y →
+          IsIn (z ∷ insert below x ys) y
       swapped again (inl e) = inr (again (inl e))
       swapped again (inr (inl e)) = inl e
       swapped again (inr (inr k)) = inr (again (inr k))
@@ -213,14 +213,14 @@ module _ {X : Type 0} (below : X → X → Bool) where
   pub IsIn-in_order : (xs : List X) (y : X) → IsIn (in_order below xs) y → IsIn xs y
   unfolding in_order
   IsIn-in_order [] y h = h
-  IsIn-in_order (x ∷ xs) y h = elim (IsIn-placed x y (in_order below xs) h)
+  IsIn-in_order (x ∷ xs) y h = elim (IsIn-insert x y (in_order below xs) h)
       [ inl e ↦ inl e | inr k ↦ inr (IsIn-in_order xs y k) ]
 
   pub in_order-IsIn : (xs : List X) (y : X) → IsIn xs y → IsIn (in_order below xs) y
   unfolding in_order
   in_order-IsIn [] y h = h
-  in_order-IsIn (x ∷ xs) y (inl e) = placed-IsIn x y (in_order below xs) (inl e)
-  in_order-IsIn (x ∷ xs) y (inr k) = placed-IsIn x y (in_order below xs)
+  in_order-IsIn (x ∷ xs) y (inl e) = insert-IsIn x y (in_order below xs) (inl e)
+  in_order-IsIn (x ∷ xs) y (inr k) = insert-IsIn x y (in_order below xs)
       (inr (in_order-IsIn xs y k))
 
   -- what is so of each is so of each in order

@@ -1,12 +1,12 @@
 -- Texts that are written one by one, with a separator before each but the first.
 use Rattle.std.specs.Prelude.{ℕ, List, [], ◌∷◌, ◌++◌, Bool, true, false}
 
--- the separator, where a text stands before
+-- the separator, where a text comes before
 abbrev pub separator : List ℕ → Bool → List ℕ
 separator between true = between
 separator between false = []
 
--- some texts, where it is told whether a text stands before them
+-- some texts, where it is told whether a text is before them
 abbrev pub joined_after : List ℕ → Bool → List (List ℕ) → List ℕ
 joined_after between begun [] = []
 joined_after between begun (text ∷ texts) =

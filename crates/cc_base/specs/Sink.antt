@@ -9,8 +9,8 @@ abbrev pub none_failed : Failures
 none_failed = record { count = 0; last = None }
 
 -- the failures after one more of this kind; the count stays at `u64::MAX`
-unfoldable pub raised : ErrorKind → Failures → Failures
-raised kind failures = record {
+unfoldable pub add_failure : ErrorKind → Failures → Failures
+add_failure kind failures = record {
   count = if failures.count == 2 ^ 64 - 1 then failures.count else failures.count + 1;
   last = Some kind;
 }
@@ -19,5 +19,5 @@ raised kind failures = record {
 -- isn't empty
 abbrev pub after_put : Result ℕ ErrorKind → List ℕ → Failures → Failures
 after_put (Ok count) bytes failures =
-    if (count == 0) && nat_lt 0 (length bytes) then raised WriteZero failures else failures
-after_put (Err kind) bytes failures = raised kind failures
+    if (count == 0) && nat_lt 0 (length bytes) then add_failure WriteZero failures else failures
+after_put (Err kind) bytes failures = add_failure kind failures

@@ -3,11 +3,11 @@ use Rattle.std.specs.Prelude.{◌≡◌, ℕ, List, ◌++◌, Result, Ok, Err, O
 use Rattle.std.specs.declared.io.ErrorKind.{ErrorKind}
 use Rattle.cc_base.specs.declared.error.Error.{Error}
 use Rattle.cc_base.specs.declared.error.Error.TheVariants.{Memory, Write}
-use Rattle.cc_base.specs.Sink.{Failures, raised}
+use Rattle.cc_base.specs.Sink.{Failures, add_failure}
 
 -- a failure is counted exactly where the call returns `Write`, and of that kind
 abbrev pub CountsWrite : {T : Type 0} → Result T Error → Failures → Failures → Type 0
-CountsWrite (Err (Write kind)) old new = new ≡ raised kind old
+CountsWrite (Err (Write kind)) old new = new ≡ add_failure kind old
 CountsWrite _ old new = new ≡ old
 
 -- the error is a failed put

@@ -1,7 +1,7 @@
 //! The failures of a sink.
 
 ghost use Rattle.std.specs.Prelude.{◌≡◌};
-ghost use Rattle.cc_base.specs.Sink.{none_failed, raised};
+ghost use Rattle.cc_base.specs.Sink.{none_failed, add_failure};
 
 use std::io::ErrorKind;
 
@@ -26,9 +26,9 @@ impl Failures {
     /// Counts a failure of this kind. The count stays at `u64::MAX` once it is there.
     #[cold]
     #[inline(never)]
-    #[tactic(auto, unfolding(crate::specs::Sink::raised))]
+    #[tactic(auto, unfolding(crate::specs::Sink::add_failure))]
     pub fn raise(&mut self, kind: ErrorKind)
-        ensures { self.new ≡ raised kind self.old }
+        ensures { self.new ≡ add_failure kind self.old }
     {
         self.count = self.count.saturating_add(1);
         self.last = Some(kind);

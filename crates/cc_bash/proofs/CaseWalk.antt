@@ -9,9 +9,9 @@ use Rattle.cc_command.specs.Tree.{Tree, IsSibling}
 use Rattle.cc_command.proofs.PlainParts.{plain_tree}
 use Rattle.cc_bash.specs.Arms.{arm_of, arm_below, node_arm, tree_arms}
 use Rattle.cc_bash.specs.CaseTable.{Case, node_cases, case_below, tree_cases, next_label, run, last_or, run_end}
-use Rattle.cc_bash.specs.Labels.{Labelled, root_label, child_label, labelled_node, labelled, labels, shared_label}
-use Rattle.cc_bash.specs.Reads.{arm_at, place_arm, place_label}
-use Rattle.cc_bash.specs.Walk.{Place, next_place, places, walk, root_place, label_at, level_of}
+use Rattle.cc_bash.specs.Labels.{Labelled, root_label, child_label, labelled_node, labelled_commands, labels, shared_label}
+use Rattle.cc_bash.specs.Reads.{arm_at, position_arm, position_label}
+use Rattle.cc_bash.specs.Walk.{Position, next_position, positions, walk, root_position, label_at, level_of}
 use Rattle.cc_bash.proofs.Clashes.{AllDifferBy-map, same_element, texts_differ}
 use Rattle.cc_bash.proofs.ListedNodes.{parents, siblings_listed, children_listed, children_differ}
 use Rattle.cc_bash.proofs.NextSteps.{bytes_tells, next_cases, visible_child-is, visible_child-of}
@@ -34,9 +34,9 @@ root_node tree = record {
 }
 
 abbrev nodes : Tree → List Labelled
-nodes tree = root_node tree ∷ labelled tree
+nodes tree = root_node tree ∷ labelled_commands tree
 
--- where no label stands twice, two nodes with one label are one
+-- where no label occurs twice, two nodes with one label are one
 one_node : (tree : Tree) (one other : Labelled) → shared_label tree ≡ None → IsIn (nodes tree) one →
     IsIn (nodes tree) other → one.label ≡ other.label → one ≡ other
 one_node tree one other clear h k e =
@@ -45,7 +45,7 @@ one_node tree one other clear h k e =
     h k e
 
 -- every node below the root has its parent in the list
-parent_of : (tree : Tree) (node : Labelled) → IsIn (labelled tree) node →
+parent_of : (tree : Tree) (node : Labelled) → IsIn (labelled_commands tree) node →
     (p : Labelled) × IsIn (nodes tree) p × (p.label ≡ node.parent)
     × IsSibling p.tree.children node.tree
 parent_of tree node h = elim (parents (root_label tree) 2 tree.children node h).parent [
@@ -56,10 +56,10 @@ parent_of tree node h = elim (parents (root_label tree) 2 tree.children node h).
 -- every child of a node of the list is in the list
 child_of : (tree : Tree) (node : Labelled) (child : Tree) → IsIn (nodes tree) node →
     IsSibling node.tree.children child →
-    IsIn (labelled tree) (labelled_node node.label (suc node.level) child)
+    IsIn (labelled_commands tree) (labelled_node node.label (suc node.level) child)
 child_of tree node child (inl e) s =
     subst (λ (p : Labelled). IsSibling p.tree.children child →
-    IsIn (labelled tree) (labelled_node p.label (suc p.level) child)) e
+    IsIn (labelled_commands tree) (labelled_node p.label (suc p.level) child)) e
     (λ t. siblings_listed (root_label tree) 2 tree.children child t) s
 child_of tree node child (inr h) s =
     children_listed (root_label tree) 2 tree.children node child h s
@@ -77,12 +77,12 @@ differ_at tree node plain h =
 
 -- a case comes from a node, and a node's cases are in the table
 case_from : (tree : Tree) (c : Case) → IsIn (tree_cases tree) c →
-    (node : Labelled) × IsIn (labelled tree) node × IsIn (visible_names node.tree.node) c.word
+    (node : Labelled) × IsIn (labelled_commands tree) node × IsIn (visible_names node.tree.node) c.word
     × (c.from ≡ node.parent) × (c.to ≡ node.label)
 unfolding tree_cases
 case_from tree c h =
-    let of = IsIn-flat_map node_cases (labelled tree) c
-    (IsIn-in_order case_below (flat_map node_cases (labelled tree)) c h) in
+    let of = IsIn-flat_map node_cases (labelled_commands tree) c
+    (IsIn-in_order case_below (flat_map node_cases (labelled_commands tree)) c h) in
     let make = λ (name : List ℕ). let c : Case =
     record { from = of.0.parent; word = name; to = of.0.label } in c in
     let by = IsIn-map make (visible_names of.0.tree.node) c of.1.1 in (
@@ -94,25 +94,25 @@ case_from tree c h =
       sym (ap (λ x. x.to) by.1.1),
     )
 
-case_of_node : (tree : Tree) (node : Labelled) (name : List ℕ) → IsIn (labelled tree) node →
+case_of_node : (tree : Tree) (node : Labelled) (name : List ℕ) → IsIn (labelled_commands tree) node →
     IsIn (visible_names node.tree.node) name →
     IsIn (tree_cases tree) (record { from = node.parent; word = name; to = node.label })
 unfolding tree_cases
 case_of_node tree node name h named =
     let make = λ (name : List ℕ). let c : Case =
     record { from = node.parent; word = name; to = node.label } in c in
-    in_order-IsIn case_below (flat_map node_cases (labelled tree)) _
-    (flat_map-IsIn node_cases (labelled tree) node _ h
+    in_order-IsIn case_below (flat_map node_cases (labelled_commands tree)) _
+    (flat_map-IsIn node_cases (labelled_commands tree) node _ h
     (map-IsIn make (visible_names node.tree.node) name named))
 
-found_child : (place : Place) (word : List ℕ) (child : Tree) →
-    visible_child place.tree.children word ≡ Some child →
-    next_place place word ≡ record { path = place.path ++ child.node.name ∷ []; tree = child }
-found_child place word child e = rw (next_place, e)
+found_child : (position : Position) (word : List ℕ) (child : Tree) →
+    visible_child position.tree.children word ≡ Some child →
+    next_position position word ≡ record { path = position.path ++ child.node.name ∷ []; tree = child }
+found_child position word child e = rw (next_position, e)
 
-found_none : (place : Place) (word : List ℕ) → visible_child place.tree.children word ≡ None →
-    next_place place word ≡ place
-found_none place word e = rw (next_place, e)
+found_none : (position : Position) (word : List ℕ) → visible_child position.tree.children word ≡ None →
+    next_position position word ≡ position
+found_none position word e = rw (next_position, e)
 
 option_cases : (o : Option Tree) → ((x : Tree) × (o ≡ Some x)) ⊎ (o ≡ None)
 option_cases None = inr refl
@@ -123,15 +123,15 @@ pub length-more : (path : List (List ℕ)) (name : List ℕ) →
 length-more [] name = refl
 length-more (n ∷ path) name = ap (λ k. suc k) (length-more path name)
 
--- a node of the list stands at the place
-record StandsAt (tree : Tree) (place : Place) : Type 0 where
+-- a node of the list is at the position
+record StandsAt (tree : Tree) (position : Position) : Type 0 where
   pub node : Labelled
   pub here : IsIn (nodes tree) node
-  pub same : node.tree ≡ place.tree
-  pub label : node.label ≡ place_label tree place
-  pub level : node.level ≡ level_of place
+  pub same : node.tree ≡ position.tree
+  pub label : node.label ≡ position_label tree position
+  pub level : node.level ≡ level_of position
 
-root_stands : (tree : Tree) → StandsAt tree (root_place tree)
+root_stands : (tree : Tree) → StandsAt tree (root_position tree)
 root_stands tree = record {
   node = root_node tree;
   here = inl refl;
@@ -141,11 +141,11 @@ root_stands tree = record {
   level = refl;
 }
 
--- below a place where a node stands, the child stands
-child_stands : (tree : Tree) (place : Place) (child : Tree) → StandsAt tree place →
-    IsSibling place.tree.children child →
-    StandsAt tree (record { path = place.path ++ child.node.name ∷ []; tree = child })
-child_stands tree place child at s =
+-- below a position where a node is, the child is
+child_stands : (tree : Tree) (position : Position) (child : Tree) → StandsAt tree position →
+    IsSibling position.tree.children child →
+    StandsAt tree (record { path = position.path ++ child.node.name ∷ []; tree = child })
+child_stands tree position child at s =
     let sibling : IsSibling at.node.tree.children child =
     subst (λ (t : Tree). IsSibling t.children child) (sym at.same) s in
     record {
@@ -153,96 +153,96 @@ child_stands tree place child at s =
       here = inr (child_of tree at.node child at.here sibling);
       same = refl;
       label = ap (λ l. child_label l child.node.name) at.label
-          ∙ sym (label_at-more (root_label tree) place.path child.node.name);
-      level = ap (λ k. suc k) (at.level ∙ length-more place.path child.node.name);
+          ∙ sym (label_at-more (root_label tree) position.path child.node.name);
+      level = ap (λ k. suc k) (at.level ∙ length-more position.path child.node.name);
     }
 
--- one stands where a word leads
-next_stands : (tree : Tree) (place : Place) (word : List ℕ) → StandsAt tree place →
-    StandsAt tree (next_place place word)
-next_stands tree place word at = elim (option_cases (visible_child place.tree.children word)) [
-  | inl f ↦ subst (StandsAt tree) (sym (found_child place word f.0 f.1))
-      (child_stands tree place f.0 at (visible_child-of place.tree.children f.0 word f.1).0)
-  | inr absent ↦ subst (StandsAt tree) (sym (found_none place word absent)) at
+-- one is where a word leads
+next_stands : (tree : Tree) (position : Position) (word : List ℕ) → StandsAt tree position →
+    StandsAt tree (next_position position word)
+next_stands tree position word at = elim (option_cases (visible_child position.tree.children word)) [
+  | inl f ↦ subst (StandsAt tree) (sym (found_child position word f.0 f.1))
+      (child_stands tree position f.0 at (visible_child-of position.tree.children f.0 word f.1).0)
+  | inr absent ↦ subst (StandsAt tree) (sym (found_none position word absent)) at
 ]
 
-stands_after : (tree : Tree) (words : List (List ℕ)) (place : Place) → StandsAt tree place →
-    StandsAt tree (walk place words)
-stands_after tree [] place at = at
-stands_after tree (word ∷ words) place at =
-    stands_after tree words (next_place place word) (next_stands tree place word at)
+stands_after : (tree : Tree) (words : List (List ℕ)) (position : Position) → StandsAt tree position →
+    StandsAt tree (walk position words)
+stands_after tree [] position at = at
+stands_after tree (word ∷ words) position at =
+    stands_after tree words (next_position position word) (next_stands tree position word at)
 
--- one word takes the table from the label of a place to that of the next
+-- one word takes the table from the label of a position to that of the next
 step : (tree : Tree) → IsTrue (is_plain_tree tree) → shared_label tree ≡ None →
-    (place : Place) (word : List ℕ) → StandsAt tree place →
-    next_label (tree_cases tree) (place_label tree place) word
-    ≡ place_label tree (next_place place word)
-step tree plain clear place word at =
-    elim (next_cases (tree_cases tree) (place_label tree place) word) [
+    (position : Position) (word : List ℕ) → StandsAt tree position →
+    next_label (tree_cases tree) (position_label tree position) word
+    ≡ position_label tree (next_position position word)
+step tree plain clear position word at =
+    elim (next_cases (tree_cases tree) (position_label tree position) word) [
       | inl h ↦
           let from = case_from tree h.0 h.1 in
           let up = parent_of tree from.0 from.1 in
           let is_parent : up.0 ≡ at.node = one_node tree up.0 at.node clear up.1 at.here
           (up.2 ∙ sym from.3 ∙ h.2 ∙ sym at.label) in
-          let sibling : IsSibling place.tree.children from.0.tree =
+          let sibling : IsSibling position.tree.children from.0.tree =
           subst (λ (t : Tree). IsSibling t.children from.0.tree)
           (ap (λ n. n.tree) is_parent ∙ at.same) up.3 in
-          let differ : IsTrue (siblings_differ place.tree.children) =
+          let differ : IsTrue (siblings_differ position.tree.children) =
           subst (λ (t : Tree). IsTrue (siblings_differ t.children)) at.same
           (differ_at tree at.node plain at.here) in
-          let found : visible_child place.tree.children word ≡ Some from.0.tree =
-          visible_child-is place.tree.children from.0.tree word differ sibling
+          let found : visible_child position.tree.children word ≡ Some from.0.tree =
+          visible_child-is position.tree.children from.0.tree word differ sibling
           (subst (IsIn (visible_names from.0.tree.node)) h.3 from.2) in
           let own : from.0.label ≡ child_label from.0.parent from.0.tree.node.name =
           (parents (root_label tree) 2 tree.children from.0 from.1).own in
           let name = from.0.tree.node.name in
           h.4 ∙ from.4 ∙ own ∙ ap (λ l. child_label l name) (sym from.3 ∙ h.2)
-          ∙ sym (label_at-more (root_label tree) place.path name)
-          ∙ ap (place_label tree) (sym (found_child place word from.0.tree found))
-      | inr h ↦ elim (option_cases (visible_child place.tree.children word)) [
+          ∙ sym (label_at-more (root_label tree) position.path name)
+          ∙ ap (position_label tree) (sym (found_child position word from.0.tree found))
+      | inr h ↦ elim (option_cases (visible_child position.tree.children word)) [
         | inl f ↦
-            let of = visible_child-of place.tree.children f.0 word f.1 in
+            let of = visible_child-of position.tree.children f.0 word f.1 in
             let sibling : IsSibling at.node.tree.children f.0 =
             subst (λ (t : Tree). IsSibling t.children f.0) (sym at.same) of.0 in
             absurd (h.1 _ (case_of_node tree (labelled_node at.node.label (suc at.node.level) f.0)
             word (child_of tree at.node f.0 at.here sibling) of.1) at.label refl)
-        | inr absent ↦ h.0 ∙ ap (place_label tree) (sym (found_none place word absent))
+        | inr absent ↦ h.0 ∙ ap (position_label tree) (sym (found_none position word absent))
       ]
     ]
 
 -- so any words do
 run_from : (tree : Tree) → IsTrue (is_plain_tree tree) → shared_label tree ≡ None →
-    (words : List (List ℕ)) (place : Place) → StandsAt tree place →
-    run (tree_cases tree) (place_label tree place) words
-    ≡ map (place_label tree) (places place words)
-run_from tree plain clear [] place at = refl
-run_from tree plain clear (word ∷ words) place at =
-    ap (λ l. place_label tree place ∷ run (tree_cases tree) l words)
-    (step tree plain clear place word at)
-    ∙ ap (λ ls. place_label tree place ∷ ls)
-    (run_from tree plain clear words (next_place place word) (next_stands tree place word at))
+    (words : List (List ℕ)) (position : Position) → StandsAt tree position →
+    run (tree_cases tree) (position_label tree position) words
+    ≡ map (position_label tree) (positions position words)
+run_from tree plain clear [] position at = refl
+run_from tree plain clear (word ∷ words) position at =
+    ap (λ l. position_label tree position ∷ run (tree_cases tree) l words)
+    (step tree plain clear position word at)
+    ∙ ap (λ ls. position_label tree position ∷ ls)
+    (run_from tree plain clear words (next_position position word) (next_stands tree position word at))
 
 pub table_walks : (tree : Tree) → IsTrue (is_plain_tree tree) → shared_label tree ≡ None →
     (words : List (List ℕ)) →
     run (tree_cases tree) (root_label tree) words
-    ≡ map (place_label tree) (places (root_place tree) words)
+    ≡ map (position_label tree) (positions (root_position tree) words)
 table_walks tree plain clear words =
-    run_from tree plain clear words (root_place tree) (root_stands tree)
+    run_from tree plain clear words (root_position tree) (root_stands tree)
 
--- the last of the places is that of the walk
-last_place : (tree : Tree) (text : List ℕ) (place : Place) (words : List (List ℕ)) →
-    last_or text (map (place_label tree) (places place words)) ≡ place_label tree (walk place words)
-last_place tree text place [] = refl
-last_place tree text place (word ∷ words) =
-    last_place tree (place_label tree place) (next_place place word) words
+-- the last of the positions is that of the walk
+last_position : (tree : Tree) (text : List ℕ) (position : Position) (words : List (List ℕ)) →
+    last_or text (map (position_label tree) (positions position words)) ≡ position_label tree (walk position words)
+last_position tree text position [] = refl
+last_position tree text position (word ∷ words) =
+    last_position tree (position_label tree position) (next_position position word) words
 
 pub table_ends : (tree : Tree) → IsTrue (is_plain_tree tree) → shared_label tree ≡ None →
     (words : List (List ℕ)) →
     run_end (tree_cases tree) (root_label tree) words
-    ≡ place_label tree (walk (root_place tree) words)
+    ≡ position_label tree (walk (root_position tree) words)
 table_ends tree plain clear words =
     ap (last_or (root_label tree)) (table_walks tree plain clear words)
-    ∙ last_place tree (root_label tree) (root_place tree) words
+    ∙ last_position tree (root_label tree) (root_position tree) words
 
 -- ---- the arm where the walk ends
 
@@ -261,38 +261,38 @@ arm_found (x ∷ xs) node alone h = elim (bytes_tells x.label node.label) [
 
 -- the root first, the others in order
 in_arms : (tree : Tree) (node : Labelled) → IsIn (nodes tree) node →
-    IsIn (root_node tree ∷ in_order arm_below (labelled tree)) node
+    IsIn (root_node tree ∷ in_order arm_below (labelled_commands tree)) node
 in_arms tree node (inl e) = inl e
-in_arms tree node (inr h) = inr (in_order-IsIn arm_below (labelled tree) node h)
+in_arms tree node (inr h) = inr (in_order-IsIn arm_below (labelled_commands tree) node h)
 
 from_arms : (tree : Tree) (node : Labelled) →
-    IsIn (root_node tree ∷ in_order arm_below (labelled tree)) node → IsIn (nodes tree) node
+    IsIn (root_node tree ∷ in_order arm_below (labelled_commands tree)) node → IsIn (nodes tree) node
 from_arms tree node (inl e) = inl e
-from_arms tree node (inr h) = inr (IsIn-in_order arm_below (labelled tree) node h)
+from_arms tree node (inr h) = inr (IsIn-in_order arm_below (labelled_commands tree) node h)
 
 arm_of_node : (tree : Tree) (node : Labelled) → shared_label tree ≡ None → IsIn (nodes tree) node →
     arm_at (tree_arms tree) node.label ≡ Some (node_arm node)
 unfolding tree_arms
 arm_of_node tree node clear h =
-    arm_found (root_node tree ∷ in_order arm_below (labelled tree)) node
+    arm_found (root_node tree ∷ in_order arm_below (labelled_commands tree)) node
     (λ one at e. one_node tree one node clear (from_arms tree one at) h e) (in_arms tree node h)
 
--- at the label to which words lead stands the arm of the node
+-- at the label to which words lead is the arm of the node
 pub arm_stands : (tree : Tree) → shared_label tree ≡ None → (words : List (List ℕ)) →
-    arm_at (tree_arms tree) (place_label tree (walk (root_place tree) words))
-    ≡ Some (place_arm tree (walk (root_place tree) words))
+    arm_at (tree_arms tree) (position_label tree (walk (root_position tree) words))
+    ≡ Some (position_arm tree (walk (root_position tree) words))
 arm_stands tree clear words =
-    let end : Place = walk (root_place tree) words in
-    let at : StandsAt tree end = stands_after tree words (root_place tree) (root_stands tree) in
+    let end : Position = walk (root_position tree) words in
+    let at : StandsAt tree end = stands_after tree words (root_position tree) (root_stands tree) in
     ap (arm_at (tree_arms tree)) (sym at.label) ∙ arm_of_node tree at.node clear at.here
     ∙ ap (λ l. Some (arm_of l at.node.level at.node.tree)) at.label
-    ∙ ap (λ k. Some (arm_of (place_label tree end) k at.node.tree)) at.level
-    ∙ ap (λ t. Some (arm_of (place_label tree end) (level_of end) t)) at.same
+    ∙ ap (λ k. Some (arm_of (position_label tree end) k at.node.tree)) at.level
+    ∙ ap (λ t. Some (arm_of (position_label tree end) (level_of end) t)) at.same
 
 -- so it does at the label to which the table's own cases lead
 pub arm_at_end : (tree : Tree) → IsTrue (is_plain_tree tree) → shared_label tree ≡ None →
     (words : List (List ℕ)) →
     arm_at (tree_arms tree) (run_end (tree_cases tree) (root_label tree) words)
-    ≡ Some (place_arm tree (walk (root_place tree) words))
+    ≡ Some (position_arm tree (walk (root_position tree) words))
 arm_at_end tree plain clear words =
     ap (arm_at (tree_arms tree)) (table_ends tree plain clear words) ∙ arm_stands tree clear words

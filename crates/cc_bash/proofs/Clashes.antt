@@ -1,4 +1,4 @@
--- Which labels stand twice.
+-- Which labels occur twice.
 use Rattle.std.proofs.Common.{◌≡◌, ◌≢◌, ℕ, IsTrue, List, [], ◌∷◌, ◌++◌, false, map, Some, None, inl, inr, sym, ap, ◌∙◌, subst}
 use Rattle.std.proofs.lemmas.Bool.{cases_Bool}
 use Rattle.cc_base.specs.Differ.{AllDifferBy}
@@ -7,7 +7,7 @@ use Rattle.cc_command.specs.Names.{contains_name}
 use Rattle.cc_command.proofs.SiblingNames.{contains_name-IsIn}
 use Rattle.cc_bash.specs.Labels.{first_again}
 
--- what no text that stands again says of the first of them
+-- what no text that occurs again says of the first of them
 first_is_new : (before texts : List (List ℕ)) (text : List ℕ) →
     first_again before (text ∷ texts) ≡ None →
     (contains_name before text ≡ false) × (first_again (before ++ text ∷ []) texts ≡ None)
@@ -16,7 +16,7 @@ first_is_new before texts text h = elim (cases_Bool (contains_name before text))
   | inr f ↦ (f, rw f at h)
 ]
 
--- none of them stands before
+-- none of them comes before
 none_before : (before texts : List (List ℕ)) (text : List ℕ) → first_again before texts ≡ None →
     IsIn texts text → IsIn before text → ⊥
 none_before before [] text h at earlier = absurd at
@@ -29,7 +29,7 @@ none_before before (t ∷ texts) text h (inr at) earlier =
     none_before (before ++ t ∷ []) texts text (first_is_new before texts t h).1 at
     (IsIn-append_left before (t ∷ []) text earlier)
 
--- where none stands again all differ
+-- where none occurs again all differ
 pub texts_differ : (before texts : List (List ℕ)) → first_again before texts ≡ None →
     AllDifferBy (λ text. text) texts
 texts_differ before [] h = tt

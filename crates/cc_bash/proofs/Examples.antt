@@ -6,7 +6,7 @@ use Rattle.std.specs.Fmt.{digits}
 use Rattle.cc_arg.specs.Arguments.{new_arg}
 use Rattle.cc_arg.specs.PossibleValues.{new_possible_value}
 use Rattle.cc_arg.specs.declared.parts.ArgParts.{ArgParts as Arg}
-use Rattle.cc_base.specs.Sorting.{placed, in_order}
+use Rattle.cc_base.specs.Sorting.{insert, in_order}
 use Rattle.cc_command.specs.Built.{built_under}
 use Rattle.cc_command.specs.Generated.{help_argument, version_argument}
 use Rattle.cc_command.specs.Made.{new_tree, with_argument, with_child}
@@ -19,11 +19,11 @@ use Rattle.cc_bash.specs.Arms.{Arm, details_at, tree_arms, words_at, values, fil
 use Rattle.cc_bash.specs.CaseTable.{Case, run, tree_cases}
 use Rattle.cc_bash.specs.Labels.{shared_label}
 use Rattle.cc_command.specs.Quiet.{is_quiet_value}
-use Rattle.cc_bash.specs.Reads.{arm_after, place_label}
-use Rattle.cc_bash.specs.Walk.{all_places}
+use Rattle.cc_bash.specs.Reads.{arm_after, position_label}
+use Rattle.cc_bash.specs.Walk.{all_positions}
 use Rattle.cc_bash.specs.Reader.{pattern_of, assigned, bare_text, double_text, is_root, is_empty_reply, is_typed_reply, is_compgen_reply, mode_named, case_by, next, closed_table, read, bash_table}
 use Rattle.cc_bash.specs.Script.{case_text, offered_text, reply_text, mode_word, mode_text, moded_text, detail_text, arm_text, head_text, tail_text, bash_script}
-use Rattle.cc_bash.specs.Texts.{function_begins, function_head, cases_begin, arms_begin, arms_end, unsorted, otherwise, sorted, script_ends, case_begins, case_comma, case_sets, case_ends, arm_begins, arm_words, arm_level, arm_details, arm_ends, detail_begins, detail_word_ends, separator_kept, separator_back, reply_begins, reply_ends, values_begin, values_end, files_offered, word_offered, mode_begins, mode_ends, detail_ends}
+use Rattle.cc_bash.specs.Texts.{function_begins, function_head, cases_begin, arms_begin, arms_end, unsorted_options, otherwise, sorted_options, script_ends, case_begins, case_comma, case_sets, case_ends, arm_begins, arm_words, arm_level, arm_details, arm_ends, detail_begins, detail_word_ends, keep_separator, separator_back, reply_begins, reply_ends, values_begin, values_end, offer_files, offer_word, mode_begins, mode_ends, detail_ends}
 
 -- `my-app` with the child `test`, and all that building adds
 abbrev my_app : Tree
@@ -46,7 +46,7 @@ my_app_cases : tree_cases my_app
           codes "my__app__subcmd__help__subcmd__test";
     }
     ∷ []
-unfolding placed in_order tree_cases help_argument version_argument help_name version_name
+unfolding insert in_order tree_cases help_argument version_argument help_name version_name
 my_app_cases = refl
 
 my_app_arms : tree_arms my_app
@@ -86,7 +86,7 @@ my_app_arms : tree_arms my_app
       details = [];
     }
     ∷ []
-unfolding placed in_order tree_arms words_at details_at digits encode_utf8 help_argument version_argument help_name version_name
+unfolding insert in_order tree_arms words_at details_at digits encode_utf8 help_argument version_argument help_name version_name
 my_app_arms = refl
 
 -- words that are no names stay where they are
@@ -94,23 +94,23 @@ my_app_run : run (tree_cases my_app) (codes "my__app")
     (codes "--flag" ∷ codes "test" ∷ codes "--" ∷ [])
     ≡ codes "my__app" ∷ codes "my__app" ∷ codes "my__app__subcmd__test"
     ∷ codes "my__app__subcmd__test" ∷ []
-unfolding placed in_order tree_cases help_argument version_argument help_name version_name
+unfolding insert in_order tree_cases help_argument version_argument help_name version_name
 my_app_run = refl
 
 -- the nodes of `my-app`, by their labels
-my_app_places : map (place_label my_app) (all_places my_app)
+my_app_positions : map (position_label my_app) (all_positions my_app)
     ≡ codes "my__app" ∷ codes "my__app__subcmd__test" ∷ codes "my__app__subcmd__help"
     ∷ codes "my__app__subcmd__help__subcmd__test" ∷ codes "my__app__subcmd__help__subcmd__help"
     ∷ []
 unfolding help_argument version_argument help_name version_name
-my_app_places = refl
+my_app_positions = refl
 
--- at the label to which words lead stands the arm of the third level
+-- at the label to which words lead is the arm of the third level
 my_app_reached : option_map (λ arm. arm.level) (arm_after
     (Some (record { root = codes "my__app"; cases = tree_cases my_app; arms = tree_arms my_app }))
     (codes "--flag" ∷ codes "help" ∷ codes "test" ∷ []))
     ≡ Some (codes "3")
-unfolding placed in_order tree_cases tree_arms words_at details_at digits encode_utf8 help_argument version_argument help_name version_name
+unfolding insert in_order tree_cases tree_arms words_at details_at digits encode_utf8 help_argument version_argument help_name version_name
 my_app_reached = refl
 
 my_app_clear : shared_label my_app ≡ None
@@ -193,5 +193,5 @@ given_arms =
 
 script_reads : bash_table (bash_script (codes "app") (codes "app") given_cases given_arms)
     ≡ Some (record { root = codes "app"; cases = given_cases; arms = given_arms })
-unfolding sign byte_of cut posix_tokens is_word pattern_of assigned bare_text double_text is_root is_empty_reply is_typed_reply is_compgen_reply mode_named case_by next closed_table read bash_table case_text offered_text reply_text mode_word mode_text moded_text detail_text arm_text head_text tail_text bash_script function_begins function_head cases_begin arms_begin arms_end unsorted otherwise sorted script_ends case_begins case_comma case_sets case_ends arm_begins arm_words arm_level arm_details arm_ends detail_begins detail_word_ends separator_kept separator_back reply_begins reply_ends values_begin values_end files_offered word_offered mode_begins mode_ends detail_ends
+unfolding sign byte_of cut posix_tokens is_word pattern_of assigned bare_text double_text is_root is_empty_reply is_typed_reply is_compgen_reply mode_named case_by next closed_table read bash_table case_text offered_text reply_text mode_word mode_text moded_text detail_text arm_text head_text tail_text bash_script function_begins function_head cases_begin arms_begin arms_end unsorted_options otherwise sorted_options script_ends case_begins case_comma case_sets case_ends arm_begins arm_words arm_level arm_details arm_ends detail_begins detail_word_ends keep_separator separator_back reply_begins reply_ends values_begin values_end offer_files offer_word mode_begins mode_ends detail_ends
 script_reads = refl

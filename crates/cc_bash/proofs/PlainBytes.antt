@@ -16,7 +16,7 @@ use Rattle.cc_command.proofs.PlainParts.{IsPlainName, plain_full_name}
 use Rattle.cc_quote.specs.PosixTokens.{sign}
 use Rattle.cc_quote.specs.PosixTokens.Sign.{other}
 use Rattle.cc_quote.proofs.PosixCutting.{IsOther, IsWord}
-use Rattle.cc_quote.specs.Escapes.{replaced}
+use Rattle.cc_quote.specs.Escapes.{replace_byte}
 use Rattle.cc_bash.specs.Labels.{root_label, child_label}
 use Rattle.cc_command.specs.Quiet.{is_quiet_byte, is_quiet_value}
 use Rattle.cc_bash.proofs.WordsRead.{Lacks}
@@ -94,30 +94,30 @@ no_comma_of text h = AllByRecursion-weaker IsPlainByte (λ b. (b == comma) ≡ f
 
 -- ---- labels
 
-replaced_plain : (byte : ℕ) (by text : List ℕ) → ArePlainBytes by → ArePlainBytes text →
-    ArePlainBytes (replaced byte by text)
-replaced_plain byte by [] h k = tt
-replaced_plain byte by (b ∷ text) h k =
-    AllByRecursion-append IsPlainByte (cond (b == byte) by (b ∷ [])) (replaced byte by text)
-    (one (b == byte)) (replaced_plain byte by text h k.1)
+replace_byte_plain : (byte : ℕ) (by text : List ℕ) → ArePlainBytes by → ArePlainBytes text →
+    ArePlainBytes (replace_byte byte by text)
+replace_byte_plain byte by [] h k = tt
+replace_byte_plain byte by (b ∷ text) h k =
+    AllByRecursion-append IsPlainByte (cond (b == byte) by (b ∷ [])) (replace_byte byte by text)
+    (one (b == byte)) (replace_byte_plain byte by text h k.1)
   where
     one : (is : Bool) → ArePlainBytes (cond is by (b ∷ []))
     one true = h
     one false = (k.0, tt)
 
 -- what stands for the first byte of a name has a first byte
-replaced_text : (byte : ℕ) (by text : List ℕ) → IsPlainText by → IsPlainText text →
-    IsPlainText (replaced byte by text)
-replaced_text byte by [] h k = absurd k
-replaced_text byte by (b ∷ text) h k =
-    one (b == byte) (replaced_plain byte by text (bytes_of by h) k.1)
+replace_byte_text : (byte : ℕ) (by text : List ℕ) → IsPlainText by → IsPlainText text →
+    IsPlainText (replace_byte byte by text)
+replace_byte_text byte by [] h k = absurd k
+replace_byte_text byte by (b ∷ text) h k =
+    one (b == byte) (replace_byte_plain byte by text (bytes_of by h) k.1)
   where
-    one : (is : Bool) → ArePlainBytes (replaced byte by text) →
-        IsPlainText (cond is by (b ∷ []) ++ replaced byte by text)
-    one true rest = text_append by (replaced byte by text) h rest
+    one : (is : Bool) → ArePlainBytes (replace_byte byte by text) →
+        IsPlainText (cond is by (b ∷ []) ++ replace_byte byte by text)
+    one true rest = text_append by (replace_byte byte by text) h rest
     one false rest = (k.0, rest)
 
--- the bytes that stand in labels beside those of names
+-- the bytes that occur in labels beside those of names
 underscores_plain : IsPlainText (codes "__")
 underscores_plain = (joiner_byte 95 refl, (joiner_byte 95 refl, tt))
 
@@ -146,15 +146,15 @@ subcmd_plain = (
 )
 
 pub root_plain : (tree : Tree) → IsTrue (is_plain_tree tree) → IsPlainText (root_label tree)
-root_plain tree h = replaced_text dash (codes "__") (full_name tree.node) underscores_plain
+root_plain tree h = replace_byte_text dash (codes "__") (full_name tree.node) underscores_plain
     (plain_text (full_name tree.node) (plain_full_name tree h))
 
 pub child_plain : (parent name : List ℕ) → IsPlainText parent → IsPlainText name →
     IsPlainText (child_label parent name)
 child_plain parent name h k =
-    text_append (parent ++ codes "__subcmd__") (replaced dash (codes "__subcmd__") name)
+    text_append (parent ++ codes "__subcmd__") (replace_byte dash (codes "__subcmd__") name)
     (text_append parent (codes "__subcmd__") h (bytes_of (codes "__subcmd__") subcmd_plain))
-    (replaced_plain dash (codes "__subcmd__") name (bytes_of (codes "__subcmd__") subcmd_plain)
+    (replace_byte_plain dash (codes "__subcmd__") name (bytes_of (codes "__subcmd__") subcmd_plain)
     (bytes_of name k))
 
 -- ---- numbers

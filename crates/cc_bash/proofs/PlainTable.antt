@@ -12,13 +12,13 @@ use Rattle.cc_command.proofs.PlainParts.{IsPlainName, IsPlainBelow, plain_node, 
 use Rattle.cc_quote.proofs.PosixCutting.{IsKept-IsOther}
 use Rattle.cc_bash.specs.Arms.{arm_below, node_arm, tree_arms}
 use Rattle.cc_bash.specs.CaseTable.{Case, node_cases, case_below, tree_cases}
-use Rattle.cc_bash.specs.Labels.{Labelled, child_label, labelled, labelled_under, labels, root_label, shared_label}
+use Rattle.cc_bash.specs.Labels.{Labelled, child_label, labelled_commands, labelled_under, labels, root_label, shared_label}
 use Rattle.cc_command.specs.Quiet.{is_quiet_forest, is_quiet_node, is_quiet_tree}
 use Rattle.cc_bash.specs.Reader.{bash_cases, bash_table}
 use Rattle.cc_bash.specs.Reads.{BashReads, arm_after}
 use Rattle.cc_bash.specs.Script.{tree_script}
 use Rattle.cc_bash.proofs.CaseWalk.{arm_at_end, arm_stands, table_ends, table_walks}
-use Rattle.cc_bash.proofs.EachArm.{arms_of_places}
+use Rattle.cc_bash.proofs.EachArm.{arms_of_positions}
 use Rattle.cc_bash.proofs.Clashes.{texts_differ}
 use Rattle.cc_bash.proofs.PlainArms.{IsQuietNode, arm_readable, quiet_node}
 use Rattle.cc_bash.proofs.PlainBytes.{IsPlainText, bytes_of, child_plain, no_comma_of, no_paren_of, other_of, plain_text, root_plain, word_of}
@@ -50,7 +50,7 @@ plain_labelled label level (more node below rest) h k =
     )
 
 all_plain : (tree : Tree) → IsTrue (is_plain_tree tree) →
-    AllByRecursion IsPlainLabelled (labelled tree)
+    AllByRecursion IsPlainLabelled (labelled_commands tree)
 all_plain tree h = plain_labelled (root_label tree) 2 tree.children (root_plain tree h)
     (plain_tree tree h).below.children
 
@@ -84,10 +84,10 @@ cases_readable : (tree : Tree) → IsTrue (is_plain_tree tree) →
     AllByRecursion IsReadableCase (tree_cases tree)
 unfolding tree_cases
 cases_readable tree h =
-    AllByRecursion-in_order case_below IsReadableCase (flat_map node_cases (labelled tree))
-    (AllByRecursion-flat_map IsReadableCase node_cases (labelled tree)
+    AllByRecursion-in_order case_below IsReadableCase (flat_map node_cases (labelled_commands tree))
+    (AllByRecursion-flat_map IsReadableCase node_cases (labelled_commands tree)
     (AllByRecursion-weaker IsPlainLabelled (λ node. AllByRecursion IsReadableCase (node_cases node))
-    node_cases_readable (labelled tree) (all_plain tree h)))
+    node_cases_readable (labelled_commands tree) (all_plain tree h)))
 
 -- ---- arms
 
@@ -113,11 +113,11 @@ arms_readable tree h quiet =
     let both = λ (node : Labelled). IsPlainLabelled node × IsQuietNode node.tree.node in (
       arm_readable (root_label tree) 1 tree (root_plain tree h) (plain_tree tree h).below
           (quiet_node tree.node q.0),
-      AllByRecursion-map IsReadableArm node_arm (in_order arm_below (labelled tree))
+      AllByRecursion-map IsReadableArm node_arm (in_order arm_below (labelled_commands tree))
           (AllByRecursion-weaker both (λ node. IsReadableArm (node_arm node))
           (λ node k. arm_readable node.label node.level node.tree k.0.label k.0.tree k.1)
-          (in_order arm_below (labelled tree)) (AllByRecursion-in_order arm_below both (labelled tree)
-          (AllByRecursion-both IsPlainLabelled (λ node. IsQuietNode node.tree.node) (labelled tree)
+          (in_order arm_below (labelled_commands tree)) (AllByRecursion-in_order arm_below both (labelled_commands tree)
+          (AllByRecursion-both IsPlainLabelled (λ node. IsQuietNode node.tree.node) (labelled_commands tree)
           (all_plain tree h) (quiet_labelled (root_label tree) 2 tree.children q.1)))),
     )
 
@@ -149,7 +149,7 @@ bash_plain_reads tree clear h = record {
   table = table_back tree h;
   walks = table_walks tree h clear;
   ends = table_ends tree h clear;
-  each_arm = arms_of_places tree;
+  each_arm = arms_of_positions tree;
   arms = arm_stands tree clear;
   reached = λ quiet words. ap (λ table. arm_after table words) (table_back tree h quiet)
       ∙ arm_at_end tree h clear words;

@@ -8,7 +8,7 @@ use Rattle.cc_generator.proofs.ReadInTurn.{in_parts, in_turn, lines}
 use Rattle.cc_quote.specs.PosixTokens.{sign, byte_of, cut, double}
 use Rattle.cc_quote.specs.Tokens.{Token, is_word}
 use Rattle.cc_quote.specs.Tokens.Piece.{bare}
-use Rattle.cc_quote.specs.PosixTokens.Place.{between, in_double}
+use Rattle.cc_quote.specs.PosixTokens.QuoteState.{between, in_double}
 use Rattle.cc_quote.proofs.PosixCutting.{IsWord, tokens_from, bare_word, double_run}
 use Rattle.cc_bash.specs.Arms.{Detail, Arm}
 use Rattle.cc_bash.specs.Reader.{Table, pattern_of, assigned, bare_text, with_arm, new_arm, next, read}
@@ -50,7 +50,7 @@ module _ (whole : Bool) where
   words_open table arm words h = ap (λ ws. after_words table (record arm { words = ws }))
       (words_read words h)
 
-  -- what stands after the words, up to the level
+  -- what is after the words, up to the level
   level_read : (table : Table) (arm : Arm) (rest : List ℕ) →
       reading whole (after_words table arm) between
       (codes "if [[ ${cur} == -* || ${COMP_CWORD} -eq " ++ rest)

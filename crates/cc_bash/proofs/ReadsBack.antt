@@ -7,14 +7,14 @@ use Rattle.cc_generator.proofs.ReadInTurn.{in_parts, lines}
 use Rattle.cc_quote.specs.PosixTokens.{sign, byte_of, cut, posix_tokens, double}
 use Rattle.cc_quote.specs.Tokens.{Token, is_word}
 use Rattle.cc_quote.specs.Tokens.Piece.{bare}
-use Rattle.cc_quote.specs.PosixTokens.Place.{between, in_bare}
+use Rattle.cc_quote.specs.PosixTokens.QuoteState.{between, in_bare}
 use Rattle.cc_quote.proofs.PosixCutting.{IsOther, IsKept-IsOther, tokens_from, bare_run, double_run}
 use Rattle.cc_bash.specs.Arms.{Arm}
 use Rattle.cc_bash.specs.CaseTable.{Case}
 use Rattle.cc_bash.specs.Reader.{Table, pattern_of, assigned, is_root, case_by, next, closed_table, read, bash_cases, bash_table}
 use Rattle.cc_bash.specs.Reader.State.{begins, at_root_label, after_root_label, between_cases, after_cases, between_arms, finished}
 use Rattle.cc_bash.specs.Script.{case_text, arm_text, head_text, tail_text, bash_script}
-use Rattle.cc_bash.specs.Texts.{function_begins, function_head, cases_begin, arms_begin, arms_end, unsorted, otherwise, sorted, script_ends}
+use Rattle.cc_bash.specs.Texts.{function_begins, function_head, cases_begin, arms_begin, arms_end, unsorted_options, otherwise, sorted_options, script_ends}
 use Rattle.cc_bash.proofs.ReadsArms.{IsReadableArm, arm_line, arms_read}
 use Rattle.cc_bash.proofs.ReadsCases.{reading, IsReadableCase, case_line, cases_read}
 
@@ -22,7 +22,7 @@ use Rattle.cc_bash.proofs.ReadsCases.{reading, IsReadableCase, case_line, cases_
 abbrev new_table : List ℕ → Table
 new_table label = record { root = label; cases = []; arms = [] }
 
--- ---- what stands around the cases and the arms
+-- ---- what is around the cases and the arms
 
 module _ (whole : Bool) where
   root_closes : (label rest : List ℕ) → IsLine rest →
@@ -36,7 +36,7 @@ module _ (whole : Bool) where
   unfolding next assigned
   root_set label = refl
 
-  -- what stands before the cases
+  -- what is before the cases
   head_reads : (label rest : List ℕ) → IsOther label → IsLine rest →
       reading whole begins between (head_text label ++ rest)
       ≡ reading whole (between_cases (new_table label)) between rest
@@ -66,23 +66,23 @@ unfolding read next closed_table
 read_finished table [] = refl
 read_finished table (token ∷ tokens) = read_finished table tokens
 
--- what stands between the cases and the arms
+-- what is between the cases and the arms
 arms_open : (table : Table) (rest : List ℕ) → IsLine rest →
     reading true (between_cases table) between (arms_begin ++ rest)
     ≡ reading true (between_arms table) between rest
 unfolding arms_begin sign byte_of cut is_word pattern_of assigned case_by next read
 arms_open table rest (line tail) = refl
 
--- what stands after the arms
+-- what is after the arms
 tail_reads : (table : Table) (label bin : List ℕ) →
     reading true (between_arms table) between (tail_text label bin) ≡ Some table
 unfolding tail_text arms_end sign byte_of cut is_word pattern_of next read
 tail_reads table label bin =
     ap (reading true (between_arms table) between)
     (in_parts arms_end
-    (label ∷ unsorted ∷ bin ∷ otherwise ∷ label ∷ sorted ∷ bin ∷ []) script_ends)
+    (label ∷ unsorted_options ∷ bin ∷ otherwise ∷ label ∷ sorted_options ∷ bin ∷ []) script_ends)
     ∙ read_finished table (tokens_from between (drop 10 arms_end
-    ++ (label ++ (unsorted ++ (bin ++ (otherwise ++ (label ++ (sorted ++ (bin ++ script_ends)))))))))
+    ++ (label ++ (unsorted_options ++ (bin ++ (otherwise ++ (label ++ (sorted_options ++ (bin ++ script_ends)))))))))
 
 -- a script is read back to its table
 pub bash_reads_back : (label bin : List ℕ) (cases : List Case) (arms : List Arm) → IsOther label →
@@ -104,7 +104,7 @@ bash_reads_back label bin cases arms h k m =
     (tail_line label bin)
     ∙ tail_reads (record { root = label; cases = cases; arms = arms }) label bin
 
--- the cases are read whatever stands at the labels
+-- the cases are read whatever is at the labels
 read_cases_closed : (table : Table) (tokens : List Token) →
     read false (after_cases table) tokens ≡ Some table
 unfolding read next closed_table

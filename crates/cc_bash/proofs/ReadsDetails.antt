@@ -9,14 +9,14 @@ use Rattle.cc_generator.proofs.ReadInTurn.{in_parts, in_turn}
 use Rattle.cc_quote.specs.PosixTokens.{sign, byte_of, cut, double}
 use Rattle.cc_quote.specs.Tokens.{Token, is_word}
 use Rattle.cc_quote.specs.Tokens.Piece.{bare}
-use Rattle.cc_quote.specs.PosixTokens.Place.{between, in_bare}
+use Rattle.cc_quote.specs.PosixTokens.QuoteState.{between, in_bare}
 use Rattle.cc_quote.proofs.PosixCutting.{IsWord, tokens_from, bare_word, double_run}
 use Rattle.cc_bash.specs.Arms.{Offered, values, files, typed, nothing, Mode, filenames, plusdirs, nospace, Detail, Arm}
 use Rattle.cc_bash.specs.Reader.{Table, pattern_of, bare_text, double_text, is_empty_reply, is_typed_reply, is_compgen_reply, mode_named, with_detail, new_detail, next, read}
 use Rattle.cc_bash.specs.Reader.State.{between_details, at_reply, at_values, after_reply}
 use Rattle.cc_bash.specs.Script.{offered_text, reply_text, mode_word, mode_text, moded_text, detail_text}
 use Rattle.cc_bash.specs.Words.{words_text}
-use Rattle.cc_bash.specs.Texts.{detail_begins, detail_word_ends, separator_kept, separator_back, reply_begins, reply_ends, values_begin, values_end, files_offered, word_offered, mode_begins, mode_ends, detail_ends}
+use Rattle.cc_bash.specs.Texts.{detail_begins, detail_word_ends, keep_separator, separator_back, reply_begins, reply_ends, values_begin, values_end, offer_files, offer_word, mode_begins, mode_ends, detail_ends}
 use Rattle.cc_bash.proofs.ReadsCases.{reading, pattern_found}
 use Rattle.cc_bash.proofs.WordsRead.{Lacks, words_read, IsKept-words}
 
@@ -35,7 +35,7 @@ pub record IsReadableDetail (detail : Detail) : Type 0 where
 -- the reply with its mode begins a line
 moded_line : (mode : Option Mode) (offered : Offered) (rest : List ℕ) →
     IsLine (moded_text mode offered ++ rest)
-unfolding moded_text reply_text reply_begins separator_kept
+unfolding moded_text reply_text reply_begins keep_separator
 moded_line None offered rest = line _
 moded_line (Some filenames) offered rest = line _
 moded_line (Some plusdirs) offered rest = line _
@@ -61,7 +61,7 @@ module _ (whole : Bool) where
       reading whole (at_reply table arm (new_detail word)) between (reply_text offered ++ rest)
       ≡ reading whole (after_reply table arm
       (record { word = word; offered = offered; mode = None })) between rest
-  unfolding reply_text offered_text reply_begins reply_ends values_begin values_end files_offered word_offered sign byte_of cut is_word is_empty_reply is_typed_reply is_compgen_reply next read
+  unfolding reply_text offered_text reply_begins reply_ends values_begin values_end offer_files offer_word sign byte_of cut is_word is_empty_reply is_typed_reply is_compgen_reply next read
   reply_reads table arm word files rest h (line tail) = refl
   reply_reads table arm word typed rest h (line tail) = refl
   reply_reads table arm word nothing rest h (line tail) = refl
@@ -93,9 +93,9 @@ module _ (whole : Bool) where
   mode_reads table arm detail nospace rest (line tail) = refl
 
   separator_read : (table : Table) (arm : Arm) (detail : Detail) (rest : List ℕ) → IsLine rest →
-      reading whole (at_reply table arm detail) between (separator_kept ++ rest)
+      reading whole (at_reply table arm detail) between (keep_separator ++ rest)
       ≡ reading whole (at_reply table arm detail) between rest
-  unfolding separator_kept sign byte_of cut is_word is_empty_reply is_typed_reply is_compgen_reply next read
+  unfolding keep_separator sign byte_of cut is_word is_empty_reply is_typed_reply is_compgen_reply next read
   separator_read table arm detail rest (line tail) = refl
 
   separator_back_read : (table : Table) (arm : Arm) (detail : Detail) (rest : List ℕ) →
@@ -125,12 +125,12 @@ module _ (whole : Bool) where
       reading whole (at_reply table arm (new_detail word)) between (moded_text mode offered ++ rest)
       ≡ reading whole (after_reply table arm
       (record { word = word; offered = offered; mode = mode })) between rest
-  unfolding moded_text reply_text reply_begins mode_text mode_begins separator_kept separator_back
+  unfolding moded_text reply_text reply_begins mode_text mode_begins keep_separator separator_back
   moded_reads table arm word None offered rest h l = reply_reads table arm word offered rest h l
   moded_reads table arm word (Some filenames) offered rest h l =
       let after : List ℕ = mode_text filenames ++ rest in
       ap (reading whole (at_reply table arm (new_detail word)) between)
-      (in_parts separator_kept
+      (in_parts keep_separator
       (reply_text offered ∷ separator_back ∷ mode_text filenames ∷ []) rest)
       ∙ separator_read table arm (new_detail word) (reply_text offered ++ (separator_back ++ after))
       (line _)

@@ -10,7 +10,7 @@ use Rattle.cc_command.specs.Tree.{Tree}
 use Rattle.cc_generator.specs.Generators.{Generates, ReportsClash}
 use Rattle.cc_bash.specs.Arms.{arm_below, arm_of, node_arm, tree_arms}
 use Rattle.cc_bash.specs.CaseTable.{case_below, node_cases, tree_cases}
-use Rattle.cc_bash.specs.Labels.{Labelled, first_again, labelled, labelled_under, root_label, shared_label}
+use Rattle.cc_bash.specs.Labels.{Labelled, first_again, labelled_commands, labelled_under, root_label, shared_label}
 use Rattle.cc_bash.specs.Nodes.{labelled_of}
 use Rattle.cc_bash.specs.Reads.{BashReads}
 use Rattle.cc_bash.specs.Script.{arm_text, bash_script, case_text, head_text, tail_text, tree_script}
@@ -46,12 +46,12 @@ script_pieces root bin tree lent nodes is same =
 -- the nodes that were listed are the tree's
 pub nodes_are : (tree at : Tree) (root : List ℕ) (nodes : List LabelledNode) → at ≡ tree →
     root ≡ root_label tree → map labelled_of nodes ≡ labelled_under root 2 at.children →
-    map labelled_of nodes ≡ labelled tree
+    map labelled_of nodes ≡ labelled_commands tree
 nodes_are tree at root nodes is label are = are ∙ ap (λ t. labelled_under root 2 t.children) is
     ∙ ap (λ l. labelled_under l 2 tree.children) label
 
 script_is : (tree : Tree) (root : List ℕ) (nodes : List LabelledNode) → root ≡ root_label tree →
-    map labelled_of nodes ≡ labelled tree →
+    map labelled_of nodes ≡ labelled_commands tree →
     script_by root tree (map labelled_of nodes) ≡ tree_script tree
 unfolding tree_script tree_cases tree_arms
 script_is tree root nodes label are = ap (λ r. script_by r tree (map labelled_of nodes)) label
@@ -64,11 +64,11 @@ map-label (n ∷ nodes) = ap (λ ls. n.label ∷ ls) (map-label nodes)
 
 -- so is the label that two of them share
 pub clash_is : (tree : Tree) (root : List ℕ) (nodes : List LabelledNode) → root ≡ root_label tree →
-    map labelled_of nodes ≡ labelled tree →
+    map labelled_of nodes ≡ labelled_commands tree →
     first_again [] (root ∷ map (λ n. n.label) nodes) ≡ shared_label tree
 clash_is tree root nodes label are =
     ap (λ ls. first_again [] (root ∷ ls)) (map-label nodes ∙ ap (λ ns. map (λ n. n.label) ns) are)
-    ∙ ap (λ r. first_again [] (r ∷ map (λ n. n.label) (labelled tree))) label
+    ∙ ap (λ r. first_again [] (r ∷ map (λ n. n.label) (labelled_commands tree))) label
 
 -- ---- what the call does
 
@@ -104,7 +104,7 @@ module _ {S : Type 0} {taken : S → List ℕ} {failed : S → Failures} where
   -- none do, and the script is written
   pub generates_script : (tree : Tree) (result : Result (Unit {0}) Error) (old new : S)
       (root : List ℕ) (nodes : List LabelledNode) → root ≡ root_label tree →
-      map labelled_of nodes ≡ labelled tree →
+      map labelled_of nodes ≡ labelled_commands tree →
       shared_label tree ≡ None → Writes taken failed result old new
       (script_by root tree (map labelled_of nodes)) →
       Generates taken failed tree_script shared_label BashReads tree result old new

@@ -10,7 +10,7 @@ use Rattle.cc_quote.proofs.PosixCutting.{IsOther, IsWord, IsKept, IsKept-append,
 use Rattle.cc_bash.specs.Reader.{parted, words_from}
 use Rattle.cc_bash.specs.Words.{words_after, words_text}
 
--- the byte does not stand in the text
+-- the byte does not occur in the text
 abbrev pub Lacks : ℕ → List ℕ → Type 0
 Lacks byte text = AllByRecursion (λ b. (b == byte) ≡ false) text
 

@@ -14,7 +14,7 @@ use Rattle.cc_command.specs.Tree.{Forest, none, more, Tree}
 use Rattle.cc_command.specs.ArgumentLists.{options, positionals}
 use Rattle.cc_command.specs.Names.{visible_names}
 use Rattle.cc_generator.specs.ArgumentNames.{aliases_then}
-use Rattle.cc_bash.specs.Labels.{Labelled, labelled, root_label}
+use Rattle.cc_bash.specs.Labels.{Labelled, labelled_commands, root_label}
 
 -- what is offered after an option: these values, files, the word as it is typed, or nothing
 pub data Offered : Type 0 where
@@ -36,7 +36,7 @@ pub record Detail : Type 0 where
   pub offered : Offered
   pub mode : Option Mode
 
--- what stands at a label: the level in digits, the options and names, and the details
+-- what is at a label: the level in digits, the options and names, and the details
 pub record Arm : Type 0 where
   pub label : List ℕ
   pub level : List ℕ
@@ -137,11 +137,11 @@ arm_of label level tree = record {
 abbrev pub node_arm : Labelled → Arm
 node_arm node = arm_of node.label node.level node.tree
 
--- whether one node's arm stands before another's
+-- whether one node's arm comes before another's
 abbrev pub arm_below : Labelled → Labelled → Bool
 arm_below one other = is_lt (slice_cmp nat_cmp one.sort_text other.sort_text)
 
 -- the arms of a tree: the root's, then the others in order
 unfoldable pub tree_arms : Tree → List Arm
 tree_arms tree =
-    arm_of (root_label tree) 1 tree ∷ map node_arm (in_order arm_below (labelled tree))
+    arm_of (root_label tree) 1 tree ∷ map node_arm (in_order arm_below (labelled_commands tree))

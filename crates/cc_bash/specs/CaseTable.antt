@@ -5,7 +5,7 @@ use Rattle.std.specs.Cmp.Lexicographic.{slice_cmp}
 use Rattle.cc_base.specs.Sorting.{in_order}
 use Rattle.cc_command.specs.Tree.{Tree}
 use Rattle.cc_command.specs.Names.{visible_names}
-use Rattle.cc_bash.specs.Labels.{Labelled, labelled}
+use Rattle.cc_bash.specs.Labels.{Labelled, labelled_commands}
 
 -- from one label a word leads to another
 pub record Case : Type 0 where
@@ -19,7 +19,7 @@ node_cases node =
     map (λ name. let c : Case = record { from = node.parent; word = name; to = node.label } in c)
     (visible_names node.tree.node)
 
--- whether one case stands before another, by the bytes of the label that it leads from, then of the
+-- whether one case comes before another, by the bytes of the label that it leads from, then of the
 -- word, then of the label that it leads to
 abbrev pub case_below : Case → Case → Bool
 case_below one other =
@@ -28,7 +28,7 @@ case_below one other =
 
 -- the cases of a tree, in order
 unfoldable pub tree_cases : Tree → List Case
-tree_cases tree = in_order case_below (flat_map node_cases (labelled tree))
+tree_cases tree = in_order case_below (flat_map node_cases (labelled_commands tree))
 
 -- the label to which the first case leads that fits the label and the word; the same label where
 -- none fits

@@ -1,23 +1,23 @@
 -- The labels by which a bash script tells the commands of a tree apart.
 use Rattle.std.specs.Prelude.{ℕ, suc, List, [], ◌∷◌, ◌++◌, if◌then◌else◌, map, codes, Option, Some, None}
 use Rattle.cc_base.specs.Bytes.{space, dash}
-use Rattle.cc_quote.specs.Escapes.{replaced}
+use Rattle.cc_quote.specs.Escapes.{replace_byte}
 use Rattle.cc_command.specs.declared.node.Node.{Node}
 use Rattle.cc_command.specs.Tree.{Forest, none, more, Tree}
 use Rattle.cc_command.specs.Names.{contains_name, full_name}
 
 -- the label of the root: its bin name, with `__` for each `-`
 abbrev pub root_label : Tree → List ℕ
-root_label tree = replaced dash (codes "__") (full_name tree.node)
+root_label tree = replace_byte dash (codes "__") (full_name tree.node)
 
 -- the label of a child: its parent's, `__subcmd__`, and its name with `__subcmd__` for each `-`
 abbrev pub child_label : List ℕ → List ℕ → List ℕ
 child_label parent name =
-    parent ++ codes "__subcmd__" ++ replaced dash (codes "__subcmd__") name
+    parent ++ codes "__subcmd__" ++ replace_byte dash (codes "__subcmd__") name
 
 -- the text by which a node's arm is sorted: the full name, with `__subcmd__` for each space
 abbrev pub sort_text : Node → List ℕ
-sort_text node = replaced space (codes "__subcmd__") (full_name node)
+sort_text node = replace_byte space (codes "__subcmd__") (full_name node)
 
 -- a node below the root, with its parent's label, its own, the text by which it is sorted, and its
 -- level: how many names its path has, the root's included
@@ -48,14 +48,14 @@ labelled_under parent level (more node below rest) =
     ++ labelled_under parent level rest)
 
 -- all nodes below the root
-abbrev pub labelled : Tree → List Labelled
-labelled tree = labelled_under (root_label tree) 2 tree.children
+abbrev pub labelled_commands : Tree → List Labelled
+labelled_commands tree = labelled_under (root_label tree) 2 tree.children
 
 -- the labels of all nodes: the root's, then those of each child's whole subtree in turn
 abbrev pub labels : Tree → List (List ℕ)
-labels tree = root_label tree ∷ map (λ node. node.label) (labelled tree)
+labels tree = root_label tree ∷ map (λ node. node.label) (labelled_commands tree)
 
--- the first of the texts that stands among those before it, or among these
+-- the first of the texts that is among those before it, or among these
 abbrev pub first_again : List (List ℕ) → List (List ℕ) → Option (List ℕ)
 first_again before [] = None
 first_again before (text ∷ texts) =

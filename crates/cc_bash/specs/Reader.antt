@@ -7,7 +7,7 @@ use Rattle.cc_quote.specs.Tokens.Piece.{bare, quoted}
 use Rattle.cc_bash.specs.CaseTable.{Case}
 use Rattle.cc_bash.specs.Arms.{values, files, typed, nothing, Mode, filenames, plusdirs, nospace, Detail, Arm}
 
--- the text before the first such byte, and what stands after it
+-- the text before the first such byte, and what is after it
 abbrev pub parted : ℕ → List ℕ → Option (List ℕ × List ℕ)
 parted byte [] = None
 parted byte (b ∷ text) =
@@ -61,7 +61,7 @@ pub data State : Type 0 where
   finished : Table → State
   malformed : State
 
--- what stands before the `)` that ends a pattern
+-- what is before the `)` that ends a pattern
 unfoldable pub pattern_of : Token → Option (List ℕ)
 pattern_of (bare run ∷ []) = elim (parted close_parenthesis run) [
   | Some parts ↦ (elim parts.1 as (λ rest. Option (List ℕ)) [ [] ↦ Some parts.0 | _ ∷ _ ↦ None ])
@@ -69,7 +69,7 @@ pattern_of (bare run ∷ []) = elim (parted close_parenthesis run) [
 ]
 pattern_of _ = None
 
--- the text between double quotes that stands after this bare word
+-- the text between double quotes that is after this bare word
 unfoldable pub assigned : List ℕ → Token → Option (List ℕ)
 assigned name (bare run ∷ quoted opening text ∷ []) =
     if bytes_eq run name && is_double_quote opening then Some text else None
@@ -136,7 +136,7 @@ new_arm label = record { label = label; level = []; words = []; details = [] }
 abbrev pub new_detail : List ℕ → Detail
 new_detail word = record { word = word; offered = nothing; mode = None }
 
--- The state after a token; what does not belong where it stands is malformed. `whole`: the arms are
+-- The state after a token; what does not belong there is malformed. `whole`: the arms are
 -- read too, else the reader stops at the first `esac`.
 unfoldable pub next : Bool → State → Token → State
 next whole begins token = if is_word (codes "case") token then at_case else begins

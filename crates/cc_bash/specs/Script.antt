@@ -6,7 +6,7 @@ use Rattle.cc_bash.specs.Labels.{root_label}
 use Rattle.cc_bash.specs.CaseTable.{Case, tree_cases}
 use Rattle.cc_bash.specs.Arms.{Offered, values, files, typed, nothing, Mode, filenames, plusdirs, nospace, Detail, Arm, tree_arms}
 use Rattle.cc_bash.specs.Words.{words_text}
-use Rattle.cc_bash.specs.Texts.{function_begins, function_head, cases_begin, arms_begin, arms_end, unsorted, otherwise, sorted, script_ends, case_begins, case_comma, case_sets, case_ends, arm_begins, arm_words, arm_level, arm_details, arm_ends, detail_begins, detail_word_ends, separator_kept, separator_back, reply_begins, reply_ends, values_begin, values_end, files_offered, word_offered, mode_begins, mode_ends, detail_ends}
+use Rattle.cc_bash.specs.Texts.{function_begins, function_head, cases_begin, arms_begin, arms_end, unsorted_options, otherwise, sorted_options, script_ends, case_begins, case_comma, case_sets, case_ends, arm_begins, arm_words, arm_level, arm_details, arm_ends, detail_begins, detail_word_ends, keep_separator, separator_back, reply_begins, reply_ends, values_begin, values_end, offer_files, offer_word, mode_begins, mode_ends, detail_ends}
 
 -- a case: the label and the word, then the label that is set
 unfoldable pub case_text : Case → List ℕ
@@ -16,8 +16,8 @@ case_text c =
 -- what offers
 unfoldable pub offered_text : Offered → List ℕ
 offered_text (values names) = (values_begin ++ words_text names) ++ values_end
-offered_text files = files_offered
-offered_text typed = word_offered
+offered_text files = offer_files
+offered_text typed = offer_word
 offered_text nothing = []
 
 unfoldable pub reply_text : Offered → List ℕ
@@ -38,7 +38,7 @@ unfoldable pub moded_text : Option Mode → Offered → List ℕ
 unfolding mode_text
 moded_text None offered = reply_text offered
 moded_text (Some filenames) offered =
-    ((separator_kept ++ reply_text offered) ++ separator_back) ++ mode_text filenames
+    ((keep_separator ++ reply_text offered) ++ separator_back) ++ mode_text filenames
 moded_text (Some mode) offered = reply_text offered ++ mode_text mode
 
 -- the word of a detail as a pattern, then the reply
@@ -53,14 +53,14 @@ arm_text arm =
     (((((((arm_begins ++ arm.label) ++ arm_words) ++ words_text arm.words) ++ arm_level)
     ++ arm.level) ++ arm_details) ++ flat_map detail_text arm.details) ++ arm_ends
 
--- what stands before the cases, for the function of this label
+-- what is before the cases, for the function of this label
 unfoldable pub head_text : List ℕ → List ℕ
 head_text label = (((function_begins ++ label) ++ function_head) ++ label) ++ cases_begin
 
--- what stands after the arms, for the function of this label and the program bin
+-- what is after the arms, for the function of this label and the program bin
 unfoldable pub tail_text : List ℕ → List ℕ → List ℕ
 tail_text label bin =
-    (((((((arms_end ++ label) ++ unsorted) ++ bin) ++ otherwise) ++ label) ++ sorted) ++ bin)
+    (((((((arms_end ++ label) ++ unsorted_options) ++ bin) ++ otherwise) ++ label) ++ sorted_options) ++ bin)
     ++ script_ends
 
 -- a script with these cases and arms

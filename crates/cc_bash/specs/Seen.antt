@@ -1,4 +1,4 @@
--- Which labels stand among those that were seen.
+-- Which labels are among those that were seen.
 use Rattle.std.specs.Prelude.{ℕ, List, Bool, is_some}
 use Rattle.std.specs.Ordering.{nat_cmp}
 use Rattle.std.specs.Borrow.{Bor}

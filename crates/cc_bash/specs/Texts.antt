@@ -53,16 +53,16 @@ arms_end =
     ++ codes "    complete -F _"
 
 -- between the name of the function and that of the program, where bash can keep an order
-unfoldable pub unsorted : List ℕ
-unsorted = codes " -o nosort -o bashdefault -o default "
+unfoldable pub unsorted_options : List ℕ
+unsorted_options = codes " -o nosort -o bashdefault -o default "
 
 -- between that and the second name of the function
 unfoldable pub otherwise : List ℕ
 otherwise = codes "\nelse\n    complete -F _"
 
 -- between the name of the function and that of the program, where bash cannot keep an order
-unfoldable pub sorted : List ℕ
-sorted = codes " -o bashdefault -o default "
+unfoldable pub sorted_options : List ℕ
+sorted_options = codes " -o bashdefault -o default "
 
 -- what a script ends with
 unfoldable pub script_ends : List ℕ
@@ -125,8 +125,8 @@ unfoldable pub detail_word_ends : List ℕ
 detail_word_ends = codes ")"
 
 -- what keeps the separator of words before names of files are offered, and what brings it back
-unfoldable pub separator_kept : List ℕ
-separator_kept =
+unfoldable pub keep_separator : List ℕ
+keep_separator =
     codes "\n"
     ++ codes "                    local oldifs\n"
     ++ codes "                    if [ -n \"${IFS+x}\" ]; then\n"
@@ -156,11 +156,11 @@ unfoldable pub values_end : List ℕ
 values_end = codes "\" -- \"${cur}\")"
 
 -- what offers files, and what offers the word as it is typed
-unfoldable pub files_offered : List ℕ
-files_offered = codes "$(compgen -f \"${cur}\")"
+unfoldable pub offer_files : List ℕ
+offer_files = codes "$(compgen -f \"${cur}\")"
 
-unfoldable pub word_offered : List ℕ
-word_offered = codes "\"${cur}\""
+unfoldable pub offer_word : List ℕ
+offer_word = codes "\"${cur}\""
 
 -- before and after a mode, which bash knows since version 4
 unfoldable pub mode_begins : List ℕ
@@ -178,5 +178,5 @@ detail_ends = codes "\n                    return 0\n                    ;;"
 
 -- what opens each of them
 unfoldable pub fixed_texts : ⊤
-unfolding function_begins function_head cases_begin arms_begin arms_end unsorted otherwise sorted script_ends case_begins case_comma case_sets case_ends arm_begins arm_words arm_level arm_details arm_ends detail_begins detail_word_ends separator_kept separator_back reply_begins reply_ends values_begin values_end files_offered word_offered mode_begins mode_ends detail_ends
+unfolding function_begins function_head cases_begin arms_begin arms_end unsorted_options otherwise sorted_options script_ends case_begins case_comma case_sets case_ends arm_begins arm_words arm_level arm_details arm_ends detail_begins detail_word_ends keep_separator separator_back reply_begins reply_ends values_begin values_end offer_files offer_word mode_begins mode_ends detail_ends
 fixed_texts = tt

@@ -18,7 +18,7 @@ use crate::clash::shared_label;
 use crate::nodes::{LabelledNode, labelled_nodes};
 use crate::texts::{
     arms_begin, arms_end, cases_begin, function_begins, function_head, otherwise, script_ends,
-    sorted, unsorted,
+    sorted_options, unsorted_options,
 };
 use cc_base::{Error, Sink, as_error, put_all, put_pieces};
 use cc_command::{Command, full_name};
@@ -137,11 +137,11 @@ fn write_tail<'a, W: Sink>(label: &'a str, bin: &'a str, sink: &mut W) -> Result
     let pieces = [
         arms_end().as_bytes(),
         label.as_bytes(),
-        unsorted().as_bytes(),
+        unsorted_options().as_bytes(),
         bin.as_bytes(),
         otherwise().as_bytes(),
         label.as_bytes(),
-        sorted().as_bytes(),
+        sorted_options().as_bytes(),
         bin.as_bytes(),
         script_ends().as_bytes(),
     ];

@@ -10,9 +10,8 @@ ghost use Rattle.cc_bash.specs.Script.{detail_text, moded_text, offered_text, re
 ghost use Rattle.cc_bash.specs.Texts.{mode_begins, mode_ends};
 
 use crate::texts::{
-    detail_begins, detail_ends, detail_word_ends, files_offered, mode_begins, mode_ends,
-    reply_begins, reply_ends, separator_back, separator_kept, values_begin, values_end,
-    word_offered,
+    detail_begins, detail_ends, detail_word_ends, keep_separator, mode_begins, mode_ends,
+    offer_files, offer_word, reply_begins, reply_ends, separator_back, values_begin, values_end,
 };
 use crate::words::write_shown_values;
 use cc_arg::{Arg, ValueHint, possible_values, shown_longs, shown_shorts};
@@ -94,7 +93,7 @@ fn write_moded<W: Sink>(argument: &Arg, sink: &mut W) -> Result<(), ErrorKind>
 {
     match argument.get_value_hint() {
         ValueHint::FilePath => {
-            put_piece(sink, separator_kept().as_bytes())?;
+            put_piece(sink, keep_separator().as_bytes())?;
             write_reply(argument, sink)?;
             put_piece(sink, separator_back().as_bytes())?;
             write_mode("filenames", sink)
@@ -133,8 +132,8 @@ fn write_offered<W: Sink>(argument: &Arg, sink: &mut W) -> Result<(), ErrorKind>
     }
     match argument.get_value_hint() {
         ValueHint::DirPath => Ok(()),
-        ValueHint::Other => put_piece(sink, word_offered().as_bytes()),
-        _ => put_piece(sink, files_offered().as_bytes()),
+        ValueHint::Other => put_piece(sink, offer_word().as_bytes()),
+        _ => put_piece(sink, offer_files().as_bytes()),
     }
 }
 

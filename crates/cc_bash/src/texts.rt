@@ -6,11 +6,11 @@ ghost use Rattle.std.specs.Prelude.{◌≡◌};
 ghost use Rattle.cc_bash.specs.Texts.{arm_begins, arm_details, arm_ends, arm_level, arm_words};
 ghost use Rattle.cc_bash.specs.Texts.{arms_begin, arms_end, case_begins, case_comma, case_ends};
 ghost use Rattle.cc_bash.specs.Texts.{case_sets, cases_begin, detail_begins, detail_ends};
-ghost use Rattle.cc_bash.specs.Texts.{detail_word_ends, files_offered, function_begins};
+ghost use Rattle.cc_bash.specs.Texts.{detail_word_ends, offer_files, function_begins};
 ghost use Rattle.cc_bash.specs.Texts.{function_head, mode_begins, mode_ends, otherwise};
 ghost use Rattle.cc_bash.specs.Texts.{reply_begins, reply_ends, script_ends, separator_back};
-ghost use Rattle.cc_bash.specs.Texts.{separator_kept, sorted, unsorted, values_begin};
-ghost use Rattle.cc_bash.specs.Texts.{values_end, word_offered};
+ghost use Rattle.cc_bash.specs.Texts.{keep_separator, sorted_options, unsorted_options, values_begin};
+ghost use Rattle.cc_bash.specs.Texts.{values_end, offer_word};
 
 pub(crate) fn function_begins<'a>() -> &'a str
     ensures { result.now ≡ function_begins }
@@ -71,8 +71,8 @@ if [[ \"${BASH_VERSINFO[0]}\" -eq 4 && \"${BASH_VERSINFO[1]}\" -ge 4 \
     complete -F _"
 }
 
-pub(crate) fn unsorted<'a>() -> &'a str
-    ensures { result.now ≡ unsorted }
+pub(crate) fn unsorted_options<'a>() -> &'a str
+    ensures { result.now ≡ unsorted_options }
 {
     " -o nosort -o bashdefault -o default "
 }
@@ -85,8 +85,8 @@ else
     complete -F _"
 }
 
-pub(crate) fn sorted<'a>() -> &'a str
-    ensures { result.now ≡ sorted }
+pub(crate) fn sorted_options<'a>() -> &'a str
+    ensures { result.now ≡ sorted_options }
 {
     " -o bashdefault -o default "
 }
@@ -183,8 +183,8 @@ pub(crate) fn detail_word_ends<'a>() -> &'a str
     ")"
 }
 
-pub(crate) fn separator_kept<'a>() -> &'a str
-    ensures { result.now ≡ separator_kept }
+pub(crate) fn keep_separator<'a>() -> &'a str
+    ensures { result.now ≡ keep_separator }
 {
     "
                     local oldifs
@@ -228,14 +228,14 @@ pub(crate) fn values_end<'a>() -> &'a str
     "\" -- \"${cur}\")"
 }
 
-pub(crate) fn files_offered<'a>() -> &'a str
-    ensures { result.now ≡ files_offered }
+pub(crate) fn offer_files<'a>() -> &'a str
+    ensures { result.now ≡ offer_files }
 {
     "$(compgen -f \"${cur}\")"
 }
 
-pub(crate) fn word_offered<'a>() -> &'a str
-    ensures { result.now ≡ word_offered }
+pub(crate) fn offer_word<'a>() -> &'a str
+    ensures { result.now ≡ offer_word }
 {
     "\"${cur}\""
 }

@@ -17,7 +17,7 @@ use cc_command::Command;
 use cc_generator::put_word;
 use std::io::ErrorKind;
 
-// The words of all arguments that stand together.
+// The words of all arguments that are together.
 #[derive(Clone, Copy)]
 enum Part {
     Shorts,

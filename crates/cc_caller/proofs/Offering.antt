@@ -16,10 +16,10 @@ use Rattle.clap_complete.specs.Texts.{help_name}
 use Rattle.clap_complete.specs.Tree.{Tree}
 use Rattle.clap_complete.specs.Completion.{Completes, Offers, Refuses, is_in_range, row_candidates}
 use Rattle.clap_complete.specs.OfferedChildren.{in_candidates_order, subcommand_candidates}
-use Rattle.clap_complete.specs.Finished.{finished}
+use Rattle.clap_complete.specs.Finished.{finish}
 use Rattle.clap_complete.specs.OptionRows.{Listed, row_of}
 use Rattle.clap_complete.specs.ValueParts.{front_length}
-use Rattle.clap_complete.specs.ArgumentValues.{Lent, as_value, gathered, lent_by, question, values}
+use Rattle.clap_complete.specs.ArgumentValues.{Lent, as_value, gather, lent_by, question, values}
 use Rattle.clap_complete.specs.ValueHint.{ValueHint}
 use Rattle.clap_complete.specs.WalkBlocks.{Block, Dashes, Flag, Opened, Values, join, start, state_after}
 use Rattle.clap_complete.specs.WalkState.{State}
@@ -71,13 +71,13 @@ as_tools (name ∷ names) = ap (λ cs. tool_candidate name ∷ cs) (as_tools nam
 at_root : (lent : Lent) (names : List (List ℕ)) (word : List ℕ) (found : List CompletionCandidate)
     → ((list : List CompletionCandidate) → lent.completes 0 0 word list → list ≡ map new_candidate names)
     → Offers lent (built_tree runner) (start false) word found → is_bare word ≡ true → found ≡ map tool_candidate names
-unfolding positional_at help_argument help_name question front_length values gathered printed printed_names printed_values subcommand_candidates in_candidates_order in_order
+unfolding positional_at help_argument help_name question front_length values gather printed printed_names printed_values subcommand_candidates in_candidates_order in_order
 at_root lent names word found gives (given, allowed, is) bare =
     is
-    ∙ ap (λ row. finished (map (as_value [] (codes "[tool]")) given.positional ++ row_candidates row given.within)) (bare_row (built_tree runner).node.arguments word bare)
-    ∙ ap finished (append-nil (map (as_value [] (codes "[tool]")) given.positional))
-    ∙ ap (λ list. finished (map (as_value [] (codes "[tool]")) list)) (gives given.positional allowed.positional)
-    ∙ ap finished (as_tools names)
+    ∙ ap (λ row. finish (map (as_value [] (codes "[tool]")) given.positional ++ row_candidates row given.within)) (bare_row (built_tree runner).node.arguments word bare)
+    ∙ ap finish (append-nil (map (as_value [] (codes "[tool]")) given.positional))
+    ∙ ap (λ list. finish (map (as_value [] (codes "[tool]")) list)) (gives given.positional allowed.positional)
+    ∙ ap finish (as_tools names)
     ∙ finished_same names
 
 -- THE CALL

@@ -18,7 +18,7 @@ new_candidate value = record {
   hidden = false;
 }
 
--- texts by their bytes; none stands before some
+-- texts by their bytes; none comes before some
 abbrev pub texts_cmp : Option (List ℕ) → Option (List ℕ) → Ordering
 texts_cmp = option_cmp (slice_cmp nat_cmp)
 

@@ -7,7 +7,10 @@ ghost use Rattle.cc_candidates.specs.Beginning.{begins};
 use crate::candidate::CompletionCandidate;
 
 /// The candidates whose values begin with the text, in their order.
-pub fn beginning(mut candidates: Vec<CompletionCandidate>, text: &str) -> Vec<CompletionCandidate>
+pub fn retain_beginning_with(
+    mut candidates: Vec<CompletionCandidate>,
+    text: &str,
+) -> Vec<CompletionCandidate>
     ensures { result.items ≡ filter (begins text.now) candidates.items }
 {
     candidates.retain(|candidate| begins_with(candidate.get_value(), text));

@@ -91,11 +91,11 @@ impl CompletionCandidate {
             candidate ≡ record self { value = prefix.now ++ self.value }) }
         ensures memory { IfErr result (λ error. error ≡ Error.Memory) }
     {
-        Ok(self.prefixed(alloc, prefix)?)
+        Ok(self.with_prefix(alloc, prefix)?)
     }
 
     /// The same, for callers whose own error is that of the allocation.
-    pub fn prefixed(
+    pub fn with_prefix(
         mut self,
         alloc: Global,
         prefix: &str,
@@ -103,7 +103,7 @@ impl CompletionCandidate {
         ensures { IfOk result (λ candidate.
             candidate ≡ record self { value = prefix.now ++ self.value }) }
     {
-        self.value = joined(alloc, prefix, self.value.as_str())?;
+        self.value = concat(alloc, prefix, self.value.as_str())?;
         Ok(self)
     }
 
@@ -171,7 +171,7 @@ fn cmp_texts(one: Option<&str>, other: Option<&str>) -> Ordering
     }
 }
 
-fn joined(alloc: Global, one: &str, other: &str) -> Result<Text, AllocError>
+fn concat(alloc: Global, one: &str, other: &str) -> Result<Text, AllocError>
     ensures { IfOk result (λ text. text ≡ one.now ++ other.now) }
 {
     let mut text = String::from_str(alloc, one)?;
@@ -230,7 +230,7 @@ impl Ord for CompletionCandidate {
 }
 
 impl CompletionCandidate {
-    // By what stands beside the value, which few candidates share.
+    // By what is beside the value, which few candidates share.
     fn cmp_besides(&self, other: &CompletionCandidate) -> Ordering
         ensures { result ≡ besides_cmp self.now other.now }
     {

@@ -9,10 +9,10 @@ mod copies;
 mod numbers;
 mod traits;
 
-pub use crate::beginnings::{beginning, begins_with};
+pub use crate::beginnings::{begins_with, retain_beginning_with};
 pub use crate::candidate::{CompletionCandidate, is_same};
 pub use crate::closures::{FnCandidates, FnCompleter};
 pub use crate::completers::Completers;
-pub use crate::copies::copied;
+pub use crate::copies::copy_of_some;
 pub use crate::numbers::{ArgValueCandidates, ArgValueCompleter, SubcommandCandidates};
 pub use crate::traits::{ValueCandidates, ValueCompleter};

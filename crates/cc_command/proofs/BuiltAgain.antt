@@ -66,46 +66,46 @@ has_id-filled : (xs : List Arg) (id : List ℕ) → has_id (map filled xs) id �
 has_id-filled [] id = refl
 has_id-filled (x ∷ xs) id = ap (λ b. bytes_eq x.id id || b) (has_id-filled xs id)
 
-with_index-id : (place : ℕ) (x : Arg) → (with_index place x).id ≡ x.id
-with_index-id place x = elim (lacks_index x) as (λ b. (let y : Arg = cond b (record x { index = Some place }) x in y.id) ≡ x.id) [ true ↦ refl | false ↦ refl ]
+with_index-id : (position : ℕ) (x : Arg) → (with_index position x).id ≡ x.id
+with_index-id position x = elim (lacks_index x) as (λ b. (let y : Arg = cond b (record x { index = Some position }) x in y.id) ≡ x.id) [ true ↦ refl | false ↦ refl ]
 
-has_id-indexed : (place : ℕ) (xs : List Arg) (id : List ℕ) → has_id (indexed place xs) id ≡ has_id xs id
-has_id-indexed place [] id = refl
-has_id-indexed place (x ∷ xs) id =
-    ap (λ i. bytes_eq i id || has_id (indexed (next_index place x) xs) id) (with_index-id place x) ∙
-    ap (λ b. bytes_eq x.id id || b) (has_id-indexed (next_index place x) xs id)
+has_id-indexed : (position : ℕ) (xs : List Arg) (id : List ℕ) → has_id (indexed position xs) id ≡ has_id xs id
+has_id-indexed position [] id = refl
+has_id-indexed position (x ∷ xs) id =
+    ap (λ i. bytes_eq i id || has_id (indexed (next_index position x) xs) id) (with_index-id position x) ∙
+    ap (λ b. bytes_eq x.id id || b) (has_id-indexed (next_index position x) xs id)
 
--- an argument that has its place lacks none
-lacks_index-with : (place : ℕ) (x : Arg) (b : Bool) → lacks_index x ≡ b → lacks_index (cond b (record x { index = Some place }) x) ≡ false
-lacks_index-with place x true is = and-false (is_positional x)
-lacks_index-with place x false is = is
+-- an argument that has its index lacks none
+lacks_index-with : (position : ℕ) (x : Arg) (b : Bool) → lacks_index x ≡ b → lacks_index (cond b (record x { index = Some position }) x) ≡ false
+lacks_index-with position x true is = and-false (is_positional x)
+lacks_index-with position x false is = is
 
-with_index-again : (later place : ℕ) (x : Arg) → with_index later (with_index place x) ≡ with_index place x
-with_index-again later place x =
-    ap (λ b. cond b (record (with_index place x) { index = Some later }) (with_index place x)) (lacks_index-with place x (lacks_index x) refl)
+with_index-again : (later position : ℕ) (x : Arg) → with_index later (with_index position x) ≡ with_index position x
+with_index-again later position x =
+    ap (λ b. cond b (record (with_index position x) { index = Some later }) (with_index position x)) (lacks_index-with position x (lacks_index x) refl)
 
--- places are given once
-indexed-again : (later place : ℕ) (xs : List Arg) → indexed later (indexed place xs) ≡ indexed place xs
-indexed-again later place [] = refl
-indexed-again later place (x ∷ xs) =
-    ap (λ y. y ∷ indexed (next_index later (with_index place x)) (indexed (next_index place x) xs)) (with_index-again later place x) ∙
-    ap (λ ys. with_index place x ∷ ys) (indexed-again (next_index later (with_index place x)) (next_index place x) xs)
+-- indexes are given once
+indexed-again : (later position : ℕ) (xs : List Arg) → indexed later (indexed position xs) ≡ indexed position xs
+indexed-again later position [] = refl
+indexed-again later position (x ∷ xs) =
+    ap (λ y. y ∷ indexed (next_index later (with_index position x)) (indexed (next_index position x) xs)) (with_index-again later position x) ∙
+    ap (λ ys. with_index position x ∷ ys) (indexed-again (next_index later (with_index position x)) (next_index position x) xs)
 
 -- what is filled in stays
-filled-with_index : (place : ℕ) (x : Arg) → filled (with_index place (filled x)) ≡ with_index place (filled x)
-filled-with_index place x =
-    elim (lacks_index (filled x)) as (λ b. filled (cond b (record (filled x) { index = Some place }) (filled x)) ≡ cond b (record (filled x) { index = Some place }) (filled x)) [ true ↦ refl | false ↦ refl ]
+filled-with_index : (position : ℕ) (x : Arg) → filled (with_index position (filled x)) ≡ with_index position (filled x)
+filled-with_index position x =
+    elim (lacks_index (filled x)) as (λ b. filled (cond b (record (filled x) { index = Some position }) (filled x)) ≡ cond b (record (filled x) { index = Some position }) (filled x)) [ true ↦ refl | false ↦ refl ]
 
-filled-indexed : (place : ℕ) (xs : List Arg) → map filled (indexed place (map filled xs)) ≡ indexed place (map filled xs)
-filled-indexed place [] = refl
-filled-indexed place (x ∷ xs) =
-    ap (λ y. y ∷ map filled (indexed (next_index place (filled x)) (map filled xs))) (filled-with_index place x) ∙
-    ap (λ ys. with_index place (filled x) ∷ ys) (filled-indexed (next_index place (filled x)) xs)
+filled-indexed : (position : ℕ) (xs : List Arg) → map filled (indexed position (map filled xs)) ≡ indexed position (map filled xs)
+filled-indexed position [] = refl
+filled-indexed position (x ∷ xs) =
+    ap (λ y. y ∷ map filled (indexed (next_index position (filled x)) (map filled xs))) (filled-with_index position x) ∙
+    ap (λ ys. with_index position (filled x) ∷ ys) (filled-indexed (next_index position (filled x)) xs)
 
 -- ---- what is propagated
 
-with_index-global : (place : ℕ) (x : Arg) → (with_index place x).global ≡ x.global
-with_index-global place x = elim (lacks_index x) as (λ b. (let y : Arg = cond b (record x { index = Some place }) x in y.global) ≡ x.global) [ true ↦ refl | false ↦ refl ]
+with_index-global : (position : ℕ) (x : Arg) → (with_index position x).global ≡ x.global
+with_index-global position x = elim (lacks_index x) as (λ b. (let y : Arg = cond b (record x { index = Some position }) x in y.global) ≡ x.global) [ true ↦ refl | false ↦ refl ]
 
 -- one argument before the global ones
 abbrev has_before : Bool → List ℕ → List Arg → List ℕ → Bool
@@ -115,14 +115,14 @@ has_id-globals : (x : Arg) (xs : List Arg) (id : List ℕ) → has_id (globals (
 has_id-globals x xs id = elim x.global as (λ b. has_id (cond b (x ∷ globals xs) (globals xs)) id ≡ has_before b x.id xs id) [ true ↦ refl | false ↦ refl ]
 
 -- finishing keeps the ids of the global ones
-has_id-finished : (place : ℕ) (xs : List Arg) (id : List ℕ) → has_id (globals (indexed place (map filled xs))) id ≡ has_id (globals xs) id
-has_id-finished place [] id = refl
-has_id-finished place (x ∷ xs) id =
-    let rest : List Arg = indexed (next_index place (filled x)) (map filled xs) in
-    has_id-globals (with_index place (filled x)) rest id ∙
-    ap (λ b. has_before b (with_index place (filled x)).id rest id) (with_index-global place (filled x)) ∙
-    ap (λ own. has_before x.global own rest id) (with_index-id place (filled x)) ∙
-    ap (λ b. cond x.global (bytes_eq x.id id || b) b) (has_id-finished (next_index place (filled x)) xs id) ∙
+has_id-finished : (position : ℕ) (xs : List Arg) (id : List ℕ) → has_id (globals (indexed position (map filled xs))) id ≡ has_id (globals xs) id
+has_id-finished position [] id = refl
+has_id-finished position (x ∷ xs) id =
+    let rest : List Arg = indexed (next_index position (filled x)) (map filled xs) in
+    has_id-globals (with_index position (filled x)) rest id ∙
+    ap (λ b. has_before b (with_index position (filled x)).id rest id) (with_index-global position (filled x)) ∙
+    ap (λ own. has_before x.global own rest id) (with_index-id position (filled x)) ∙
+    ap (λ b. cond x.global (bytes_eq x.id id || b) b) (has_id-finished (next_index position (filled x)) xs id) ∙
     sym (has_id-globals x xs id)
 
 -- none of them is global
@@ -242,18 +242,18 @@ help_child-disabled parent node forest disabled =
     (needs_help_child-disabled node forest disabled)
 
 -- copies stay as they are
-pub built_forest-copies : (inherited : List Arg) (parent : List ℕ) (place : ℕ) (forest : Forest) →
-    built_forest inherited parent (copies parent place forest) ≡ copies parent place forest
-built_forest-copies inherited parent place none = refl
-built_forest-copies inherited parent place (more node below rest) =
+pub built_forest-copies : (inherited : List Arg) (parent : List ℕ) (position : ℕ) (forest : Forest) →
+    built_forest inherited parent (copies parent position forest) ≡ copies parent position forest
+built_forest-copies inherited parent position none = refl
+built_forest-copies inherited parent position (more node below rest) =
     let name : List ℕ = joined_name parent node.name in
-    let copy : Node = generated_node node.name name node.about place node.hide in
-    ap (λ f. more copy (join f (help_child name copy (copies name 0 below))) (built_forest inherited parent (copies parent (suc place) rest)))
+    let copy : Node = generated_node node.name name node.about position node.hide in
+    ap (λ f. more copy (join f (help_child name copy (copies name 0 below))) (built_forest inherited parent (copies parent (suc position) rest)))
     (built_forest-copies (propagated inherited copy) name 0 below) ∙
-    ap (λ f. more copy (join (copies name 0 below) f) (built_forest inherited parent (copies parent (suc place) rest)))
+    ap (λ f. more copy (join (copies name 0 below) f) (built_forest inherited parent (copies parent (suc position) rest)))
     (help_child-disabled name copy (copies name 0 below) refl) ∙
-    ap (λ f. more copy f (built_forest inherited parent (copies parent (suc place) rest))) (join-none (copies name 0 below)) ∙
-    ap (λ f. more copy (copies name 0 below) f) (built_forest-copies inherited parent (suc place) rest)
+    ap (λ f. more copy f (built_forest inherited parent (copies parent (suc position) rest))) (join-none (copies name 0 below)) ∙
+    ap (λ f. more copy (copies name 0 below) f) (built_forest-copies inherited parent (suc position) rest)
 
 -- what a generated `help` holds
 abbrev pub helped : List ℕ → Forest → Forest
@@ -357,12 +357,12 @@ pub built_tree-again : (bin_name : Option (List ℕ)) (tree : Tree) → built_tr
 built_tree-again bin_name tree = built_below-again [] bin_name tree
 
 -- a generated tree whose children stay stays as it is
-pub built_tree-generated : (name bin_name : List ℕ) (about : Option (List ℕ)) (place : ℕ) (hide : Bool) (children : Forest) →
+pub built_tree-generated : (name bin_name : List ℕ) (about : Option (List ℕ)) (position : ℕ) (hide : Bool) (children : Forest) →
     built_forest [] bin_name children ≡ children →
-    let tree : Tree = record { node = generated_node name bin_name about place hide; children = children } in
+    let tree : Tree = record { node = generated_node name bin_name about position hide; children = children } in
     built_tree tree ≡ tree
-built_tree-generated name bin_name about place hide children stay =
-    let node : Node = generated_node name bin_name about place hide in
+built_tree-generated name bin_name about position hide children stay =
+    let node : Node = generated_node name bin_name about position hide in
     ap (λ f. let t : Tree = record { node = node; children = join f (help_child bin_name node children) } in t) stay ∙
     ap (λ f. let t : Tree = record { node = node; children = join children f } in t) (help_child-disabled bin_name node children refl) ∙
     ap (λ f. let t : Tree = record { node = node; children = f } in t) (join-none children)

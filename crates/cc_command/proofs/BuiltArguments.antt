@@ -17,7 +17,7 @@ both false b h k = cc
 -- pass it
 pub record IsKept (test : Arg → Bool) : Type 0 where
   pub when_filled : (x : Arg) → test (filled x) ≡ test x
-  pub when_indexed : (place : ℕ) (x : Arg) → test (record x { index = Some place }) ≡ test x
+  pub when_indexed : (position : ℕ) (x : Arg) → test (record x { index = Some position }) ≡ test x
   pub of_help : IsTrue (test help_argument)
   pub of_version : IsTrue (test version_argument)
 
@@ -26,17 +26,17 @@ all_filled test kept [] = refl
 all_filled test kept (x ∷ xs) =
     ap (λ b. b && list_all test (map filled xs)) (kept.when_filled x) ∙ ap (λ b. test x && b) (all_filled test kept xs)
 
-one_indexed : (test : Arg → Bool) → IsKept test → (place : ℕ) (x : Arg) → test (with_index place x) ≡ test x
-one_indexed test kept place x = elim (lacks_index x) as (λ b. test (cond b (record x { index = Some place }) x) ≡ test x) [
-  | true ↦ kept.when_indexed place x
+one_indexed : (test : Arg → Bool) → IsKept test → (position : ℕ) (x : Arg) → test (with_index position x) ≡ test x
+one_indexed test kept position x = elim (lacks_index x) as (λ b. test (cond b (record x { index = Some position }) x) ≡ test x) [
+  | true ↦ kept.when_indexed position x
   | false ↦ refl
 ]
 
-all_indexed : (test : Arg → Bool) → IsKept test → (place : ℕ) (xs : List Arg) → list_all test (indexed place xs) ≡ list_all test xs
-all_indexed test kept place [] = refl
-all_indexed test kept place (x ∷ xs) =
-    ap (λ b. b && list_all test (indexed (next_index place x) xs)) (one_indexed test kept place x) ∙
-    ap (λ b. test x && b) (all_indexed test kept (next_index place x) xs)
+all_indexed : (test : Arg → Bool) → IsKept test → (position : ℕ) (xs : List Arg) → list_all test (indexed position xs) ≡ list_all test xs
+all_indexed test kept position [] = refl
+all_indexed test kept position (x ∷ xs) =
+    ap (λ b. b && list_all test (indexed (next_index position x) xs)) (one_indexed test kept position x) ∙
+    ap (λ b. test x && b) (all_indexed test kept (next_index position x) xs)
 
 all_append : (test : Arg → Bool) (xs ys : List Arg) → IsTrue (list_all test xs) → IsTrue (list_all test ys) → IsTrue (list_all test (xs ++ ys))
 all_append test [] ys h k = k

@@ -68,37 +68,37 @@ siblings_differ-more node below rest =
     all_differ_append (names_of node) (names_of_all rest) ∙
     ap (λ b. all_differ (names_of node) && (b && all_differ (names_of_all rest))) (none_contained rest (names_of node))
 
--- ---- siblings, one place after another
+-- ---- siblings, one position after another
 
 -- the names of one sibling differ from each other and from all names after it
 abbrev pub differs_from : Tree → List Tree → Bool
 differs_from sibling later = all_differ (names_of sibling.node) && are_apart_from (forest_of later) (names_of sibling.node)
 
-siblings_differ-at : (siblings : List Tree) (place : ℕ) (sibling : Tree) → place < length siblings → get_or siblings place sibling ≡ sibling →
-    siblings_differ (forest_of (drop place siblings)) ≡ (differs_from sibling (drop (place + 1) siblings) && siblings_differ (forest_of (drop (place + 1) siblings)))
-siblings_differ-at siblings place sibling below is =
-    at_drop_more (λ trees. siblings_differ (forest_of trees)) siblings place sibling below ∙
-    ap (λ first. siblings_differ (forest_of (first ∷ drop (place + 1) siblings))) is ∙
-    siblings_differ-more sibling.node sibling.children (forest_of (drop (place + 1) siblings)) ∙
+siblings_differ-at : (siblings : List Tree) (position : ℕ) (sibling : Tree) → position < length siblings → get_or siblings position sibling ≡ sibling →
+    siblings_differ (forest_of (drop position siblings)) ≡ (differs_from sibling (drop (position + 1) siblings) && siblings_differ (forest_of (drop (position + 1) siblings)))
+siblings_differ-at siblings position sibling below is =
+    at_drop_more (λ trees. siblings_differ (forest_of trees)) siblings position sibling below ∙
+    ap (λ first. siblings_differ (forest_of (first ∷ drop (position + 1) siblings))) is ∙
+    siblings_differ-more sibling.node sibling.children (forest_of (drop (position + 1) siblings)) ∙
     sym (and_assoc (all_differ (names_of sibling.node))
-    (are_apart_from (forest_of (drop (place + 1) siblings)) (names_of sibling.node))
-    (siblings_differ (forest_of (drop (place + 1) siblings))))
+    (are_apart_from (forest_of (drop (position + 1) siblings)) (names_of sibling.node))
+    (siblings_differ (forest_of (drop (position + 1) siblings))))
 
 -- a sibling whose names do not differ
-pub siblings_differ-failed : (siblings : List Tree) (place : ℕ) (sibling : Tree) (whole : Bool) → place < length siblings → get_or siblings place sibling ≡ sibling →
-    siblings_differ (forest_of (drop place siblings)) ≡ whole → differs_from sibling (drop (place + 1) siblings) ≡ false → false ≡ whole
-siblings_differ-failed siblings place sibling whole below at is failed =
-    sym (ap (λ b. b && siblings_differ (forest_of (drop (place + 1) siblings))) failed) ∙ sym (siblings_differ-at siblings place sibling below at) ∙ is
+pub siblings_differ-failed : (siblings : List Tree) (position : ℕ) (sibling : Tree) (whole : Bool) → position < length siblings → get_or siblings position sibling ≡ sibling →
+    siblings_differ (forest_of (drop position siblings)) ≡ whole → differs_from sibling (drop (position + 1) siblings) ≡ false → false ≡ whole
+siblings_differ-failed siblings position sibling whole below at is failed =
+    sym (ap (λ b. b && siblings_differ (forest_of (drop (position + 1) siblings))) failed) ∙ sym (siblings_differ-at siblings position sibling below at) ∙ is
 
 -- a sibling whose names do
-pub siblings_differ-passed : (siblings : List Tree) (place : ℕ) (sibling : Tree) (whole : Bool) → place < length siblings → get_or siblings place sibling ≡ sibling →
-    siblings_differ (forest_of (drop place siblings)) ≡ whole → differs_from sibling (drop (place + 1) siblings) ≡ true →
-    siblings_differ (forest_of (drop (place + 1) siblings)) ≡ whole
-siblings_differ-passed siblings place sibling whole below at is passed =
-    sym (ap (λ b. b && siblings_differ (forest_of (drop (place + 1) siblings))) passed) ∙ sym (siblings_differ-at siblings place sibling below at) ∙ is
+pub siblings_differ-passed : (siblings : List Tree) (position : ℕ) (sibling : Tree) (whole : Bool) → position < length siblings → get_or siblings position sibling ≡ sibling →
+    siblings_differ (forest_of (drop position siblings)) ≡ whole → differs_from sibling (drop (position + 1) siblings) ≡ true →
+    siblings_differ (forest_of (drop (position + 1) siblings)) ≡ whole
+siblings_differ-passed siblings position sibling whole below at is passed =
+    sym (ap (λ b. b && siblings_differ (forest_of (drop (position + 1) siblings))) passed) ∙ sym (siblings_differ-at siblings position sibling below at) ∙ is
 
 -- after the last sibling
-pub siblings_differ-done : (siblings : List Tree) (place : ℕ) (whole : Bool) → length siblings ≤ place →
-    siblings_differ (forest_of (drop place siblings)) ≡ whole → true ≡ whole
-siblings_differ-done siblings place whole past is =
-    sym siblings_differ-none ∙ sym (at_drop_all (λ trees. siblings_differ (forest_of trees)) siblings place past) ∙ is
+pub siblings_differ-done : (siblings : List Tree) (position : ℕ) (whole : Bool) → length siblings ≤ position →
+    siblings_differ (forest_of (drop position siblings)) ≡ whole → true ≡ whole
+siblings_differ-done siblings position whole past is =
+    sym siblings_differ-none ∙ sym (at_drop_all (λ trees. siblings_differ (forest_of trees)) siblings position past) ∙ is

@@ -42,19 +42,19 @@ built_forest-push inherited parent made trees tree so_far =
     sym (built_forest-join inherited parent (forest_of trees) (forest_of (tree ∷ []))) ∙
     ap (built_forest inherited parent) (sym (forest_of-append trees (tree ∷ [])))
 
--- one more sibling is copied at the place after the others
+-- one more sibling is copied at the position after the others
 abbrev copy_of : List ℕ → ℕ → Tree → Forest → Forest
-copy_of parent place tree later =
-    more (generated_node tree.node.name (joined_name parent tree.node.name) tree.node.about place tree.node.hide)
+copy_of parent position tree later =
+    more (generated_node tree.node.name (joined_name parent tree.node.name) tree.node.about position tree.node.hide)
     (copies (joined_name parent tree.node.name) 0 tree.children) later
 
-copies-append : (parent : List ℕ) (place : ℕ) (trees : List Tree) (tree : Tree) →
-    copies parent place (forest_of (trees ++ tree ∷ [])) ≡ join (copies parent place (forest_of trees)) (copies parent (place + length trees) (forest_of (tree ∷ [])))
-copies-append parent place [] tree = ap (λ p. copies parent p (forest_of (tree ∷ []))) (sym (add-zero place))
-copies-append parent place (x ∷ xs) tree =
-    ap (λ f. copy_of parent place x f) (copies-append parent (suc place) xs tree) ∙
-    ap (λ p. copy_of parent place x (join (copies parent (suc place) (forest_of xs)) (copies parent p (forest_of (tree ∷ [])))))
-    (let e : suc place + length xs ≡ place + suc (length xs) = omega arith in e)
+copies-append : (parent : List ℕ) (position : ℕ) (trees : List Tree) (tree : Tree) →
+    copies parent position (forest_of (trees ++ tree ∷ [])) ≡ join (copies parent position (forest_of trees)) (copies parent (position + length trees) (forest_of (tree ∷ [])))
+copies-append parent position [] tree = ap (λ p. copies parent p (forest_of (tree ∷ []))) (sym (add-zero position))
+copies-append parent position (x ∷ xs) tree =
+    ap (λ f. copy_of parent position x f) (copies-append parent (suc position) xs tree) ∙
+    ap (λ p. copy_of parent position x (join (copies parent (suc position) (forest_of xs)) (copies parent p (forest_of (tree ∷ [])))))
+    (let e : suc position + length xs ≡ position + suc (length xs) = omega arith in e)
 
 pub copies-push : (parent : List ℕ) (made trees : List Tree) (tree : Tree) (copy : Tree) →
     forest_of made ≡ copies parent 0 (forest_of trees) →

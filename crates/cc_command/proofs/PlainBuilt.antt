@@ -34,7 +34,7 @@ plain_kept : IsKept is_plain_argument
 unfolding help_argument version_argument help_name version_name is_plain_name is_joined name_byte
 plain_kept = record {
   when_filled = λ x. refl;
-  when_indexed = λ place x. refl;
+  when_indexed = λ position x. refl;
   of_help = refl;
   of_version = refl;
 }
@@ -51,16 +51,16 @@ plain_propagated inherited node above h =
 -- ---- nodes
 
 -- the last of four tests in place of another
-in_place_of_last : (a b c d e : Bool) → IsTrue (a && (b && (c && d))) → (IsTrue d → IsTrue e) → IsTrue (a && (b && (c && e)))
-in_place_of_last true true true d e h follows = follows h
-in_place_of_last true true false d e h follows = h
-in_place_of_last true false c d e h follows = h
-in_place_of_last false b c d e h follows = h
+in_position_of_last : (a b c d e : Bool) → IsTrue (a && (b && (c && d))) → (IsTrue d → IsTrue e) → IsTrue (a && (b && (c && e)))
+in_position_of_last true true true d e h follows = follows h
+in_position_of_last true true false d e h follows = h
+in_position_of_last true false c d e h follows = h
+in_position_of_last false b c d e h follows = h
 
 plain_built_node : (inherited : List Arg) (bin_name : Option (List ℕ)) (node : Node) → IsTrue (list_all is_plain_argument inherited) →
     IsTrue (is_plain_node node) → IsTrue (is_plain_node (built_node inherited bin_name node))
 plain_built_node inherited bin_name node above h =
-    in_place_of_last (is_plain_name node.name) (list_all is_plain_name node.visible_aliases) (list_all is_plain_name node.aliases)
+    in_position_of_last (is_plain_name node.name) (list_all is_plain_name node.visible_aliases) (list_all is_plain_name node.aliases)
     (list_all is_plain_argument node.arguments) (list_all is_plain_argument (built_arguments inherited node)) h (all_built is_plain_argument plain_kept inherited node above)
 
 -- a generated node has a name and no other

@@ -16,7 +16,7 @@ quiet_kept : IsKept is_quiet_argument
 unfolding help_argument version_argument
 quiet_kept = record {
   when_filled = λ x. refl;
-  when_indexed = λ place x. refl;
+  when_indexed = λ position x. refl;
   of_help = refl;
   of_version = refl;
 }

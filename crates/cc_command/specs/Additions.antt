@@ -9,7 +9,7 @@ use Rattle.cc_command.specs.Names.{full_name, joined_name}
 use Rattle.cc_command.specs.Generated.{generated_arguments, help_child}
 use Rattle.cc_command.specs.Built.{with_missing, given_arguments, propagated, built_forest, built_below}
 
--- how many siblings stand side by side
+-- how many siblings are side by side
 abbrev pub sibling_count : Forest → ℕ
 sibling_count none = 0
 sibling_count (more node below rest) = suc (sibling_count rest)
@@ -30,7 +30,7 @@ pub record IsAddition (inherited : List Arg) (bin_name : Option (List ℕ)) (nod
   pub room : HasRoom (length node.arguments) addition.arguments
   pub children_room : HasRoom (sibling_count below) addition.children
 
--- the place in a list where what the first speaks of ends and what the second speaks of begins
+-- where in a list what the first speaks of ends and what the second speaks of begins
 pub record Between (first second : List Addition → Type 0) : Type 0 where
   pub left : List Addition
   pub ends : first left

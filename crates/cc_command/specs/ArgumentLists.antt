@@ -28,13 +28,13 @@ abbrev pub positionals : Node → List Arg
 positionals node = filter is_positional node.arguments
 
 -- the first of the arguments that has the id
-abbrev pub first_with : List Arg → List ℕ → Option Arg
-first_with [] id = None
-first_with (argument ∷ arguments) id =
-    if bytes_eq argument.id id then Some argument else first_with arguments id
+abbrev pub first_with_id : List Arg → List ℕ → Option Arg
+first_with_id [] id = None
+first_with_id (argument ∷ arguments) id =
+    if bytes_eq argument.id id then Some argument else first_with_id arguments id
 
 -- the arguments that may not be given together with one: for each id that it names, in order, the
 -- first of the arguments that has it; an id that none has is passed over
 abbrev pub conflicting : List Arg → Arg → List Arg
 conflicting arguments argument =
-    flat_map (λ id. option_to_list (first_with arguments id)) argument.conflicts
+    flat_map (λ id. option_to_list (first_with_id arguments id)) argument.conflicts

@@ -1,4 +1,4 @@
--- Which possible values are quiet: those that stand in a bash script as they are.
+-- Which possible values are quiet: those that are in a bash script as they are.
 use Rattle.std.specs.Prelude.{ℕ, Bool, true, false, ◌&&◌, ◌||◌, ◌==◌, List, [], ◌∷◌, codes, Option, Some, None}
 use Rattle.std.specs.Char.{is_ascii_alphanumeric}
 use Rattle.std.specs.List.{list_all, list_any}

@@ -15,7 +15,7 @@ mod quiet;
 
 pub use crate::command::build::build_as;
 pub use crate::command::builders::{add_argument, add_child};
-pub use crate::command::conflicts::first_with;
+pub use crate::command::conflicts::first_with_id;
 pub use crate::command::getters::{full_name, has_name};
 pub use crate::command::iterators::{Arguments, NameAndVisibleAliases};
 pub use crate::command::plain::is_plain_name;

@@ -5,7 +5,7 @@ mod command;
 mod node;
 
 pub use crate::command::{
-    Arguments, Command, NameAndVisibleAliases, add_argument, add_child, build_as, first_with,
+    Arguments, Command, NameAndVisibleAliases, add_argument, add_child, build_as, first_with_id,
     from_node, full_name, has_name, is_plain_name,
 };
 pub use crate::node::Node;

@@ -2,8 +2,8 @@
 
 use crate::checks::same;
 use cc_arg::{
-    Arg, ArgAction, PossibleValue, ShownName, ValueHint, ValueRange, conflicting_ids, fill,
-    fill_display_order, fill_index, possible_values, shown_names,
+    Arg, ArgAction, PossibleValue, ShownName, ValueHint, ValueRange, conflicting_ids,
+    fill_display_order, fill_index, fill_range_and_action, possible_values, shown_names,
 };
 use cc_base::Error;
 use std::alloc::Global;
@@ -246,7 +246,7 @@ fn lists_no_values_where_none_were_given(rt: HostRuntime) {
 fn fills_in_the_range_of_an_action(rt: HostRuntime) {
     let flag = argument(rt.alloc(), "verbose").expect(&rt, "no argument");
     let mut flag = flag.short('v').action(ArgAction::Count);
-    fill(&mut flag);
+    fill_range_and_action(&mut flag);
     same(&rt, flag.get_num_args(), Some(ValueRange::new(0, 0)));
     same(&rt, flag.get_action(), ArgAction::Count);
     assert!(rt; !flag.takes_values());
@@ -258,7 +258,7 @@ fn fills_in_action_and_index(rt: HostRuntime) {
     let range = ValueRange::new(0, usize::MAX);
     let rest = argument(rt.alloc(), "rest").expect(&rt, "no argument");
     let mut rest = rest.num_args(range);
-    fill(&mut rest);
+    fill_range_and_action(&mut rest);
     fill_index(&mut rest, 2);
     same(&rt, rest.get_action(), ArgAction::Append);
     same(&rt, rest.get_index(), Some(2));

@@ -3,7 +3,7 @@
 
 use crate::arguments::with_shorts;
 use crate::checks::{is, same};
-use crate::fixtures::{built, tree};
+use crate::fixtures::{build, tree};
 use cc_arg::{Arg, ArgAction};
 use cc_base::{Error, Text};
 use cc_command::Command;
@@ -62,7 +62,7 @@ fn aliases(alloc: Global, command: &Command) -> Result<String, Error> {
     Ok(line)
 }
 
-fn aliased(alloc: Global) -> Result<Command, Error> {
+fn with_visible_alias(alloc: Global) -> Result<Command, Error> {
     let name = String::from_str(alloc, "test")?;
     let hidden = String::from_str(alloc, "t")?;
     Command::new(alloc, name).alias(hidden)
@@ -70,7 +70,7 @@ fn aliased(alloc: Global) -> Result<Command, Error> {
 
 fn with_file(alloc: Global) -> Result<Command, Error> {
     let file = file(alloc)?;
-    match aliased(alloc) {
+    match with_visible_alias(alloc) {
         Ok(command) => command.arg(file),
         Err(error) => {
             drop(file);
@@ -96,7 +96,7 @@ fn a_command_keeps_its_aliases_and_its_arguments(rt: HostRuntime) {
 // A command as generators ask for it: with a bin name, and built.
 fn ready(rt: &impl Abort, alloc: Global, text: &str) -> Command {
     let bin_name = String::from_str(alloc, "app").expect(rt, "no name");
-    built(rt, alloc, tree(rt, alloc, text).bin_name(bin_name))
+    build(rt, alloc, tree(rt, alloc, text).bin_name(bin_name))
 }
 
 #[test]

@@ -3,12 +3,12 @@
 use crate::checks::is;
 use cc_arg::{ArgAction, ValueHint, ValueRange};
 use cc_base::{Error, Failures, Items, Text};
-use cc_fixtures::words::shown;
+use cc_fixtures::words::debug_text;
 use std::io::ErrorKind;
 
 #[test]
 fn an_action_shows_its_variant(rt: HostRuntime) {
-    is(&rt, shown(rt.alloc(), ArgAction::SetTrue), "SetTrue");
+    is(&rt, debug_text(rt.alloc(), ArgAction::SetTrue), "SetTrue");
 }
 
 #[test]
@@ -16,7 +16,7 @@ fn a_range_shows_its_bounds(rt: HostRuntime) {
     let range = ValueRange::new(0, 2);
     is(
         &rt,
-        shown(rt.alloc(), range),
+        debug_text(rt.alloc(), range),
         "ValueRange { least: 0, greatest: 2 }",
     );
 }
@@ -24,13 +24,13 @@ fn a_range_shows_its_bounds(rt: HostRuntime) {
 #[test]
 fn a_hint_shows_its_variant(rt: HostRuntime) {
     let hint = ValueHint::CommandWithArguments;
-    is(&rt, shown(rt.alloc(), hint), "CommandWithArguments");
+    is(&rt, debug_text(rt.alloc(), hint), "CommandWithArguments");
 }
 
 #[test]
 fn an_error_shows_its_variant(rt: HostRuntime) {
     let write = Error::Write(ErrorKind::BrokenPipe);
-    is(&rt, shown(rt.alloc(), write), "Write(BrokenPipe)");
+    is(&rt, debug_text(rt.alloc(), write), "Write(BrokenPipe)");
 }
 
 #[test]
@@ -39,7 +39,7 @@ fn failures_show_their_fields(rt: HostRuntime) {
     failures.raise(ErrorKind::WriteZero);
     is(
         &rt,
-        shown(rt.alloc(), failures),
+        debug_text(rt.alloc(), failures),
         "Failures { count: 1, last: Some(WriteZero) }",
     );
 }
@@ -48,11 +48,19 @@ fn failures_show_their_fields(rt: HostRuntime) {
 fn items_show_their_field(rt: HostRuntime) {
     let items = Items::copy_of(rt.alloc(), &['a', 'b']);
     let items = items.expect(&rt, "no items");
-    is(&rt, shown(rt.alloc(), items), "Items { items: ['a', 'b'] }");
+    is(
+        &rt,
+        debug_text(rt.alloc(), items),
+        "Items { items: ['a', 'b'] }",
+    );
 }
 
 #[test]
 fn a_text_shows_its_field(rt: HostRuntime) {
     let text = Text::copy_of(rt.alloc(), "it's").expect(&rt, "no text");
-    is(&rt, shown(rt.alloc(), text), "Text { inner: \"it's\" }");
+    is(
+        &rt,
+        debug_text(rt.alloc(), text),
+        "Text { inner: \"it's\" }",
+    );
 }

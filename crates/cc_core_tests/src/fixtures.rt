@@ -12,7 +12,7 @@ pub(crate) fn tree(rt: &impl Abort, alloc: Global, text: &str) -> Command {
 }
 
 /// A command that was built.
-pub(crate) fn built(rt: &impl Abort, alloc: Global, command: Command) -> Command {
+pub(crate) fn build(rt: &impl Abort, alloc: Global, command: Command) -> Command {
     let mut command = command;
     command.build(alloc).expect(rt, "not built");
     command
@@ -20,7 +20,7 @@ pub(crate) fn built(rt: &impl Abort, alloc: Global, command: Command) -> Command
 
 /// The command that a tree file describes, and that was built.
 pub(crate) fn built_tree(rt: &impl Abort, alloc: Global, text: &str) -> Command {
-    built(rt, alloc, tree(rt, alloc, text))
+    build(rt, alloc, tree(rt, alloc, text))
 }
 
 /// `app` with a positional `input` too.

@@ -8,14 +8,14 @@ use std::alloc::{AllocError, Global};
 use std::process::Abort;
 
 // The number of the child that a word leads to from a command.
-fn found(alloc: Global, root: &Command, word: &str) -> Result<Option<usize>, AllocError> {
+fn find(alloc: Global, root: &Command, word: &str) -> Result<Option<usize>, AllocError> {
     let flat = Flat::new(alloc, root)?;
-    let found = found_in(&flat, word);
+    let found = find_in(&flat, word);
     drop(flat);
     Ok(found)
 }
 
-fn found_in(flat: &Flat<'_>, word: &str) -> Option<usize> {
+fn find_in(flat: &Flat<'_>, word: &str) -> Option<usize> {
     if flat.len() == 0 {
         return None;
     }
@@ -25,7 +25,7 @@ fn found_in(flat: &Flat<'_>, word: &str) -> Option<usize> {
 // Fails unless a word leads to this from the root of `myapp`.
 fn leads(rt: &impl Abort, alloc: Global, word: &str, wanted: Option<usize>) {
     let root = tree(rt, alloc, MY_APP);
-    same(rt, found(alloc, &root, word).expect(rt, "no nodes"), wanted);
+    same(rt, find(alloc, &root, word).expect(rt, "no nodes"), wanted);
     drop(root);
 }
 

@@ -19,7 +19,7 @@ fn pieces_are_put_in_turn(rt: HostRuntime) {
     is(&rt, put_in_turn(rt.alloc()), "abc(d)e");
 }
 
-fn separated(alloc: Global) -> Result<String, Error> {
+fn with_separators(alloc: Global) -> Result<String, Error> {
     let mut sink = Collected::new(alloc);
     let mut begun = false;
     for name in ["ls", "rm"] {
@@ -31,5 +31,5 @@ fn separated(alloc: Global) -> Result<String, Error> {
 
 #[test]
 fn no_separator_comes_first(rt: HostRuntime) {
-    is(&rt, separated(rt.alloc()), "ls, rm");
+    is(&rt, with_separators(rt.alloc()), "ls, rm");
 }

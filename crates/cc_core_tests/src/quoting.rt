@@ -66,7 +66,7 @@ fn elvish_reads_words(rt: HostRuntime) {
 }
 
 // What escapes write to a sink.
-fn written(alloc: Global) -> Result<String, Error> {
+fn escape(alloc: Global) -> Result<String, Error> {
     let mut sink = Collected::new(alloc);
     put_escaped(&ElvishEscape, "it's\n’", &mut sink)?;
     put_escaped(&PowershellEscape, "’it's\n", &mut sink)?;
@@ -75,7 +75,7 @@ fn written(alloc: Global) -> Result<String, Error> {
 }
 
 // What two escapes append to a text.
-fn appended(alloc: Global) -> Result<String, AllocError> {
+fn append_escaped(alloc: Global) -> Result<String, AllocError> {
     let mut made = String::from_str(alloc, "'")?;
     push_escaped(&PowershellEscape, "’'–“b”", &mut made)?;
     push_escaped(&ElvishEscape, "’'", &mut made)?;
@@ -84,8 +84,8 @@ fn appended(alloc: Global) -> Result<String, AllocError> {
 
 #[test]
 fn an_escape_is_written_and_appended(rt: HostRuntime) {
-    is(&rt, written(rt.alloc()), "it''s ’'’it''s ''");
-    is(&rt, appended(rt.alloc()), "''’''–“b”’''");
+    is(&rt, escape(rt.alloc()), "it''s ’'’it''s ''");
+    is(&rt, append_escaped(rt.alloc()), "''’''–“b”’''");
 }
 
 #[test]

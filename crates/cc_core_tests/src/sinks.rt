@@ -82,7 +82,7 @@ fn a_counted_sink_passes_the_bytes_on(rt: HostRuntime) {
 }
 
 // The vector after the bytes are put over it.
-fn passed_on(held: Vec<u8>, bytes: &[u8]) -> Result<Vec<u8>, Error>
+fn pass_on(held: Vec<u8>, bytes: &[u8]) -> Result<Vec<u8>, Error>
     ensures { IfOk result (λ now. now.items ≡ held.items ++ bytes.now) }
 {
     let mut sink = Held::new(held);
@@ -92,8 +92,8 @@ fn passed_on(held: Vec<u8>, bytes: &[u8]) -> Result<Vec<u8>, Error>
 
 #[test]
 fn a_held_sink_has_what_its_writer_holds(rt: HostRuntime) {
-    let held = passed_on(Vec::new(rt.alloc()), b"ab").expect(&rt, "no memory");
-    let held = passed_on(held, b"c").expect(&rt, "no memory");
+    let held = pass_on(Vec::new(rt.alloc()), b"ab").expect(&rt, "no memory");
+    let held = pass_on(held, b"c").expect(&rt, "no memory");
     same(&rt, held.as_slice(), b"abc".as_slice());
 }
 
@@ -105,15 +105,15 @@ fn one_byte_a_call_is_put_in_turn(rt: HostRuntime) {
     same(&rt, sink.get_ref().held.as_slice(), b"abc".as_slice());
 }
 
-fn failed_with(put: Result<(), Error>, kind: ErrorKind) -> bool {
+fn is_failure(put: Result<(), Error>, kind: ErrorKind) -> bool {
     matches!(put, Err(Error::Write(failed)) if failed == kind)
 }
 
 fn counts_its_failures(rt: &impl Abort, alloc: Global, kind: ErrorKind, room: usize) {
     let mut sink = over(alloc, 2, room, Some(kind));
-    assert!(rt; failed_with(put_each(&mut sink, &["abc"]), kind));
+    assert!(rt; is_failure(put_each(&mut sink, &["abc"]), kind));
     same(rt, sink.failures(), 1);
-    assert!(rt; failed_with(sink.flush(), kind));
+    assert!(rt; is_failure(sink.flush(), kind));
     same(rt, sink.failures(), 2);
     same(rt, sink.get_ref().held.len(), room);
 }
@@ -133,7 +133,7 @@ fn a_writer_that_takes_nothing_fails(rt: HostRuntime) {
     assert!(rt; put_each(&mut sink, &[""]).is_ok());
     same(&rt, sink.failures(), 0);
     let put = put_each(&mut sink, &["a"]);
-    assert!(rt; failed_with(put, ErrorKind::WriteZero));
+    assert!(rt; is_failure(put, ErrorKind::WriteZero));
     same(&rt, sink.failures(), 1);
 }
 

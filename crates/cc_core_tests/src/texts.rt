@@ -6,7 +6,7 @@ use std::alloc::{AllocError, Global};
 use std::io::ErrorKind;
 use std::process::Abort;
 
-fn kept(alloc: Global) -> Result<Items<char>, AllocError> {
+fn items_of_texts(alloc: Global) -> Result<Items<char>, AllocError> {
     let mut items = Items::new(alloc);
     items.push('a')?;
     items.push('b')?;
@@ -15,7 +15,7 @@ fn kept(alloc: Global) -> Result<Items<char>, AllocError> {
 
 #[test]
 fn items_keep_their_order(rt: HostRuntime) {
-    let items = kept(rt.alloc()).expect(&rt, "no items");
+    let items = items_of_texts(rt.alloc()).expect(&rt, "no items");
     same(&rt, items.as_slice(), ['a', 'b'].as_slice());
     same(&rt, items.into_vec().as_slice(), ['a', 'b'].as_slice());
 }
@@ -27,7 +27,7 @@ fn items_are_copied(rt: HostRuntime) {
     same(&rt, copy.as_slice(), ['a', 'b'].as_slice());
 }
 
-fn copied_texts(alloc: Global) -> Result<Items<Text>, AllocError> {
+fn copy_texts(alloc: Global) -> Result<Items<Text>, AllocError> {
     let mut texts = Items::new(alloc);
     texts.push(Text::copy_of(alloc, "one")?)?;
     texts.push(Text::copy_of(alloc, "two")?)?;
@@ -42,18 +42,18 @@ fn are_one_and_two(rt: &impl Abort, texts: &[Text]) {
 
 #[test]
 fn items_of_texts_are_copied(rt: HostRuntime) {
-    let copy = copied_texts(rt.alloc()).expect(&rt, "no copy");
+    let copy = copy_texts(rt.alloc()).expect(&rt, "no copy");
     are_one_and_two(&rt, copy.as_slice());
 }
 
-fn copied(alloc: Global) -> Result<String, AllocError> {
+fn copy_of_text(alloc: Global) -> Result<String, AllocError> {
     let text = Text::copy_of(alloc, "naïve")?;
     Ok(text.try_clone(alloc)?.into_string())
 }
 
 #[test]
 fn a_text_is_copied(rt: HostRuntime) {
-    is(&rt, copied(rt.alloc()), "naïve");
+    is(&rt, copy_of_text(rt.alloc()), "naïve");
     let some = Text::copy_of_some(rt.alloc(), Some("naïve"));
     let some = some.expect(&rt, "no copy");
     same(&rt, some.as_ref().map(|text| text.as_str()), Some("naïve"));
@@ -61,7 +61,7 @@ fn a_text_is_copied(rt: HostRuntime) {
     assert!(rt; matches!(none, Ok(None)));
 }
 
-fn printed(alloc: Global, error: Error) -> Result<String, AllocError> {
+fn display_text(alloc: Global, error: Error) -> Result<String, AllocError> {
     format!(in alloc; "{error}")
 }
 
@@ -70,28 +70,36 @@ fn an_error_prints_its_text(rt: HostRuntime) {
     let alloc = rt.alloc();
     is(
         &rt,
-        printed(alloc, Error::from(AllocError)),
+        display_text(alloc, Error::from(AllocError)),
         "out of memory",
     );
     let write = Error::Write(ErrorKind::WriteZero);
-    is(&rt, printed(alloc, write), "write failed");
+    is(&rt, display_text(alloc, write), "write failed");
     let completion = Error::NoCompletion;
-    is(&rt, printed(alloc, completion), "no completion generated");
-    is(&rt, printed(alloc, Error::NoArguments), "no arguments");
+    is(
+        &rt,
+        display_text(alloc, completion),
+        "no completion generated",
+    );
+    is(&rt, display_text(alloc, Error::NoArguments), "no arguments");
 }
 
 #[test]
 fn an_error_prints_the_text_that_it_holds(rt: HostRuntime) {
     let alloc = rt.alloc();
     let label = Text::copy_of(alloc, "a__b").expect(&rt, "no text");
-    let clash = printed(alloc, Error::LabelClash(label));
+    let clash = display_text(alloc, Error::LabelClash(label));
     is(&rt, clash, "two commands share the label a__b");
     let unknown = Text::copy_of(alloc, "unknown").expect(&rt, "no text");
-    is(&rt, printed(alloc, Error::UnknownShell(unknown)), "unknown");
+    is(
+        &rt,
+        display_text(alloc, Error::UnknownShell(unknown)),
+        "unknown",
+    );
     let invalid = Text::copy_of(alloc, "invalid").expect(&rt, "no text");
     is(
         &rt,
-        printed(alloc, Error::InvalidVariant(invalid)),
+        display_text(alloc, Error::InvalidVariant(invalid)),
         "invalid",
     );
 }

@@ -228,7 +228,7 @@ fn has_the_possible_values(rt: &impl Abort, values: Option<&[PossibleValue]>) {
 }
 
 // A command under so many others, each the child of the one before.
-fn nested(alloc: Global, parents: u8) -> Result<String, AllocError> {
+fn nest(alloc: Global, parents: u8) -> Result<String, AllocError> {
     let mut text = String::new(alloc);
     for _ in 0..parents {
         text.push_str("{\"name\":\"a\",\"subcommands\":[")?;
@@ -248,7 +248,7 @@ fn error(alloc: Global, text: &str) -> Option<TreeError> {
 }
 
 fn error_below(rt: &impl Abort, alloc: Global, parents: u8) -> Option<TreeError> {
-    let text = nested(alloc, parents).expect(rt, "no text");
+    let text = nest(alloc, parents).expect(rt, "no text");
     error(alloc, text.as_str())
 }
 
@@ -288,7 +288,7 @@ fn fails_on_other_forms(rt: HostRuntime) {
     }
 }
 
-fn shown(alloc: Global, error: &TreeError) -> Result<String, AllocError> {
+fn debug_text(alloc: Global, error: &TreeError) -> Result<String, AllocError> {
     format!(in alloc; "{error} {error:?}")
 }
 
@@ -297,17 +297,17 @@ fn each_error_shows_its_text(rt: HostRuntime) {
     let alloc = rt.alloc();
     is(
         &rt,
-        shown(alloc, &TreeError::NotJson),
+        debug_text(alloc, &TreeError::NotJson),
         "tree: not JSON NotJson",
     );
     is(
         &rt,
-        shown(alloc, &TreeError::BadForm),
+        debug_text(alloc, &TreeError::BadForm),
         "tree: bad form BadForm",
     );
     is(
         &rt,
-        shown(alloc, &TreeError::Memory),
+        debug_text(alloc, &TreeError::Memory),
         "out of memory Memory",
     );
 }

@@ -1,7 +1,7 @@
 //! Trees, as their getters answer them.
 
 use crate::checks::{is, same};
-use crate::fixtures::{EXCLUDING, MY_APP, built, built_tree, tree};
+use crate::fixtures::{EXCLUDING, MY_APP, build, built_tree, tree};
 use cc_base::Error;
 use cc_command::Command;
 use cc_fixtures::trees::{APP, GLOBAL, NESTED};
@@ -24,7 +24,7 @@ fn ids(alloc: Global, command: &Command) -> Result<String, Error> {
 fn building_twice_adds_help_once(rt: HostRuntime) {
     let once = built_tree(&rt, rt.alloc(), APP);
     is(&rt, ids(rt.alloc(), &once), "verbose out help ");
-    let twice = built(&rt, rt.alloc(), once);
+    let twice = build(&rt, rt.alloc(), once);
     is(&rt, ids(rt.alloc(), &twice), "verbose out help ");
     drop(twice);
 }
@@ -48,10 +48,10 @@ fn a_global_argument_goes_to_the_children_that_were_given(rt: HostRuntime) {
 }
 
 // A command that was built, and then built again under another name.
-fn renamed(rt: &impl Abort, alloc: Global, command: Command) -> Command {
-    let mut command = built(rt, alloc, command);
+fn rename(rt: &impl Abort, alloc: Global, command: Command) -> Command {
+    let mut command = build(rt, alloc, command);
     command.set_bin_name(String::from_str(alloc, "z").expect(rt, "no name"));
-    built(rt, alloc, command)
+    build(rt, alloc, command)
 }
 
 // The full name of the innermost command of the nested tree.
@@ -63,7 +63,7 @@ fn full_name_of_job(command: &Command) -> Option<&str> {
 
 #[test]
 fn a_new_bin_name_and_a_new_build_rename_the_tree(rt: HostRuntime) {
-    let command = renamed(&rt, rt.alloc(), tree(&rt, rt.alloc(), NESTED));
+    let command = rename(&rt, rt.alloc(), tree(&rt, rt.alloc(), NESTED));
     same(&rt, full_name_of_job(&command), Some("z run job"));
     drop(command);
 }

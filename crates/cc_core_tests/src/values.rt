@@ -51,7 +51,7 @@ fn plain(alloc: Global) -> Result<PossibleValue, AllocError> {
     Ok(PossibleValue::new(String::from_str(alloc, "auto")?))
 }
 
-fn hidden(alloc: Global) -> Result<PossibleValue, AllocError> {
+fn hidden_value(alloc: Global) -> Result<PossibleValue, AllocError> {
     let help = String::from_str(alloc, "On a terminal")?;
     Ok(plain(alloc)?.help(help).hide(true))
 }
@@ -64,7 +64,7 @@ fn is_plain(rt: &impl Abort, value: &PossibleValue) {
 
 fn hidden_alone(alloc: Global) -> Result<Vec<PossibleValue>, Error> {
     let mut values = Vec::new(alloc);
-    values.push(hidden(alloc)?)?;
+    values.push(hidden_value(alloc)?)?;
     Ok(values)
 }
 

@@ -24,19 +24,19 @@ use Rattle.cc_candidates.specs.declared.numbers.ArgValueCandidates.{ArgValueCand
 use Rattle.cc_candidates.specs.declared.numbers.ArgValueCompleter.{ArgValueCompleter}
 use Rattle.cc_command.specs.Tree.{Tree}
 use Rattle.cc_gather.specs.Children.{children_candidates, external, in_candidates_order, subcommand_candidates}
-use Rattle.cc_gather.specs.Finished.{comes_before, finished, first_of_ids, grouped, shown}
+use Rattle.cc_gather.specs.Finished.{comes_before, finish, first_of_ids, group, shown}
 use Rattle.cc_gather.specs.Lookup.{has_own_long}
 use Rattle.cc_gather.specs.Numbers.{is_number}
 use Rattle.cc_gather.specs.Options.{hidden_candidates, long_candidate, long_candidates, longs, short_candidate, short_candidates, shorts}
-use Rattle.cc_gather.specs.Rows.{Listed, Row, ValuesOf, after_equals, after_one_dash, after_two_dashes, asked_after, cluster_row, flag_row, long_row, prefixed, row_of, short_row, without_end}
+use Rattle.cc_gather.specs.Rows.{Listed, Row, ValuesOf, after_equals, after_one_dash, after_two_dashes, value_asked_after, cluster_row, flag_row, long_row, with_prefix, row_of, short_row, without_end}
 use Rattle.cc_gather.proofs.FirstOfIds.{all-first_of_ids}
 use Rattle.cc_gather.proofs.Law.{all-shown}
 use Rattle.cc_gather.proofs.WordKinds.{ends_past_dash, with_end}
 use Rattle.cc_values.specs.Parts.{front, front_length, part}
-use Rattle.cc_values.specs.Values.{Allows, Lent, Question, as_value, candidates, completer, gathered, gathered_by, is_path, nothing, paths, question, question_by, question_of_hint, sorted, value_candidate, values}
+use Rattle.cc_values.specs.Values.{Allows, Lent, Question, as_value, candidates, completer, gather, gathered_by, is_path, nothing, paths, question, question_by, question_of_hint, sorted, value_candidate, values}
 use Rattle.cc_walk.specs.declared.sign.ValueCharacter.{ValueCharacter}
 use Rattle.cc_walk.specs.declared.state.Pending.{Pending}
-use Rattle.cc_walk.specs.declared.state.Pending.TheVariants.{Nothing, OptionOpen, PositionalRun, PlaceMoved}
+use Rattle.cc_walk.specs.declared.state.Pending.TheVariants.{Nothing, OptionOpen, PositionalRun, PositionMoved}
 use Rattle.cc_walk.specs.declared.state.State.{State}
 use Rattle.cc_walk.specs.Lookup.{positional_at}
 use Rattle.cc_walk.specs.Signs.{character_value, value_argument, value_character}
@@ -146,7 +146,7 @@ module _ (lent : Lent) (P : CompletionCandidate → Type 0) (arg : Arg) (number 
   by_sources None None None allowed h = by_hint (is_path arg.value_hint) allowed h
 
   all_values : Allows lent (question arg number typed) given → AllByRecursion P (told (question arg number typed) (values arg word given)) → AllByRecursion P (values arg word given)
-  unfolding question values gathered
+  unfolding question values gather
   all_values allowed h = by_sources arg.completer arg.candidates (possible_values arg) allowed h
 
 all_positional : (lent : Lent) (P : CompletionCandidate → Type 0) (word : List ℕ) → IsOfBeginning P word
@@ -165,7 +165,7 @@ all_opened : (lent : Lent) (P : CompletionCandidate → Type 0) (word : List ℕ
     → AllByRecursion P (opened_values pending word given)
 all_opened lent P word ok Nothing given allowed h = tt
 all_opened lent P word ok (PositionalRun count) given allowed h = tt
-all_opened lent P word ok PlaceMoved given allowed h = tt
+all_opened lent P word ok PositionMoved given allowed h = tt
 all_opened lent P word ok (OptionOpen option count) given allowed h = all_values lent P option count word given ok allowed h
 
 -- THE OPTIONS
@@ -221,7 +221,7 @@ two_fits P arguments [] ok =
     all_longs P (λ a hidden name. ok (long_candidate a hidden name) (starts (codes "--" ++ name) (45 ∷ 45 ∷ []) name refl)) arguments
 two_fits P arguments (c ∷ t) ok = long_fits P arguments (c ∷ t) (after_equals (c ∷ t)) refl ok
 
-asked_whole : (argument : Arg) (before after : List ℕ) → (asked_after argument before after).before ++ (asked_after argument before after).text ≡ before ++ after
+asked_whole : (argument : Arg) (before after : List ℕ) → (value_asked_after argument before after).before ++ (value_asked_after argument before after).text ≡ before ++ after
 asked_whole argument before [] = refl
 asked_whole argument before (c ∷ s) = elim (cases_Bool (c == 61)) [
   | inl t ↦ rw t (append_assoc before (codes "=") s ∙ ap (λ x. before ++ (x ∷ s)) (sym (eqb-true c 61 t)))
@@ -295,10 +295,10 @@ all_row : (lent : Lent) (P : CompletionCandidate → Type 0) (word : List ℕ) �
     → Allows lent (row_question row) given → AllByRecursion P (told (row_question row) (row_candidates row given)) → AllByRecursion P (row_candidates row given)
 all_row lent P word ok (Listed found) fits given allowed h = fits
 all_row lent P word ok (ValuesOf asked) fits given allowed h =
-    AllByRecursion-map P (prefixed asked.before) (values asked.argument asked.text given)
-    (all_values lent (λ c. P (prefixed asked.before c)) asked.argument 0 asked.text given
-    (λ c e. ok (prefixed asked.before c) (put_before asked.before asked.text word c.value fits e)) allowed
-    (told_unmapped P (prefixed asked.before) (row_question (ValuesOf asked)) (values asked.argument asked.text given) h))
+    AllByRecursion-map P (with_prefix asked.before) (values asked.argument asked.text given)
+    (all_values lent (λ c. P (with_prefix asked.before c)) asked.argument 0 asked.text given
+    (λ c e. ok (with_prefix asked.before c) (put_before asked.before asked.text word c.value fits e)) allowed
+    (told_unmapped P (with_prefix asked.before) (row_question (ValuesOf asked)) (values asked.argument asked.text given) h))
 
 offered_fits : (P : CompletionCandidate → Type 0) (offers : Bool) (arguments : List Arg) (word : List ℕ) → IsUtf8 word → IsOfBeginning P word
     → Fits P word (offered_row offers arguments word)
@@ -307,8 +307,8 @@ offered_fits P false arguments word valid ok = tt
 
 -- WHAT IS FINISHED
 
-all_finished : (P : CompletionCandidate → Type 0) (cs : Candidates) → AllByRecursion P cs → AllByRecursion P (finished cs)
-unfolding finished grouped
+all_finished : (P : CompletionCandidate → Type 0) (cs : Candidates) → AllByRecursion P cs → AllByRecursion P (finish cs)
+unfolding finish group
 all_finished P cs h =
     AllByRecursion-in_order (comes_before (first_of_ids (shown cs))) P (first_of_ids (shown cs)) (all-first_of_ids P (shown cs) (all-shown P cs h))
 
@@ -316,50 +316,50 @@ all_finished_with : (P : CompletionCandidate → Type 0) (pending : Pending) (wo
     → AllByRecursion P (opened_values pending word given) → AllByRecursion P others → AllByRecursion P (finished_with pending word given others)
 all_finished_with P Nothing word given others h k = all_finished P others k
 all_finished_with P (PositionalRun count) word given others h k = all_finished P others k
-all_finished_with P PlaceMoved word given others h k = all_finished P others k
+all_finished_with P PositionMoved word given others h k = all_finished P others k
 all_finished_with P (OptionOpen option count) word given others h k = by (nat_le (least option) count)
   where
-    by : (enough : Bool) → AllByRecursion P (if enough then finished (values option word given ++ finished others) else finished (values option word given))
+    by : (enough : Bool) → AllByRecursion P (if enough then finish (values option word given ++ finish others) else finish (values option word given))
     by true =
-        all_finished P (values option word given ++ finished others)
-        (AllByRecursion-append P (values option word given) (finished others) h (all_finished P others k))
+        all_finished P (values option word given ++ finish others)
+        (AllByRecursion-append P (values option word given) (finish others) h (all_finished P others k))
     by false = all_finished P (values option word given) h
 
 -- THE LAW
 
 all_offered : (lent : Lent) (P : CompletionCandidate → Type 0) (word : List ℕ) → IsUtf8 word → IsOfBeginning P word
-    → (tree : Tree) (place : ℕ) (offer : Offer) (pending : Pending) (given : Given)
-    → AreAllowed lent (offer_questions tree place offer pending word) given
-    → AllByRecursion P (told (positional_question (positional_at tree.node.arguments place) offer.value word)
-    (positional_values (positional_at tree.node.arguments place) offer.value word given.positional))
+    → (tree : Tree) (position : ℕ) (offer : Offer) (pending : Pending) (given : Given)
+    → AreAllowed lent (offer_questions tree position offer pending word) given
+    → AllByRecursion P (told (positional_question (positional_at tree.node.arguments position) offer.value word)
+    (positional_values (positional_at tree.node.arguments position) offer.value word given.positional))
     → AllByRecursion P (told (row_question (offered_row offer.options tree.node.arguments word)) (row_candidates (offered_row offer.options tree.node.arguments word) given.within))
-    → AllByRecursion P (offered tree place offer word given)
-all_offered lent P word valid ok tree place offer pending given allowed values within =
-    let positional = positional_values (positional_at tree.node.arguments place) offer.value word given.positional in
+    → AllByRecursion P (offered tree position offer word given)
+all_offered lent P word valid ok tree position offer pending given allowed values within =
+    let positional = positional_values (positional_at tree.node.arguments position) offer.value word given.positional in
     let children = offered_children offer.children tree word given.children in
     AllByRecursion-append P (children ++ positional) (row_candidates (offered_row offer.options tree.node.arguments word) given.within)
     (AllByRecursion-append P children positional (all_children P word ok offer.children tree given.children)
-    (all_positional lent P word ok (positional_at tree.node.arguments place) offer.value given.positional allowed.positional values))
+    (all_positional lent P word ok (positional_at tree.node.arguments position) offer.value given.positional allowed.positional values))
     (all_row lent P word ok (offered_row offer.options tree.node.arguments word) (offered_fits P offer.options tree.node.arguments word valid ok) given.within allowed.within within)
 
 pub begins_or_is_told : (lent : Lent) (tree : Tree) (state : State) (word : List ℕ) (given : Given) (found : Candidates) → IsUtf8 word
     → AreAllowed lent (questions tree state word) given → found ≡ answer tree state word given
     → BeginsOrIsTold tree state word given found
 begins_or_is_told lent tree state word given found valid allowed is =
-    let offer = offer_by tree.node.arguments state.place state.escaped state.pending in
-    let positional = told (positional_question (positional_at tree.node.arguments state.place) offer.value word)
-    (positional_values (positional_at tree.node.arguments state.place) offer.value word given.positional) in
+    let offer = offer_by tree.node.arguments state.position state.escaped state.pending in
+    let positional = told (positional_question (positional_at tree.node.arguments state.position) offer.value word)
+    (positional_values (positional_at tree.node.arguments state.position) offer.value word given.positional) in
     let within = told (row_question (offered_row offer.options tree.node.arguments word)) (row_candidates (offered_row offer.options tree.node.arguments word) given.within) in
     let opened = told (open_question state.pending word) (opened_values state.pending word given.opened) in
     let P : CompletionCandidate → Type 0 = λ c. (begins word c ≡ true) ⊎ Contains (positional ++ (within ++ opened)) c in
     let ok : IsOfBeginning P word = λ c e. inl e in
     let all : Candidates = positional ++ (within ++ opened) in
     subst (AllByRecursion P) (sym is)
-    (all_finished_with P state.pending word given.opened (offered tree state.place offer word given)
+    (all_finished_with P state.pending word given.opened (offered tree state.position offer word given)
     (all_opened lent P word ok state.pending given.opened allowed.opened
     (AllByRecursion-from_IsIn P opened
     (λ c h. inr (Contains-from_IsIn all c (IsIn-append_right positional (within ++ opened) c (IsIn-append_right within opened c h))))))
-    (all_offered lent P word valid ok tree state.place offer state.pending given allowed
+    (all_offered lent P word valid ok tree state.position offer state.pending given allowed
     (AllByRecursion-from_IsIn P positional (λ c h. inr (Contains-from_IsIn all c (IsIn-append_left positional (within ++ opened) c h))))
     (AllByRecursion-from_IsIn P within
     (λ c h. inr (Contains-from_IsIn all c (IsIn-append_right positional (within ++ opened) c (IsIn-append_left within opened c h)))))))

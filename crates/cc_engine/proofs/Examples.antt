@@ -9,7 +9,7 @@ use Rattle.cc_arg.specs.declared.value_hint.ValueHint.TheVariants.{FilePath}
 use Rattle.cc_arg.specs.Arguments.{exactly, new_arg}
 use Rattle.cc_arg.specs.PossibleValues.{new_possible_value}
 use Rattle.cc_arg.specs.Printed.{printed, printed_behind, printed_names, printed_values}
-use Rattle.cc_base.specs.Sorting.{in_order, placed}
+use Rattle.cc_base.specs.Sorting.{in_order, insert}
 use Rattle.cc_candidates.specs.declared.candidate.CompletionCandidate.{CompletionCandidate}
 use Rattle.cc_candidates.specs.declared.numbers.ArgValueCompleter.{ArgValueCompleter}
 use Rattle.cc_candidates.specs.Candidate.{new_candidate}
@@ -19,14 +19,14 @@ use Rattle.cc_command.specs.Made.{new_tree, with_argument, with_child}
 use Rattle.cc_command.specs.Texts.{help_about, help_help, help_name}
 use Rattle.cc_command.specs.Tree.{Tree}
 use Rattle.cc_gather.specs.Children.{in_candidates_order, subcommand_candidates}
-use Rattle.cc_gather.specs.Finished.{finished, grouped, shown}
+use Rattle.cc_gather.specs.Finished.{finish, group, shown}
 use Rattle.cc_gather.specs.Numbers.{is_number}
 use Rattle.cc_gather.specs.Options.{longs, shorts}
 use Rattle.cc_gather.specs.Rows.{row_of}
 use Rattle.cc_paths.specs.PathCandidates.{grouped_candidates, groups}
 use Rattle.cc_paths.specs.PathTexts.{word_prefix}
 use Rattle.cc_values.specs.Parts.{front_length}
-use Rattle.cc_values.specs.Values.{Allows, completer, gathered, lent_by, nothing, paths, question, sorted, values}
+use Rattle.cc_values.specs.Values.{Allows, completer, gather, lent_by, nothing, paths, question, sorted, values}
 use Rattle.cc_walk.specs.Blocks.{start}
 use Rattle.cc_walk.specs.Lookup.{allows_hyphens_at, limit, positional_at}
 use Rattle.cc_walk.specs.Machine.{Stand, walk}
@@ -38,8 +38,8 @@ abbrev stand_after : Tree → List (List ℕ) → Stand
 stand_after root words = walk (record { tree = root; state = start false }) words
 
 -- what the word after these words asks
-abbrev asked_after : Tree → List (List ℕ) → List ℕ → Questions
-asked_after root words word =
+abbrev value_asked_after : Tree → List (List ℕ) → List ℕ → Questions
+value_asked_after root words word =
     questions (stand_after root words).tree (stand_after root words).state word
 
 -- the values of the candidates for the word after these words, where these lists are given
@@ -105,19 +105,19 @@ all_words = refl
 -- the first name of each child by the candidates' order, then the help flag
 empty_word : offered_after app [] [] no_lists ≡ codes "t" ∷ codes "help" ∷ codes "--help" ∷ []
 unfolding help_argument help_name help_about help_help subcommand_candidates in_candidates_order
-    in_order placed finished shown grouped positional_at row_of longs shorts lib.Utf8.encode
+    in_order insert finish shown group positional_at row_of longs shorts lib.Utf8.encode
 empty_word = refl
 
 -- after `--` no option
 after_dashes : offered_after app (codes "--" ∷ []) [] no_lists ≡ codes "t" ∷ codes "help" ∷ []
 unfolding help_argument help_name help_about help_help subcommand_candidates in_candidates_order
-    in_order placed finished shown grouped positional_at sign_of
+    in_order insert finish shown group positional_at sign_of
 after_dashes = refl
 
 -- at a child without children that `--` precedes, nothing
 at_a_child : offered_after app (codes "--" ∷ codes "test" ∷ []) [] no_lists ≡ []
 unfolding help_argument help_name help_about help_help subcommand_candidates in_candidates_order
-    in_order placed finished shown grouped positional_at sign_of
+    in_order insert finish shown group positional_at sign_of
 at_a_child = refl
 
 -- A POSITIONAL
@@ -135,8 +135,8 @@ hyphens = built_tree (with (with (with (new_tree (codes "app")) (option (codes "
 second_positional : offered_after hyphens (codes "--opt" ∷ codes "-z" ∷ []) [] no_lists
     ≡ codes "x" ∷ codes "y" ∷ codes "--opt" ∷ codes "--help" ∷ []
 unfolding help_argument help_name help_about help_help subcommand_candidates in_candidates_order
-    in_order placed finished shown grouped positional_at row_of longs shorts sign_of limit
-    allows_hyphens_at chars values gathered front_length printed printed_names printed_values
+    in_order insert finish shown group positional_at row_of longs shorts sign_of limit
+    allows_hyphens_at chars values gather front_length printed printed_names printed_values
     printed_behind lib.Utf8.encode
 second_positional = refl
 
@@ -152,20 +152,20 @@ abbrev kinds : Arg
 kinds = record (new_arg (codes "kinds")) { value_delimiter = Some 44; completer = Some zeroth }
 
 -- the second of two values is asked for as number 1
-second_value : (asked_after (completed pair) (codes "a" ∷ []) []).positional ≡ completer 0 1 []
+second_value : (value_asked_after (completed pair) (codes "a" ∷ []) []).positional ≡ completer 0 1 []
 unfolding sign_of limit positional_at question front_length
 second_value = refl
 
 -- only what follows the last delimiter is asked for
-last_part : (asked_after (completed kinds) [] (codes "a,b,c")).positional
+last_part : (value_asked_after (completed kinds) [] (codes "a,b,c")).positional
     ≡ completer 0 0 (codes "c")
 unfolding positional_at question front_length lib.Utf8.encode
 last_part = refl
 
--- and stands after the parts before it
+-- and is after the parts before it
 after_parts : map (λ c. c.value) (values kinds (codes "a,b,c") (new_candidate (codes "cc") ∷ []))
     ≡ codes "a,b,cc" ∷ []
-unfolding values gathered front_length printed printed_names printed_values printed_behind
+unfolding values gather front_length printed printed_names printed_values printed_behind
     lib.Utf8.encode
 after_parts = refl
 
@@ -175,7 +175,7 @@ files = built_tree (without_help (with (new_tree (codes "app"))
     (record (new_arg (codes "file")) { value_hint = FilePath })))
 
 -- a hint of files asks for paths
-file_path : (asked_after files [] (codes "sr")).positional ≡ paths FilePath (codes "sr")
+file_path : (value_asked_after files [] (codes "sr")).positional ≡ paths FilePath (codes "sr")
 unfolding positional_at question front_length
 file_path = refl
 
@@ -189,7 +189,7 @@ folder_paths = grouped_candidates [] false
 -- what is found there: a file, then the folders, of which one is hidden
 found_paths : map (λ c. c.value) folder_paths
     ≡ codes "a.txt" ∷ codes ".git/" ∷ codes "src/" ∷ []
-unfolding groups in_order placed path_join path_file_name split_last_component trim_trailing
+unfolding groups in_order insert path_join path_file_name split_last_component trim_trailing
     word_prefix
 found_paths = refl
 
@@ -197,8 +197,8 @@ found_paths = refl
 visible_paths : offered_after files [] [] (record no_lists { positional = folder_paths })
     ≡ codes "a.txt" ∷ codes "src/" ∷ []
 unfolding groups path_join path_file_name split_last_component trim_trailing word_prefix row_of
-    positional_at subcommand_candidates in_candidates_order in_order placed
-    finished shown grouped longs shorts values gathered sorted front_length printed printed_names
+    positional_at subcommand_candidates in_candidates_order in_order insert
+    finish shown group longs shorts values gather sorted front_length printed printed_names
     printed_values printed_behind
 visible_paths = refl
 
@@ -220,7 +220,7 @@ options = built_tree (with (with (new_tree (codes "app"))
     }))
     (record (option (codes "port")) { help_heading = Some (codes "Net") }))
 
-first_value : (asked_after options (codes "--col" ∷ []) []).opened ≡ completer 0 0 []
+first_value : (value_asked_after options (codes "--col" ∷ []) []).opened ≡ completer 0 0 []
 unfolding help_argument help_name sign_of question front_length
 first_value = refl
 
@@ -228,7 +228,7 @@ first_value = refl
 finished_twice : offered_after options (codes "--col" ∷ []) [] (record no_lists { opened = auto ∷ [] })
     ≡ codes "auto" ∷ codes "--help" ∷ codes "--port" ∷ []
 unfolding help_argument help_name help_about help_help subcommand_candidates in_candidates_order
-    in_order placed finished shown grouped positional_at row_of longs shorts sign_of values gathered
+    in_order insert finish shown group positional_at row_of longs shorts sign_of values gather
     front_length printed printed_names printed_values printed_behind auto lib.Utf8.encode
 finished_twice = refl
 
@@ -242,25 +242,25 @@ colors = built_tree (without_help (with (with (new_tree (codes "app"))
     (record (new_arg (codes "count")) { allow_hyphen_values = true; completer = Some zeroth })))
 
 -- the value of a long is asked for as its first
-long_value : (asked_after colors [] (codes "--color=a")).within ≡ completer 0 0 (codes "a")
+long_value : (value_asked_after colors [] (codes "--color=a")).within ≡ completer 0 0 (codes "a")
 unfolding row_of positional_at longs question front_length
 long_value = refl
 
--- and its candidates stand after the long
+-- and its candidates are after the long
 after_the_long : offered_after colors [] (codes "--color=a")
     (record no_lists { within = new_candidate (codes "auto") ∷ [] })
     ≡ codes "--color=auto" ∷ []
-unfolding row_of positional_at subcommand_candidates in_candidates_order in_order placed finished
-    shown grouped longs values gathered front_length printed printed_names printed_values printed_behind
+unfolding row_of positional_at subcommand_candidates in_candidates_order in_order insert finish
+    shown group longs values gather front_length printed printed_names printed_values printed_behind
 after_the_long = refl
 
 -- a number asks nothing of the options, also where its first digit is a short that takes values
-number_of_no_option : (asked_after colors [] (codes "-15")).within ≡ nothing
+number_of_no_option : (value_asked_after colors [] (codes "-15")).within ≡ nothing
 unfolding row_of positional_at is_number
 number_of_no_option = refl
 
 -- it is the positional's
-number_of_a_positional : (asked_after colors [] (codes "-15")).positional ≡ completer 0 0 (codes "-15")
+number_of_a_positional : (value_asked_after colors [] (codes "-15")).positional ≡ completer 0 0 (codes "-15")
 unfolding positional_at question front_length
 number_of_a_positional = refl
 
@@ -287,48 +287,48 @@ colored = built_tree (with (with (new_tree (codes "app"))
 first_names : offered_after colored [] [] no_lists
     ≡ codes "--color" ∷ codes "--verbose" ∷ codes "--help" ∷ []
 unfolding help_argument help_name help_about help_help subcommand_candidates in_candidates_order
-    in_order placed finished shown grouped positional_at row_of longs shorts lib.Utf8.encode
+    in_order insert finish shown group positional_at row_of longs shorts lib.Utf8.encode
 first_names = refl
 
 -- the shorts come first after a dash
 after_a_dash : offered_after colored [] (codes "-") no_lists
     ≡ codes "-c" ∷ codes "-v" ∷ codes "-h" ∷ []
 unfolding help_argument help_name help_about help_help subcommand_candidates in_candidates_order
-    in_order placed finished shown grouped positional_at row_of longs shorts lib.Utf8.encode
+    in_order insert finish shown group positional_at row_of longs shorts lib.Utf8.encode
 after_a_dash = refl
 
 -- a hidden alias where nothing else begins so
 hidden_alias : offered_after colored [] (codes "--no") no_lists ≡ codes "--noisy" ∷ []
 unfolding help_argument help_name help_about help_help subcommand_candidates in_candidates_order
-    in_order placed finished shown grouped positional_at row_of longs lib.Utf8.encode
+    in_order insert finish shown group positional_at row_of longs lib.Utf8.encode
 hidden_alias = refl
 
 -- of the values of a long the visible one
 values_of_a_long : offered_after colored [] (codes "--color=") no_lists
     ≡ codes "--color=auto" ∷ []
 unfolding help_argument help_name help_about help_help subcommand_candidates in_candidates_order
-    in_order placed finished shown grouped positional_at row_of longs values gathered front_length
+    in_order insert finish shown group positional_at row_of longs values gather front_length
     printed printed_names printed_values printed_behind lib.Utf8.encode
 values_of_a_long = refl
 
 -- the hidden one where no visible one begins so
 hidden_value : offered_after colored [] (codes "--color=n") no_lists ≡ codes "--color=never" ∷ []
 unfolding help_argument help_name help_about help_help subcommand_candidates in_candidates_order
-    in_order placed finished shown grouped positional_at row_of longs values gathered front_length
+    in_order insert finish shown group positional_at row_of longs values gather front_length
     printed printed_names printed_values printed_behind lib.Utf8.encode
 hidden_value = refl
 
 -- the values of a short after another
 values_of_a_short : offered_after colored [] (codes "-vc=a") no_lists ≡ codes "-vc=auto" ∷ []
 unfolding help_argument help_name help_about help_help subcommand_candidates in_candidates_order
-    in_order placed finished shown grouped positional_at row_of shorts is_number chars values
-    gathered front_length printed printed_names printed_values printed_behind lib.Utf8.encode
+    in_order insert finish shown group positional_at row_of shorts is_number chars values
+    gather front_length printed printed_names printed_values printed_behind lib.Utf8.encode
 values_of_a_short = refl
 
 -- an option that needs a value leaves nothing but its values
 values_alone : offered_after colored (codes "--color" ∷ []) [] no_lists ≡ codes "auto" ∷ []
 unfolding help_argument help_name help_about help_help subcommand_candidates in_candidates_order
-    in_order placed finished shown grouped positional_at row_of sign_of chars values gathered
+    in_order insert finish shown group positional_at row_of sign_of chars values gather
     front_length printed printed_names printed_values printed_behind lib.Utf8.encode
 values_alone = refl
 
@@ -336,20 +336,20 @@ values_alone = refl
 closed_option : offered_after colored (codes "-c=" ∷ []) [] no_lists
     ≡ codes "--color" ∷ codes "--verbose" ∷ codes "--help" ∷ []
 unfolding help_argument help_name help_about help_help subcommand_candidates in_candidates_order
-    in_order placed finished shown grouped positional_at row_of longs shorts sign_of chars
+    in_order insert finish shown group positional_at row_of longs shorts sign_of chars
     lib.Utf8.encode
 closed_option = refl
 
 -- nothing begins with a number
 negative_number : offered_after colored [] (codes "-1") no_lists ≡ []
 unfolding help_argument help_name help_about help_help subcommand_candidates in_candidates_order
-    in_order placed finished shown grouped positional_at row_of shorts is_number chars
+    in_order insert finish shown group positional_at row_of shorts is_number chars
     lib.Utf8.encode
 negative_number = refl
 
 with_exponent : offered_after colored [] (codes "-5e3") no_lists ≡ []
 unfolding help_argument help_name help_about help_help subcommand_candidates in_candidates_order
-    in_order placed finished shown grouped positional_at row_of shorts is_number chars
+    in_order insert finish shown group positional_at row_of shorts is_number chars
     lib.Utf8.encode
 with_exponent = refl
 
@@ -366,21 +366,21 @@ deep =
 below_a_hidden_alias : offered_after deep (codes "tst" ∷ []) [] no_lists
     ≡ codes "--deep" ∷ codes "--help" ∷ []
 unfolding help_argument help_name help_about help_help subcommand_candidates in_candidates_order
-    in_order placed finished shown grouped positional_at row_of longs shorts lib.Utf8.encode
+    in_order insert finish shown group positional_at row_of longs shorts lib.Utf8.encode
 below_a_hidden_alias = refl
 
 -- so does a name after `--`, where no option is left
 below_a_name : offered_after deep (codes "--" ∷ codes "test" ∷ []) [] no_lists ≡ []
 unfolding help_argument help_name help_about help_help subcommand_candidates in_candidates_order
-    in_order placed finished shown grouped positional_at sign_of
+    in_order insert finish shown group positional_at sign_of
 below_a_name = refl
 
 -- `-` is the option's value, so the first positional is next, which has no values to offer
 dash_as_a_value : offered_after hyphens (codes "--opt" ∷ codes "-" ∷ []) [] no_lists
     ≡ codes "--opt" ∷ codes "--help" ∷ []
 unfolding help_argument help_name help_about help_help subcommand_candidates in_candidates_order
-    in_order placed finished shown grouped positional_at row_of longs shorts sign_of limit
-    allows_hyphens_at chars values gathered sorted front_length printed printed_names printed_values
+    in_order insert finish shown group positional_at row_of longs shorts sign_of limit
+    allows_hyphens_at chars values gather sorted front_length printed printed_names printed_values
     printed_behind lib.Utf8.encode
 dash_as_a_value = refl
 

@@ -5,14 +5,14 @@ use Rattle.std.specs.List.{list_any}
 use Rattle.std.proofs.lemmas.Bool.{cases_Bool}
 use Rattle.std.proofs.lemmas.List.{append-nil}
 use Rattle.std.proofs.lemmas.List.Folds.{list_any-append}
-use Rattle.cc_base.specs.Sorting.{in_order, placed}
+use Rattle.cc_base.specs.Sorting.{in_order, insert}
 use Rattle.cc_candidates.specs.declared.candidate.CompletionCandidate.{CompletionCandidate}
 use Rattle.cc_command.specs.Tree.{Tree}
-use Rattle.cc_gather.specs.Finished.{AreShown, Differ, comes_before, finished, first_of_ids, grouped, is_shown, shown}
+use Rattle.cc_gather.specs.Finished.{AreShown, Differ, comes_before, finish, first_of_ids, group, is_shown, shown}
 use Rattle.cc_gather.proofs.Law.{differ, visible}
 use Rattle.cc_values.specs.Values.{Lent, values}
 use Rattle.cc_walk.specs.declared.state.Pending.{Pending}
-use Rattle.cc_walk.specs.declared.state.Pending.TheVariants.{Nothing, OptionOpen, PositionalRun, PlaceMoved}
+use Rattle.cc_walk.specs.declared.state.Pending.TheVariants.{Nothing, OptionOpen, PositionalRun, PositionMoved}
 use Rattle.cc_walk.specs.declared.state.State.{State}
 use Rattle.cc_engine.specs.Completion.{Completes, Given, ShowsVisible, answer, besides, finished_with, offered, opened_values}
 use Rattle.cc_engine.specs.Offer.{full_offer, least, no_offer, offer_by}
@@ -26,11 +26,11 @@ Candidates = List CompletionCandidate
 with_differ : (word : List ℕ) (pending : Pending) (given others : Candidates) → Differ (finished_with pending word given others)
 with_differ word Nothing given others = differ others
 with_differ word (PositionalRun count) given others = differ others
-with_differ word PlaceMoved given others = differ others
+with_differ word PositionMoved given others = differ others
 with_differ word (OptionOpen option count) given others = by (nat_le (least option) count)
   where
-    by : (enough : Bool) → Differ (if enough then finished (values option word given ++ finished others) else finished (values option word given))
-    by true = differ (values option word given ++ finished others)
+    by : (enough : Bool) → Differ (if enough then finish (values option word given ++ finish others) else finish (values option word given))
+    by true = differ (values option word given ++ finish others)
     by false = differ (values option word given)
 
 -- what is offered for a word
@@ -46,15 +46,15 @@ abbrev IsSome : Candidates → Type 0
 IsSome [] = ⊥
 IsSome (c ∷ cs) = Unit {0}
 
-some_placed : (by : CompletionCandidate → CompletionCandidate → Bool) (c : CompletionCandidate) (cs : Candidates) → IsSome (placed by c cs)
-unfolding placed
-some_placed by c [] = tt
-some_placed by c (d ∷ cs) = elim (cases_Bool (by d c)) [ inl t ↦ rw t tt | inr f ↦ rw f tt ]
+some_insert : (by : CompletionCandidate → CompletionCandidate → Bool) (c : CompletionCandidate) (cs : Candidates) → IsSome (insert by c cs)
+unfolding insert
+some_insert by c [] = tt
+some_insert by c (d ∷ cs) = elim (cases_Bool (by d c)) [ inl t ↦ rw t tt | inr f ↦ rw f tt ]
 
 some_in_order : (by : CompletionCandidate → CompletionCandidate → Bool) (cs : Candidates) → IsSome cs → IsSome (in_order by cs)
 unfolding in_order
 some_in_order by [] h = h
-some_in_order by (c ∷ cs) h = some_placed by c (in_order by cs)
+some_in_order by (c ∷ cs) h = some_insert by c (in_order by cs)
 
 some_first : (cs : Candidates) → IsSome cs → IsSome (first_of_ids cs)
 some_first [] h = h
@@ -72,8 +72,8 @@ some_shown : (cs : Candidates) → list_any is_shown cs ≡ true → IsSome (sho
 unfolding shown
 some_shown cs e = rw e (some_filter is_shown cs e)
 
-some_finished : (cs : Candidates) → list_any is_shown cs ≡ true → IsSome (finished cs)
-unfolding finished grouped
+some_finished : (cs : Candidates) → list_any is_shown cs ≡ true → IsSome (finish cs)
+unfolding finish group
 some_finished cs e =
     some_in_order (comes_before (first_of_ids (shown cs))) (first_of_ids (shown cs)) (some_first (shown cs) (some_shown cs e))
 
@@ -82,37 +82,37 @@ any_of_all [] h all = absurd h
 any_of_all (c ∷ cs) h all = let e = all.0 in rw e refl
 
 -- so does one of a list before it or of the list itself
-any_after : (opened others : Candidates) → list_any is_shown (opened ++ others) ≡ true → list_any is_shown (opened ++ finished others) ≡ true
+any_after : (opened others : Candidates) → list_any is_shown (opened ++ others) ≡ true → list_any is_shown (opened ++ finish others) ≡ true
 any_after opened others e =
-    list_any-append is_shown opened (finished others)
+    list_any-append is_shown opened (finish others)
     ∙ by (list_any is_shown opened) (list_any is_shown others) refl (sym (list_any-append is_shown opened others) ∙ e)
   where
-    by : (x y : Bool) → list_any is_shown others ≡ y → (x || y) ≡ true → (x || list_any is_shown (finished others)) ≡ true
+    by : (x y : Bool) → list_any is_shown others ≡ y → (x || y) ≡ true → (x || list_any is_shown (finish others)) ≡ true
     by true y is e = refl
-    by false y is e = any_of_all (finished others) (some_finished others (is ∙ e)) (visible others (is ∙ e))
+    by false y is e = any_of_all (finish others) (some_finished others (is ∙ e)) (visible others (is ∙ e))
 
 -- WHERE A VISIBLE CANDIDATE IS GATHERED NO HIDDEN ONE IS IN THE ANSWER
 
-beside_option : (tree : Tree) (place : ℕ) (escaped : Bool) (word : List ℕ) (given : Given) (opened : Candidates) (enough : Bool)
-    → list_any is_shown (opened ++ offered tree place (if enough then full_offer escaped else no_offer) word given) ≡ true
-    → AreShown (if enough then finished (opened ++ finished (offered tree place (if enough then full_offer escaped else no_offer) word given)) else finished opened)
-beside_option tree place escaped word given opened true e =
-    visible (opened ++ finished (offered tree place (full_offer escaped) word given)) (any_after opened (offered tree place (full_offer escaped) word given) e)
-beside_option tree place escaped word given opened false e =
+beside_option : (tree : Tree) (position : ℕ) (escaped : Bool) (word : List ℕ) (given : Given) (opened : Candidates) (enough : Bool)
+    → list_any is_shown (opened ++ offered tree position (if enough then full_offer escaped else no_offer) word given) ≡ true
+    → AreShown (if enough then finish (opened ++ finish (offered tree position (if enough then full_offer escaped else no_offer) word given)) else finish opened)
+beside_option tree position escaped word given opened true e =
+    visible (opened ++ finish (offered tree position (full_offer escaped) word given)) (any_after opened (offered tree position (full_offer escaped) word given) e)
+beside_option tree position escaped word given opened false e =
     visible opened
-    (ap (list_any is_shown) (sym (append-nil opened)) ∙ ap (λ rest. list_any is_shown (opened ++ rest)) (sym (nothing_offered tree place word given)) ∙ e)
+    (ap (list_any is_shown) (sym (append-nil opened)) ∙ ap (λ rest. list_any is_shown (opened ++ rest)) (sym (nothing_offered tree position word given)) ∙ e)
 
 by_pending : (tree : Tree) (state : State) (word : List ℕ) (given : Given) (pending : Pending)
     → list_any is_shown (opened_values pending word given.opened
-    ++ offered tree state.place (offer_by tree.node.arguments state.place state.escaped pending) word given) ≡ true
-    → AreShown (finished_with pending word given.opened (offered tree state.place (offer_by tree.node.arguments state.place state.escaped pending) word given))
-by_pending tree state word given Nothing e = visible (offered tree state.place (full_offer state.escaped) word given) e
+    ++ offered tree state.position (offer_by tree.node.arguments state.position state.escaped pending) word given) ≡ true
+    → AreShown (finished_with pending word given.opened (offered tree state.position (offer_by tree.node.arguments state.position state.escaped pending) word given))
+by_pending tree state word given Nothing e = visible (offered tree state.position (full_offer state.escaped) word given) e
 by_pending tree state word given (PositionalRun count) e =
-    visible (offered tree state.place (offer_by tree.node.arguments state.place state.escaped (PositionalRun count)) word given) e
-by_pending tree state word given PlaceMoved e =
-    visible (offered tree state.place (offer_by tree.node.arguments state.place state.escaped PlaceMoved) word given) e
+    visible (offered tree state.position (offer_by tree.node.arguments state.position state.escaped (PositionalRun count)) word given) e
+by_pending tree state word given PositionMoved e =
+    visible (offered tree state.position (offer_by tree.node.arguments state.position state.escaped PositionMoved) word given) e
 by_pending tree state word given (OptionOpen option count) e =
-    beside_option tree state.place state.escaped word given (values option word given.opened) (nat_le (least option) count) e
+    beside_option tree state.position state.escaped word given (values option word given.opened) (nat_le (least option) count) e
 
 pub shows_visible : (tree : Tree) (state : State) (word : List ℕ) (given : Given) (found : Candidates)
     → found ≡ answer tree state word given → ShowsVisible tree state word given found

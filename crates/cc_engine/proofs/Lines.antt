@@ -35,21 +35,21 @@ with_laws lent root tree state words index found valid line only visible offers 
 }
 
 -- a line over the words before the index, and what is offered at its end for the word there
-pub completes : (lent : Lent) (root top : Tree) (node place : Tree) (state : State) (words before : List (List ℕ)) (index : ℕ)
+pub completes : (lent : Lent) (root top : Tree) (node position : Tree) (state : State) (words before : List (List ℕ)) (index : ℕ)
     (word : List ℕ) (found : List CompletionCandidate)
     → IsUtf8 (get_or words index [])
-    → top ≡ root → node ≡ place → before ≡ words_before root.node words index → word ≡ get_or words index []
-    → IsLine top before place state → IsOnlyLine top before place state
-    → (HasNoHiddenAlias top before → place ≡ visible_end top before) → Offers lent node state word found
+    → top ≡ root → node ≡ position → before ≡ words_before root.node words index → word ≡ get_or words index []
+    → IsLine top before position state → IsOnlyLine top before position state
+    → (HasNoHiddenAlias top before → position ≡ visible_end top before) → Offers lent node state word found
     → Completes lent root words index found
-completes lent root top node place state words before index word found valid is_root is_place is_before is_word line only visible offered =
+completes lent root top node position state words before index word found valid is_root is_position is_before is_word line only visible offered =
     with_laws lent root node state words index found valid
     (subst (λ r. IsLine r (words_before root.node words index) node state) is_root
-    (subst (λ b. IsLine top b node state) is_before (subst (λ n. IsLine top before n state) (sym is_place) line)))
+    (subst (λ b. IsLine top b node state) is_before (subst (λ n. IsLine top before n state) (sym is_position) line)))
     (subst (λ r. IsOnlyLine r (words_before root.node words index) node state) is_root
-    (subst (λ b. IsOnlyLine top b node state) is_before (subst (λ n. IsOnlyLine top before n state) (sym is_place) only)))
+    (subst (λ b. IsOnlyLine top b node state) is_before (subst (λ n. IsOnlyLine top before n state) (sym is_position) only)))
     (subst (λ r. EndsVisibly r (words_before root.node words index) node) is_root
-    (subst (λ b. EndsVisibly top b node) is_before (subst (λ n. EndsVisibly top before n) (sym is_place) visible)))
+    (subst (λ b. EndsVisibly top b node) is_before (subst (λ n. EndsVisibly top before n) (sym is_position) visible)))
     (subst (λ w. Offers lent node state w found) is_word offered)
 
 -- the same of words that are equal

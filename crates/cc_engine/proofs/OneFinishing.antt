@@ -5,10 +5,10 @@ use Rattle.std.specs.Prelude.{Bool, true, false, Option, Some, None, nat_le, if�
 use Rattle.cc_arg.specs.declared.parts.ArgParts.{ArgParts as Arg}
 use Rattle.cc_candidates.specs.declared.candidate.CompletionCandidate.{CompletionCandidate}
 use Rattle.cc_command.specs.Tree.{Tree}
-use Rattle.cc_gather.specs.Finished.{finished, ShareNone}
-use Rattle.cc_gather.proofs.Law.{finished_after}
+use Rattle.cc_gather.specs.Finished.{finish, ShareNone}
+use Rattle.cc_gather.proofs.Law.{finish_after}
 use Rattle.cc_walk.specs.declared.state.Pending.{Pending}
-use Rattle.cc_walk.specs.declared.state.Pending.TheVariants.{Nothing, OptionOpen, PositionalRun, PlaceMoved}
+use Rattle.cc_walk.specs.declared.state.Pending.TheVariants.{Nothing, OptionOpen, PositionalRun, PositionMoved}
 use Rattle.cc_walk.specs.declared.state.State.{State}
 use Rattle.cc_walk.specs.Lookup.{positional_at}
 use Rattle.cc_engine.specs.Completion.{FinishesOnce, Given, answer, finished_with, offered, opened_values, positional_values}
@@ -21,30 +21,30 @@ no_values None word given = refl
 no_values (Some argument) word given = refl
 
 -- an empty offer is empty
-pub nothing_offered : (tree : Tree) (place : ℕ) (word : List ℕ) (given : Given) → offered tree place no_offer word given ≡ []
-nothing_offered tree place word given =
-    append-nil (positional_values (positional_at tree.node.arguments place) None word given.positional)
-    ∙ no_values (positional_at tree.node.arguments place) word given.positional
+pub nothing_offered : (tree : Tree) (position : ℕ) (word : List ℕ) (given : Given) → offered tree position no_offer word given ≡ []
+nothing_offered tree position word given =
+    append-nil (positional_values (positional_at tree.node.arguments position) None word given.positional)
+    ∙ no_values (positional_at tree.node.arguments position) word given.positional
 
 -- beside an open option, which has enough values or has too few
-beside_option : (tree : Tree) (place : ℕ) (escaped : Bool) (word : List ℕ) (given : Given) (opened : List CompletionCandidate) (enough : Bool)
-    → ShareNone opened (offered tree place (if enough then full_offer escaped else no_offer) word given)
-    → (if enough then finished (opened ++ finished (offered tree place (if enough then full_offer escaped else no_offer) word given)) else finished opened)
-    ≡ finished (opened ++ offered tree place (if enough then full_offer escaped else no_offer) word given)
-beside_option tree place escaped word given opened true apart = finished_after opened (offered tree place (full_offer escaped) word given) apart
-beside_option tree place escaped word given opened false apart =
-    ap finished (sym (append-nil opened)) ∙ ap (λ rest. finished (opened ++ rest)) (sym (nothing_offered tree place word given))
+beside_option : (tree : Tree) (position : ℕ) (escaped : Bool) (word : List ℕ) (given : Given) (opened : List CompletionCandidate) (enough : Bool)
+    → ShareNone opened (offered tree position (if enough then full_offer escaped else no_offer) word given)
+    → (if enough then finish (opened ++ finish (offered tree position (if enough then full_offer escaped else no_offer) word given)) else finish opened)
+    ≡ finish (opened ++ offered tree position (if enough then full_offer escaped else no_offer) word given)
+beside_option tree position escaped word given opened true apart = finish_after opened (offered tree position (full_offer escaped) word given) apart
+beside_option tree position escaped word given opened false apart =
+    ap finish (sym (append-nil opened)) ∙ ap (λ rest. finish (opened ++ rest)) (sym (nothing_offered tree position word given))
 
 -- after the words before it, whatever is open
 by_pending : (tree : Tree) (state : State) (word : List ℕ) (given : Given) (pending : Pending)
-    → ShareNone (opened_values pending word given.opened) (offered tree state.place (offer_by tree.node.arguments state.place state.escaped pending) word given)
-    → finished_with pending word given.opened (offered tree state.place (offer_by tree.node.arguments state.place state.escaped pending) word given)
-    ≡ finished (opened_values pending word given.opened ++ offered tree state.place (offer_by tree.node.arguments state.place state.escaped pending) word given)
+    → ShareNone (opened_values pending word given.opened) (offered tree state.position (offer_by tree.node.arguments state.position state.escaped pending) word given)
+    → finished_with pending word given.opened (offered tree state.position (offer_by tree.node.arguments state.position state.escaped pending) word given)
+    ≡ finish (opened_values pending word given.opened ++ offered tree state.position (offer_by tree.node.arguments state.position state.escaped pending) word given)
 by_pending tree state word given Nothing apart = refl
 by_pending tree state word given (PositionalRun count) apart = refl
-by_pending tree state word given PlaceMoved apart = refl
+by_pending tree state word given PositionMoved apart = refl
 by_pending tree state word given (OptionOpen option count) apart =
-    beside_option tree state.place state.escaped word given (values option word given.opened) (nat_le (least option) count) apart
+    beside_option tree state.position state.escaped word given (values option word given.opened) (nat_le (least option) count) apart
 
 pub finishes_once : (tree : Tree) (state : State) (word : List ℕ) (given : Given) (found : List CompletionCandidate)
     → found ≡ answer tree state word given → FinishesOnce tree state word given found

@@ -12,8 +12,8 @@ use Rattle.cc_candidates.specs.declared.numbers.SubcommandCandidates.{Subcommand
 use Rattle.cc_command.specs.declared.node.Node.{Node}
 use Rattle.cc_command.specs.Tree.{Tree}
 use Rattle.cc_gather.specs.Children.{subcommand_candidates}
-use Rattle.cc_gather.specs.Finished.{finished, is_shown, AreShown, ShareNone}
-use Rattle.cc_gather.specs.Rows.{Row, Listed, ValuesOf, prefixed, row_of}
+use Rattle.cc_gather.specs.Finished.{finish, is_shown, AreShown, ShareNone}
+use Rattle.cc_gather.specs.Rows.{Row, Listed, ValuesOf, with_prefix, row_of}
 use Rattle.cc_values.specs.Parts.{part}
 use Rattle.cc_values.specs.Values.{Allows, Lent, Question, nothing, candidates, completer, paths, question, values}
 use Rattle.cc_walk.specs.declared.state.Pending.{Pending}
@@ -72,7 +72,7 @@ row_question (ValuesOf asked) =
 abbrev pub row_candidates : Row → List CompletionCandidate → List CompletionCandidate
 row_candidates (Listed found) given = found
 row_candidates (ValuesOf asked) given =
-    map (prefixed asked.before) (values asked.argument asked.text given)
+    map (with_prefix asked.before) (values asked.argument asked.text given)
 
 -- THE OPEN OPTION
 
@@ -108,9 +108,9 @@ pub record AreAllowed (lent : Lent) (asked : Questions) (given : Given) : Type 0
 
 -- what the offered lists ask
 abbrev pub offer_questions : Tree → ℕ → Offer → Pending → List ℕ → Questions
-offer_questions tree place offer pending word = record {
+offer_questions tree position offer pending word = record {
   children = children_question offer.children tree.node;
-  positional = positional_question (positional_at tree.node.arguments place) offer.value word;
+  positional = positional_question (positional_at tree.node.arguments position) offer.value word;
   within = row_question (offered_row offer.options tree.node.arguments word);
   opened = open_question pending word;
 }
@@ -118,15 +118,15 @@ offer_questions tree place offer pending word = record {
 -- what the word at a node asks, where the words before it lead to this state
 abbrev pub questions : Tree → State → List ℕ → Questions
 questions tree state word =
-    offer_questions tree state.place
-    (offer_by tree.node.arguments state.place state.escaped state.pending) state.pending word
+    offer_questions tree state.position
+    (offer_by tree.node.arguments state.position state.escaped state.pending) state.pending word
 
 -- the offered lists, one after another
 abbrev pub offered : Tree → ℕ → Offer → List ℕ → Given → List CompletionCandidate
-offered tree place offer word given =
+offered tree position offer word given =
     (offered_children offer.children tree word given.children
     ++ positional_values
-    (positional_at tree.node.arguments place) offer.value word given.positional)
+    (positional_at tree.node.arguments position) offer.value word given.positional)
     ++ row_candidates (offered_row offer.options tree.node.arguments word) given.within
 
 -- finished: the values of an option that has too few alone; those of one that may end here, and
@@ -134,15 +134,15 @@ offered tree place offer word given =
 abbrev pub finished_with : Pending → List ℕ → List CompletionCandidate → List CompletionCandidate
     → List CompletionCandidate
 finished_with (OptionOpen option count) word given others =
-    if nat_le (least option) count then finished (values option word given ++ finished others)
-    else finished (values option word given)
-finished_with _ word given others = finished others
+    if nat_le (least option) count then finish (values option word given ++ finish others)
+    else finish (values option word given)
+finished_with _ word given others = finish others
 
 -- what is offered besides the values of an open option
 abbrev pub besides : Tree → State → List ℕ → Given → List CompletionCandidate
 besides tree state word given =
-    offered tree state.place
-    (offer_by tree.node.arguments state.place state.escaped state.pending) word given
+    offered tree state.position
+    (offer_by tree.node.arguments state.position state.escaped state.pending) word given
 
 -- what is offered for the word, where these lists are given
 abbrev pub answer : Tree → State → List ℕ → Given → List CompletionCandidate
@@ -156,18 +156,18 @@ Offers lent tree state word result =
     × (result ≡ answer tree state word given)
 
 -- the lists that may be offered for the word, the values of an open option aside
-pub record AreOffered (lent : Lent) (tree : Tree) (place : ℕ) (offer : Offer) (word : List ℕ)
+pub record AreOffered (lent : Lent) (tree : Tree) (position : ℕ) (offer : Offer) (word : List ℕ)
     (found : List CompletionCandidate) : Type 0 where
   pub children : List CompletionCandidate
   pub children_given : Allows lent (children_question offer.children tree.node) children
   pub positional : List CompletionCandidate
   pub positional_given : Allows lent
-      (positional_question (positional_at tree.node.arguments place) offer.value word) positional
+      (positional_question (positional_at tree.node.arguments position) offer.value word) positional
   pub within : List CompletionCandidate
   pub within_given : Allows lent
       (row_question (offered_row offer.options tree.node.arguments word)) within
   pub is : found ≡ (offered_children offer.children tree word children
-      ++ positional_values (positional_at tree.node.arguments place) offer.value word positional)
+      ++ positional_values (positional_at tree.node.arguments position) offer.value word positional)
       ++ row_candidates (offered_row offer.options tree.node.arguments word) within
 
 -- WHAT IS SO OF AN ANSWER
@@ -186,7 +186,7 @@ all_gathered tree state word given =
 abbrev pub FinishesOnce : Tree → State → List ℕ → Given → List CompletionCandidate → Type 0
 FinishesOnce tree state word given result =
     ShareNone (opened_values state.pending word given.opened) (besides tree state word given)
-    → result ≡ finished (all_gathered tree state word given)
+    → result ≡ finish (all_gathered tree state word given)
 
 -- where a visible candidate is gathered, no hidden one is in the result
 abbrev pub ShowsVisible : Tree → State → List ℕ → Given → List CompletionCandidate → Type 0
@@ -201,9 +201,9 @@ told _ found = []
 
 -- all that is made of the answers of completers and of the folder, where these lists are offered
 abbrev pub told_by_offer : Tree → ℕ → Offer → Pending → List ℕ → Given → List CompletionCandidate
-told_by_offer tree place offer pending word given =
-    told (positional_question (positional_at tree.node.arguments place) offer.value word)
-    (positional_values (positional_at tree.node.arguments place) offer.value word given.positional)
+told_by_offer tree position offer pending word given =
+    told (positional_question (positional_at tree.node.arguments position) offer.value word)
+    (positional_values (positional_at tree.node.arguments position) offer.value word given.positional)
     ++ (told (row_question (offered_row offer.options tree.node.arguments word))
     (row_candidates (offered_row offer.options tree.node.arguments word) given.within)
     ++ told (open_question pending word) (opened_values pending word given.opened))
@@ -211,8 +211,8 @@ told_by_offer tree place offer pending word given =
 -- the same for the word at a node, where the words before it lead to this state
 abbrev pub told_candidates : Tree → State → List ℕ → Given → List CompletionCandidate
 told_candidates tree state word given =
-    told_by_offer tree state.place
-    (offer_by tree.node.arguments state.place state.escaped state.pending) state.pending word given
+    told_by_offer tree state.position
+    (offer_by tree.node.arguments state.position state.escaped state.pending) state.pending word given
 
 -- each candidate of the result begins with the word, or is made of the answer of a completer or of
 -- the folder
@@ -223,7 +223,7 @@ BeginsOrIsTold tree state word given result =
 
 -- THE WORDS
 
--- how many words stand before those of the command: the program's name
+-- how many words are before those of the command: the program's name
 abbrev pub names_before : Node → ℕ
 names_before node = if node.no_binary_name then 0 else 1
 

@@ -3,7 +3,7 @@ use Rattle.std.specs.Prelude.{ℕ, List, Bool, false, true, not, ◌&&◌, nat_l
 use Rattle.cc_arg.specs.declared.parts.ArgParts.{ArgParts as Arg}
 use Rattle.cc_arg.specs.Arguments.{range_of}
 use Rattle.cc_walk.specs.declared.state.Pending.{Pending}
-use Rattle.cc_walk.specs.declared.state.Pending.TheVariants.{Nothing, OptionOpen, PositionalRun, PlaceMoved}
+use Rattle.cc_walk.specs.declared.state.Pending.TheVariants.{Nothing, OptionOpen, PositionalRun, PositionMoved}
 use Rattle.cc_walk.specs.Lookup.{positional_at}
 use Rattle.cc_engine.specs.declared.offer.Offer.{Offer}
 
@@ -29,13 +29,13 @@ full_offer escaped = record { children = true; value = Some 0; options = not esc
 -- first value of the next one alone; beside the values of an open option all that is offered
 -- without one, where the option has enough values.
 abbrev pub offer_by : List Arg → ℕ → Bool → Pending → Offer
-offer_by arguments place escaped Nothing = full_offer escaped
-offer_by arguments place escaped (PositionalRun count) = record {
+offer_by arguments position escaped Nothing = full_offer escaped
+offer_by arguments position escaped (PositionalRun count) = record {
   children = false;
   value = Some count;
-  options = not escaped && has_enough (positional_at arguments place) count;
+  options = not escaped && has_enough (positional_at arguments position) count;
 }
-offer_by arguments place escaped PlaceMoved =
+offer_by arguments position escaped PositionMoved =
     record { children = false; value = Some 0; options = false }
-offer_by arguments place escaped (OptionOpen option count) =
+offer_by arguments position escaped (OptionOpen option count) =
     if nat_le (least option) count then full_offer escaped else no_offer

@@ -1,7 +1,7 @@
 //! The list that is offered for a word.
 
 ghost use Rattle.std.specs.Prelude.{◌≡◌, ◌++◌, nat_le, IfOk, if◌then◌else◌};
-ghost use Rattle.cc_gather.specs.Finished.{finished};
+ghost use Rattle.cc_gather.specs.Finished.{finish};
 ghost use Rattle.cc_engine.specs.Offer.{least};
 ghost use Rattle.cc_engine.specs.Completion.{AreOffered, Offers};
 ghost use Rattle.cc_values.specs.Values.{lent_by};
@@ -13,13 +13,13 @@ use cc_candidates::{
     Completers, CompletionCandidate, FnCandidates, FnCompleter, ValueCandidates, ValueCompleter,
 };
 use cc_command::Command;
-use cc_gather::{finished, finished_after};
+use cc_gather::{finish, finish_after};
 use cc_values::{PathSource, arg_values};
 use cc_walk::{Pending, State, positional_at};
 use std::alloc::{AllocError, Global};
 
 /// What is offered for the word at a node, where the words before it lead to this state.
-pub(crate) fn offered<P: PathSource>(
+pub(crate) fn offer_candidates<P: PathSource>(
     alloc: Global,
     command: &Command,
     state: &State<'_>,
@@ -38,18 +38,26 @@ pub(crate) fn offered<P: PathSource>(
         command.now state.now word.now found.items) }
 {
     let offer = Offer::new(command.get_arguments(), state);
-    let others = others(alloc, command, state.place, &offer, word, completers, paths)?;
+    let others = others(
+        alloc,
+        command,
+        state.position,
+        &offer,
+        word,
+        completers,
+        paths,
+    )?;
     let Pending::OptionOpen(option, count) = &state.pending else {
-        let found = finished(alloc, others)?;
+        let found = finish(alloc, others)?;
         return Ok(found);
     };
     let values = arg_values(alloc, option.get(), word, *count, completers, paths)?;
-    let found = finished_values(alloc, option.get(), *count, values, others)?;
+    let found = finish_values(alloc, option.get(), *count, values, others)?;
     Ok(found)
 }
 
 // The values of an open option that has so many, and the others where it may end here.
-fn finished_values(
+fn finish_values(
     alloc: Global,
     option: &Arg,
     count: usize,
@@ -57,13 +65,13 @@ fn finished_values(
     others: Vec<CompletionCandidate>,
 ) -> Result<Vec<CompletionCandidate>, AllocError>
     ensures { IfOk result (λ found. found.items ≡ (if nat_le (least option.now) count
-        then finished (values.items ++ finished others.items) else finished values.items)) }
+        then finish (values.items ++ finish others.items) else finish values.items)) }
 {
     if least(option) <= count {
-        let found = finished_after(alloc, values, others)?;
+        let found = finish_after(alloc, values, others)?;
         return Ok(found);
     }
-    let found = finished(alloc, values)?;
+    let found = finish(alloc, values)?;
     Ok(found)
 }
 
@@ -71,7 +79,7 @@ fn finished_values(
 fn others<P: PathSource>(
     alloc: Global,
     command: &Command,
-    place: usize,
+    position: usize,
     offer: &Offer,
     word: &str,
     completers: &Completers,
@@ -85,11 +93,11 @@ fn others<P: PathSource>(
         completers.now.lists.items
         ⟦<FnCandidates as ValueCandidates>⟧.lists completers.now.list_closures.items
         (P.finds paths.now))
-        command.now place offer.now word.now found.items) }
+        command.now position offer.now word.now found.items) }
 {
     let arguments = command.get_arguments();
     let mut found = children(alloc, offer.children, command, word, completers, paths)?;
-    let positional = positional_at(arguments, place);
+    let positional = positional_at(arguments, position);
     let mut values = positional_values(alloc, positional, offer.value, word, completers, paths)?;
     let mut options = options(alloc, offer.options, arguments, word, completers, paths)?;
     found.append(&mut values)?;

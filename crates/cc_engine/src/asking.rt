@@ -13,7 +13,7 @@ use cc_candidates::{
     Completers, CompletionCandidate, FnCandidates, FnCompleter, ValueCandidates, ValueCompleter,
 };
 use cc_command::Command;
-use cc_gather::{OptionRow, all_prefixed, option_row, subcommand_candidates};
+use cc_gather::{OptionRow, all_with_prefix, option_row, subcommand_candidates};
 use cc_values::{PathSource, arg_values};
 use std::alloc::{AllocError, Global};
 
@@ -131,7 +131,7 @@ pub(crate) fn options<P: PathSource>(
         OptionRow::ValuesOf(asked) => {
             let text = asked.text.as_str();
             let values = arg_values(alloc, asked.argument, text, 0, completers, paths)?;
-            all_prefixed(alloc, values, asked.before.as_str())
+            all_with_prefix(alloc, values, asked.before.as_str())
         }
     }
 }

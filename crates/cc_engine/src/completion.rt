@@ -8,7 +8,7 @@ ghost use Rattle.cc_engine.specs.Paths.{PathsOf};
 ghost use Rattle.cc_gather.specs.Finished.{Differ};
 ghost use Rattle.cc_values.specs.Values.{lent_by};
 
-use crate::answering::offered;
+use crate::answering::offer_candidates;
 use crate::folder_paths::FolderPaths;
 use cc_base::Error;
 use cc_candidates::{
@@ -31,7 +31,7 @@ use std::alloc::{AllocError, Global};
 /// Where a candidate is visible, hidden ones are left out; of several with one id the first stays;
 /// they are in the order of the first of their tag, and by display order within a tag.
 ///
-/// Fails with `NoCompletion` where no word stands at the index, or the program's name does; the
+/// Fails with `NoCompletion` where no word is at the index, or the program's name does; the
 /// command is built all the same. Fails with `Memory`, and the command is then as it was or built.
 pub fn complete<D: Folder>(
     alloc: Global,
@@ -69,7 +69,7 @@ pub fn complete<D: Folder>(
         folder,
         current_dir,
     };
-    let found = completed(alloc, command, words.as_slice(), index, completers, &paths)?;
+    let found = complete_in_range(alloc, command, words.as_slice(), index, completers, &paths)?;
     Ok(found)
 }
 
@@ -90,7 +90,7 @@ fn in_range(command: &Command, count: usize, index: usize) -> bool
 }
 
 // The candidates of a command that is built, for an index in range.
-fn completed<P: PathSource>(
+fn complete_in_range<P: PathSource>(
     alloc: Global,
     command: &Command,
     words: &[String],
@@ -113,7 +113,7 @@ fn completed<P: PathSource>(
     let line = line_of(&flat, words_before(command, words, index));
     let node = flat.command(line.node);
     let word = word_at(words, index);
-    let found = offered(alloc, node, &line.state, word, completers, paths)?;
+    let found = offer_candidates(alloc, node, &line.state, word, completers, paths)?;
     Ok(found)
 }
 

@@ -12,7 +12,7 @@ use cc_walk::{Pending, State, positional_at};
 pub(crate) struct Offer {
     /// Whether the children of the node are offered.
     pub children: bool,
-    /// The number of the value of the positional at the place, where its values are offered.
+    /// The number of the value of the positional at the position, where its values are offered.
     pub value: Option<usize>,
     /// Whether the options of the node are offered.
     pub options: bool,
@@ -21,7 +21,7 @@ pub(crate) struct Offer {
 impl Offer {
     /// What the words leave open at a node with these arguments.
     pub(crate) fn new(arguments: &[Arg], state: &State<'_>) -> Offer
-        ensures { result ≡ offer_by arguments.now state.now.place state.now.escaped
+        ensures { result ≡ offer_by arguments.now state.now.position state.now.escaped
             state.now.pending }
     {
         match &state.pending {
@@ -30,9 +30,9 @@ impl Offer {
                 children: false,
                 value: Some(*count),
                 options: !state.escaped
-                    && has_enough(positional_at(arguments, state.place), *count),
+                    && has_enough(positional_at(arguments, state.position), *count),
             },
-            Pending::PlaceMoved => Offer {
+            Pending::PositionMoved => Offer {
                 children: false,
                 value: Some(0),
                 options: false,

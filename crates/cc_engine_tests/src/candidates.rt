@@ -1,7 +1,7 @@
 //! Candidates for the words of a command line.
 
 use crate::fixtures::{COLORED, DELIMITED, HIDDEN, NAMELESS};
-use crate::offered::{found_at, offered};
+use crate::offered::{candidates_for, find_at};
 use cc_base::Error;
 use cc_fixtures::trees::{HYPHENS, TESTED};
 use cc_paths::MemoryFolder;
@@ -9,7 +9,7 @@ use std::process::Abort;
 
 // Fails unless the tree offers these values, each with a space after it.
 fn offers<R: Abort + AllocGlobal>(rt: &R, tree: &str, words: &[&str], wanted: &str) {
-    assert_eq!(rt; offered(rt, tree, words).as_str(), wanted);
+    assert_eq!(rt; candidates_for(rt, tree, words).as_str(), wanted);
 }
 
 #[test]
@@ -82,6 +82,6 @@ fn no_word_at_the_index(rt: HostRuntime) {
 // Fails unless there is nothing to complete at the index.
 fn refuses<R: Abort + AllocGlobal>(rt: &R, words: &[&str], index: usize) {
     let folder = MemoryFolder::new(&[], &[]);
-    let found = found_at(rt.alloc(), TESTED, words, index, None, &folder);
+    let found = find_at(rt.alloc(), TESTED, words, index, None, &folder);
     assert!(rt; matches!(found, Err(Error::NoCompletion)));
 }

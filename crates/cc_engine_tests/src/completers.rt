@@ -1,6 +1,6 @@
 //! Values and names that are lent.
 
-use crate::lent::{found_with_lent, found_without_memory, two_completers};
+use crate::lent::{find_with_lent, find_without_memory, two_completers};
 use crate::numbered::{
     with_completer_and_list, with_delimiter, with_list, with_pair, with_positional, with_programs,
     with_two_options,
@@ -24,7 +24,7 @@ fn offers<R: Abort + AllocGlobal>(
     wanted: &str,
 ) {
     let mut command = command.expect(rt, "no command");
-    let found = found_with_lent(rt.alloc(), &mut command, words);
+    let found = find_with_lent(rt.alloc(), &mut command, words);
     drop(command);
     assert_eq!(rt; text_of(rt, found).as_str(), wanted);
 }
@@ -152,7 +152,7 @@ fn a_number_past_two_completers_has_no_candidates(rt: HostRuntime) {
 fn runs_out<R: Abort + AllocGlobal>(rt: &R, command: Result<Command, Error>) {
     let mut command = command.expect(rt, "no command");
     let words = ["app", ""];
-    let found = found_without_memory(rt.alloc(), &mut command, words.as_slice());
+    let found = find_without_memory(rt.alloc(), &mut command, words.as_slice());
     assert!(rt; matches!(found, Err(Error::Memory)) && command.is_built());
     drop(command);
 }

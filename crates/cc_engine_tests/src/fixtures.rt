@@ -13,7 +13,7 @@ pub(crate) const HIDDEN: &str = r#"{"name": "app", "subcommands": [
     {"name": "test", "aliases": ["tst"], "args": [
         {"id": "deep", "long": "deep", "action": "SetTrue"}]}]}"#;
 
-/// `app`, before whose words no name of a program stands, with a child `test` that has a flag
+/// `app`, before whose words no name of a program is, with a child `test` that has a flag
 /// `--deep`.
 pub(crate) const NAMELESS: &str = r#"{"name": "app", "no_binary_name": true, "subcommands": [
     {"name": "test", "args": [

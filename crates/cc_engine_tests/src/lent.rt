@@ -2,7 +2,7 @@
 
 ghost use Rattle.std.specs.Prelude.{⊤};
 
-use crate::offered::found_last;
+use crate::offered::find_last;
 use cc_base::Error;
 use cc_candidates::{
     Completers, CompletionCandidate, FnCandidates, FnCompleter, ValueCandidates, ValueCompleter,
@@ -61,7 +61,7 @@ impl ValueCandidates for Programs {
     ghost lists = { λ _ _. ⊤ };
 
     fn candidates(&self, alloc: Global) -> Result<Vec<CompletionCandidate>, AllocError> {
-        named(alloc, &["tee", "tar", "cat", "tee"])
+        candidates_named(alloc, &["tee", "tar", "cat", "tee"])
     }
 }
 
@@ -103,24 +103,27 @@ pub(crate) fn two_completers(alloc: Global) -> Result<Completers, AllocError> {
 /// What the command offers for the last of the words, with the completers `Auto` and `Asked` and a
 /// closure that completes with the text twice, and with the list `Programs` and a closure that lists
 /// `left` and `right`.
-pub(crate) fn found_with_lent(
+pub(crate) fn find_with_lent(
     alloc: Global,
     command: &mut Command,
     words: &[&str],
 ) -> Result<Vec<CompletionCandidate>, Error> {
     let twice = Box::new(alloc, |alloc: Global, text: &str| twice(alloc, text))?;
-    let sides = Box::new(alloc, |alloc: Global| named(alloc, &["left", "right"]))?;
+    let sides = Box::new(
+        alloc,
+        |alloc: Global| candidates_named(alloc, &["left", "right"]),
+    )?;
     let mut completers = Vec::new(alloc);
     completers.push(FnCompleter::new(twice))?;
     let mut lists = Vec::new(alloc);
     lists.push(FnCandidates::new(sides))?;
     let lent = two_completers(alloc)?.with_closures(completers, lists);
     let folder = MemoryFolder::new(&[], &[]);
-    found_last(alloc, command, words, None, &folder, &lent)
+    find_last(alloc, command, words, None, &folder, &lent)
 }
 
 /// The same with a completer and a list that are out of memory.
-pub(crate) fn found_without_memory(
+pub(crate) fn find_without_memory(
     alloc: Global,
     command: &mut Command,
     words: &[&str],
@@ -131,15 +134,15 @@ pub(crate) fn found_without_memory(
     lists.push(Box::new(alloc, OutOfMemory)?)?;
     let lent = Completers::new(alloc, completers, lists);
     let folder = MemoryFolder::new(&[], &[]);
-    found_last(alloc, command, words, None, &folder, &lent)
+    find_last(alloc, command, words, None, &folder, &lent)
 }
 
 fn twice(alloc: Global, text: &str) -> Result<Vec<CompletionCandidate>, AllocError> {
     let value = format!(in alloc; "{text}{text}")?;
-    named(alloc, &[value.as_str()])
+    candidates_named(alloc, &[value.as_str()])
 }
 
-fn named(alloc: Global, names: &[&str]) -> Result<Vec<CompletionCandidate>, AllocError> {
+fn candidates_named(alloc: Global, names: &[&str]) -> Result<Vec<CompletionCandidate>, AllocError> {
     let mut found = Vec::new(alloc);
     for name in names {
         found.push(CompletionCandidate::new(String::from_str(alloc, name)?))?;

@@ -3,7 +3,7 @@
 ghost use Rattle.std.specs.Prelude.{⊤};
 
 use crate::numbered::with_positional;
-use crate::offered::{found_last, text_of};
+use crate::offered::{find_last, text_of};
 use crate::paths::{other, work};
 use cc_arg::ValueRange;
 use cc_base::Error;
@@ -45,7 +45,7 @@ fn system_completer(rt: &HostRuntime) -> Result<Completers, Error> {
 }
 
 // What an argument of this completer offers for a word, where the paths of hints have no folder.
-fn found(
+fn find(
     alloc: Global,
     lent: Result<Completers, Error>,
     completer: usize,
@@ -55,7 +55,7 @@ fn found(
     let mut command = with_positional(alloc, completer, ValueRange::new(1, 1))?;
     let words = ["app", word];
     let folder = MemoryFolder::new(&[], &[]);
-    let found = found_last(alloc, &mut command, words.as_slice(), None, &folder, &lent);
+    let found = find_last(alloc, &mut command, words.as_slice(), None, &folder, &lent);
     drop(command);
     drop(lent);
     found
@@ -64,7 +64,7 @@ fn found(
 // Fails unless an argument of this completer offers these values, each with a space after it.
 fn offers<R: Abort + AllocGlobal>(rt: &R, completer: usize, word: &str, wanted: &str) {
     let lent = path_completers(rt.alloc());
-    let shown = text_of(rt, found(rt.alloc(), lent, completer, word));
+    let shown = text_of(rt, find(rt.alloc(), lent, completer, word));
     assert_eq!(rt; shown.as_str(), wanted);
 }
 
@@ -83,6 +83,6 @@ fn a_lent_completer_asks_the_callers_test(rt: HostRuntime) {
 
 #[test]
 fn a_completer_of_the_systems_paths_is_lent(rt: HostRuntime) {
-    let found = found(rt.alloc(), system_completer(&rt), 0, "/dev/nul");
+    let found = find(rt.alloc(), system_completer(&rt), 0, "/dev/nul");
     assert_eq!(rt; text_of(&rt, found).as_str(), "/dev/null ");
 }

@@ -1,7 +1,7 @@
 //! Words that nobody types, many words, long words, and a deep tree.
 
 use crate::fixtures::COLORED;
-use crate::offered::{offered, text_of};
+use crate::offered::{candidates_for, text_of};
 use cc_base::Error;
 use cc_candidates::Completers;
 use cc_command::Command;
@@ -16,7 +16,10 @@ const ALL: &str = "--color --verbose --help ";
 
 // Fails unless `app` offers these values for the word, each with a space after it.
 fn offers<R: Abort + AllocGlobal>(rt: &R, word: &str, wanted: &str) {
-    assert_eq!(rt; offered(rt, COLORED, &["app", word]).as_str(), wanted);
+    assert_eq!(rt;
+        candidates_for(rt, COLORED, &["app", word]).as_str(),
+        wanted
+    );
 }
 
 // Fails unless the command offers these values for the last of the words, each with a space after
@@ -51,12 +54,12 @@ fn hyphens_and_what_no_option_is(rt: HostRuntime) {
 #[test]
 fn what_no_option_is_leaves_nothing_open(rt: HostRuntime) {
     let words = ["app", "", "-", "---x", "-=", "--=x", "-é", ""];
-    let shown = offered(&rt, COLORED, words.as_slice());
+    let shown = candidates_for(&rt, COLORED, words.as_slice());
     assert_eq!(rt; shown.as_str(), ALL);
 }
 
 // The program, this word so many times, and an empty word.
-fn repeated(alloc: Global, word: &str, times: usize) -> Result<Vec<String>, AllocError> {
+fn repeat(alloc: Global, word: &str, times: usize) -> Result<Vec<String>, AllocError> {
     let mut words = Vec::new(alloc);
     words.push(String::from_str(alloc, "app")?)?;
     for _ in 0..times {
@@ -69,9 +72,9 @@ fn repeated(alloc: Global, word: &str, times: usize) -> Result<Vec<String>, Allo
 #[test]
 fn a_thousand_words(rt: HostRuntime) {
     let alloc = rt.alloc();
-    offers_for(&rt, read(alloc, COLORED), repeated(alloc, "x", 1000), ALL);
-    offers_for(&rt, read(alloc, COLORED), repeated(alloc, "-v", 1000), ALL);
-    offers_for(&rt, read(alloc, COLORED), repeated(alloc, "--", 1000), "");
+    offers_for(&rt, read(alloc, COLORED), repeat(alloc, "x", 1000), ALL);
+    offers_for(&rt, read(alloc, COLORED), repeat(alloc, "-v", 1000), ALL);
+    offers_for(&rt, read(alloc, COLORED), repeat(alloc, "--", 1000), "");
 }
 
 // A megabyte of `v`.
@@ -92,7 +95,7 @@ fn a_word_of_a_megabyte(rt: HostRuntime) {
     offers_for(
         &rt,
         read(alloc, COLORED),
-        repeated(alloc, flags.as_str(), 1),
+        repeat(alloc, flags.as_str(), 1),
         ALL,
     );
 }

@@ -5,20 +5,20 @@ use cc_candidates::{Completers, CompletionCandidate};
 use cc_command::Command;
 use cc_engine::complete;
 use cc_fixtures::trees::read;
-use cc_fixtures::words::copies;
+use cc_fixtures::words::to_strings;
 use cc_paths::{Folder, MemoryFolder};
 use std::alloc::{AllocError, Global};
 use std::process::Abort;
 
 /// The values that the command of a tree file offers for the last of the words, each with a space
 /// after it.
-pub(crate) fn offered<R: Abort + AllocGlobal>(rt: &R, tree: &str, words: &[&str]) -> String {
+pub(crate) fn candidates_for<R: Abort + AllocGlobal>(rt: &R, tree: &str, words: &[&str]) -> String {
     let folder = MemoryFolder::new(&[], &[]);
-    offered_in(rt, tree, words, None, &folder)
+    candidates_in(rt, tree, words, None, &folder)
 }
 
 /// The same where the program runs in a folder.
-pub(crate) fn offered_in<R: Abort + AllocGlobal, D: Folder>(
+pub(crate) fn candidates_in<R: Abort + AllocGlobal, D: Folder>(
     rt: &R,
     tree: &str,
     words: &[&str],
@@ -26,12 +26,12 @@ pub(crate) fn offered_in<R: Abort + AllocGlobal, D: Folder>(
     folder: &D,
 ) -> String {
     let index = words.len().saturating_sub(1);
-    let found = found_at(rt.alloc(), tree, words, index, current_dir, folder);
+    let found = find_at(rt.alloc(), tree, words, index, current_dir, folder);
     text_of(rt, found)
 }
 
 /// What is found for the word at an index.
-pub(crate) fn found_at<D: Folder>(
+pub(crate) fn find_at<D: Folder>(
     alloc: Global,
     tree: &str,
     words: &[&str],
@@ -40,7 +40,7 @@ pub(crate) fn found_at<D: Folder>(
     folder: &D,
 ) -> Result<Vec<CompletionCandidate>, Error> {
     let mut command = read(alloc, tree)?;
-    let words = copies(alloc, words)?;
+    let words = to_strings(alloc, words)?;
     let lent = Completers::new(alloc, Vec::new(alloc), Vec::new(alloc));
     let found = complete(
         alloc,
@@ -56,7 +56,7 @@ pub(crate) fn found_at<D: Folder>(
 }
 
 /// What a command offers for the last of the words.
-pub(crate) fn found_last<D: Folder>(
+pub(crate) fn find_last<D: Folder>(
     alloc: Global,
     command: &mut Command,
     words: &[&str],
@@ -65,7 +65,7 @@ pub(crate) fn found_last<D: Folder>(
     lent: &Completers,
 ) -> Result<Vec<CompletionCandidate>, Error> {
     let index = words.len().saturating_sub(1);
-    let words = copies(alloc, words)?;
+    let words = to_strings(alloc, words)?;
     complete(alloc, command, words, index, current_dir, folder, lent)
 }
 

@@ -17,7 +17,7 @@ fn some(alloc: Global, text: &str) -> Result<Option<String>, AllocError> {
 // Candidates in order, all after the plain one, from which each differs in one field: the value
 // counts first, then the help, the id, the tag, the display order, and whether the candidate is
 // hidden.
-fn rising(alloc: Global) -> Result<Vec<CompletionCandidate>, AllocError> {
+fn with_rising_orders(alloc: Global) -> Result<Vec<CompletionCandidate>, AllocError> {
     let mut rising = Vec::new(alloc);
     rising.push(plain(alloc)?.hide(true))?;
     rising.push(plain(alloc)?.display_order(Some(0)))?;
@@ -30,7 +30,7 @@ fn rising(alloc: Global) -> Result<Vec<CompletionCandidate>, AllocError> {
 
 #[test]
 fn each_field_counts_in_turn(rt: HostRuntime) {
-    let rising = rising(rt.alloc()).expect(&rt, "no candidates");
+    let rising = with_rising_orders(rt.alloc()).expect(&rt, "no candidates");
     let mut last = plain(rt.alloc()).expect(&rt, "no candidate");
     for candidate in rising {
         assert!(rt; last < candidate && last != candidate);
@@ -48,11 +48,11 @@ fn candidates_of_equal_fields_are_equal(rt: HostRuntime) {
 #[test]
 fn a_prefix_goes_before_the_value(rt: HostRuntime) {
     let candidate = plain(rt.alloc()).expect(&rt, "no candidate").hide(true);
-    let prefixed = candidate
+    let with_prefix = candidate
         .add_prefix(rt.alloc(), "--o=")
         .expect(&rt, "no candidate");
-    assert_eq!(rt; prefixed.get_value(), "--o=a");
-    assert!(rt; prefixed.is_hide_set());
+    assert_eq!(rt; with_prefix.get_value(), "--o=a");
+    assert!(rt; with_prefix.is_hide_set());
 }
 
 #[test]

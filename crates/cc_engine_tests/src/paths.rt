@@ -1,7 +1,7 @@
 //! Paths of value hints.
 
 use crate::fixtures::{DIR, EXECUTABLE, OTHER};
-use crate::offered::{found_last, offered_in};
+use crate::offered::{candidates_in, find_last};
 use cc_base::Error;
 use cc_candidates::Completers;
 use cc_fixtures::trees::{ANY, FILE, read};
@@ -33,7 +33,7 @@ pub(crate) fn other() -> MemoryFolder {
 
 // Fails unless the tree offers these paths for the word in `/w`, each with a space after it.
 fn offers<R: Abort + AllocGlobal>(rt: &R, tree: &str, word: &str, wanted: &str) {
-    let shown = offered_in(rt, tree, &["app", word], Some("/w"), &work());
+    let shown = candidates_in(rt, tree, &["app", word], Some("/w"), &work());
     assert_eq!(rt; shown.as_str(), wanted);
 }
 
@@ -47,7 +47,7 @@ fn paths_that_are_not_hidden_in_order(rt: HostRuntime) {
 
 #[test]
 fn files_and_folders_are_sorted_as_one_list(rt: HostRuntime) {
-    let shown = offered_in(&rt, FILE, &["app", ""], Some("/o"), &other());
+    let shown = candidates_in(&rt, FILE, &["app", ""], Some("/o"), &other());
     assert_eq!(rt; shown.as_str(), "bar foo/ foobar ");
 }
 
@@ -58,13 +58,13 @@ fn another_hint_names_no_paths(rt: HostRuntime) {
 
 #[test]
 fn a_dot_after_a_slash_is_taken_off(rt: HostRuntime) {
-    let shown = offered_in(&rt, ANY, &["app", "foo/."], Some("/o"), &other());
+    let shown = candidates_in(&rt, ANY, &["app", "foo/."], Some("/o"), &other());
     assert_eq!(rt; shown.as_str(), "foo/ foobar ");
 }
 
 #[test]
 fn a_relative_word_needs_a_current_folder(rt: HostRuntime) {
-    let shown = offered_in(&rt, ANY, &["app", "s"], None, &work());
+    let shown = candidates_in(&rt, ANY, &["app", "s"], None, &work());
     assert_eq!(rt; shown.as_str(), "");
 }
 
@@ -75,7 +75,7 @@ fn a_folder_that_is_out_of_memory(rt: HostRuntime) {
     let lent = Completers::new(alloc, Vec::new(alloc), Vec::new(alloc));
     let mut command = read(rt.alloc(), FILE).expect(&rt, "no command");
     let words = ["app", ""];
-    let found = found_last(
+    let found = find_last(
         rt.alloc(),
         &mut command,
         words.as_slice(),

@@ -18,7 +18,7 @@ fn kinds(alloc: Global) -> Result<Vec<PossibleValue>, AllocError> {
 }
 
 // A `?` before a hidden candidate, its value, its help in brackets, and a space.
-fn shown(alloc: Global, found: Vec<CompletionCandidate>) -> Result<String, AllocError> {
+fn values_text(alloc: Global, found: Vec<CompletionCandidate>) -> Result<String, AllocError> {
     let mut text = String::new(alloc);
     for candidate in found {
         let mark = if candidate.is_hide_set() { "?" } else { "" };
@@ -37,7 +37,7 @@ fn are<R: Abort + AllocGlobal>(
     found: Result<Vec<CompletionCandidate>, Error>,
     wanted: &str,
 ) {
-    let text = shown(rt.alloc(), found.expect(rt, "no candidates"));
+    let text = values_text(rt.alloc(), found.expect(rt, "no candidates"));
     assert_eq!(rt; text.expect(rt, "no text").as_str(), wanted);
 }
 

@@ -34,6 +34,6 @@ IsIndex (Some text) index = IsNumberOf text index
 
 -- ---- the separator
 
--- what stands between values
+-- what is between values
 abbrev pub separator_of : EnvValues → List ℕ
 separator_of env = unwrap_or (value_of (codes "_CLAP_IFS") env) (codes "\n")

@@ -18,7 +18,7 @@ without_return [] = []
 without_return (byte ∷ []) = elim (byte == carriage_return) [ true ↦ [] | false ↦ byte ∷ [] ]
 without_return (byte ∷ next ∷ line) = byte ∷ without_return (next ∷ line)
 
--- what stands before the first line feed, and before a carriage return right before it; all, where
+-- what is before the first line feed, and before a carriage return right before it; all, where
 -- there is no line feed
 unfoldable pub first_line : List ℕ → List ℕ
 first_line text = elim (cut_at (line_feed ∷ []) text) [
@@ -72,7 +72,7 @@ lines_reply candidates = flat_map candidate_line candidates
 
 -- ---- how they are read
 
--- the pieces of a text between the places of a byte, after the piece that is begun
+-- the pieces of a text between the occurrences of a byte, after the piece that is begun
 unfoldable pub pieces_from : ℕ → List ℕ → List ℕ → List (List ℕ)
 pieces_from separator piece [] = piece ∷ []
 pieces_from separator piece (byte ∷ text) = elim (byte == separator) [
@@ -145,7 +145,7 @@ AreSendable separator candidates =
 
 -- ---- the laws
 
--- a line feed, or a vertical tab, stands between values
+-- a line feed, or a vertical tab, is between values
 abbrev pub IsSeparator : ℕ → Type 0
 IsSeparator byte = (byte ≡ 10) ⊎ (byte ≡ 11)
 

@@ -55,7 +55,7 @@ impl EnvValues {
         number(text)
     }
 
-    /// What stands between the values of a reply: that of `_CLAP_IFS`, else a line feed.
+    /// What is between the values of a reply: that of `_CLAP_IFS`, else a line feed.
     pub fn separator(&self) -> &str
         ensures { result.now ≡ separator_of self.now }
     {

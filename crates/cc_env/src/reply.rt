@@ -72,7 +72,7 @@ fn put_values<W: Sink>(
     Ok(())
 }
 
-// The separator, where a text stands before.
+// The separator, where a text comes before.
 fn separator(between: &str, begun: bool) -> &str
     ensures { result.now ≡ separator between.now begun }
 {
@@ -167,7 +167,7 @@ fn put_tab_help<W: Sink>(help: Option<&str>, sink: &mut W) -> Result<(), ErrorKi
     put_piece(sink, first_line(help).as_bytes())
 }
 
-// What stands before the first line feed, and before a carriage return right before it.
+// What is before the first line feed, and before a carriage return right before it.
 fn first_line(text: &str) -> &str
     ensures { result.now ≡ first_line text.now }
 {

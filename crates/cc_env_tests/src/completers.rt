@@ -95,7 +95,7 @@ fn read_completer(alloc: Global, shell: Builtin, text: &str) -> Result<Option<St
     }
 }
 
-// fish reads what stands between two `"`, and then a word of that.
+// fish reads what is between two `"`, and then a word of that.
 fn read_twice(alloc: Global, text: &str) -> Result<Option<String>, Error> {
     let Some(arguments) = word(fish_double(alloc, text)?) else {
         return Ok(None);

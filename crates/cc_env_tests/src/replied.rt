@@ -5,7 +5,7 @@ use cc_base::{Collected, Error};
 use cc_candidates::Completers;
 use cc_env::EnvValues;
 use cc_fixtures::trees::read;
-use cc_fixtures::words::copies;
+use cc_fixtures::words::to_strings;
 use cc_paths::MemoryFolder;
 use std::alloc::{AllocError, Global};
 use std::process::Abort;
@@ -48,7 +48,7 @@ fn reply<E: EnvCompleter>(
     sink: &mut Collected,
 ) -> Result<(), Error> {
     let mut command = read(alloc, tree)?;
-    let words = copies(alloc, words)?;
+    let words = to_strings(alloc, words)?;
     let values = environment(alloc, index)?;
     let folder = MemoryFolder::new(&[], &[]);
     let lent = Completers::new(alloc, Vec::new(alloc), Vec::new(alloc));

@@ -17,7 +17,7 @@ use Rattle.cc_base.specs.Joined.{separator, joined, joined_after}
 use Rattle.cc_quote.specs.QuotedWord.{line_feeds_as_spaces}
 use Rattle.cc_quote.specs.Escapes.{marked_byte}
 use Rattle.cc_quote.specs.FishQuote.{fish_sign, advance, begins_word, begins_with_word, is_fish_safe, is_double_marked, double_escaped, single_quoted, fish_quoted, fish_quoted_for_eval, fish_help_for_eval_of, fish_escaped}
-use Rattle.cc_quote.specs.FishQuote.FishPlace.{bare, in_double}
+use Rattle.cc_quote.specs.FishQuote.FishState.{bare, in_double}
 use Rattle.cc_quote.specs.FishTokens.{between, in_word, commands_from, fish_commands}
 use Rattle.cc_quote.proofs.FishEscaped.{fish_escaped_composed}
 use Rattle.cc_quote.proofs.FishWords.{safe_sign, safe_bytes, safe_in_double, double_read, single_quoted_read, fish_quoted_read, advance-append}
@@ -46,12 +46,12 @@ kept_escaped (byte ∷ text) h =
 pub kept_read : (text word : List ℕ) → list_all is_kept text ≡ true → advance (Some (in_double word)) text ≡ Some (in_double (word ++ text))
 kept_read text word h = ap (advance (Some (in_double word))) (sym (kept_escaped text h)) ∙ double_read text word
 
--- what stands in `"`
+-- what is in `"`
 pub in_doubles : (inner word : List ℕ) → advance (Some (in_double [])) inner ≡ Some (in_double word) → Spells (ascii.double_quote ∷ (inner ++ ascii.double_quote ∷ [])) word
 unfolding fish_sign
 in_doubles inner word h = record {
   begins = refl;
-  spells = advance-append inner (ascii.double_quote ∷ []) (Some (in_double [])) ∙ ap (λ place. advance place (ascii.double_quote ∷ [])) h;
+  spells = advance-append inner (ascii.double_quote ∷ []) (Some (in_double [])) ∙ ap (λ state. advance state (ascii.double_quote ∷ [])) h;
 }
 
 -- ---- options and their operands
@@ -118,7 +118,7 @@ names_adds argument is =
 
 -- ---- listed values
 
--- a value as it stands after the first reading
+-- a value as it is after the first reading
 abbrev pub value_inner : PossibleValue → List ℕ
 value_inner value = fish_quoted value.name ++ (codes "\\t" ++ single_quoted (line_feeds_as_spaces (unwrap_or value.help [])))
 
@@ -133,17 +133,17 @@ value_once value word =
     let help : List ℕ = single_quoted (line_feeds_as_spaces (unwrap_or value.help [])) in
     ap (advance (Some (in_double word))) (append_assoc (double_escaped (fish_quoted value.name)) (codes "\\t") (double_escaped help))
     ∙ advance-append (double_escaped (fish_quoted value.name)) (codes "\\t" ++ double_escaped help) (Some (in_double word))
-    ∙ ap (λ place. advance place (codes "\\t" ++ double_escaped help)) (double_read (fish_quoted value.name) word)
+    ∙ ap (λ state. advance state (codes "\\t" ++ double_escaped help)) (double_read (fish_quoted value.name) word)
     ∙ tab_once (word ++ fish_quoted value.name) help
     ∙ ap (λ t. Some (in_double t)) (simp append_assoc)
 
--- some lines, where it is told whether a line stands before them
+-- some lines, where it is told whether a line is before them
 abbrev lines_after : Bool → List (List ℕ) → List ℕ
 lines_after begun lines = joined_after (ascii.line_feed ∷ []) begun lines
 
-separator_kept : (begun : Bool) → list_all is_kept (separator (ascii.line_feed ∷ []) begun) ≡ true
-separator_kept true = refl
-separator_kept false = refl
+keep_separator : (begun : Bool) → list_all is_kept (separator (ascii.line_feed ∷ []) begun) ≡ true
+keep_separator true = refl
+keep_separator false = refl
 
 -- the first reading of listed values
 values_once : (values : List PossibleValue) (begun : Bool) (word : List ℕ)
@@ -154,9 +154,9 @@ values_once (value ∷ values) begun word =
     let further : List ℕ = lines_after true (map value_text values) in
     ap (advance (Some (in_double word))) (append_assoc before (value_text value) further)
     ∙ advance-append before (value_text value ++ further) (Some (in_double word))
-    ∙ ap (λ place. advance place (value_text value ++ further)) (kept_read before word (separator_kept begun))
+    ∙ ap (λ state. advance state (value_text value ++ further)) (kept_read before word (keep_separator begun))
     ∙ advance-append (value_text value) further (Some (in_double (word ++ before)))
-    ∙ ap (λ place. advance place further) (value_once value (word ++ before))
+    ∙ ap (λ state. advance state further) (value_once value (word ++ before))
     ∙ values_once values true ((word ++ before) ++ value_inner value)
     ∙ ap (λ t. Some (in_double t)) (simp append_assoc)
 
@@ -180,7 +180,7 @@ value_spelled value =
       begins = quoted_begins value.name (codes "\\t" ++ single_quoted help);
       spells =
           advance-append (fish_quoted value.name) (codes "\\t" ++ single_quoted help) (Some (bare []))
-          ∙ ap (λ place. advance place (codes "\\t" ++ single_quoted help)) (fish_quoted_read value.name [])
+          ∙ ap (λ state. advance state (codes "\\t" ++ single_quoted help)) (fish_quoted_read value.name [])
           ∙ tab_read value.name help
           ∙ ap (λ t. Some (bare t)) (append_assoc value.name (ascii.tab ∷ []) help);
     }

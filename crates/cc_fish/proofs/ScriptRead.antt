@@ -134,7 +134,7 @@ hold_table bin_name visit =
 
 -- the script of a plain tree reads to its tables
 pub reads_back : (root : Tree) → IsTrue (is_plain_tree root) → FishReads root
-reads_back root h = record { tables = records_read root h; covers = paths_cover root h; places = hold_table (full_name root.node) }
+reads_back root h = record { tables = records_read root h; covers = paths_cover root h; states = hold_table (full_name root.node) }
 
 -- where nodes are entered, their records
 pub entered_texts : (bin_name function : List ℕ) (root : Tree) → flat_map (where_entered (visit_text bin_name function)) (path_steps fish_key [] root) ≡ body_text bin_name function root

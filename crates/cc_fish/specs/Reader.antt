@@ -31,7 +31,7 @@ after_beginning (byte ∷ bytes) (first ∷ text) = elim (byte == first) [
   | false ↦ None
 ]
 
--- what stands before an ending of a text; none where the text ends otherwise
+-- what is before an ending of a text; none where the text ends otherwise
 abbrev pub before_ending : List ℕ → List ℕ → Option (List ℕ)
 before_ending ending text = option_map reverse (after_beginning (reverse ending) (reverse text))
 
@@ -88,7 +88,7 @@ condition_from nothing when (piece ∷ pieces) = None
 abbrev pub asked : List ℕ → Condition
 asked function = record { function = function; path = []; excluded = [] }
 
--- the condition from the first piece on: after the function of a path its first name stands, after
+-- the condition from the first piece on: after the function of a path its first name comes, after
 -- that of the root nothing
 abbrev pub condition_of_pieces : List (List ℕ) → Option Condition
 condition_of_pieces [] = None

@@ -16,5 +16,5 @@ use Rattle.cc_fish.specs.Records.{record_path}
 pub record FishReads (root : Tree) : Type 0 where
   pub tables : records (fish_script root) ≡ Some (tables root)
   pub covers : CoversPaths root (path_visits longer_path [] root)
-  pub places : (visit : Keyed (List (List ℕ))) → AllByRecursion
+  pub states : (visit : Keyed (List (List ℕ))) → AllByRecursion
       (λ read. record_path read ≡ visit.key) (table (full_name root.node) visit)

@@ -12,7 +12,7 @@ use Rattle.cc_command.specs.ArgumentLists.{options, flags}
 use Rattle.cc_command.specs.Names.{full_name, visible_names}
 use Rattle.cc_command.specs.Tree.{Forest, none, more, Tree}
 use Rattle.cc_base.specs.Bytes.{tab, dash}
-use Rattle.cc_quote.specs.Escapes.{replaced}
+use Rattle.cc_quote.specs.Escapes.{replace_byte}
 use Rattle.cc_quote.specs.QuotedWord.{line_feeds_as_spaces}
 use Rattle.cc_visits.specs.Visits.{Keyed, path_visits, longer_path}
 use Rattle.cc_fish.specs.Records.{Condition, Marks, Record}
@@ -31,7 +31,7 @@ excluded_names (name ∷ names) children = child_names children
 
 -- the bin name in names of functions: `-` as `_`
 abbrev pub function_name : List ℕ → List ℕ
-function_name bin_name = replaced dash (codes "_") bin_name
+function_name bin_name = replace_byte dash (codes "_") bin_name
 
 -- what the names of a program's functions begin with
 abbrev pub function_begin : List ℕ → List ℕ

@@ -6,7 +6,7 @@ use std::alloc::{AllocError, Global};
 use std::fmt::Debug;
 
 /// Copies of the words.
-pub fn copies(alloc: Global, words: &[&str]) -> Result<Vec<String>, AllocError>
+pub fn to_strings(alloc: Global, words: &[&str]) -> Result<Vec<String>, AllocError>
     ensures { IfOk result (λ copies.
         map string_bytes copies.items ≡ map (λ word. word.now) words.now) }
 {
@@ -17,7 +17,7 @@ pub fn copies(alloc: Global, words: &[&str]) -> Result<Vec<String>, AllocError>
     Ok(copies)
 }
 
-/// What follows a mark where it stands first; nothing where it stands nowhere.
+/// What follows a mark where it occurs first; nothing where it occurs nowhere.
 pub fn after<'t>(text: &'t str, mark: &str) -> &'t str {
     match text.split_once(mark) {
         Some((_, rest)) => rest,
@@ -32,6 +32,6 @@ pub fn word(read: Option<(String, &str)>) -> Option<String> {
 }
 
 /// What `Debug` shows of a value.
-pub fn shown<T: Debug + Drop>(alloc: Global, value: T) -> Result<String, AllocError> {
+pub fn debug_text<T: Debug + Drop>(alloc: Global, value: T) -> Result<String, AllocError> {
     format!(in alloc; "{value:?}")
 }

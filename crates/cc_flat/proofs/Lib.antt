@@ -1,6 +1,6 @@
 pub mod Names
 pub mod Numbering
 pub mod Numbers
-pub mod Places
+pub mod Positions
 mod PreorderExamples
 pub mod Trees

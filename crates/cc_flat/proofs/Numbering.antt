@@ -7,7 +7,7 @@ use Rattle.cc_command.specs.Tree.{Tree, forest_of, forest_size}
 use Rattle.cc_command.specs.Made.{new_tree}
 use Rattle.cc_flat.specs.declared.flat.FlatNode.{FlatNode}
 use Rattle.cc_flat.specs.Flat.{Entry, entry_of, entries_of, no_entry, entry_at, tree_at, trees_at, children_at, trees_of, HasItsChildren, HasItsParent, IsFlat}
-use Rattle.cc_flat.specs.Numbered.{unnumbered, with_count, with_children}
+use Rattle.cc_flat.specs.Numbered.{without_numbers, with_count, with_children}
 use Rattle.cc_flat.proofs.Numbers.{entry_at-stored, trees_at-agree, trees_at-appended}
 use Rattle.cc_flat.proofs.Trees.{forest_of-trees_of, forest_size-append}
 
@@ -32,7 +32,7 @@ abbrev trees_from : ℕ → List Entry → List Tree
 trees_from number flat = map (λ entry. entry.tree) (drop number flat)
 
 -- the node with a number is a child of a node before it, which has its numbers
-pub record IsPlaced (flat : List Entry) (done number : ℕ) : Type 0 where
+pub record HasDoneParent (flat : List Entry) (done number : ℕ) : Type 0 where
   pub parent : HasItsParent flat number
   pub is_done : parent.parent < done
 
@@ -44,7 +44,7 @@ pub record IsFlatUpTo (root : Tree) (done : ℕ) (flat : List Entry) : Type 0 wh
   pub root_parent : (entry_at flat 0).parent ≡ None
   pub size : done + forest_size (forest_of (trees_from done flat)) ≡ 1 + forest_size root.children
   pub children : (number : ℕ) → number < done → HasItsChildren flat number
-  pub parents : (number : ℕ) → 0 < number → number < length flat → IsPlaced flat done number
+  pub parents : (number : ℕ) → 0 < number → number < length flat → HasDoneParent flat done number
 
 -- a whole list
 pub IsFlat-whole : (root : Tree) (done : ℕ) (flat : List Entry) → IsFlatUpTo root done flat → length flat ≤ done → IsFlat flat
@@ -85,9 +85,9 @@ HasItsChildren-kept xs ys number extends inside same its =
     }
 
 -- the trees of nodes whose children have no numbers yet
-trees-unnumbered : (parent : Option ℕ) (trees : List Tree) → map (λ entry. entry.tree) (map (unnumbered parent) trees) ≡ trees
-trees-unnumbered parent [] = refl
-trees-unnumbered parent (tree ∷ trees) = ap (λ rest. tree ∷ rest) (trees-unnumbered parent trees)
+trees-without_numbers : (parent : Option ℕ) (trees : List Tree) → map (λ entry. entry.tree) (map (without_numbers parent) trees) ≡ trees
+trees-without_numbers parent [] = refl
+trees-without_numbers parent (tree ∷ trees) = ap (λ rest. tree ∷ rest) (trees-without_numbers parent trees)
 
 -- ---- one more node
 
@@ -97,26 +97,26 @@ module _ (flat : List Entry) (number : ℕ) (trees : List Tree) (inside : number
 
   with_children-length : length (with_children flat number trees) ≡ length flat + length trees
   with_children-length =
-      omega (arith, length-append (with_count flat number (length trees)) (map (unnumbered (Some number)) trees), with_count-length, length-map trees (unnumbered (Some number)))
+      omega (arith, length-append (with_count flat number (length trees)) (map (without_numbers (Some number)) trees), with_count-length, length-map trees (without_numbers (Some number)))
 
   -- the node itself
   with_children-here : entry_at (with_children flat number trees) number ≡ record (entry_at flat number) { first_child = length flat; child_count = length trees }
   with_children-here =
-      get_or_append_left (with_count flat number (length trees)) (map (unnumbered (Some number)) trees) _ number (omega (arith, with_count-length)) ∙
+      get_or_append_left (with_count flat number (length trees)) (map (without_numbers (Some number)) trees) _ number (omega (arith, with_count-length)) ∙
       get_or-set_same flat number (record (entry_at flat number) { first_child = length flat; child_count = length trees }) _ inside
 
   -- the others that were listed
   with_children-other : (other : ℕ) → other < length flat → other ≢ number → entry_at (with_children flat number trees) other ≡ entry_at flat other
   with_children-other other low differs =
-      get_or_append_left (with_count flat number (length trees)) (map (unnumbered (Some number)) trees) _ other (omega (arith, with_count-length)) ∙
+      get_or_append_left (with_count flat number (length trees)) (map (without_numbers (Some number)) trees) _ other (omega (arith, with_count-length)) ∙
       get_or-set_other flat number other (record (entry_at flat number) { first_child = length flat; child_count = length trees }) _ differs
 
   -- its children
   with_children-child : (child : ℕ) → length flat ≤ child → child < length flat + length trees → (entry_at (with_children flat number trees) child).parent ≡ Some number
   with_children-child child low high =
       ap (λ e. e.parent) (
-      get_or-append_right (with_count flat number (length trees)) (map (unnumbered (Some number)) trees) (length flat) child _ with_count-length low ∙
-      get_or-map (unnumbered (Some number)) trees (child - length flat) (new_tree []) _ (omega arith))
+      get_or-append_right (with_count flat number (length trees)) (map (without_numbers (Some number)) trees) (length flat) child _ with_count-length low ∙
+      get_or-map (without_numbers (Some number)) trees (child - length flat) (new_tree []) _ (omega arith))
 
   with_children-extends : Extends flat (with_children flat number trees)
   with_children-extends = record {
@@ -153,7 +153,7 @@ module _ (flat : List Entry) (number : ℕ) (trees : List Tree) (inside : number
       number + 1 + forest_size (forest_of (trees_from (number + 1) (with_children flat number trees))) ≡ number + forest_size (forest_of (trees_from number flat))
   with_children-size theirs =
       let counted : List Entry = with_count flat number (length trees) in
-      let listed : List Entry = map (unnumbered (Some number)) trees in
+      let listed : List Entry = map (without_numbers (Some number)) trees in
       let later : drop (number + 1) (with_children flat number trees) ≡ drop (number + 1) counted ++ listed =
       drop-append-le (number + 1) counted listed (omega (arith, with_count-length)) in
       let same : drop (number + 1) counted ≡ drop (number + 1) flat =
@@ -161,7 +161,7 @@ module _ (flat : List Entry) (number : ℕ) (trees : List Tree) (inside : number
       let later : trees_from (number + 1) (with_children flat number trees) ≡ trees_from (number + 1) flat ++ trees =
       ap (map (λ entry. entry.tree)) (later ∙ ap (λ entries. entries ++ listed) same) ∙
       map-append (λ entry. entry.tree) (drop (number + 1) flat) listed ∙
-      ap (λ ts. trees_from (number + 1) flat ++ ts) (trees-unnumbered (Some number) trees) in
+      ap (λ ts. trees_from (number + 1) flat ++ ts) (trees-without_numbers (Some number) trees) in
       let now : trees_from number flat ≡ tree_at flat number ∷ trees_from (number + 1) flat =
       ap (map (λ entry. entry.tree)) (drop_more flat number no_entry inside) in
       let below : forest_of trees ≡ (tree_at flat number).children = ap forest_of theirs ∙ forest_of-trees_of (tree_at flat number).children in
@@ -174,27 +174,27 @@ module _ (flat : List Entry) (number : ℕ) (trees : List Tree) (inside : number
       )
 
   -- a node that was listed keeps its parent
-  IsPlaced-kept : (child : ℕ) → child < length flat → IsPlaced flat number child → IsPlaced (with_children flat number trees) (number + 1) child
-  IsPlaced-kept child listed placed =
-      let parent : ℕ = placed.parent.parent in
+  HasDoneParent-kept : (child : ℕ) → child < length flat → HasDoneParent flat number child → HasDoneParent (with_children flat number trees) (number + 1) child
+  HasDoneParent-kept child listed known =
+      let parent : ℕ = known.parent.parent in
       let same : entry_at (with_children flat number trees) parent ≡ entry_at flat parent =
-      with_children-other parent (omega (arith, placed.is_done)) (omega (arith, placed.is_done)) in
+      with_children-other parent (omega (arith, known.is_done)) (omega (arith, known.is_done)) in
       record {
         parent = record {
           parent = parent;
-          is = with_children-extends.parent child listed ∙ placed.parent.is;
-          before = placed.parent.before;
+          is = with_children-extends.parent child listed ∙ known.parent.is;
+          before = known.parent.before;
           child = record {
-            low = omega (arith, ap (λ e. e.first_child) same, placed.parent.child.low);
-            high = omega (arith, ap (λ e. e.first_child) same, ap (λ e. e.child_count) same, placed.parent.child.high);
+            low = omega (arith, ap (λ e. e.first_child) same, known.parent.child.low);
+            high = omega (arith, ap (λ e. e.first_child) same, ap (λ e. e.child_count) same, known.parent.child.high);
           };
         };
-        is_done = omega (arith, placed.is_done);
+        is_done = omega (arith, known.is_done);
       }
 
   -- the children have the node as their parent
-  IsPlaced-new : (child : ℕ) → length flat ≤ child → child < length flat + length trees → IsPlaced (with_children flat number trees) (number + 1) child
-  IsPlaced-new child low high = record {
+  HasDoneParent-new : (child : ℕ) → length flat ≤ child → child < length flat + length trees → HasDoneParent (with_children flat number trees) (number + 1) child
+  HasDoneParent-new child low high = record {
     parent = record {
       parent = number;
       is = with_children-child child low high;
@@ -225,7 +225,7 @@ IsFlatUpTo-more root number flat up_to inside =
       size = with_children-size flat number trees inside refl ∙ up_to.size;
       children = λ other low. ⊎_elim (λ below. kept other below) (λ above. let same : number ≡ other = omega arith in let P : ℕ → Type 0 = λ n. HasItsChildren all n in subst P same here) (cases_lt other number);
       parents = λ child low high. ⊎_elim
-          (λ listed. IsPlaced-kept flat number trees inside child listed (up_to.parents child low listed))
-          (λ new. IsPlaced-new flat number trees inside child new (omega (arith, with_children-length flat number trees inside)))
+          (λ listed. HasDoneParent-kept flat number trees inside child listed (up_to.parents child low listed))
+          (λ new. HasDoneParent-new flat number trees inside child new (omega (arith, with_children-length flat number trees inside)))
           (cases_lt child (length flat));
     }

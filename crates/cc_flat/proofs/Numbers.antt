@@ -6,7 +6,7 @@ use Rattle.std.proofs.lemmas.List.{get_or_at, get_or-map, append_assoc, length-a
 use Rattle.cc_command.specs.Tree.{Tree}
 use Rattle.cc_flat.specs.declared.flat.FlatNode.{FlatNode}
 use Rattle.cc_flat.specs.Flat.{Entry, no_entry, entry_of, entries_of, entry_at, tree_at, trees_at, numbers_between, IsChildAt, HasItsParent, IsFlat}
-use Rattle.cc_flat.specs.Numbered.{unnumbered}
+use Rattle.cc_flat.specs.Numbered.{without_numbers}
 
 -- lists that agree at some numbers have the same trees there
 pub trees_at-agree : (xs ys : List Entry) (first count : ℕ) → ((number : ℕ) → first ≤ number → number < first + count → tree_at xs number ≡ tree_at ys number) →
@@ -18,18 +18,18 @@ trees_at-agree xs ys first (suc count) agree =
 
 -- the trees of nodes that are listed after all others
 pub trees_at-appended : (flat : List Entry) (parent : Option ℕ) (trees : List Tree) →
-    trees_at (flat ++ map (unnumbered parent) trees) (range_with_len (length flat) (length trees)) ≡ trees
+    trees_at (flat ++ map (without_numbers parent) trees) (range_with_len (length flat) (length trees)) ≡ trees
 trees_at-appended flat parent [] = refl
 trees_at-appended flat parent (tree ∷ trees) =
-    let first : Entry = unnumbered parent tree in
+    let first : Entry = without_numbers parent tree in
     let longer : List Entry = flat ++ first ∷ [] in
-    let regrouped : longer ++ map (unnumbered parent) trees ≡ flat ++ (first ∷ map (unnumbered parent) trees) = append_assoc flat (first ∷ []) (map (unnumbered parent) trees) in
-    let here : tree_at (flat ++ (first ∷ map (unnumbered parent) trees)) (length flat) ≡ tree =
-    ap (λ entry. entry.tree) (get_or_at flat first (map (unnumbered parent) trees) _ (length flat) refl) in
-    let rest : trees_at (longer ++ map (unnumbered parent) trees) (range_with_len (length longer) (length trees)) ≡ trees = trees_at-appended longer parent trees in
+    let regrouped : longer ++ map (without_numbers parent) trees ≡ flat ++ (first ∷ map (without_numbers parent) trees) = append_assoc flat (first ∷ []) (map (without_numbers parent) trees) in
+    let here : tree_at (flat ++ (first ∷ map (without_numbers parent) trees)) (length flat) ≡ tree =
+    ap (λ entry. entry.tree) (get_or_at flat first (map (without_numbers parent) trees) _ (length flat) refl) in
+    let rest : trees_at (longer ++ map (without_numbers parent) trees) (range_with_len (length longer) (length trees)) ≡ trees = trees_at-appended longer parent trees in
     let next : length longer ≡ length flat + 1 = length-append flat (first ∷ []) in
-    ap (λ t. t ∷ trees_at (flat ++ (first ∷ map (unnumbered parent) trees)) (range_with_len (length flat + 1) (length trees))) here ∙
-    ap (λ ts. tree ∷ ts) (ap (λ n. trees_at (flat ++ (first ∷ map (unnumbered parent) trees)) (range_with_len n (length trees))) (sym next) ∙
+    ap (λ t. t ∷ trees_at (flat ++ (first ∷ map (without_numbers parent) trees)) (range_with_len (length flat + 1) (length trees))) here ∙
+    ap (λ ts. tree ∷ ts) (ap (λ n. trees_at (flat ++ (first ∷ map (without_numbers parent) trees)) (range_with_len n (length trees))) (sym next) ∙
     ap (λ all. trees_at all (range_with_len (length longer) (length trees))) (sym regrouped) ∙ rest)
 
 -- what a stored node says

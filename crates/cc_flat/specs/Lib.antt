@@ -3,5 +3,5 @@ pub mod Flat
 pub mod Lookup
 pub mod Nodes
 pub mod Numbered
-pub mod Places
+pub mod Positions
 pub mod Preorder

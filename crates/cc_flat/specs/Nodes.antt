@@ -1,6 +1,6 @@
 -- What the nodes of the code stand for.
 use Rattle.std.specs.Prelude.{List}
-use Rattle.cc_flat.specs.Places.{nodes_after}
+use Rattle.cc_flat.specs.Positions.{nodes_after}
 use Rattle.cc_flat.specs.Preorder.{Levelled}
 use Rattle.cc_flat.specs.declared.preorder.LevelledNode.{LevelledNode}
 use Rattle.cc_flat.specs.declared.preorder.Preorder.{Preorder}
@@ -11,4 +11,4 @@ levelled_of node = record { level = node.level; tree = node.command.now }
 
 -- the nodes that are still to come
 abbrev pub nodes_left : Preorder → List Levelled
-nodes_left nodes = nodes_after nodes.flat.now nodes.place.level nodes.place.number
+nodes_left nodes = nodes_after nodes.flat.now nodes.position.level nodes.position.number

@@ -4,8 +4,8 @@ use Rattle.cc_command.specs.Tree.{Tree}
 use Rattle.cc_flat.specs.Flat.{Entry, entry_at}
 
 -- a node whose children have no numbers yet
-abbrev pub unnumbered : Option ℕ → Tree → Entry
-unnumbered parent tree = record { tree = tree; parent = parent; first_child = 0; child_count = 0 }
+abbrev pub without_numbers : Option ℕ → Tree → Entry
+without_numbers parent tree = record { tree = tree; parent = parent; first_child = 0; child_count = 0 }
 
 -- the node with this number has so many children, listed after all other nodes
 abbrev pub with_count : List Entry → ℕ → ℕ → List Entry
@@ -16,4 +16,4 @@ with_count flat number count =
 -- the children of the node with this number are listed after all others
 abbrev pub with_children : List Entry → ℕ → List Tree → List Entry
 with_children flat number children =
-    with_count flat number (length children) ++ map (unnumbered (Some number)) children
+    with_count flat number (length children) ++ map (without_numbers (Some number)) children

@@ -2,7 +2,7 @@
 
 ghost use Rattle.std.specs.Prelude.{◌≡◌, ◌<◌, ◌+◌, ◌↔◌, length, IfOk, IfSome, IsNone, OnOk, vec_len};
 ghost use Rattle.cc_flat.specs.Flat.{IsFlat, IsChildAt, HasItsChildren, entry_of, entries_of, entry_at, tree_at, trees_of, numbers_between, children_at};
-ghost use Rattle.cc_flat.specs.Numbered.{unnumbered, with_children};
+ghost use Rattle.cc_flat.specs.Numbered.{without_numbers, with_children};
 
 use cc_command::Command;
 use std::alloc::{AllocError, Global};
@@ -49,7 +49,7 @@ impl<'a> Flat<'a> {
         ensures flat { IfOk result IsFlat }
     {
         let mut nodes = Vec::new(alloc);
-        nodes.push(FlatNode::unnumbered(None, root))?;
+        nodes.push(FlatNode::without_numbers(None, root))?;
         let mut number = 0;
         while number < nodes.len() {
             number_children(&mut nodes, number)?;
@@ -101,8 +101,8 @@ impl<'a> Flat<'a> {
 
 impl<'a> FlatNode<'a> {
     // A node whose children have no numbers yet.
-    fn unnumbered(parent: Option<usize>, command: &'a Command) -> FlatNode<'a>
-        ensures { entry_of result ≡ unnumbered parent command.now }
+    fn without_numbers(parent: Option<usize>, command: &'a Command) -> FlatNode<'a>
+        ensures { entry_of result ≡ without_numbers parent command.now }
     {
         FlatNode {
             command,
@@ -126,7 +126,7 @@ fn number_children(nodes: &mut Vec<FlatNode<'_>>, number: usize) -> Result<(), A
     node.first_child = first_child;
     node.child_count = children.len();
     for command in children {
-        nodes.push(FlatNode::unnumbered(Some(number), command))?;
+        nodes.push(FlatNode::without_numbers(Some(number), command))?;
     }
     Ok(())
 }

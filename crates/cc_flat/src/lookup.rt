@@ -22,10 +22,10 @@ impl<'a> Flat<'a> {
             ≡ find_child (tree_at self.now number).children word.now }
         ensures child { IfSome result (λ child. IsChildAt self.now number child) }
     {
-        self.first_named(self.children(number), word)
+        self.first_with_name(self.children(number), word)
     }
 
-    fn first_named(&self, children: Range<usize>, word: &str) -> Option<usize>
+    fn first_with_name(&self, children: Range<usize>, word: &str) -> Option<usize>
         requires { children.end ≤ length self.now }
         ensures { result ≡ find_from children.start (forest_of (trees_at self.now
             (numbers_between children.start children.end))) word.now }

@@ -2,7 +2,7 @@
 
 ghost use Rattle.std.specs.Prelude.{◌≡◌, ◌<◌, Some, length};
 ghost use Rattle.cc_flat.specs.Flat.{tree_at};
-ghost use Rattle.cc_flat.specs.Places.{BeginsAt, IsAt, later_nodes, nodes_after};
+ghost use Rattle.cc_flat.specs.Positions.{BeginsAt, IsAt, later_nodes, nodes_after};
 ghost use Rattle.cc_flat.specs.Preorder.{preorder};
 
 use crate::flat::Flat;
@@ -19,7 +19,7 @@ pub struct LevelledNode<'a> {
 
 // The number of a node, with how many names its path has.
 #[derive(Clone, Copy)]
-pub(crate) struct Place {
+pub(crate) struct Position {
     pub number: usize,
     pub level: usize,
 }
@@ -30,8 +30,8 @@ pub(crate) struct Place {
 pub struct Preorder<'f, 'a> {
     flat: &'f Flat<'a>,
     // where the last node was, at first the root
-    place: Place,
-    ghost at: { IsAt flat.now place },
+    position: Position,
+    ghost at: { IsAt flat.now position },
 }
 
 impl<'a> Flat<'a> {
@@ -44,7 +44,7 @@ impl<'a> Flat<'a> {
     {
         Preorder {
             flat: self,
-            place: Place {
+            position: Position {
                 number: 0,
                 level: 1,
             },
@@ -64,44 +64,44 @@ impl<'f, 'a> Iterator for Preorder<'f, 'a> {
 
     fn next(&mut self) -> Option<LevelledNode<'a>> {
         let flat = self.flat;
-        let place = next_place(flat, self.place)?;
-        *self = Preorder { flat, place };
-        let command = flat.command(place.number);
+        let position = next_position(flat, self.position)?;
+        *self = Preorder { flat, position };
+        let command = flat.command(position.number);
         Some(LevelledNode {
-            level: place.level,
+            level: position.level,
             command,
         })
     }
 }
 
 // Where the node after this one is.
-fn next_place(flat: &Flat<'_>, place: Place) -> Option<Place>
-    requires { IsAt flat.now place }
-    ensures { BeginsAt flat.now (nodes_after flat.now place.level place.number) result }
+fn next_position(flat: &Flat<'_>, position: Position) -> Option<Position>
+    requires { IsAt flat.now position }
+    ensures { BeginsAt flat.now (nodes_after flat.now position.level position.number) result }
 {
-    let children = flat.children(place.number);
+    let children = flat.children(position.number);
     if children.start < children.end {
-        return Some(Place {
+        return Some(Position {
             number: children.start,
-            level: place.level + 1,
+            level: position.level + 1,
         });
     }
-    later_place(flat, place)
+    later_position(flat, position)
 }
 
 // Where the node after this one and all below it is: the next sibling, or that of the nearest node
 // above it that has one.
-fn later_place(flat: &Flat<'_>, place: Place) -> Option<Place>
-    requires { IsAt flat.now place }
-    ensures { BeginsAt flat.now (later_nodes flat.now place.level place.number) result }
+fn later_position(flat: &Flat<'_>, position: Position) -> Option<Position>
+    requires { IsAt flat.now position }
+    ensures { BeginsAt flat.now (later_nodes flat.now position.level position.number) result }
 {
-    let mut number = place.number;
-    let mut level = place.level;
+    let mut number = position.number;
+    let mut level = position.level;
     while let Some(parent) = flat.parent(number) {
         let siblings = flat.children(parent);
         if number + 1 < siblings.end {
             let number = number + 1;
-            return Some(Place { number, level });
+            return Some(Position { number, level });
         }
         number = parent;
         level -= 1;

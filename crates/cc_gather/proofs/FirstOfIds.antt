@@ -9,10 +9,10 @@ use Rattle.std.specs.Ordering.{is_eq}
 use Rattle.std.specs.Cmp.Lexicographic.{texts_ties, same_text, nat_list_cmp_total}
 use Rattle.std.proofs.lemmas.Cmp.{tied_itself}
 use Rattle.std.proofs.lemmas.Bool.{cases_Bool}
-use Rattle.cc_base.specs.Sorting.{placed, in_order}
+use Rattle.cc_base.specs.Sorting.{insert, in_order}
 use Rattle.cc_base.proofs.Sorted.{AllByRecursion-in_order}
 use Rattle.cc_gather.specs.Finished.{share, first_of_ids, SharesNone, ShareNone, Differ}
-use Rattle.cc_gather.proofs.InOrder.{placed-members}
+use Rattle.cc_gather.proofs.InOrder.{insert-members}
 
 kept_all : (c : CompletionCandidate) (ds : List CompletionCandidate) → SharesNone c ds → filter (λ d. not (share c.id d.id)) ds ≡ ds
 kept_all c [] h = refl
@@ -91,14 +91,14 @@ share_back (Some x) (Some y) h = elim (cases_Bool (bytes_eq y x)) [
   | inr f ↦ f
 ]
 
-differ-placed : (by : CompletionCandidate → CompletionCandidate → Bool) (x : CompletionCandidate) (ys : List CompletionCandidate) →
-    Differ (x ∷ ys) → Differ (placed by x ys)
-unfolding placed
-differ-placed by x [] h = h
-differ-placed by x (y ∷ ys) h = elim (cases_Bool (by y x)) [
+differ-insert : (by : CompletionCandidate → CompletionCandidate → Bool) (x : CompletionCandidate) (ys : List CompletionCandidate) →
+    Differ (x ∷ ys) → Differ (insert by x ys)
+unfolding insert
+differ-insert by x [] h = h
+differ-insert by x (y ∷ ys) h = elim (cases_Bool (by y x)) [
   | inl t ↦ rw t (
-    placed-members (λ d. share y.id d.id ≡ false) by by (λ a b p q. refl) x ys (share_back x.id y.id h.0.0) h.1.0,
-    differ-placed by x ys (h.0.1, h.1.1),
+    insert-members (λ d. share y.id d.id ≡ false) by by (λ a b p q. refl) x ys (share_back x.id y.id h.0.0) h.1.0,
+    differ-insert by x ys (h.0.1, h.1.1),
   )
   | inr f ↦ rw f h
 ]
@@ -107,4 +107,4 @@ pub differ-in_order : (by : CompletionCandidate → CompletionCandidate → Bool
 unfolding in_order
 differ-in_order by [] h = tt
 differ-in_order by (c ∷ cs) h =
-    differ-placed by c (in_order by cs) (AllByRecursion-in_order by (λ d. share c.id d.id ≡ false) cs h.0, differ-in_order by cs h.1)
+    differ-insert by c (in_order by cs) (AllByRecursion-in_order by (λ d. share c.id d.id ≡ false) cs h.0, differ-in_order by cs h.1)

@@ -5,7 +5,7 @@ use Rattle.std.specs.List.{AllByRecursion}
 use Rattle.std.specs.List.Sorted.{ties}
 use Rattle.std.proofs.lemmas.Bool.{cases_Bool}
 use Rattle.std.proofs.lemmas.List.Elements.{filter-append}
-use Rattle.cc_base.specs.Sorting.{placed, in_order}
+use Rattle.cc_base.specs.Sorting.{insert, in_order}
 
 module _ {X : Type 0} (lt : X → X → Bool) where
   -- no element is below x
@@ -23,26 +23,26 @@ module _ {X : Type 0} (lt : X → X → Bool) (o : IsStrictWeakOrder lt) where
   none_below-trans x y [] e h = tt
   none_below-trans x y (z ∷ ys) e h = (o.chain z y x h.0 e, none_below-trans x y ys e h.1)
 
-  none_below-placed : (z x : X) (ys : List X) → lt x z ≡ false → NoneBelow lt z ys → NoneBelow lt z (placed lt x ys)
-  unfolding placed
-  none_below-placed z x [] e h = (e, tt)
-  none_below-placed z x (y ∷ ys) e h = elim (cases_Bool (lt y x)) [
-    | inl t ↦ rw t (h.0, none_below-placed z x ys e h.1)
+  none_below-insert : (z x : X) (ys : List X) → lt x z ≡ false → NoneBelow lt z ys → NoneBelow lt z (insert lt x ys)
+  unfolding insert
+  none_below-insert z x [] e h = (e, tt)
+  none_below-insert z x (y ∷ ys) e h = elim (cases_Bool (lt y x)) [
+    | inl t ↦ rw t (h.0, none_below-insert z x ys e h.1)
     | inr f ↦ rw f (e, h)
   ]
 
-  up-placed : (x : X) (ys : List X) → Up lt ys → Up lt (placed lt x ys)
-  unfolding placed
-  up-placed x [] h = (tt, tt)
-  up-placed x (y ∷ ys) h = elim (cases_Bool (lt y x)) [
-    | inl t ↦ rw t (none_below-placed y x ys (o.one_way y x t) h.0, up-placed x ys h.1)
+  up-insert : (x : X) (ys : List X) → Up lt ys → Up lt (insert lt x ys)
+  unfolding insert
+  up-insert x [] h = (tt, tt)
+  up-insert x (y ∷ ys) h = elim (cases_Bool (lt y x)) [
+    | inl t ↦ rw t (none_below-insert y x ys (o.one_way y x t) h.0, up-insert x ys h.1)
     | inr f ↦ rw f ((f, none_below-trans x y ys f h.0), h)
   ]
 
   pub up-in_order : (xs : List X) → Up lt (in_order lt xs)
   unfolding in_order
   up-in_order [] = tt
-  up-in_order (x ∷ xs) = up-placed x (in_order lt xs) (up-in_order xs)
+  up-in_order (x ∷ xs) = up-insert x (in_order lt xs) (up-in_order xs)
 
   -- of two of which one is below the other one is no tie of z
   pub apart : (z x y : X) → lt y x ≡ true → ties lt z x ≡ true → ties lt z y ≡ true → ⊥
@@ -60,11 +60,11 @@ module _ {X : Type 0} (lt : X → X → Bool) (o : IsStrictWeakOrder lt) where
       none true e = cc
       none false e = refl
 
-  stable-placed : (z x : X) (ys : List X) → filter (ties lt z) (placed lt x ys) ≡ filter (ties lt z) (x ∷ ys)
-  unfolding placed
-  stable-placed z x [] = refl
-  stable-placed z x (y ∷ ys) = elim (cases_Bool (lt y x)) [
-    | inl t ↦ rw t (ap (λ rest. cond (ties lt z y) (y ∷ rest) rest) (stable-placed z x ys) ∙ order (ties lt z x) (ties lt z y) refl refl t)
+  stable-insert : (z x : X) (ys : List X) → filter (ties lt z) (insert lt x ys) ≡ filter (ties lt z) (x ∷ ys)
+  unfolding insert
+  stable-insert z x [] = refl
+  stable-insert z x (y ∷ ys) = elim (cases_Bool (lt y x)) [
+    | inl t ↦ rw t (ap (λ rest. cond (ties lt z y) (y ∷ rest) rest) (stable-insert z x ys) ∙ order (ties lt z x) (ties lt z y) refl refl t)
     | inr f ↦ rw f
   ]
     where
@@ -80,7 +80,7 @@ module _ {X : Type 0} (lt : X → X → Bool) (o : IsStrictWeakOrder lt) where
   unfolding in_order
   stable-in_order z [] = refl
   stable-in_order z (x ∷ xs) =
-      stable-placed z x (in_order lt xs) ∙ ap (λ rest. cond (ties lt z x) (x ∷ rest) rest) (stable-in_order z xs)
+      stable-insert z x (in_order lt xs) ∙ ap (λ rest. cond (ties lt z x) (x ∷ rest) rest) (stable-in_order z xs)
 
   not_below_itself : (x : X) → lt x x ≡ false
   not_below_itself x = elim (cases_Bool (lt x x)) [ inl t ↦ o.one_way x x t | inr f ↦ f ]
@@ -109,7 +109,7 @@ module _ {X : Type 0} (lt : X → X → Bool) (o : IsStrictWeakOrder lt) where
       by true e = cc
       by false e = e
 
-  -- two lists in order whose ties stand alike are one
+  -- two lists in order whose ties are alike are one
   pub one_order : (ys zs : List X) → Up lt ys → Up lt zs → ((x : X) → filter (ties lt x) ys ≡ filter (ties lt x) zs) → ys ≡ zs
   one_order [] [] up down h = refl
   one_order [] (z ∷ zs) up down h = let e = h z ∙ kept z zs in cc
@@ -126,7 +126,7 @@ module _ {X : Type 0} (lt : X → X → Bool) (o : IsStrictWeakOrder lt) where
     ]
   ]
 
-  -- what stands after a list may be sorted by another test first, where it keeps the order of ties
+  -- what is after a list may be sorted by another test first, where it keeps the order of ties
   pub sorted_after : (xs ys zs : List X) → ((z : X) → filter (ties lt z) ys ≡ filter (ties lt z) zs) → in_order lt (xs ++ ys) ≡ in_order lt (xs ++ zs)
   sorted_after xs ys zs same =
       one_order (in_order lt (xs ++ ys)) (in_order lt (xs ++ zs)) (up-in_order (xs ++ ys)) (up-in_order (xs ++ zs))
@@ -134,55 +134,55 @@ module _ {X : Type 0} (lt : X → X → Bool) (o : IsStrictWeakOrder lt) where
       ∙ sym (filter-append (ties lt z) xs zs) ∙ sym (stable-in_order z (xs ++ zs)))
 
   -- a list in order stays
-  placed_first : (x : X) (xs : List X) → NoneBelow lt x xs → placed lt x xs ≡ x ∷ xs
-  unfolding placed
-  placed_first x [] h = refl
-  placed_first x (y ∷ ys) h = let e = h.0 in rw e refl
+  insert_first : (x : X) (xs : List X) → NoneBelow lt x xs → insert lt x xs ≡ x ∷ xs
+  unfolding insert
+  insert_first x [] h = refl
+  insert_first x (y ∷ ys) h = let e = h.0 in rw e refl
 
   up_stays : (ys : List X) → Up lt ys → in_order lt ys ≡ ys
   unfolding in_order
   up_stays [] h = refl
-  up_stays (y ∷ ys) h = ap (placed lt y) (up_stays ys h.1) ∙ placed_first y ys h.0
+  up_stays (y ∷ ys) h = ap (insert lt y) (up_stays ys h.1) ∙ insert_first y ys h.0
 
   pub in_order-again : (xs : List X) → in_order lt (in_order lt xs) ≡ in_order lt xs
   in_order-again xs = up_stays (in_order lt xs) (up-in_order xs)
 
 -- two tests that answer alike on the members give one order
 module _ {X : Type 0} (P : X → Type 0) (lt by : X → X → Bool) (alike : (x y : X) → P x → P y → lt x y ≡ by x y) where
-  pub placed-members : (x : X) (ys : List X) → P x → AllByRecursion P ys → AllByRecursion P (placed lt x ys)
-  unfolding placed
-  placed-members x [] p h = (p, tt)
-  placed-members x (y ∷ ys) p h = elim (cases_Bool (lt y x)) [
-    | inl t ↦ rw t (h.0, placed-members x ys p h.1)
+  pub insert-members : (x : X) (ys : List X) → P x → AllByRecursion P ys → AllByRecursion P (insert lt x ys)
+  unfolding insert
+  insert-members x [] p h = (p, tt)
+  insert-members x (y ∷ ys) p h = elim (cases_Bool (lt y x)) [
+    | inl t ↦ rw t (h.0, insert-members x ys p h.1)
     | inr f ↦ rw f (p, h)
   ]
 
-  placed-alike : (x : X) (ys : List X) → P x → AllByRecursion P ys → placed lt x ys ≡ placed by x ys
-  unfolding placed
-  placed-alike x [] p h = refl
-  placed-alike x (y ∷ ys) p h =
-      ap (λ r. cond (lt y x) (y ∷ r) (x ∷ y ∷ ys)) (placed-alike x ys p h.1)
-      ∙ ap (λ b. cond b (y ∷ placed by x ys) (x ∷ y ∷ ys)) (alike y x h.0 p)
+  insert-alike : (x : X) (ys : List X) → P x → AllByRecursion P ys → insert lt x ys ≡ insert by x ys
+  unfolding insert
+  insert-alike x [] p h = refl
+  insert-alike x (y ∷ ys) p h =
+      ap (λ r. cond (lt y x) (y ∷ r) (x ∷ y ∷ ys)) (insert-alike x ys p h.1)
+      ∙ ap (λ b. cond b (y ∷ insert by x ys) (x ∷ y ∷ ys)) (alike y x h.0 p)
 
   pub in_order-members : (xs : List X) → AllByRecursion P xs → AllByRecursion P (in_order lt xs)
   unfolding in_order
   in_order-members [] h = tt
-  in_order-members (x ∷ xs) h = placed-members x (in_order lt xs) h.0 (in_order-members xs h.1)
+  in_order-members (x ∷ xs) h = insert-members x (in_order lt xs) h.0 (in_order-members xs h.1)
 
   pub in_order-alike : (xs : List X) → AllByRecursion P xs → in_order lt xs ≡ in_order by xs
   unfolding in_order
   in_order-alike [] h = refl
   in_order-alike (x ∷ xs) h =
-      placed-alike x (in_order lt xs) h.0 (in_order-members xs h.1) ∙ ap (placed by x) (in_order-alike xs h.1)
+      insert-alike x (in_order lt xs) h.0 (in_order-members xs h.1) ∙ ap (insert by x) (in_order-alike xs h.1)
 
 -- a filter does not see the order, where no two that it keeps are told apart
 module _ {X : Type 0} (P : X → Type 0) (by : X → X → Bool) (p : X → Bool)
     (alone : (x y : X) → P x → P y → by y x ≡ true → p x ≡ true → p y ≡ true → ⊥) where
-  filter-placed : (x : X) (ys : List X) → P x → AllByRecursion P ys → filter p (placed by x ys) ≡ filter p (x ∷ ys)
-  unfolding placed
-  filter-placed x [] px all = refl
-  filter-placed x (y ∷ ys) px all = elim (cases_Bool (by y x)) [
-    | inl t ↦ rw t (ap (λ rest. cond (p y) (y ∷ rest) rest) (filter-placed x ys px all.1) ∙ order (p x) (p y) refl refl t)
+  filter-insert : (x : X) (ys : List X) → P x → AllByRecursion P ys → filter p (insert by x ys) ≡ filter p (x ∷ ys)
+  unfolding insert
+  filter-insert x [] px all = refl
+  filter-insert x (y ∷ ys) px all = elim (cases_Bool (by y x)) [
+    | inl t ↦ rw t (ap (λ rest. cond (p y) (y ∷ rest) rest) (filter-insert x ys px all.1) ∙ order (p x) (p y) refl refl t)
     | inr f ↦ rw f
   ]
     where
@@ -198,5 +198,5 @@ module _ {X : Type 0} (P : X → Type 0) (by : X → X → Bool) (p : X → Bool
   unfolding in_order
   filter-in_order [] all = refl
   filter-in_order (x ∷ xs) all =
-      filter-placed x (in_order by xs) all.0 (in_order-members P by by (λ a b pa pb. refl) xs all.1)
+      filter-insert x (in_order by xs) all.0 (in_order-members P by by (λ a b pa pb. refl) xs all.1)
       ∙ ap (λ rest. cond (p x) (x ∷ rest) rest) (filter-in_order xs all.1)

@@ -12,9 +12,9 @@ use Rattle.std.proofs.lemmas.List.{take_more, take-append-drop, length-take-le}
 use Rattle.std.proofs.lemmas.List.Elements.{filter_agree}
 use Rattle.cc_candidates.specs.declared.candidate.CompletionCandidate.{CompletionCandidate}
 use Rattle.cc_candidates.specs.Candidate.{texts_cmp}
-use Rattle.cc_gather.specs.Finished.{share, first_of_ids, has_tag, place_of}
-use Rattle.cc_gather.specs.Seen.{is_seen, marked, first_place}
-use Rattle.cc_gather.proofs.Places.{same_tags, tag_itself}
+use Rattle.cc_gather.specs.Finished.{share, first_of_ids, has_tag, rank_of}
+use Rattle.cc_gather.specs.Seen.{is_seen, select, first_rank}
+use Rattle.cc_gather.proofs.Ranks.{same_tags, tag_itself}
 
 or_false : (b : Bool) → (b || false) ≡ b
 or_false true = refl
@@ -47,7 +47,7 @@ same_tag None (Some y) = refl
 same_tag (Some x) None = refl
 same_tag (Some x) (Some y) = texts_ties x y
 
--- a place that is kept is found from then on, where the tag had none
+-- a rank that is kept is found from then on, where the tag had none
 kept_by : (b : Bool) (was : Option ℕ) (next : ℕ) → (b ≡ true → was ≡ None) → cond b (Some next) was ≡ option_or was (cond b (Some next) None)
 kept_by true was next h = let e = h refl in rw e refl
 kept_by false None next h = refl
@@ -107,24 +107,24 @@ none_seen seen (c ∷ cs) e =
     unseen (Some id) = rw e refl
 
 -- marks
-marked-push : {X : Type 0} → (marks : List Bool) (xs : List X) (mark : Bool) (x : X) → length marks ≡ length xs →
-    marked (marks ++ mark ∷ []) (xs ++ x ∷ []) ≡ marked marks xs ++ cond mark (x ∷ []) []
-marked-push [] [] true x e = refl
-marked-push [] [] false x e = refl
-marked-push [] (y ∷ ys) mark x e = absurd (omega (arith, e))
-marked-push (m ∷ ms) [] mark x e = absurd (omega (arith, e))
-marked-push (m ∷ ms) (y ∷ ys) mark x e = by m (marked-push ms ys mark x (omega (arith, e)))
+select-push : {X : Type 0} → (marks : List Bool) (xs : List X) (mark : Bool) (x : X) → length marks ≡ length xs →
+    select (marks ++ mark ∷ []) (xs ++ x ∷ []) ≡ select marks xs ++ cond mark (x ∷ []) []
+select-push [] [] true x e = refl
+select-push [] [] false x e = refl
+select-push [] (y ∷ ys) mark x e = absurd (omega (arith, e))
+select-push (m ∷ ms) [] mark x e = absurd (omega (arith, e))
+select-push (m ∷ ms) (y ∷ ys) mark x e = by m (select-push ms ys mark x (omega (arith, e)))
   where
-    by : (m : Bool) → marked (ms ++ mark ∷ []) (ys ++ x ∷ []) ≡ marked ms ys ++ cond mark (x ∷ []) []
-        → cond m (y ∷ marked (ms ++ mark ∷ []) (ys ++ x ∷ [])) (marked (ms ++ mark ∷ []) (ys ++ x ∷ []))
-        ≡ cond m (y ∷ marked ms ys) (marked ms ys) ++ cond mark (x ∷ []) []
+    by : (m : Bool) → select (ms ++ mark ∷ []) (ys ++ x ∷ []) ≡ select ms ys ++ cond mark (x ∷ []) []
+        → cond m (y ∷ select (ms ++ mark ∷ []) (ys ++ x ∷ [])) (select (ms ++ mark ∷ []) (ys ++ x ∷ []))
+        ≡ cond m (y ∷ select ms ys) (select ms ys) ++ cond mark (x ∷ []) []
     by true h = ap (λ r. y ∷ r) h
     by false h = h
 
-pub marked_end : {X : Type 0} → (marks : List Bool) (xs : List X) → (marks ≡ []) ⊎ (xs ≡ []) → marked marks xs ≡ []
-marked_end marks xs (inl e) = ap (λ ms. marked ms xs) e
+pub marked_end : {X : Type 0} → (marks : List Bool) (xs : List X) → (marks ≡ []) ⊎ (xs ≡ []) → select marks xs ≡ []
+marked_end marks xs (inl e) = ap (λ ms. select ms xs) e
 marked_end [] xs (inr e) = refl
-marked_end (m ∷ ms) xs (inr e) = ap (marked (m ∷ ms)) e
+marked_end (m ∷ ms) xs (inr e) = ap (select (m ∷ ms)) e
 
 -- a member at its index
 pub split_at : (cs : List CompletionCandidate) (i : ℕ) (c : CompletionCandidate) → i < length cs → c ≡ get_or cs i c →
@@ -142,22 +142,22 @@ abbrev unseen : BTreeSet (List ℕ) → List CompletionCandidate → List Comple
 unseen seen cs = filter (λ d. not (is_seen seen d.id)) cs
 
 pub unseen_first : (seen : BTreeSet (List ℕ)) (marks : List Bool) (cs : List CompletionCandidate) → seen.keys ≡ [] → marks ≡ [] →
-    marked marks [] ++ filter (λ d. not (is_seen seen d.id)) (first_of_ids cs) ≡ first_of_ids cs
+    select marks [] ++ filter (λ d. not (is_seen seen d.id)) (first_of_ids cs) ≡ first_of_ids cs
 unseen_first seen marks cs none empty =
-    ap (λ (ms : List Bool). marked ms [] ++ unseen seen (first_of_ids cs)) empty ∙ none_seen seen (first_of_ids cs) none
+    ap (λ (ms : List Bool). select ms [] ++ unseen seen (first_of_ids cs)) empty ∙ none_seen seen (first_of_ids cs) none
 
 pub marks_on : (before after : BTreeSet (List ℕ)) (marks more : List Bool) (cs : List CompletionCandidate) (i : ℕ) (c : CompletionCandidate) (new : Bool) →
     i < length cs → c ≡ get_or cs i c → length marks ≡ i →
-    marked marks (take i cs) ++ filter (λ d. not (is_seen before d.id)) (first_of_ids (drop i cs)) ≡ first_of_ids cs →
+    select marks (take i cs) ++ filter (λ d. not (is_seen before d.id)) (first_of_ids (drop i cs)) ≡ first_of_ids cs →
     ((other : Option (List ℕ)) → is_seen after other ≡ (is_seen before other || share c.id other)) →
     new ≡ not (is_seen before c.id) → more ≡ marks ++ new ∷ [] →
-    marked more (take (i + 1) cs) ++ filter (λ d. not (is_seen after d.id)) (first_of_ids (drop (i + 1) cs)) ≡ first_of_ids cs
+    select more (take (i + 1) cs) ++ filter (λ d. not (is_seen after d.id)) (first_of_ids (drop (i + 1) cs)) ≡ first_of_ids cs
 marks_on before after marks more cs i c new within is count h add e push =
-    ap (λ ms. marked ms (take (i + 1) cs) ++ unseen after (first_of_ids (drop (i + 1) cs))) push
-    ∙ ap (λ xs. marked (marks ++ new ∷ []) xs ++ unseen after (first_of_ids (drop (i + 1) cs))) (taken cs i c within is)
-    ∙ ap (λ xs. xs ++ unseen after (first_of_ids (drop (i + 1) cs))) (marked-push marks (take i cs) new c (count ∙ sym (length-take-le i cs (omega (arith, within)))))
-    ∙ append_assoc (marked marks (take i cs)) (cond new (c ∷ []) []) (unseen after (first_of_ids (drop (i + 1) cs)))
-    ∙ ap (λ r. marked marks (take i cs) ++ r) (by new e ∙ ap (λ xs. unseen before (first_of_ids xs)) (sym (split_at cs i c within is)))
+    ap (λ ms. select ms (take (i + 1) cs) ++ unseen after (first_of_ids (drop (i + 1) cs))) push
+    ∙ ap (λ xs. select (marks ++ new ∷ []) xs ++ unseen after (first_of_ids (drop (i + 1) cs))) (taken cs i c within is)
+    ∙ ap (λ xs. xs ++ unseen after (first_of_ids (drop (i + 1) cs))) (select-push marks (take i cs) new c (count ∙ sym (length-take-le i cs (omega (arith, within)))))
+    ∙ append_assoc (select marks (take i cs)) (cond new (c ∷ []) []) (unseen after (first_of_ids (drop (i + 1) cs)))
+    ∙ ap (λ r. select marks (take i cs) ++ r) (by new e ∙ ap (λ xs. unseen before (first_of_ids xs)) (sym (split_at cs i c within is)))
     ∙ h
   where
     by : (new : Bool) → new ≡ not (is_seen before c.id) →
@@ -165,13 +165,13 @@ marks_on before after marks more cs i c new within is count h add e push =
     by true e = sym (stays before after c (drop (i + 1) cs) add e)
     by false e = sym (goes before after c (drop (i + 1) cs) add e)
 
--- first places with one more candidate after
-pub first_place-push : (cs : List CompletionCandidate) (c : CompletionCandidate) (tag : Option (List ℕ)) →
-    first_place (cs ++ c ∷ []) tag ≡ option_or (first_place cs tag) (cond (option_eq bytes_eq c.tag tag) (Some (length cs)) None)
-first_place-push [] c tag = refl
-first_place-push (x ∷ cs) c tag = elim (cases_Bool (option_eq bytes_eq x.tag tag)) [
+-- first ranks with one more candidate after
+pub first_rank-push : (cs : List CompletionCandidate) (c : CompletionCandidate) (tag : Option (List ℕ)) →
+    first_rank (cs ++ c ∷ []) tag ≡ option_or (first_rank cs tag) (cond (option_eq bytes_eq c.tag tag) (Some (length cs)) None)
+first_rank-push [] c tag = refl
+first_rank-push (x ∷ cs) c tag = elim (cases_Bool (option_eq bytes_eq x.tag tag)) [
   | inl t ↦ rw t refl
-  | inr f ↦ rw f (ap (option_map suc) (first_place-push cs c tag) ∙ moved (first_place cs tag) (option_eq bytes_eq c.tag tag))
+  | inr f ↦ rw f (ap (option_map suc) (first_rank-push cs c tag) ∙ moved (first_rank cs tag) (option_eq bytes_eq c.tag tag))
 ]
   where
     moved : (was : Option ℕ) (b : Bool) → option_map suc (option_or was (cond b (Some (length cs)) None)) ≡ option_or (option_map suc was) (cond b (Some (suc (length cs))) None)
@@ -183,30 +183,30 @@ option_or_none : {X : Type 0} (x : Option X) → option_or x None ≡ x
 option_or_none None = refl
 option_or_none (Some x) = refl
 
--- a tag with a place adds none
-pub place_kept : (places : BTreeMap (Option (List ℕ)) ℕ) (tag : Option (List ℕ)) (p next : ℕ) → get texts_cmp places tag ≡ Some p →
-    (other : Option (List ℕ)) → get texts_cmp places other ≡ option_or (get texts_cmp places other) (cond (option_eq bytes_eq tag other) (Some next) None)
-place_kept places tag p next e other = elim (cases_Bool (option_eq bytes_eq tag other)) [
-  | inl t ↦ let is : get texts_cmp places other ≡ Some p = ap (get texts_cmp places) (sym (same_tags tag other t)) ∙ e in
+-- a tag with a rank adds none
+pub rank_kept : (ranks : BTreeMap (Option (List ℕ)) ℕ) (tag : Option (List ℕ)) (p next : ℕ) → get texts_cmp ranks tag ≡ Some p →
+    (other : Option (List ℕ)) → get texts_cmp ranks other ≡ option_or (get texts_cmp ranks other) (cond (option_eq bytes_eq tag other) (Some next) None)
+rank_kept ranks tag p next e other = elim (cases_Bool (option_eq bytes_eq tag other)) [
+  | inl t ↦ let is : get texts_cmp ranks other ≡ Some p = ap (get texts_cmp ranks) (sym (same_tags tag other t)) ∙ e in
       is ∙ sym (ap (λ x. option_or x (cond (option_eq bytes_eq tag other) (Some next) None)) is)
-  | inr f ↦ sym (option_or_none (get texts_cmp places other)) ∙ ap (λ b. option_or (get texts_cmp places other) (cond b (Some next) None)) (sym f)
+  | inr f ↦ sym (option_or_none (get texts_cmp ranks other)) ∙ ap (λ b. option_or (get texts_cmp ranks other) (cond b (Some next) None)) (sym f)
 ]
 
 -- one without gets it
-pub place_added : (before after : BTreeMap (Option (List ℕ)) ℕ) (tag : Option (List ℕ)) (next : ℕ) → get texts_cmp before tag ≡ None →
+pub rank_added : (before after : BTreeMap (Option (List ℕ)) ℕ) (tag : Option (List ℕ)) (next : ℕ) → get texts_cmp before tag ≡ None →
     ((q : Option (List ℕ)) → get texts_cmp after q ≡ cond (is_eq (texts_cmp tag q)) (Some next) (get texts_cmp before q)) →
     (other : Option (List ℕ)) → get texts_cmp after other ≡ option_or (get texts_cmp before other) (cond (option_eq bytes_eq tag other) (Some next) None)
-place_added before after tag next none updates other =
+rank_added before after tag next none updates other =
     updates other ∙ ap (λ b. cond b (Some next) (get texts_cmp before other)) (sym (same_tag tag other))
     ∙ kept_by (option_eq bytes_eq tag other) (get texts_cmp before other) next (λ t. ap (get texts_cmp before) (sym (same_tags tag other t)) ∙ none)
 
--- the place that the whole list gives to a tag, from what stands before its member
-place_is : (cs ds : List CompletionCandidate) (c : CompletionCandidate) →
-    unwrap_or (first_place cs c.tag) (length cs) ≡ place_of (cs ++ c ∷ ds) c.tag
-place_is [] ds c = let e = tag_itself c.tag in rw e refl
-place_is (x ∷ cs) ds c = elim (cases_Bool (has_tag c.tag x)) [
+-- the rank that the whole list gives to a tag, from what is before its member
+rank_is : (cs ds : List CompletionCandidate) (c : CompletionCandidate) →
+    unwrap_or (first_rank cs c.tag) (length cs) ≡ rank_of (cs ++ c ∷ ds) c.tag
+rank_is [] ds c = let e = tag_itself c.tag in rw e refl
+rank_is (x ∷ cs) ds c = elim (cases_Bool (has_tag c.tag x)) [
   | inl t ↦ rw t refl
-  | inr f ↦ rw f (more (first_place cs c.tag) ∙ ap suc (place_is cs ds c))
+  | inr f ↦ rw f (more (first_rank cs c.tag) ∙ ap suc (rank_is cs ds c))
 ]
   where
     more : (was : Option ℕ) → unwrap_or (option_map suc was) (suc (length cs)) ≡ suc (unwrap_or was (length cs))
@@ -221,28 +221,28 @@ length-map : {X Y : Type 0} (f : X → Y) (xs : List X) → length (map f xs) �
 length-map f [] = refl
 length-map f (x ∷ xs) = ap suc (length-map f xs)
 
--- one more place
-pub places_on : (cs : List CompletionCandidate) (i : ℕ) (c : CompletionCandidate) (places more : List ℕ) (was : Option ℕ) (n place : ℕ) →
-    i < length cs → c ≡ get_or cs i c → places ≡ map (λ c. place_of cs c.tag) (take i cs) →
-    was ≡ first_place (take i cs) c.tag → n ≡ length places → place ≡ unwrap_or was n → more ≡ places ++ place ∷ [] →
-    more ≡ map (λ c. place_of cs c.tag) (take (i + 1) cs)
-places_on cs i c places more was n place within is placed e len value push =
+-- one more rank
+pub ranks_on : (cs : List CompletionCandidate) (i : ℕ) (c : CompletionCandidate) (ranks more : List ℕ) (was : Option ℕ) (n rank : ℕ) →
+    i < length cs → c ≡ get_or cs i c → ranks ≡ map (λ c. rank_of cs c.tag) (take i cs) →
+    was ≡ first_rank (take i cs) c.tag → n ≡ length ranks → rank ≡ unwrap_or was n → more ≡ ranks ++ rank ∷ [] →
+    more ≡ map (λ c. rank_of cs c.tag) (take (i + 1) cs)
+ranks_on cs i c ranks more was n rank within is insert e len value push =
     let whole : take i cs ++ c ∷ drop (i + 1) cs ≡ cs = ap (λ r. take i cs ++ r) (sym (split_at cs i c within is)) ∙ take-append-drop i cs in
-    let at : place ≡ place_of cs c.tag =
+    let at : rank ≡ rank_of cs c.tag =
     value ∙ ap (λ w. unwrap_or w n) e
-    ∙ ap (unwrap_or (first_place (take i cs) c.tag)) (len ∙ ap length placed ∙ length-map (λ (c : CompletionCandidate). place_of cs c.tag) (take i cs))
-    ∙ place_is (take i cs) (drop (i + 1) cs) c ∙ ap (λ xs. place_of xs c.tag) whole in
-    push ∙ ap (λ k. k ++ place ∷ []) placed ∙ ap (λ q. map (λ c. place_of cs c.tag) (take i cs) ++ q ∷ []) at
-    ∙ sym (map-push (λ (c : CompletionCandidate). place_of cs c.tag) (take i cs) c)
-    ∙ ap (map (λ c. place_of cs c.tag)) (sym (taken cs i c within is))
+    ∙ ap (unwrap_or (first_rank (take i cs) c.tag)) (len ∙ ap length insert ∙ length-map (λ (c : CompletionCandidate). rank_of cs c.tag) (take i cs))
+    ∙ rank_is (take i cs) (drop (i + 1) cs) c ∙ ap (λ xs. rank_of xs c.tag) whole in
+    push ∙ ap (λ k. k ++ rank ∷ []) insert ∙ ap (λ q. map (λ c. rank_of cs c.tag) (take i cs) ++ q ∷ []) at
+    ∙ sym (map-push (λ (c : CompletionCandidate). rank_of cs c.tag) (take i cs) c)
+    ∙ ap (map (λ c. rank_of cs c.tag)) (sym (taken cs i c within is))
 
-pub known_on : (before after : BTreeMap (Option (List ℕ)) ℕ) (cs : List CompletionCandidate) (i : ℕ) (c : CompletionCandidate) (places : List ℕ) (n : ℕ) →
-    i < length cs → c ≡ get_or cs i c → places ≡ map (λ c. place_of cs c.tag) (take i cs) → n ≡ length places →
-    ((tag : Option (List ℕ)) → get texts_cmp before tag ≡ first_place (take i cs) tag) →
+pub known_on : (before after : BTreeMap (Option (List ℕ)) ℕ) (cs : List CompletionCandidate) (i : ℕ) (c : CompletionCandidate) (ranks : List ℕ) (n : ℕ) →
+    i < length cs → c ≡ get_or cs i c → ranks ≡ map (λ c. rank_of cs c.tag) (take i cs) → n ≡ length ranks →
+    ((tag : Option (List ℕ)) → get texts_cmp before tag ≡ first_rank (take i cs) tag) →
     ((other : Option (List ℕ)) → get texts_cmp after other ≡ option_or (get texts_cmp before other) (cond (option_eq bytes_eq c.tag other) (Some n) None)) →
-    (tag : Option (List ℕ)) → get texts_cmp after tag ≡ first_place (take (i + 1) cs) tag
-known_on before after cs i c places n within is placed len h kept tag =
+    (tag : Option (List ℕ)) → get texts_cmp after tag ≡ first_rank (take (i + 1) cs) tag
+known_on before after cs i c ranks n within is insert len h kept tag =
     kept tag ∙ ap (λ x. option_or x (cond (option_eq bytes_eq c.tag tag) (Some n) None)) (h tag)
-    ∙ ap (λ k. option_or (first_place (take i cs) tag) (cond (option_eq bytes_eq c.tag tag) (Some k) None))
-    (len ∙ ap length placed ∙ length-map (λ (c : CompletionCandidate). place_of cs c.tag) (take i cs))
-    ∙ sym (first_place-push (take i cs) c tag) ∙ ap (λ xs. first_place xs tag) (sym (taken cs i c within is))
+    ∙ ap (λ k. option_or (first_rank (take i cs) tag) (cond (option_eq bytes_eq c.tag tag) (Some k) None))
+    (len ∙ ap length insert ∙ length-map (λ (c : CompletionCandidate). rank_of cs c.tag) (take i cs))
+    ∙ sym (first_rank-push (take i cs) c tag) ∙ ap (λ xs. first_rank xs tag) (sym (taken cs i c within is))

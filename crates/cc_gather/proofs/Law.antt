@@ -11,9 +11,9 @@ use Rattle.cc_base.specs.Sorting.{in_order}
 use Rattle.cc_base.proofs.Members.{AllByRecursion-IsIn, AllByRecursion-from_IsIn}
 use Rattle.cc_base.proofs.Sorted.{AllByRecursion-in_order, in_order-IsIn}
 use Rattle.cc_candidates.specs.declared.candidate.CompletionCandidate.{CompletionCandidate}
-use Rattle.cc_gather.specs.Finished.{is_shown, shown, share, has_tag, place_of, first_of_ids, comes_before, grouped, finished, SharesNone, ShareNone, Differ, AreShown}
+use Rattle.cc_gather.specs.Finished.{is_shown, shown, share, has_tag, rank_of, first_of_ids, comes_before, group, finish, SharesNone, ShareNone, Differ, AreShown}
 use Rattle.cc_gather.proofs.InOrder.{up-in_order, apart, in_order-alike, filter-in_order, sorted_after}
-use Rattle.cc_gather.proofs.Places.{Tag, Has, tag_itself, place_front, place_back, place_below, place_tag, places_rise, below, cmp_less, cmp_equal, cmp_greater}
+use Rattle.cc_gather.proofs.Ranks.{Tag, Has, tag_itself, rank_front, rank_back, rank_below, rank_tag, ranks_rise, below, cmp_less, cmp_equal, cmp_greater}
 use Rattle.cc_gather.proofs.FirstOfIds.{first_of_ids-append, first_of_ids-differ, first_of_ids-stays, differ-in_order, all_kept, all-first_of_ids}
 
 abbrev Candidates : Type 0
@@ -85,47 +85,47 @@ module _ (a v : Candidates) where
   has_sorted : (t : Tag) → Has v t → Has sorted t
   has_sorted t h = any-in_order (has_tag t) (comes_before v) v h
 
-  rise_back : (s t : Tag) → Has v s → Has v t → place_of v s < place_of v t → place_of sorted s < place_of sorted t
-  rise_back s t hs ht less = elim (cases_order (place_of sorted s) (place_of sorted t)) [
-    | inl e ↦ let same : s ≡ t = place_tag sorted s t (has_sorted s hs) e in
-        let no : place_of v t < place_of v t = rw same at less in absurd (omega (arith, no))
+  rise_back : (s t : Tag) → Has v s → Has v t → rank_of v s < rank_of v t → rank_of sorted s < rank_of sorted t
+  rise_back s t hs ht less = elim (cases_order (rank_of sorted s) (rank_of sorted t)) [
+    | inl e ↦ let same : s ≡ t = rank_tag sorted s t (has_sorted s hs) e in
+        let no : rank_of v t < rank_of v t = rw same at less in absurd (omega (arith, no))
     | inr o ↦ elim o [
       | inl lt ↦ lt
       | inr gt ↦
-          let no : place_of v t ≤ place_of v s = places_rise v sorted t s (up-in_order (comes_before v) (below v) v) (has_sorted t ht) (has_sorted s hs) gt in
+          let no : rank_of v t ≤ rank_of v s = ranks_rise v sorted t s (up-in_order (comes_before v) (below v) v) (has_sorted t ht) (has_sorted s hs) gt in
           absurd (omega (arith, no, less))
     ]
   ]
 
-  -- a tag that a lacks stands in what follows
+  -- a tag that a lacks is in what follows
   later_has : (t : Tag) → list_any (has_tag t) a ≡ false → Has whole t → Has v t
   later_has t lacks h = let e : (list_any (has_tag t) a || list_any (has_tag t) v) ≡ true = sym (list_any-append (has_tag t) a v) ∙ h in rw lacks at e
 
-  -- places rise after a as they do by themselves
-  agree : (s t : Tag) → Has whole s → Has whole t → place_of whole s < place_of whole t → place_of twice s < place_of twice t
+  -- ranks rise after a as they do by themselves
+  agree : (s t : Tag) → Has whole s → Has whole t → rank_of whole s < rank_of whole t → rank_of twice s < rank_of twice t
   agree s t hs ht less = elim (cases_Bool (list_any (has_tag s) a)) [
     | inl sa ↦ elim (cases_Bool (list_any (has_tag t) a)) [
-      | inl ta ↦ let e1 = place_front a v s sa in let e2 = place_front a v t ta in let e3 = place_front a sorted s sa in let e4 = place_front a sorted t ta in omega (arith, e1, e2, e3, e4, less)
-      | inr ta ↦ let e3 = place_front a sorted s sa in let e4 = place_back a sorted t ta in let in_a = place_below a s sa in omega (arith, e3, e4, in_a)
+      | inl ta ↦ let e1 = rank_front a v s sa in let e2 = rank_front a v t ta in let e3 = rank_front a sorted s sa in let e4 = rank_front a sorted t ta in omega (arith, e1, e2, e3, e4, less)
+      | inr ta ↦ let e3 = rank_front a sorted s sa in let e4 = rank_back a sorted t ta in let in_a = rank_below a s sa in omega (arith, e3, e4, in_a)
     ]
     | inr sa ↦ elim (cases_Bool (list_any (has_tag t) a)) [
-      | inl ta ↦ let e1 = place_back a v s sa in let e2 = place_front a v t ta in let in_a = place_below a t ta in absurd (omega (arith, e1, e2, in_a, less))
+      | inl ta ↦ let e1 = rank_back a v s sa in let e2 = rank_front a v t ta in let in_a = rank_below a t ta in absurd (omega (arith, e1, e2, in_a, less))
       | inr ta ↦
-          let e1 = place_back a v s sa in let e2 = place_back a v t ta in let e3 = place_back a sorted s sa in let e4 = place_back a sorted t ta in
-          let lt : place_of v s < place_of v t = omega (arith, e1, e2, less) in
+          let e1 = rank_back a v s sa in let e2 = rank_back a v t ta in let e3 = rank_back a sorted s sa in let e4 = rank_back a sorted t ta in
+          let lt : rank_of v s < rank_of v t = omega (arith, e1, e2, less) in
           let later = rise_back s t (later_has s sa hs) (later_has t ta ht) lt in
           omega (arith, e3, e4, later)
     ]
   ]
 
-  -- so places compare alike
-  compare : (s t : Tag) → Has whole s → Has whole t → nat_cmp (place_of twice s) (place_of twice t) ≡ nat_cmp (place_of whole s) (place_of whole t)
-  compare s t hs ht = elim (cases_order (place_of whole s) (place_of whole t)) [
-    | inl e ↦ let same : s ≡ t = place_tag whole s t hs e in
-        cmp_equal (place_of twice s) (place_of twice t) (ap (place_of twice) same) ∙ sym (cmp_equal (place_of whole s) (place_of whole t) e)
+  -- so ranks compare alike
+  compare : (s t : Tag) → Has whole s → Has whole t → nat_cmp (rank_of twice s) (rank_of twice t) ≡ nat_cmp (rank_of whole s) (rank_of whole t)
+  compare s t hs ht = elim (cases_order (rank_of whole s) (rank_of whole t)) [
+    | inl e ↦ let same : s ≡ t = rank_tag whole s t hs e in
+        cmp_equal (rank_of twice s) (rank_of twice t) (ap (rank_of twice) same) ∙ sym (cmp_equal (rank_of whole s) (rank_of whole t) e)
     | inr o ↦ elim o [
-      | inl lt ↦ cmp_less (place_of twice s) (place_of twice t) (agree s t hs ht lt) ∙ sym (cmp_less (place_of whole s) (place_of whole t) lt)
-      | inr gt ↦ cmp_greater (place_of twice s) (place_of twice t) (agree t s ht hs gt) ∙ sym (cmp_greater (place_of whole s) (place_of whole t) gt)
+      | inl lt ↦ cmp_less (rank_of twice s) (rank_of twice t) (agree s t hs ht lt) ∙ sym (cmp_less (rank_of whole s) (rank_of whole t) lt)
+      | inr gt ↦ cmp_greater (rank_of twice s) (rank_of twice t) (agree t s ht hs gt) ∙ sym (cmp_greater (rank_of whole s) (rank_of whole t) gt)
     ]
   ]
 
@@ -138,15 +138,15 @@ module _ (a v : Candidates) where
 
   -- two members that one order tells apart the other does, too
   told : (x y : CompletionCandidate) → Has v x.tag → Has v y.tag → comes_before v y x ≡ true → (comes_before whole y x ≡ true) ⊎ (comes_before whole x y ≡ true)
-  told x y hx hy e = elim (cases_order (place_of whole y.tag) (place_of whole x.tag)) [
+  told x y hx hy e = elim (cases_order (rank_of whole y.tag) (rank_of whole x.tag)) [
     | inl is ↦
-        let same : y.tag ≡ x.tag = place_tag whole y.tag x.tag (has_back a v y.tag hy) is in
+        let same : y.tag ≡ x.tag = rank_tag whole y.tag x.tag (has_back a v y.tag hy) is in
         inl (ap (λ r. is_lt (ordering_then r (option_cmp nat_cmp y.display_order x.display_order)))
-        (cmp_equal (place_of whole y.tag) (place_of whole x.tag) is ∙ sym (cmp_equal (place_of v y.tag) (place_of v x.tag) (ap (place_of v) same)))
+        (cmp_equal (rank_of whole y.tag) (rank_of whole x.tag) is ∙ sym (cmp_equal (rank_of v y.tag) (rank_of v x.tag) (ap (rank_of v) same)))
         ∙ e)
     | inr o ↦ elim o [
-      | inl lt ↦ inl (ap (λ r. is_lt (ordering_then r (option_cmp nat_cmp y.display_order x.display_order))) (cmp_less (place_of whole y.tag) (place_of whole x.tag) lt))
-      | inr gt ↦ inr (ap (λ r. is_lt (ordering_then r (option_cmp nat_cmp x.display_order y.display_order))) (cmp_less (place_of whole x.tag) (place_of whole y.tag) gt))
+      | inl lt ↦ inl (ap (λ r. is_lt (ordering_then r (option_cmp nat_cmp y.display_order x.display_order))) (cmp_less (rank_of whole y.tag) (rank_of whole x.tag) lt))
+      | inr gt ↦ inr (ap (λ r. is_lt (ordering_then r (option_cmp nat_cmp x.display_order y.display_order))) (cmp_less (rank_of whole x.tag) (rank_of whole y.tag) gt))
     ]
   ]
 
@@ -157,8 +157,8 @@ module _ (a v : Candidates) where
     | inr t ↦ apart (comes_before whole) (below whole) z y x t other one
   ]
 
-  grouped_twice : grouped (a ++ grouped v) ≡ grouped (a ++ v)
-  unfolding grouped
+  grouped_twice : group (a ++ group v) ≡ group (a ++ v)
+  unfolding group
   grouped_twice =
       in_order-alike (λ c. Has whole c.tag) (comes_before twice) (comes_before whole) alike twice members
       ∙ sorted_after (comes_before whole) (below whole) a sorted v
@@ -211,18 +211,18 @@ all-shown P cs h = elim (cases_Bool (list_any is_shown cs)) [
   | inr f ↦ subst (AllByRecursion P) (sym (shown_false cs f)) h
 ]
 
-all-finished : (P : CompletionCandidate → Type 0) (cs : Candidates) → AllByRecursion P (shown cs) → AllByRecursion P (finished cs)
-unfolding finished grouped
-all-finished P cs h =
+all-finish : (P : CompletionCandidate → Type 0) (cs : Candidates) → AllByRecursion P (shown cs) → AllByRecursion P (finish cs)
+unfolding finish group
+all-finish P cs h =
     AllByRecursion-in_order (comes_before (first_of_ids (shown cs))) P (first_of_ids (shown cs)) (all-first_of_ids P (shown cs) h)
 
 -- WHERE A VISIBLE CANDIDATE WAS GATHERED NO HIDDEN ONE IS IN THE ANSWER
-pub visible : (cs : Candidates) → list_any is_shown cs ≡ true → AreShown (finished cs)
-visible cs e = all-finished (λ c. is_shown c ≡ true) cs (subst AreShown (sym (shown_true cs e)) (passing is_shown cs))
+pub visible : (cs : Candidates) → list_any is_shown cs ≡ true → AreShown (finish cs)
+visible cs e = all-finish (λ c. is_shown c ≡ true) cs (subst AreShown (sym (shown_true cs e)) (passing is_shown cs))
 
 -- TWO CANDIDATES OF AN ANSWER NEVER SHARE AN ID
-pub differ : (cs : Candidates) → Differ (finished cs)
-unfolding finished grouped
+pub differ : (cs : Candidates) → Differ (finish cs)
+unfolding finish group
 differ cs = differ-in_order (comes_before (first_of_ids (shown cs))) (first_of_ids (shown cs)) (first_of_ids-differ (shown cs))
 
 -- THE LAW
@@ -242,60 +242,60 @@ or_true true = refl
 or_true false = refl
 
 module _ (a b : Candidates) (apart : ShareNone a b) where
-  apart_finished : ShareNone a (finished b)
-  apart_finished = none_right a b (finished b) (λ P h. all-finished P b (all-shown P b h)) apart
+  apart_finished : ShareNone a (finish b)
+  apart_finished = none_right a b (finish b) (λ P h. all-finish P b (all-shown P b h)) apart
 
-  stays : first_of_ids (finished b) ≡ finished b
-  stays = first_of_ids-stays (finished b) (differ b)
+  stays : first_of_ids (finish b) ≡ finish b
+  stays = first_of_ids-stays (finish b) (differ b)
 
-  from : (f : Candidates) → first_of_ids (shown (a ++ finished b)) ≡ f ++ finished b → first_of_ids (shown (a ++ b)) ≡ f ++ first_of_ids (shown b) →
-      finished (a ++ finished b) ≡ finished (a ++ b)
-  unfolding finished
-  from f twice once = ap grouped twice ∙ grouped_twice f (first_of_ids (shown b)) ∙ ap grouped (sym once)
+  from : (f : Candidates) → first_of_ids (shown (a ++ finish b)) ≡ f ++ finish b → first_of_ids (shown (a ++ b)) ≡ f ++ first_of_ids (shown b) →
+      finish (a ++ finish b) ≡ finish (a ++ b)
+  unfolding finish
+  from f twice once = ap group twice ∙ grouped_twice f (first_of_ids (shown b)) ∙ ap group (sym once)
 
-  some_visible : list_any is_shown b ≡ true → list_any is_shown (finished b) ≡ true
-  unfolding finished grouped
+  some_visible : list_any is_shown b ≡ true → list_any is_shown (finish b) ≡ true
+  unfolding finish group
   some_visible e = any-in_order is_shown (comes_before (first_of_ids (shown b))) (first_of_ids (shown b))
       (first_shown (shown b) (subst AreShown (sym (shown_true b e)) (passing is_shown b))
       (ap (list_any is_shown) (shown_true b e) ∙ any_filter b e))
 
   -- b has a visible one
-  after_visible : list_any is_shown b ≡ true → finished (a ++ finished b) ≡ finished (a ++ b)
+  after_visible : list_any is_shown b ≡ true → finish (a ++ finish b) ≡ finish (a ++ b)
   after_visible e =
       from (first_of_ids (filter is_shown a))
-      (ap first_of_ids (shown_true (a ++ finished b) (any_both a (finished b) (list_any is_shown a) true refl (some_visible e) ∙ or_true (list_any is_shown a))
-      ∙ filter-append is_shown a (finished b) ∙ ap (λ s. filter is_shown a ++ s) (kept is_shown (finished b) (visible b e)))
-      ∙ first_of_ids-append (filter is_shown a) (finished b) (none_left a (finished b) apart_finished is_shown)
+      (ap first_of_ids (shown_true (a ++ finish b) (any_both a (finish b) (list_any is_shown a) true refl (some_visible e) ∙ or_true (list_any is_shown a))
+      ∙ filter-append is_shown a (finish b) ∙ ap (λ s. filter is_shown a ++ s) (kept is_shown (finish b) (visible b e)))
+      ∙ first_of_ids-append (filter is_shown a) (finish b) (none_left a (finish b) apart_finished is_shown)
       ∙ ap (λ s. first_of_ids (filter is_shown a) ++ s) stays)
       (ap first_of_ids (shown_true (a ++ b) (any_both a b (list_any is_shown a) true refl e ∙ or_true (list_any is_shown a)) ∙ filter-append is_shown a b)
       ∙ first_of_ids-append (filter is_shown a) (filter is_shown b)
       (none_left a (filter is_shown b) (none_right a b (filter is_shown b) (λ P h. all_kept P is_shown b h) apart) is_shown)
       ∙ ap (λ s. first_of_ids (filter is_shown a) ++ first_of_ids s) (sym (shown_true b e)))
 
-  hidden : list_any is_shown b ≡ false → AllByRecursion (λ c. is_shown c ≡ false) (finished b)
-  hidden e = all-finished (λ c. is_shown c ≡ false) b (all-shown (λ c. is_shown c ≡ false) b (any_none is_shown b e))
+  hidden : list_any is_shown b ≡ false → AllByRecursion (λ c. is_shown c ≡ false) (finish b)
+  hidden e = all-finish (λ c. is_shown c ≡ false) b (all-shown (λ c. is_shown c ≡ false) b (any_none is_shown b e))
 
   -- nothing is visible
-  after_hidden : list_any is_shown a ≡ false → list_any is_shown b ≡ false → finished (a ++ finished b) ≡ finished (a ++ b)
+  after_hidden : list_any is_shown a ≡ false → list_any is_shown b ≡ false → finish (a ++ finish b) ≡ finish (a ++ b)
   after_hidden f e =
       from (first_of_ids a)
-      (ap first_of_ids (shown_false (a ++ finished b) (any_both a (finished b) false false f (none_any is_shown (finished b) (hidden e))))
-      ∙ first_of_ids-append a (finished b) apart_finished ∙ ap (λ s. first_of_ids a ++ s) stays)
+      (ap first_of_ids (shown_false (a ++ finish b) (any_both a (finish b) false false f (none_any is_shown (finish b) (hidden e))))
+      ∙ first_of_ids-append a (finish b) apart_finished ∙ ap (λ s. first_of_ids a ++ s) stays)
       (ap first_of_ids (shown_false (a ++ b) (any_both a b false false f e)) ∙ first_of_ids-append a b apart
       ∙ ap (λ s. first_of_ids a ++ first_of_ids s) (sym (shown_false b e)))
 
   -- a alone has visible ones
-  front_visible : list_any is_shown a ≡ true → list_any is_shown b ≡ false → finished (a ++ finished b) ≡ finished (a ++ b)
-  unfolding finished
+  front_visible : list_any is_shown a ≡ true → list_any is_shown b ≡ false → finish (a ++ finish b) ≡ finish (a ++ b)
+  unfolding finish
   front_visible t e =
-      ap (λ s. grouped (first_of_ids s))
-      (shown_true (a ++ finished b) (any_both a (finished b) true false t (none_any is_shown (finished b) (hidden e)))
-      ∙ filter-append is_shown a (finished b) ∙ ap (λ s. filter is_shown a ++ s) (dropped is_shown (finished b) (hidden e) ∙ sym (dropped is_shown b (any_none is_shown b e)))
+      ap (λ s. group (first_of_ids s))
+      (shown_true (a ++ finish b) (any_both a (finish b) true false t (none_any is_shown (finish b) (hidden e)))
+      ∙ filter-append is_shown a (finish b) ∙ ap (λ s. filter is_shown a ++ s) (dropped is_shown (finish b) (hidden e) ∙ sym (dropped is_shown b (any_none is_shown b e)))
       ∙ sym (filter-append is_shown a b) ∙ sym (shown_true (a ++ b) (any_both a b true false t e)))
 
   -- FINISHING A LIST AFTER ANOTHER ONE FIRST CHANGES NOTHING, WHERE THE TWO SHARE NO ID
-  pub finished_after : finished (a ++ finished b) ≡ finished (a ++ b)
-  finished_after = elim (cases_Bool (list_any is_shown b)) [
+  pub finish_after : finish (a ++ finish b) ≡ finish (a ++ b)
+  finish_after = elim (cases_Bool (list_any is_shown b)) [
     | inl e ↦ after_visible e
     | inr e ↦ elim (cases_Bool (list_any is_shown a)) [
       | inl t ↦ front_visible t e

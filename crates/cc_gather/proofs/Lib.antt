@@ -9,6 +9,6 @@ pub mod InTurn
 pub mod Law
 pub mod LongNames
 pub mod NumberParts
-pub mod Places
+pub mod Ranks
 pub mod WordKinds
 pub mod Zips

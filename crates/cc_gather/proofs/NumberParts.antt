@@ -75,7 +75,7 @@ none_after p (suc n) (b ∷ bs) none = none_after p n bs (rest (p b) none)
     rest true h = cc
     rest false h = h
 
--- what stands after the first `e` of a text that begins with another byte
+-- what is after the first `e` of a text that begins with another byte
 after_another : (b : ℕ) (bs : List ℕ) → is_e b ≡ false → after_first is_e (b ∷ bs) ≡ after_first is_e bs
 after_another b bs h =
     let n = prefix_len (λ x. not (is_e x)) bs in

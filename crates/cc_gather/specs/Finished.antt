@@ -29,26 +29,26 @@ first_of_ids (c ∷ cs) = c ∷ filter (λ d. not (share c.id d.id)) (first_of_i
 abbrev pub has_tag : Option (List ℕ) → CompletionCandidate → Bool
 has_tag tag c = option_eq bytes_eq c.tag tag
 
--- how many stand before the first with the tag: the place of the tag's first member
-abbrev pub place_of : List CompletionCandidate → Option (List ℕ) → ℕ
-place_of [] tag = 0
-place_of (c ∷ cs) tag = if has_tag tag c then 0 else suc (place_of cs tag)
+-- how many are before the first with the tag: the rank of the tag's first member
+abbrev pub rank_of : List CompletionCandidate → Option (List ℕ) → ℕ
+rank_of [] tag = 0
+rank_of (c ∷ cs) tag = if has_tag tag c then 0 else suc (rank_of cs tag)
 
--- one stands before another: by the place of its tag's first member, then by the display order,
+-- one comes before another: by the rank of its tag's first member, then by the display order,
 -- none before some
 abbrev pub comes_before : List CompletionCandidate → CompletionCandidate → CompletionCandidate
     → Bool
 comes_before cs one other =
-    is_lt (ordering_then (nat_cmp (place_of cs one.tag) (place_of cs other.tag))
+    is_lt (ordering_then (nat_cmp (rank_of cs one.tag) (rank_of cs other.tag))
     (option_cmp nat_cmp one.display_order other.display_order))
 
 -- grouped by tags, and within one by display order; ties keep their order
-unfoldable pub grouped : List CompletionCandidate → List CompletionCandidate
-grouped cs = in_order (comes_before cs) cs
+unfoldable pub group : List CompletionCandidate → List CompletionCandidate
+group cs = in_order (comes_before cs) cs
 
 -- the visible ones if any is, of each id the first, grouped
-unfoldable pub finished : List CompletionCandidate → List CompletionCandidate
-finished cs = grouped (first_of_ids (shown cs))
+unfoldable pub finish : List CompletionCandidate → List CompletionCandidate
+finish cs = group (first_of_ids (shown cs))
 
 -- the candidate shares its id with none of these
 abbrev pub SharesNone : CompletionCandidate → List CompletionCandidate → Type 0

@@ -5,6 +5,6 @@ pub mod NumberParts
 pub mod Numbers
 pub mod OptionRows
 pub mod Options
-pub mod Placed
+pub mod Ranked
 pub mod Rows
 pub mod Seen

@@ -23,7 +23,7 @@ pub data Row : Type 0 where
 
 -- THE LONG OF A WORD
 
--- what stands after the first `=`, if there is one
+-- what is after the first `=`, if there is one
 abbrev pub after_equals : List ℕ → Option (List ℕ)
 after_equals [] = None
 after_equals (c ∷ s) = if c == 61 then Some s else after_equals s
@@ -42,14 +42,14 @@ long_row arguments long (Some text) =
 
 -- THE SHORTS OF A WORD
 
--- a `=` in front of a value belongs to what stands before it
-abbrev pub asked_after : Arg → List ℕ → List ℕ → Asked
-asked_after argument before [] = record { argument = argument; before = before; text = [] }
-asked_after argument before (c ∷ s) =
+-- a `=` in front of a value belongs to what is before it
+abbrev pub value_asked_after : Arg → List ℕ → List ℕ → Asked
+value_asked_after argument before [] = record { argument = argument; before = before; text = [] }
+value_asked_after argument before (c ∷ s) =
     if c == 61 then record { argument = argument; before = before ++ codes "="; text = s }
     else record { argument = argument; before = before; text = c ∷ s }
 
--- what stands in a text before an end of it
+-- what is in a text before an end of it
 abbrev pub without_end : List ℕ → List ℕ → List ℕ
 without_end text end = take (length text - length end) text
 
@@ -58,7 +58,7 @@ without_end text end = take (length text - length end) text
 abbrev pub cluster_row : List Arg → List ℕ → Option ValueCharacter → Row
 cluster_row arguments word None = Listed (shorts word arguments)
 cluster_row arguments word (Some found) =
-    ValuesOf (asked_after found.argument (without_end word found.after) found.after)
+    ValuesOf (value_asked_after found.argument (without_end word found.after) found.after)
 
 -- after `-`: none for a negative number
 abbrev pub short_row : List Arg → List ℕ → Row
@@ -82,5 +82,5 @@ row_of arguments [] = Listed (longs arguments ++ shorts (codes "-") arguments)
 row_of arguments (c ∷ s) = if c == 45 then after_one_dash arguments s else Listed []
 
 -- the candidate with a text before its value
-abbrev pub prefixed : List ℕ → CompletionCandidate → CompletionCandidate
-prefixed before c = record c { value = before ++ c.value }
+abbrev pub with_prefix : List ℕ → CompletionCandidate → CompletionCandidate
+with_prefix before c = record c { value = before ++ c.value }

@@ -18,12 +18,12 @@ ascend_from last [] = true
 ascend_from last (c ∷ cs) = is_lt (texts_cmp last c.id) && ascend_from c.id cs
 
 -- the elements with a mark
-abbrev pub marked : {X : Type 0} → List Bool → List X → List X
-marked [] xs = []
-marked (mark ∷ marks) [] = []
-marked (mark ∷ marks) (x ∷ xs) = if mark then x ∷ marked marks xs else marked marks xs
+abbrev pub select : {X : Type 0} → List Bool → List X → List X
+select [] xs = []
+select (mark ∷ marks) [] = []
+select (mark ∷ marks) (x ∷ xs) = if mark then x ∷ select marks xs else select marks xs
 
--- where a tag first stands; none where it does not
-abbrev pub first_place : List CompletionCandidate → Option (List ℕ) → Option ℕ
-first_place [] tag = None
-first_place (c ∷ cs) tag = if has_tag tag c then Some 0 else option_map suc (first_place cs tag)
+-- where a tag first occurs; none where it does not
+abbrev pub first_rank : List CompletionCandidate → Option (List ℕ) → Option ℕ
+first_rank [] tag = None
+first_rank (c ∷ cs) tag = if has_tag tag c then Some 0 else option_map suc (first_rank cs tag)

@@ -10,7 +10,7 @@ ghost use Rattle.cc_command.specs.Names.{visible_names};
 ghost use Rattle.cc_gather.specs.Children.{child_candidate, child_candidates, children_candidates, external, in_candidates_order, subcommand_candidates};
 
 use cc_base::Text;
-use cc_candidates::{CompletionCandidate, beginning, begins_with, copied};
+use cc_candidates::{CompletionCandidate, begins_with, copy_of_some, retain_beginning_with};
 use cc_command::Command;
 use std::alloc::{AllocError, Global};
 
@@ -28,7 +28,7 @@ pub fn subcommand_candidates(
         ≡ subcommand_candidates command.now lent.items word.now) }
 {
     let mut found = children_beginning(alloc, command, word)?;
-    let mut lent = beginning(external(alloc, command, lent), word);
+    let mut lent = retain_beginning_with(external(alloc, command, lent), word);
     found.append(&mut lent)?;
     sort(&mut found)?;
     Ok(found)
@@ -169,7 +169,7 @@ fn child_candidate(
     let tag = String::from_str(alloc, heading)?;
     let mut id = String::from_str(alloc, "command::")?;
     id.push_str(child.get_name())?;
-    let help = copied(alloc, child.get_about())?;
+    let help = copy_of_some(alloc, child.get_about())?;
     Ok(
         CompletionCandidate::new(String::from_str(alloc, name)?)
             .help(help)

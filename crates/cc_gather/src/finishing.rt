@@ -8,9 +8,9 @@ ghost use Rattle.std.specs.Option.{option_copied, option_eq, option_or, unwrap_o
 ghost use Rattle.std.specs.Ordering.{as_partial_cmp, eq_by_cmp};
 ghost use Rattle.std.specs.Str.{bytes_eq};
 ghost use Rattle.cc_candidates.specs.Candidate.{texts_cmp};
-ghost use Rattle.cc_gather.specs.Finished.{finished, first_of_ids, grouped, is_shown, place_of, shown, share, AreShown, Differ, ShareNone};
-ghost use Rattle.cc_gather.specs.Placed.{with_places, placed_cmp, placed_cmp_total};
-ghost use Rattle.cc_gather.specs.Seen.{ascend_from, is_seen, marked};
+ghost use Rattle.cc_gather.specs.Finished.{finish, first_of_ids, group, is_shown, rank_of, shown, share, AreShown, Differ, ShareNone};
+ghost use Rattle.cc_gather.specs.Ranked.{with_ranks, ranked_cmp, ranked_cmp_total};
+ghost use Rattle.cc_gather.specs.Seen.{ascend_from, is_seen, select};
 
 use cc_base::TextRef;
 use cc_candidates::CompletionCandidate;
@@ -19,13 +19,13 @@ use std::cmp::Ordering;
 use std::collections::{BTreeMap, BTreeSet};
 
 /// The list as it is returned: hidden candidates go where one is visible; the first of each id
-/// stays; then by the place of the tag's first member and the display order. To have no tag counts
+/// stays; then by the rank of the tag's first member and the display order. To have no tag counts
 /// as a tag.
-pub fn finished(
+pub fn finish(
     alloc: Global,
     candidates: Vec<CompletionCandidate>,
 ) -> Result<Vec<CompletionCandidate>, AllocError>
-    ensures value { IfOk result (λ answer. answer.items ≡ finished candidates.items) }
+    ensures value { IfOk result (λ answer. answer.items ≡ finish candidates.items) }
 
     // Where a visible candidate was gathered, no hidden one is returned.
     ensures visible { IfOk result
@@ -34,38 +34,38 @@ pub fn finished(
     // Two candidates that are returned never share an id.
     ensures differ { IfOk result (λ answer. Differ answer.items) }
 {
-    let answer = grouped_first_of_ids(alloc, candidates)?;
+    let answer = group_first_of_ids(alloc, candidates)?;
     Ok(answer)
 }
 
-#[tactic(auto, unfolding(crate::specs::Finished::finished))]
-fn grouped_first_of_ids(
+#[tactic(auto, unfolding(crate::specs::Finished::finish))]
+fn group_first_of_ids(
     alloc: Global,
     candidates: Vec<CompletionCandidate>,
 ) -> Result<Vec<CompletionCandidate>, AllocError>
-    ensures { IfOk result (λ answer. answer.items ≡ finished candidates.items) }
+    ensures { IfOk result (λ answer. answer.items ≡ finish candidates.items) }
 {
     let candidates = first_of_ids(alloc, shown(candidates))?;
-    grouped(alloc, candidates)
+    group(alloc, candidates)
 }
 
 /// The finished list of some candidates and, after them, the finished list of others.
-pub fn finished_after(
+pub fn finish_after(
     alloc: Global,
     first: Vec<CompletionCandidate>,
     rest: Vec<CompletionCandidate>,
 ) -> Result<Vec<CompletionCandidate>, AllocError>
     ensures value { IfOk result
-        (λ answer. answer.items ≡ finished (first.items ++ finished rest.items)) }
+        (λ answer. answer.items ≡ finish (first.items ++ finish rest.items)) }
 
     // Where the two share no id, that is one finishing of the whole.
     ensures once { IfOk result (λ answer. ShareNone first.items rest.items →
-        answer.items ≡ finished (first.items ++ rest.items)) }
+        answer.items ≡ finish (first.items ++ rest.items)) }
 {
     let mut all = first;
-    let mut rest = finished(alloc, rest)?;
+    let mut rest = finish(alloc, rest)?;
     all.append(&mut rest)?;
-    let answer = finished(alloc, all)?;
+    let answer = finish(alloc, all)?;
     Ok(answer)
 }
 
@@ -105,7 +105,7 @@ fn first_of_ids(
         return Ok(candidates);
     }
     let marks = new_ids(alloc, candidates.as_slice())?;
-    let kept = marked(alloc, candidates, marks)?;
+    let kept = select(alloc, candidates, marks)?;
     Ok(kept)
 }
 
@@ -136,7 +136,7 @@ fn id_of<'a>(candidate: &'a CompletionCandidate) -> Option<TextRef<'a>>
 
 // Marks those whose id no earlier one has.
 fn new_ids(alloc: Global, candidates: &[CompletionCandidate]) -> Result<Vec<bool>, AllocError>
-    ensures { IfOk result (λ marks. marked marks.items candidates.now
+    ensures { IfOk result (λ marks. select marks.items candidates.now
         ≡ first_of_ids candidates.now) }
 {
     let mut seen = BTreeSet::new(alloc);
@@ -164,12 +164,12 @@ fn see<'a>(
 }
 
 // The candidates with a mark.
-fn marked(
+fn select(
     alloc: Global,
     candidates: Vec<CompletionCandidate>,
     marks: Vec<bool>,
 ) -> Result<Vec<CompletionCandidate>, AllocError>
-    ensures { IfOk result (λ kept. kept.items ≡ marked marks.items candidates.items) }
+    ensures { IfOk result (λ kept. kept.items ≡ select marks.items candidates.items) }
 {
     let mut kept = Vec::with_capacity(alloc, candidates.len())?;
     for (mark, candidate) in marks.into_iter().zip(candidates) {
@@ -181,98 +181,98 @@ fn marked(
     Ok(kept)
 }
 
-// A candidate with the place of its tag.
+// A candidate with the rank of its tag.
 #[derive(Drop)]
-struct Placed {
-    place: usize,
+struct Ranked {
+    rank: usize,
     candidate: CompletionCandidate,
 }
 
-impl PartialEq for Placed {
-    ghost eq = { eq_by_cmp placed_cmp };
+impl PartialEq for Ranked {
+    ghost eq = { eq_by_cmp ranked_cmp };
 
-    ghost laws = { partial_equiv_from_equiv (eq_by_cmp_equiv placed_cmp_total) };
+    ghost laws = { partial_equiv_from_equiv (eq_by_cmp_equiv ranked_cmp_total) };
 
-    fn eq(&self, other: &Placed) -> bool {
+    fn eq(&self, other: &Ranked) -> bool {
         self.cmp(other).is_eq()
     }
 }
 
-impl Eq for Placed {
-    ghost laws = { eq_by_cmp_equiv placed_cmp_total };
+impl Eq for Ranked {
+    ghost laws = { eq_by_cmp_equiv ranked_cmp_total };
 }
 
-impl PartialOrd for Placed {
-    ghost partial_cmp = { as_partial_cmp placed_cmp };
+impl PartialOrd for Ranked {
+    ghost partial_cmp = { as_partial_cmp ranked_cmp };
 
-    ghost laws = { partial_order_from_total placed_cmp_total };
+    ghost laws = { partial_order_from_total ranked_cmp_total };
 
-    fn partial_cmp(&self, other: &Placed) -> Option<Ordering> {
+    fn partial_cmp(&self, other: &Ranked) -> Option<Ordering> {
         Some(self.cmp(other))
     }
 }
 
-impl Ord for Placed {
-    ghost cmp = { placed_cmp };
+impl Ord for Ranked {
+    ghost cmp = { ranked_cmp };
 
-    ghost total = { placed_cmp_total };
+    ghost total = { ranked_cmp_total };
 
     ghost matches_partial_cmp = { λ a b. refl };
 
     ghost matches_eq = { λ a b. refl };
 
-    fn cmp(&self, other: &Placed) -> Ordering {
+    fn cmp(&self, other: &Ranked) -> Ordering {
         let orders = self
             .candidate
             .get_display_order()
             .cmp(&other.candidate.get_display_order());
-        self.place.cmp(&other.place).then(orders)
+        self.rank.cmp(&other.rank).then(orders)
     }
 }
 
 // Grouped by tags, and within one by display order.
-fn grouped(
+fn group(
     alloc: Global,
     candidates: Vec<CompletionCandidate>,
 ) -> Result<Vec<CompletionCandidate>, AllocError>
-    ensures { IfOk result (λ answer. answer.items ≡ grouped candidates.items) }
+    ensures { IfOk result (λ answer. answer.items ≡ group candidates.items) }
 {
-    let places = places(alloc, candidates.as_slice())?;
-    let mut all = with_places(alloc, candidates, places)?;
+    let ranks = ranks(alloc, candidates.as_slice())?;
+    let mut all = with_ranks(alloc, candidates, ranks)?;
     all.sort()?;
     let answer = candidates_of(alloc, all)?;
     Ok(answer)
 }
 
-// For each candidate the place of its tag's first member.
-fn places(alloc: Global, candidates: &[CompletionCandidate]) -> Result<Vec<usize>, AllocError>
-    ensures { IfOk result (λ places. places.items ≡ map
-        (λ c. place_of candidates.now c.tag) candidates.now) }
+// For each candidate the rank of its tag's first member.
+fn ranks(alloc: Global, candidates: &[CompletionCandidate]) -> Result<Vec<usize>, AllocError>
+    ensures { IfOk result (λ ranks. ranks.items ≡ map
+        (λ c. rank_of candidates.now c.tag) candidates.now) }
 {
     let mut known = BTreeMap::new(alloc);
-    let mut places = Vec::with_capacity(alloc, candidates.len())?;
+    let mut ranks = Vec::with_capacity(alloc, candidates.len())?;
     for candidate in candidates {
-        let place = place_for(&mut known, candidate, places.len())?;
-        places.push(place)?;
+        let rank = rank_for(&mut known, candidate, ranks.len())?;
+        ranks.push(rank)?;
     }
-    Ok(places)
+    Ok(ranks)
 }
 
-// The place of a tag; the given one, which is kept, where it has none.
-fn place_for<'a>(
+// The rank of a tag; the given one, which is kept, where it has none.
+fn rank_for<'a>(
     known: &mut BTreeMap<Option<TextRef<'a>>, usize>,
     candidate: &'a CompletionCandidate,
     next: usize,
 ) -> Result<usize, AllocError>
     ensures value { IfOk result
-        (λ place. place ≡ unwrap_or (get texts_cmp known.old candidate.now.tag) next) }
+        (λ rank. rank ≡ unwrap_or (get texts_cmp known.old candidate.now.tag) next) }
     ensures kept { OnOk result ((other : Option (List ℕ)) → get texts_cmp known.new other
         ≡ option_or (get texts_cmp known.old other)
         (if option_eq bytes_eq candidate.now.tag other then Some next else None)) }
 {
     let tag = tag_of(candidate);
-    if let Some(place) = known.get(&tag) {
-        return Ok(*place);
+    if let Some(rank) = known.get(&tag) {
+        return Ok(*rank);
     }
     known.insert(tag, next)?;
     Ok(next)
@@ -287,22 +287,22 @@ fn tag_of<'a>(candidate: &'a CompletionCandidate) -> Option<TextRef<'a>>
     }
 }
 
-// Each candidate with its place.
-fn with_places(
+// Each candidate with its rank.
+fn with_ranks(
     alloc: Global,
     candidates: Vec<CompletionCandidate>,
-    places: Vec<usize>,
-) -> Result<Vec<Placed>, AllocError>
-    ensures { IfOk result (λ all. all.items ≡ with_places places.items candidates.items) }
+    ranks: Vec<usize>,
+) -> Result<Vec<Ranked>, AllocError>
+    ensures { IfOk result (λ all. all.items ≡ with_ranks ranks.items candidates.items) }
 {
     let mut all = Vec::with_capacity(alloc, candidates.len())?;
-    for (place, candidate) in places.into_iter().zip(candidates) {
-        all.push(Placed { place, candidate })?;
+    for (rank, candidate) in ranks.into_iter().zip(candidates) {
+        all.push(Ranked { rank, candidate })?;
     }
     Ok(all)
 }
 
-fn candidates_of(alloc: Global, all: Vec<Placed>) -> Result<Vec<CompletionCandidate>, AllocError>
+fn candidates_of(alloc: Global, all: Vec<Ranked>) -> Result<Vec<CompletionCandidate>, AllocError>
     ensures { IfOk result (λ answer. answer.items ≡ map (λ one. one.candidate) all.items) }
 {
     let mut candidates = Vec::with_capacity(alloc, all.len())?;

@@ -11,5 +11,5 @@ mod options;
 mod shorts;
 
 pub use crate::children::subcommand_candidates;
-pub use crate::finishing::{finished, finished_after};
-pub use crate::option_rows::{OptionRow, ValuesAsked, all_prefixed, option_row};
+pub use crate::finishing::{finish, finish_after};
+pub use crate::option_rows::{OptionRow, ValuesAsked, all_with_prefix, option_row};

@@ -7,7 +7,7 @@ ghost use Rattle.cc_gather.specs.Options.{hidden_beginning, long_candidate, long
 use crate::options::option_candidate;
 use cc_arg::Arg;
 use cc_base::Text;
-use cc_candidates::{CompletionCandidate, begins_with, copied};
+use cc_candidates::{CompletionCandidate, begins_with, copy_of_some};
 use std::alloc::{AllocError, Global};
 
 // All longs and their visible aliases, then all hidden ones.
@@ -140,6 +140,6 @@ fn long_candidate(
 {
     let mut value = String::from_str(alloc, "--")?;
     value.push_str(name)?;
-    let help = copied(alloc, argument.get_help())?;
+    let help = copy_of_some(alloc, argument.get_help())?;
     option_candidate(alloc, argument, value, help, hidden)
 }

@@ -5,7 +5,7 @@ ghost use Rattle.std.specs.String.{string_bytes};
 ghost use Rattle.cc_gather.specs.Lookup.{has_own_long};
 ghost use Rattle.cc_gather.specs.OptionRows.{asked_of, row_given};
 ghost use Rattle.cc_gather.specs.Options.{longs, shorts};
-ghost use Rattle.cc_gather.specs.Rows.{after_equals, asked_after, flag_row, long_row, prefixed, row_of, short_row, without_end};
+ghost use Rattle.cc_gather.specs.Rows.{after_equals, value_asked_after, flag_row, long_row, with_prefix, row_of, short_row, without_end};
 ghost use Rattle.cc_walk.specs.Words.{EndsWith};
 
 use crate::longs::{longs, longs_beginning};
@@ -67,16 +67,16 @@ pub fn option_row<'a>(
 }
 
 /// The candidates, with a text before the value of each. Fails only where an allocation fails.
-pub fn all_prefixed(
+pub fn all_with_prefix(
     alloc: Global,
     candidates: Vec<CompletionCandidate>,
     before: &str,
 ) -> Result<Vec<CompletionCandidate>, AllocError>
-    ensures { IfOk result (λ found. found.items ≡ map (prefixed before.now) candidates.items) }
+    ensures { IfOk result (λ found. found.items ≡ map (with_prefix before.now) candidates.items) }
 {
     let mut found = Vec::new(alloc);
     for candidate in candidates {
-        found.push(candidate.prefixed(alloc, before)?)?;
+        found.push(candidate.with_prefix(alloc, before)?)?;
     }
     Ok(found)
 }
@@ -203,16 +203,16 @@ fn character_values<'a>(
 ) -> Result<ValuesAsked<'a>, AllocError>
     requires { EndsWith word.now found.after }
     ensures { IfOk result (λ asked. asked_of asked
-        ≡ asked_after found.entry.argument (without_end word.now found.entry.after)
+        ≡ value_asked_after found.entry.argument (without_end word.now found.entry.after)
         found.entry.after) }
 {
     let after = found.after.as_str();
     let before = String::from_str(alloc, without_end(word, after))?;
-    let asked = asked_after(found.argument.get(), before, after)?;
+    let asked = value_asked_after(found.argument.get(), before, after)?;
     Ok(asked)
 }
 
-// What stands in a text before an end of it.
+// What is in a text before an end of it.
 fn without_end<'a>(text: &'a str, end: &str) -> &'a str
     requires { EndsWith text.now end.now }
     ensures { result.now ≡ without_end text.now end.now }
@@ -220,14 +220,14 @@ fn without_end<'a>(text: &'a str, end: &str) -> &'a str
     &text[..text.len() - end.len()]
 }
 
-// A `=` in front of a value belongs to what stands before it.
-fn asked_after<'a>(
+// A `=` in front of a value belongs to what is before it.
+fn value_asked_after<'a>(
     argument: &'a Arg,
     mut before: String,
     rest: &'a str,
 ) -> Result<ValuesAsked<'a>, AllocError>
     ensures { IfOk result (λ asked. asked_of asked
-        ≡ asked_after argument.now (string_bytes before) rest.now) }
+        ≡ value_asked_after argument.now (string_bytes before) rest.now) }
 {
     let Some(text) = rest.strip_prefix('=') else {
         return Ok(ValuesAsked {

@@ -6,7 +6,7 @@ use crate::sinks::{BROKEN, ZERO, kind_of, narrow_sink, state_of};
 use crate::written::script;
 use cc_agreement::{bash_script_and_candidates, has_no_hidden_alias};
 use cc_fixtures::trees::CLASHING;
-use cc_fixtures::words::copies;
+use cc_fixtures::words::to_strings;
 use clap_complete::Error;
 use clap_complete::aot::{Bash, Collected, Sink};
 use clap_complete::command::Command;
@@ -29,7 +29,7 @@ const CALLED: &str = r#"{"name": "app", "aliases": ["a"], "disable_help_flag": t
 
 // Fails unless the call answers so for these words and the command of a tree file.
 fn has_none<R: Abort + AllocGlobal>(rt: &R, text: &str, words: &[&str], wanted: bool) {
-    let words = copies(rt.alloc(), words).expect(rt, "no words");
+    let words = to_strings(rt.alloc(), words).expect(rt, "no words");
     let command = tree(rt, text);
     same(rt, has_no_hidden_alias(&command, words.as_slice()), wanted);
     drop(command);
@@ -44,7 +44,7 @@ fn a_hidden_alias_of_a_command_below_is_found(rt: HostRuntime) {
 }
 
 // What the call returns under the bin name `app`, with nothing lent and no folders.
-fn called<W: Sink>(
+fn call<W: Sink>(
     alloc: Global,
     command: &mut Command,
     sink: &mut W,
@@ -86,7 +86,7 @@ fn label_at<'a>(alloc: Global, script: &'a str, words: &[&str]) -> Result<&'a st
 }
 
 // The words that the arm of a label offers; nothing where it has no arm.
-fn offered<'a>(alloc: Global, script: &'a str, label: &str) -> Result<&'a str, AllocError> {
+fn words_at<'a>(alloc: Global, script: &'a str, label: &str) -> Result<&'a str, AllocError> {
     let arm = format!(in alloc; "\n        {label})\n            opts=\"")?;
     let Some((_, rest)) = script.split_once(arm.as_str()) else {
         return Ok("");
@@ -107,7 +107,7 @@ fn values(alloc: Global, candidates: &[CompletionCandidate]) -> Result<String, A
 
 // The command line of these words after `app`, and an empty word.
 fn line_of(alloc: Global, words: &[&str]) -> Result<Vec<String>, AllocError> {
-    let mut line = copies(alloc, &["app"])?;
+    let mut line = to_strings(alloc, &["app"])?;
     for word in words {
         line.push(String::from_str(alloc, word)?)?;
     }
@@ -119,7 +119,7 @@ fn line_of(alloc: Global, words: &[&str]) -> Result<Vec<String>, AllocError> {
 // for an empty word after them.
 fn beside(alloc: Global, command: &mut Command, words: &[&str]) -> Result<String, Error> {
     let mut sink = Collected::new(alloc);
-    let found = called(
+    let found = call(
         alloc,
         command,
         &mut sink,
@@ -128,7 +128,7 @@ fn beside(alloc: Global, command: &mut Command, words: &[&str]) -> Result<String
     )?;
     let script = String::from_utf8_lossy(alloc, sink.as_slice())?;
     let label = label_at(alloc, script.as_str(), words)?;
-    let offered = offered(alloc, script.as_str(), label)?;
+    let offered = words_at(alloc, script.as_str(), label)?;
     let values = values(alloc, found.as_slice())?;
     Ok(format!(in alloc; "{label}: {offered};{values}")?)
 }
@@ -166,8 +166,8 @@ fn a_hidden_alias_leads_the_candidates_alone(rt: HostRuntime) {
 fn failure<R: Abort + AllocGlobal>(rt: &R, text: &str, index: usize) -> (Option<Error>, usize) {
     let mut command = tree(rt, text);
     let mut sink = Collected::new(rt.alloc());
-    let words = copies(rt.alloc(), &["app"]).expect(rt, "no words");
-    let returned = called(rt.alloc(), &mut command, &mut sink, words, index);
+    let words = to_strings(rt.alloc(), &["app"]).expect(rt, "no words");
+    let returned = call(rt.alloc(), &mut command, &mut sink, words, index);
     assert!(rt; command.is_built());
     drop(command);
     (returned.err(), sink.as_slice().len())
@@ -198,7 +198,7 @@ fn end_of(
 ) -> Result<(bool, Option<ErrorKind>, (u64, usize, bool)), Error> {
     let words = line_of(alloc, &[])?;
     let mut sink = narrow_sink(alloc, room, kind);
-    let returned = called(alloc, command, &mut sink, words, 1);
+    let returned = call(alloc, command, &mut sink, words, 1);
     let succeeds = returned.is_ok();
     let failed = kind_of(returned);
     let state = state_of(&sink, whole);

@@ -1,4 +1,4 @@
-//! The library as a program uses it. `elvish_script` stands in the README too, and `write_scripts`
+//! The library as a program uses it. `elvish_script` is in the README too, and `write_scripts`
 //! in docs/CALLING.md.
 
 use crate::checks::has;

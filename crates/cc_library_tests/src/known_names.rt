@@ -8,7 +8,7 @@ use std::alloc::Global;
 
 // The values that are offered for the word where a program knows these names, each with a space
 // after it.
-fn offered(alloc: Global, known: &[&str], word: &str) -> Result<String, Error> {
+fn candidates_for(alloc: Global, known: &[&str], word: &str) -> Result<String, Error> {
     let mut names = Vec::new(alloc);
     for name in known {
         names.push(String::from_str(alloc, name)?)?;
@@ -26,5 +26,9 @@ fn offered(alloc: Global, known: &[&str], word: &str) -> Result<String, Error> {
 #[test]
 fn names_that_begin_with_the_word_are_offered(rt: HostRuntime) {
     let known = ["ripgrep", "rsync", "jq"];
-    is(&rt, offered(rt.alloc(), &known, "r"), "ripgrep rsync ");
+    is(
+        &rt,
+        candidates_for(rt.alloc(), &known, "r"),
+        "ripgrep rsync ",
+    );
 }

@@ -1,6 +1,6 @@
 //! Tests of the library as programs use it: sinks that take little or fail, files, the shells as
 //! values, the calls of `cc_agreement`, and the callers of `cc_caller`. The tests of what each
-//! script holds stand in `cc_script_tests`, and those that know no shell in `cc_core_tests`.
+//! script holds are in `cc_script_tests`, and those that know no shell in `cc_core_tests`.
 #![tactic(auto)]
 
 #[cfg(test)]

@@ -262,7 +262,7 @@ fn remove_file<R: Abort + AllocGlobal + Files>(rt: &R, path: &str) {
     fs::remove_file(rt, path).expect(rt, "not removed");
 }
 
-// The files and the folder stand where the test runs.
+// The files and the folder are where the test runs.
 #[test]
 fn a_folder_that_ends_in_a_slash_or_is_empty_adds_no_slash(rt: HostRuntime) {
     fs::create_dir(&rt, "written").expect(&rt, "no folder");
@@ -275,7 +275,7 @@ fn a_folder_that_ends_in_a_slash_or_is_empty_adds_no_slash(rt: HostRuntime) {
 }
 
 // Makes a file longer, and returns what it held.
-fn lengthened<R: Abort + AllocGlobal + Files>(rt: &R, path: &str) -> String {
+fn lengthen<R: Abort + AllocGlobal + Files>(rt: &R, path: &str) -> String {
     let held = fs::read_to_string(rt, path).expect(rt, "no file");
     let longer = format!(in rt.alloc(); "{held}# more").expect(rt, "no text");
     fs::write(rt, path, longer.as_str()).expect(rt, "not written");
@@ -286,7 +286,7 @@ fn lengthened<R: Abort + AllocGlobal + Files>(rt: &R, path: &str) -> String {
 fn is_emptied<R: Abort + AllocGlobal + Files>(rt: &R, command: &mut Command, folder: &str) {
     let with_slash = path_in(rt, folder, "");
     let path = write_to(rt, Shell::Fish, command, with_slash.as_str()).expect(rt, "not written");
-    let wanted = lengthened(rt, path.as_str());
+    let wanted = lengthen(rt, path.as_str());
     is(
         rt,
         write_to(rt, Shell::Fish, command, folder),
@@ -327,7 +327,7 @@ fn a_full_disk_is_a_failed_write(rt: HostRuntime) {
     remove(&rt, folder.as_str());
 }
 
-// A folder stands in the file's place.
+// A folder has the file's path.
 #[test]
 fn a_folder_in_the_place_of_the_file_is_a_failed_write(rt: HostRuntime) {
     let folder = folder(&rt, "lagvtsune_blocked");

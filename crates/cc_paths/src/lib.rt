@@ -15,5 +15,5 @@ pub use crate::folder::{Folder, FolderError};
 pub use crate::listing::path_candidates;
 pub use crate::memory_folder::MemoryFolder;
 pub use crate::path_test::{EveryPath, FnTest, IsDir, IsExecutable, IsFile, PathTest, TextTest};
-pub use crate::path_texts::{join, trimmed};
+pub use crate::path_texts::{join, trim_trailing};
 pub use crate::real_folder::RealFolder;

@@ -218,7 +218,7 @@ fn path_candidate(
 {
     let name = entry.name.as_str();
     let hidden = begins_with_dot(name);
-    let value = marked(join(alloc, prefix, name)?, entry.is_folder)?;
+    let value = mark_folder(join(alloc, prefix, name)?, entry.is_folder)?;
     Ok(CompletionCandidate::new(value).hide(hidden))
 }
 
@@ -230,7 +230,7 @@ fn begins_with_dot(name: &str) -> bool
 }
 
 // The path, with a slash at its end where it is a folder's.
-fn marked(mut path: String, is_folder: bool) -> Result<String, AllocError>
+fn mark_folder(mut path: String, is_folder: bool) -> Result<String, AllocError>
     ensures { IfOk result (λ marked. string_bytes marked
         ≡ string_bytes path ++ folder_mark is_folder) }
 {

@@ -11,7 +11,7 @@ use std::path::Path;
 
 /// The path without the slashes and the `.` pieces at its end. The first slash of an absolute path
 /// stays, and so does a `.` that is the whole path.
-pub fn trimmed(path: &str) -> &str
+pub fn trim_trailing(path: &str) -> &str
     ensures { result.now ≡ trim_trailing path.now }
 {
     let bytes = path.as_bytes();

@@ -85,7 +85,7 @@ fn remove<R: Abort + AllocGlobal + Files>(rt: &R, folder: &str) {
 }
 
 // A folder of this name that was just made, with the file `a.txt` and the folders `.git` and `src`.
-fn made<R: Abort + AllocGlobal + Env + Files>(rt: &R, name: &str) -> String {
+fn make_folder_named<R: Abort + AllocGlobal + Env + Files>(rt: &R, name: &str) -> String {
     let above = env::temp_dir(rt)
         .expect(rt, "no folder above")
         .into_string();
@@ -103,7 +103,7 @@ fn made<R: Abort + AllocGlobal + Env + Files>(rt: &R, name: &str) -> String {
 
 #[test]
 fn the_names_in_a_folder_of_the_system_are_offered(rt: HostRuntime) {
-    let path = made(&rt, "lagvtsune_listed");
+    let path = make_folder_named(&rt, "lagvtsune_listed");
     let files = PathCompleter::file(RealFolder::new(&rt, None));
     let files = files.current_dir(text(&rt, path.as_str()));
     returns(&rt, files, "", "a.txt\n?.git/\nsrc/\n");
@@ -123,7 +123,7 @@ fn is(rt: &(impl Abort + AllocGlobal + Files), path: &str, wanted: (bool, bool))
 
 #[test]
 fn a_path_of_the_system_is_a_folders_or_a_files(rt: HostRuntime) {
-    let path = made(&rt, "lagvtsune_told");
+    let path = make_folder_named(&rt, "lagvtsune_told");
     is(
         &rt,
         path_in(&rt, path.as_str(), "src").as_str(),

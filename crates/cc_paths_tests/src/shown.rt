@@ -20,7 +20,7 @@ fn push_shown(text: &mut String, candidate: &CompletionCandidate) -> Result<(), 
     Ok(())
 }
 
-fn shown(alloc: Global, candidates: &[CompletionCandidate]) -> Result<String, AllocError> {
+fn values_text(alloc: Global, candidates: &[CompletionCandidate]) -> Result<String, AllocError> {
     let mut text = String::new(alloc);
     for candidate in candidates {
         push_shown(&mut text, candidate)?;
@@ -35,7 +35,7 @@ fn are(
     wanted: &str,
 ) {
     let candidates = candidates.expect(rt, "no candidates");
-    let text = shown(rt.alloc(), candidates.as_slice()).expect(rt, "no text");
+    let text = values_text(rt.alloc(), candidates.as_slice()).expect(rt, "no text");
     assert_eq!(rt; text.as_str(), wanted);
 }
 

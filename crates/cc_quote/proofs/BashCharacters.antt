@@ -4,15 +4,15 @@ use Rattle.std.proofs.Common.{◌≡◌, ◌≢◌, ℕ, true, false, List, [], 
 use Rattle.cc_quote.specs.BashDouble.{bash_double_from, bash_double_of, bash_double_signs, closes_double}
 use Rattle.cc_quote.specs.PosixTokens.{Sign, sign, byte_of}
 use Rattle.cc_quote.specs.PosixTokens.Sign.{blank, line_feed, single_quote, double_quote, backslash, special, other}
-use Rattle.cc_quote.specs.PosixQuote.{next_place, word_after}
-use Rattle.cc_quote.specs.declared.posix.Place.{Place}
-use Rattle.cc_quote.specs.declared.posix.Place.TheVariants.{Before, BeforeEscaped, Bare, BareEscaped, InSingle, InDouble, InDoubleEscaped}
+use Rattle.cc_quote.specs.PosixQuote.{next_state, word_after}
+use Rattle.cc_quote.specs.declared.posix.QuoteState.{QuoteState}
+use Rattle.cc_quote.specs.declared.posix.QuoteState.TheVariants.{Before, BeforeEscaped, Bare, BareEscaped, InSingle, InDouble, InDoubleEscaped}
 use Rattle.cc_quote.proofs.Characters.{AreHigh, IsCharacter, character}
 use Rattle.cc_quote.proofs.Characters.IsCharacter.{low, high}
 use Rattle.cc_quote.proofs.PosixWords.{byte_of-sign, bytes-signs, high_sign, same-word}
 
 -- between the two `"`
-abbrev pub IsWithin : Place → Type 0
+abbrev pub IsWithin : QuoteState → Type 0
 IsWithin InDouble = ⊤
 IsWithin InDoubleEscaped = ⊤
 IsWithin _ = ⊥
@@ -20,9 +20,9 @@ IsWithin _ = ⊥
 -- ---- one byte
 
 -- the quote that closes
-closes : (place : Place) (s : Sign) (rest : List Sign) (word : List ℕ) → closes_double place s ≡ true
-    → bash_double_from place word (s ∷ rest) ≡ Some (word, map byte_of rest)
-unfolding closes_double bash_double_from next_place
+closes : (state : QuoteState) (s : Sign) (rest : List Sign) (word : List ℕ) → closes_double state s ≡ true
+    → bash_double_from state word (s ∷ rest) ≡ Some (word, map byte_of rest)
+unfolding closes_double bash_double_from next_state
 closes InDouble double_quote rest word e = refl
 closes InDouble (blank _) rest word e = cc
 closes InDouble line_feed rest word e = cc
@@ -37,13 +37,13 @@ closes Bare s rest word e = cc
 closes BareEscaped s rest word e = cc
 closes InSingle s rest word e = cc
 
--- the place after any other
-abbrev next_within : Place → Sign → Place
+-- the state after any other
+abbrev next_within : QuoteState → Sign → QuoteState
 next_within InDouble backslash = InDoubleEscaped
 next_within _ _ = InDouble
 
-next_is : (place : Place) (s : Sign) → IsWithin place → closes_double place s ≡ false → next_place place s ≡ Some (next_within place s)
-unfolding closes_double next_place
+next_is : (state : QuoteState) (s : Sign) → IsWithin state → closes_double state s ≡ false → next_state state s ≡ Some (next_within state s)
+unfolding closes_double next_state
 next_is InDouble (blank _) h e = refl
 next_is InDouble line_feed h e = refl
 next_is InDouble single_quote h e = refl
@@ -59,9 +59,9 @@ next_is BareEscaped s h e = absurd h
 next_is InSingle s h e = absurd h
 
 -- any other byte
-goes_on : (place : Place) (s : Sign) (rest : List Sign) (word : List ℕ) → IsWithin place → closes_double place s ≡ false
-    → bash_double_from place word (s ∷ rest) ≡ bash_double_from (next_within place s) (word_after place s word (byte_of s ∷ [])) rest
-unfolding closes_double bash_double_from next_place
+goes_on : (state : QuoteState) (s : Sign) (rest : List Sign) (word : List ℕ) → IsWithin state → closes_double state s ≡ false
+    → bash_double_from state word (s ∷ rest) ≡ bash_double_from (next_within state s) (word_after state s word (byte_of s ∷ [])) rest
+unfolding closes_double bash_double_from next_state
 goes_on InDouble (blank _) rest word h e = refl
 goes_on InDouble line_feed rest word h e = refl
 goes_on InDouble single_quote rest word h e = refl
@@ -78,7 +78,7 @@ goes_on InSingle s rest word h e = absurd h
 
 -- ---- one character
 
-never_closes : (place : Place) (byte : ℕ) → closes_double place (other byte) ≡ false
+never_closes : (state : QuoteState) (byte : ℕ) → closes_double state (other byte) ≡ false
 unfolding closes_double
 never_closes Before byte = refl
 never_closes BeforeEscaped byte = refl
@@ -91,7 +91,7 @@ never_closes InDoubleEscaped byte = refl
 -- bytes from 128 on
 high_run : (bytes rest word : List ℕ) → AreHigh bytes
     → bash_double_from InDouble word (map sign (bytes ++ rest)) ≡ bash_double_from InDouble (word ++ bytes) (map sign rest)
-unfolding bash_double_from next_place word_after byte_of
+unfolding bash_double_from next_state word_after byte_of
 high_run [] rest word h = ap (λ w. bash_double_from InDouble w (map sign rest)) (sym (append-nil word))
 high_run (byte ∷ bytes) rest word h =
     ap (λ s. bash_double_from InDouble word (s ∷ map sign (bytes ++ rest))) (high_sign byte h.0)
@@ -99,7 +99,7 @@ high_run (byte ∷ bytes) rest word h =
     ∙ ap (λ w. bash_double_from InDouble w (map sign rest)) (append_assoc word (byte ∷ []) bytes)
 
 -- the word after a first such byte, and more of them
-more : (place : Place) (first : ℕ) (word run bytes : List ℕ) → word_after place (other first) word run ++ bytes ≡ word_after place (other first) word (run ++ bytes)
+more : (state : QuoteState) (first : ℕ) (word run bytes : List ℕ) → word_after state (other first) word run ++ bytes ≡ word_after state (other first) word (run ++ bytes)
 unfolding word_after
 more Before first word run bytes = append_assoc word run bytes
 more BeforeEscaped first word run bytes = append_assoc word run bytes
@@ -110,7 +110,7 @@ more InDouble first word run bytes = append_assoc word run bytes
 more InDoubleEscaped first word run bytes = append_assoc (word ++ 92 ∷ []) run bytes
 
 -- where such a byte leads
-other_within : (place : Place) (byte : ℕ) → next_within place (other byte) ≡ InDouble
+other_within : (state : QuoteState) (byte : ℕ) → next_within state (other byte) ≡ InDouble
 other_within Before byte = refl
 other_within BeforeEscaped byte = refl
 other_within Bare byte = refl
@@ -120,43 +120,43 @@ other_within InDouble byte = refl
 other_within InDoubleEscaped byte = refl
 
 -- the quote that closes is one byte
-pub character_closes : (place : Place) (c : ℕ) (rest word : List ℕ) → closes_double place (sign c) ≡ true
-    → bash_double_from place word (map sign (encode_utf8 c ++ rest)) ≡ Some (word, rest)
-character_closes place c rest word e = by_bytes c (encode_utf8 c) (character c) e
+pub character_closes : (state : QuoteState) (c : ℕ) (rest word : List ℕ) → closes_double state (sign c) ≡ true
+    → bash_double_from state word (map sign (encode_utf8 c ++ rest)) ≡ Some (word, rest)
+character_closes state c rest word e = by_bytes c (encode_utf8 c) (character c) e
   where
-    by_bytes : (c : ℕ) (bytes : List ℕ) → IsCharacter c bytes → closes_double place (sign c) ≡ true
-        → bash_double_from place word (map sign (bytes ++ rest)) ≡ Some (word, rest)
-    by_bytes c bytes (low byte below) e = closes place (sign byte) (map sign rest) word e ∙ ap (λ r. Some (word, r)) (bytes-signs rest)
+    by_bytes : (c : ℕ) (bytes : List ℕ) → IsCharacter c bytes → closes_double state (sign c) ≡ true
+        → bash_double_from state word (map sign (bytes ++ rest)) ≡ Some (word, rest)
+    by_bytes c bytes (low byte below) e = closes state (sign byte) (map sign rest) word e ∙ ap (λ r. Some (word, r)) (bytes-signs rest)
     by_bytes c bytes (high number byte run above first h) e =
-        let wrong : false ≡ true = sym (never_closes place number) ∙ ap (closes_double place) (sym (high_sign number above)) ∙ e in cc
+        let wrong : false ≡ true = sym (never_closes state number) ∙ ap (closes_double state) (sym (high_sign number above)) ∙ e in cc
 
-same_place : (a b : Place) → Some a ≡ Some b → a ≡ b
-same_place a b h = ap (λ p. unwrap_or p InDouble) h
+same_state : (a b : QuoteState) → Some a ≡ Some b → a ≡ b
+same_state a b h = ap (λ p. unwrap_or p InDouble) h
 
 -- any other character
-pub character_read : (place next : Place) (c : ℕ) (rest word : List ℕ) → IsWithin place → closes_double place (sign c) ≡ false → next_place place (sign c) ≡ Some next
-    → bash_double_from place word (map sign (encode_utf8 c ++ rest)) ≡ bash_double_from next (word_after place (sign c) word (encode_utf8 c)) (map sign rest)
+pub character_read : (state next : QuoteState) (c : ℕ) (rest word : List ℕ) → IsWithin state → closes_double state (sign c) ≡ false → next_state state (sign c) ≡ Some next
+    → bash_double_from state word (map sign (encode_utf8 c ++ rest)) ≡ bash_double_from next (word_after state (sign c) word (encode_utf8 c)) (map sign rest)
 unfolding byte_of bash_double_from
-character_read place next c rest word within e is =
+character_read state next c rest word within e is =
     by_bytes c (encode_utf8 c) (character c) e
-    ∙ ap (λ p. bash_double_from p (word_after place (sign c) word (encode_utf8 c)) (map sign rest)) (same_place (next_within place (sign c)) next (sym (next_is place (sign c) within e) ∙ is))
+    ∙ ap (λ p. bash_double_from p (word_after state (sign c) word (encode_utf8 c)) (map sign rest)) (same_state (next_within state (sign c)) next (sym (next_is state (sign c) within e) ∙ is))
   where
-    by_bytes : (c : ℕ) (bytes : List ℕ) → IsCharacter c bytes → closes_double place (sign c) ≡ false
-        → bash_double_from place word (map sign (bytes ++ rest)) ≡ bash_double_from (next_within place (sign c)) (word_after place (sign c) word bytes) (map sign rest)
+    by_bytes : (c : ℕ) (bytes : List ℕ) → IsCharacter c bytes → closes_double state (sign c) ≡ false
+        → bash_double_from state word (map sign (bytes ++ rest)) ≡ bash_double_from (next_within state (sign c)) (word_after state (sign c) word bytes) (map sign rest)
     by_bytes c bytes (low byte below) e =
-        goes_on place (sign byte) (map sign rest) word within e
-        ∙ ap (λ b. bash_double_from (next_within place (sign byte)) (word_after place (sign byte) word (b ∷ [])) (map sign rest)) (byte_of-sign byte)
+        goes_on state (sign byte) (map sign rest) word within e
+        ∙ ap (λ b. bash_double_from (next_within state (sign byte)) (word_after state (sign byte) word (b ∷ [])) (map sign rest)) (byte_of-sign byte)
     by_bytes c bytes (high number byte run above first h) e =
-        ap (λ s. bash_double_from place word (s ∷ map sign (run ++ rest))) (high_sign byte first)
-        ∙ goes_on place (other byte) (map sign (run ++ rest)) word within (never_closes place byte)
-        ∙ ap (λ p. bash_double_from p (word_after place (other byte) word (byte ∷ [])) (map sign (run ++ rest))) (other_within place byte)
-        ∙ high_run run rest (word_after place (other byte) word (byte ∷ [])) h
-        ∙ ap (λ w. bash_double_from InDouble w (map sign rest)) (more place byte word (byte ∷ []) run ∙ same-word place byte number word (byte ∷ run))
-        ∙ ap (λ p. bash_double_from p (word_after place (other number) word (byte ∷ run)) (map sign rest)) (sym (other_within place number))
-        ∙ ap (λ s. bash_double_from (next_within place s) (word_after place s word (byte ∷ run)) (map sign rest)) (sym (high_sign number above))
+        ap (λ s. bash_double_from state word (s ∷ map sign (run ++ rest))) (high_sign byte first)
+        ∙ goes_on state (other byte) (map sign (run ++ rest)) word within (never_closes state byte)
+        ∙ ap (λ p. bash_double_from p (word_after state (other byte) word (byte ∷ [])) (map sign (run ++ rest))) (other_within state byte)
+        ∙ high_run run rest (word_after state (other byte) word (byte ∷ [])) h
+        ∙ ap (λ w. bash_double_from InDouble w (map sign rest)) (more state byte word (byte ∷ []) run ∙ same-word state byte number word (byte ∷ run))
+        ∙ ap (λ p. bash_double_from p (word_after state (other number) word (byte ∷ run)) (map sign rest)) (sym (other_within state number))
+        ∙ ap (λ s. bash_double_from (next_within state s) (word_after state s word (byte ∷ run)) (map sign rest)) (sym (high_sign number above))
 
 -- the reader stays between the two `"`
-within_next : (place : Place) (s : Sign) → IsWithin place → IsWithin (next_within place s)
+within_next : (state : QuoteState) (s : Sign) → IsWithin state → IsWithin (next_within state s)
 within_next InDouble (blank _) h = tt
 within_next InDouble line_feed h = tt
 within_next InDouble single_quote h = tt
@@ -171,14 +171,14 @@ within_next Bare s h = absurd h
 within_next BareEscaped s h = absurd h
 within_next InSingle s h = absurd h
 
-pub stays_within : (place next : Place) (c : ℕ) → IsWithin place → closes_double place (sign c) ≡ false → next_place place (sign c) ≡ Some next → IsWithin next
-stays_within place next c h e is = subst IsWithin (same_place (next_within place (sign c)) next (sym (next_is place (sign c) h e) ∙ is)) (within_next place (sign c) h)
+pub stays_within : (state next : QuoteState) (c : ℕ) → IsWithin state → closes_double state (sign c) ≡ false → next_state state (sign c) ≡ Some next → IsWithin next
+stays_within state next c h e is = subst IsWithin (same_state (next_within state (sign c)) next (sym (next_is state (sign c) h e) ∙ is)) (within_next state (sign c) h)
 
 -- ---- the ends of the reading
 
--- between two `"` there is always a next place
-pub never_stops : (place : Place) (c : ℕ) → IsWithin place → closes_double place (sign c) ≡ false → next_place place (sign c) ≡ None → ⊥
-never_stops place c h e is = let wrong : Some (next_within place (sign c)) ≡ None = sym (next_is place (sign c) h e) ∙ is in cc
+-- between two `"` there is always a next state
+pub never_stops : (state : QuoteState) (c : ℕ) → IsWithin state → closes_double state (sign c) ≡ false → next_state state (sign c) ≡ None → ⊥
+never_stops state c h e is = let wrong : Some (next_within state (sign c)) ≡ None = sym (next_is state (sign c) h e) ∙ is in cc
 
 -- a text that does not begin with `"`
 pub double_none : (text : List ℕ) → ((rest : List ℕ) → text ≢ 34 ∷ rest) → bash_double_of text ≡ None

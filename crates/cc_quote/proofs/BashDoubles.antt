@@ -6,8 +6,8 @@ use Rattle.cc_quote.specs.BashDouble.{bash_double_from, bash_double_signs, bash_
 use Rattle.cc_quote.specs.Escapes.{marked_byte}
 use Rattle.cc_quote.specs.PosixTokens.{Sign, sign, byte_of}
 use Rattle.cc_quote.specs.PosixTokens.Sign.{blank, line_feed, single_quote, double_quote, backslash, special, other}
-use Rattle.cc_quote.specs.PosixQuote.{next_place, word_after, ended, posix_word_from, posix_word_of}
-use Rattle.cc_quote.specs.declared.posix.Place.TheVariants.{InDouble}
+use Rattle.cc_quote.specs.PosixQuote.{next_state, word_after, ended, posix_word_from, posix_word_of}
+use Rattle.cc_quote.specs.declared.posix.QuoteState.TheVariants.{InDouble}
 use Rattle.cc_quote.proofs.PosixWords.{byte_of-sign, bytes-signs}
 
 -- what a byte that is not marked is to the reader
@@ -32,7 +32,7 @@ kept byte h (other b) e = tt
 -- such a byte between `"`
 kept_word : (s : Sign) (rest : List Sign) (word : List ℕ) → IsKept s
     → posix_word_from InDouble word (s ∷ rest) ≡ posix_word_from InDouble (word ++ byte_of s ∷ []) rest
-unfolding posix_word_from next_place word_after
+unfolding posix_word_from next_state word_after
 kept_word (blank b) rest word h = refl
 kept_word line_feed rest word h = refl
 kept_word single_quote rest word h = refl
@@ -44,7 +44,7 @@ kept_word (special b) rest word h = absurd h
 -- such a byte between `"`, by the reader of these
 kept_double : (s : Sign) (rest : List Sign) (word : List ℕ) → IsKept s
     → bash_double_from InDouble word (s ∷ rest) ≡ bash_double_from InDouble (word ++ byte_of s ∷ []) rest
-unfolding bash_double_from next_place word_after
+unfolding bash_double_from next_state word_after
 kept_double (blank b) rest word h = refl
 kept_double line_feed rest word h = refl
 kept_double single_quote rest word h = refl
@@ -67,7 +67,7 @@ marked_cases byte P h a b c d = by_tests (byte == 92) (byte == 34) (byte == 36) 
 -- an escaped byte
 doubled_word_byte : (byte : ℕ) (rest word : List ℕ)
     → posix_word_from InDouble word (map sign (marked_byte is_double_marked byte ++ rest)) ≡ posix_word_from InDouble (word ++ byte ∷ []) (map sign rest)
-unfolding posix_word_from next_place word_after sign byte_of
+unfolding posix_word_from next_state word_after sign byte_of
 doubled_word_byte byte rest word = by_test (is_double_marked byte) refl
   where
     by_test : (q : Bool) → is_double_marked byte ≡ q
@@ -77,7 +77,7 @@ doubled_word_byte byte rest word = by_test (is_double_marked byte) refl
 
 doubled_byte : (byte : ℕ) (rest word : List ℕ)
     → bash_double_from InDouble word (map sign (marked_byte is_double_marked byte ++ rest)) ≡ bash_double_from InDouble (word ++ byte ∷ []) (map sign rest)
-unfolding bash_double_from next_place word_after sign byte_of
+unfolding bash_double_from next_state word_after sign byte_of
 doubled_byte byte rest word = by_test (is_double_marked byte) refl
   where
     by_test : (q : Bool) → is_double_marked byte ≡ q
@@ -105,12 +105,12 @@ doubled (byte ∷ text) rest word =
 
 -- between `"`, whatever follows
 pub doubled_reads : (text rest : List ℕ) → bash_double_of (codes "\"" ++ (bash_doubled text ++ (codes "\"" ++ rest))) ≡ Some (text, rest)
-unfolding bash_double_of bash_double_signs bash_double_from next_place word_after sign
+unfolding bash_double_of bash_double_signs bash_double_from next_state word_after sign
 doubled_reads text rest = doubled text (34 ∷ rest) [] ∙ ap (λ r. Some (text, r)) (bytes-signs rest)
 
 -- as a word, before a space
 pub doubled_is_word : (text rest : List ℕ) → posix_word_of (codes "\"" ++ (bash_doubled text ++ (codes "\"" ++ (32 ∷ rest)))) ≡ Some (text, 32 ∷ rest)
-unfolding posix_word_of posix_word_from next_place word_after ended sign byte_of
+unfolding posix_word_of posix_word_from next_state word_after ended sign byte_of
 doubled_is_word text rest = doubled_word text (34 ∷ 32 ∷ rest) [] ∙ ap (λ r. Some (text, 32 ∷ r)) (bytes-signs rest)
 
 pub doubled_reads_back : (text : List ℕ) → bash_double_of (codes "\"" ++ bash_doubled text ++ codes "\"") ≡ Some (text, [])

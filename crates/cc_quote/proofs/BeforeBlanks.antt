@@ -6,10 +6,10 @@ use Rattle.std.proofs.lemmas.Bool.Decides.{nat_tests}
 use Rattle.cc_quote.specs.Signs.{is_blank, sign as quoting_sign}
 use Rattle.cc_quote.specs.PosixTokens.{sign, byte_of}
 use Rattle.cc_quote.specs.PosixTokens.Sign.{other}
-use Rattle.cc_quote.specs.PosixQuote.{next_place, word_after, ended, posix_word_from, posix_word_of, is_posix_safe, is_posix_safe_word, posix_escaped, posix_quoted}
-use Rattle.cc_quote.specs.declared.posix.Place.TheVariants.{Before, Bare}
+use Rattle.cc_quote.specs.PosixQuote.{next_state, word_after, ended, posix_word_from, posix_word_of, is_posix_safe, is_posix_safe_word, posix_escaped, posix_quoted}
+use Rattle.cc_quote.specs.declared.posix.QuoteState.TheVariants.{Before, Bare}
 use Rattle.cc_quote.specs.FishQuote.{fish_sign, begins_with_word, fish_word_from, fish_word_of, is_fish_safe, fish_quoted}
-use Rattle.cc_quote.specs.FishQuote.FishPlace.{bare}
+use Rattle.cc_quote.specs.FishQuote.FishState.{bare}
 use Rattle.std.specs.Str.{NonePass}
 use Rattle.cc_quote.specs.ElvishQuote.{elvish_word_of}
 use Rattle.cc_quote.specs.PowershellQuote.{powershell_signs, powershell_word_of}
@@ -32,20 +32,20 @@ unfolding is_posix_safe
 posix_safe_not_blank byte h = grind (arith, nat_tests)
 
 safe_word : (text rest : List ℕ) → is_posix_safe_word text ≡ true → BeginsBare (text ++ 32 ∷ rest) × (posix_word_of (text ++ 32 ∷ rest) ≡ Some (text, 32 ∷ rest))
-unfolding posix_word_of is_posix_safe_word next_place word_after posix_word_from ended sign byte_of
+unfolding posix_word_of is_posix_safe_word next_state word_after posix_word_from ended sign byte_of
 safe_word [] rest h = cc
 safe_word (byte ∷ text) rest h =
     let parts = and_parts (is_posix_safe byte) (list_all is_posix_safe text) h in
     let is : sign byte ≡ other byte = safe_sign byte parts.0 in (
       posix_safe_not_blank byte parts.0,
-      goes_on Before Bare byte (map sign (text ++ 32 ∷ rest)) [] (ap (next_place Before) is)
+      goes_on Before Bare byte (map sign (text ++ 32 ∷ rest)) [] (ap (next_state Before) is)
           ∙ ap (λ s. posix_word_from Bare (word_after Before s [] (byte ∷ [])) (map sign (text ++ 32 ∷ rest))) is
           ∙ bare_run text (32 ∷ rest) (byte ∷ []) parts.1
           ∙ ap (λ r. Some (byte ∷ text, 32 ∷ r)) (bytes-signs rest),
     )
 
 quoted_word : (text rest : List ℕ) → posix_word_of (codes "'" ++ (posix_escaped text ++ (codes "'" ++ 32 ∷ rest))) ≡ Some (text, 32 ∷ rest)
-unfolding posix_word_of posix_word_from next_place word_after ended sign byte_of
+unfolding posix_word_of posix_word_from next_state word_after ended sign byte_of
 quoted_word text rest = escaped_text text (39 ∷ 32 ∷ rest) [] ∙ ap (λ r. Some (text, 32 ∷ r)) (bytes-signs rest)
 
 -- a quoted word begins with no blank, and is read up to the space
@@ -61,20 +61,20 @@ posix_before_space text rest = by_test (is_posix_safe_word text) refl
 -- ---- the same before a line feed
 
 safe_line : (text rest : List ℕ) → is_posix_safe_word text ≡ true → BeginsBare (text ++ 10 ∷ rest) × (posix_word_of (text ++ 10 ∷ rest) ≡ Some (text, 10 ∷ rest))
-unfolding posix_word_of is_posix_safe_word next_place word_after posix_word_from ended sign byte_of
+unfolding posix_word_of is_posix_safe_word next_state word_after posix_word_from ended sign byte_of
 safe_line [] rest h = cc
 safe_line (byte ∷ text) rest h =
     let parts = and_parts (is_posix_safe byte) (list_all is_posix_safe text) h in
     let is : sign byte ≡ other byte = safe_sign byte parts.0 in (
       posix_safe_not_blank byte parts.0,
-      goes_on Before Bare byte (map sign (text ++ 10 ∷ rest)) [] (ap (next_place Before) is)
+      goes_on Before Bare byte (map sign (text ++ 10 ∷ rest)) [] (ap (next_state Before) is)
           ∙ ap (λ s. posix_word_from Bare (word_after Before s [] (byte ∷ [])) (map sign (text ++ 10 ∷ rest))) is
           ∙ bare_run text (10 ∷ rest) (byte ∷ []) parts.1
           ∙ ap (λ r. Some (byte ∷ text, 10 ∷ r)) (bytes-signs rest),
     )
 
 quoted_line : (text rest : List ℕ) → posix_word_of (codes "'" ++ (posix_escaped text ++ (codes "'" ++ 10 ∷ rest))) ≡ Some (text, 10 ∷ rest)
-unfolding posix_word_of posix_word_from next_place word_after ended sign byte_of
+unfolding posix_word_of posix_word_from next_state word_after ended sign byte_of
 quoted_line text rest = escaped_text text (39 ∷ 10 ∷ rest) [] ∙ ap (λ r. Some (text, 10 ∷ r)) (bytes-signs rest)
 
 pub posix_before_line_feed : (text rest : List ℕ) → BeginsBare (posix_quoted text ++ 10 ∷ rest) × (posix_word_of (posix_quoted text ++ 10 ∷ rest) ≡ Some (text, 10 ∷ rest))

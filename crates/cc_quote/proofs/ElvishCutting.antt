@@ -10,7 +10,7 @@ use Rattle.cc_quote.specs.ElvishTokens.{is_bare, IsBare, IsBareWord}
 use Rattle.cc_quote.specs.QuotedWord.{space_for_line_feed, line_feeds_as_spaces}
 use Rattle.cc_quote.specs.Signs.{Sign, blank, quote, other, is_blank, sign, HasNoQuote}
 use Rattle.cc_quote.specs.Tokens.{Piece, cut}
-use Rattle.cc_quote.specs.Tokens.Place.{between, in_bare, in_quotes}
+use Rattle.cc_quote.specs.Tokens.QuoteState.{between, in_bare, in_quotes}
 use Rattle.cc_quote.proofs.WithinQuotes.{ReadsQuoted, kept_byte, kept_text, cutting_reads}
 
 -- ---- outside quotes

@@ -3,12 +3,12 @@ use Rattle.std.proofs.Common.{◌≡◌, ◌≢◌, ◌==◌, ℕ, ◌≤◌, Bo
 use Rattle.std.specs.Prelude.{⊤}
 use Rattle.std.proofs.lemmas.Bool.Decides.{Decides-eqb, nat_tests}
 use Rattle.cc_base.specs.Bytes as ascii
-use Rattle.cc_quote.specs.FishPlaces.{place_at, ends_word, character_place, character_word, is_bare}
-use Rattle.cc_quote.specs.FishQuote.{FishSign, FishPlace, fish_sign, place_after, advance, spelled, fish_word_from, fish_double_from, fish_double_of}
+use Rattle.cc_quote.specs.FishStates.{state_at, ends_word, character_state, character_word, is_bare}
+use Rattle.cc_quote.specs.FishQuote.{FishSign, FishState, fish_sign, state_after, advance, spelled, fish_word_from, fish_double_from, fish_double_of}
 use Rattle.cc_quote.specs.FishQuote.FishSign.{blank, line_feed, single, double, backslash, dollar, hash, other}
-use Rattle.cc_quote.specs.FishQuote.FishPlace.{bare, in_double}
-use Rattle.cc_quote.specs.declared.fish_reader.Place.{Place}
-use Rattle.cc_quote.specs.declared.fish_reader.Place.TheVariants.{Bare, BareEscaped, InSingle, InSingleEscaped, InDouble, InDoubleEscaped}
+use Rattle.cc_quote.specs.FishQuote.FishState.{bare, in_double}
+use Rattle.cc_quote.specs.declared.fish_reader.QuoteState.{QuoteState}
+use Rattle.cc_quote.specs.declared.fish_reader.QuoteState.TheVariants.{Bare, BareEscaped, InSingle, InSingleEscaped, InDouble, InDoubleEscaped}
 use Rattle.cc_quote.proofs.Characters.{AreHigh, IsCharacter, character}
 use Rattle.cc_quote.proofs.Characters.IsCharacter.{low, high}
 use Rattle.cc_quote.proofs.FishReaders.{word_after}
@@ -23,9 +23,9 @@ unescaped_byte byte word false true = refl
 unescaped_byte byte word false false = refl
 
 -- a byte before which the word does not end
-step : (place : Place) (s : FishSign) (byte : ℕ) (word : List ℕ) → ends_word place s ≡ false
-    → place_after (place_at place word) s byte ≡ Some (place_at (character_place place s) (character_word place s byte word (byte ∷ [])))
-unfolding ends_word character_place character_word
+step : (state : QuoteState) (s : FishSign) (byte : ℕ) (word : List ℕ) → ends_word state s ≡ false
+    → state_after (state_at state word) s byte ≡ Some (state_at (character_state state s) (character_word state s byte word (byte ∷ [])))
+unfolding ends_word character_state character_word
 step Bare blank byte word h = cc
 step Bare line_feed byte word h = cc
 step Bare single byte word h = refl
@@ -69,17 +69,17 @@ step InDoubleEscaped hash byte word h = refl
 step InDoubleEscaped other byte word h = refl
 
 -- the reader stops before a byte
-stops : (place : Place) (byte : ℕ) (rest word : List ℕ) → ends_word place (fish_sign byte) ≡ true → fish_word_from (place_at place word) (byte ∷ rest) ≡ Some (word, byte ∷ rest)
+stops : (state : QuoteState) (byte : ℕ) (rest word : List ℕ) → ends_word state (fish_sign byte) ≡ true → fish_word_from (state_at state word) (byte ∷ rest) ≡ Some (word, byte ∷ rest)
 unfolding ends_word
-stops place byte rest word e = by place (fish_sign byte) refl e
+stops state byte rest word e = by state (fish_sign byte) refl e
   where
     at : FishSign → Option (List ℕ × List ℕ)
-    at s = elim (place_after (bare word) s byte) [
+    at s = elim (state_after (bare word) s byte) [
       | Some next ↦ fish_word_from next rest
       | None ↦ Some (spelled (bare word), byte ∷ rest)
     ]
 
-    by : (place : Place) (s : FishSign) → fish_sign byte ≡ s → ends_word place s ≡ true → fish_word_from (place_at place word) (byte ∷ rest) ≡ Some (word, byte ∷ rest)
+    by : (state : QuoteState) (s : FishSign) → fish_sign byte ≡ s → ends_word state s ≡ true → fish_word_from (state_at state word) (byte ∷ rest) ≡ Some (word, byte ∷ rest)
     by Bare blank is e = ap at is
     by Bare line_feed is e = ap at is
     by Bare single is e = cc
@@ -101,7 +101,7 @@ high_sign : (byte : ℕ) → 128 ≤ byte → fish_sign byte ≡ other
 unfolding fish_sign
 high_sign byte h = grind (arith, nat_tests)
 
-never_ends : (place : Place) → ends_word place other ≡ false
+never_ends : (state : QuoteState) → ends_word state other ≡ false
 unfolding ends_word
 never_ends Bare = refl
 never_ends BareEscaped = refl
@@ -110,9 +110,9 @@ never_ends InSingleEscaped = refl
 never_ends InDouble = refl
 never_ends InDoubleEscaped = refl
 
--- the place after it is kept by another
-kept : (place : Place) (byte : ℕ) (word : List ℕ) → place_after (place_at (character_place place other) word) other byte ≡ Some (place_at (character_place place other) (word ++ byte ∷ []))
-unfolding character_place
+-- the state after it is kept by another
+kept : (state : QuoteState) (byte : ℕ) (word : List ℕ) → state_after (state_at (character_state state other) word) other byte ≡ Some (state_at (character_state state other) (word ++ byte ∷ []))
+unfolding character_state
 kept Bare byte word = refl
 kept BareEscaped byte word = refl
 kept InSingle byte word = refl
@@ -121,16 +121,16 @@ kept InDouble byte word = refl
 kept InDoubleEscaped byte word = refl
 
 -- and by more of them
-high_run : (place : Place) (word bytes : List ℕ) → AreHigh bytes → advance (Some (place_at (character_place place other) word)) bytes ≡ Some (place_at (character_place place other) (word ++ bytes))
-high_run place word [] h = ap (λ w. Some (place_at (character_place place other) w)) (sym (append-nil word))
-high_run place word (byte ∷ bytes) h =
-    ap (λ p. advance p bytes) (ap (λ s. place_after (place_at (character_place place other) word) s byte) (high_sign byte h.0) ∙ kept place byte word)
-    ∙ high_run place (word ++ byte ∷ []) bytes h.1
-    ∙ ap (λ w. Some (place_at (character_place place other) w)) (append_assoc word (byte ∷ []) bytes)
+high_run : (state : QuoteState) (word bytes : List ℕ) → AreHigh bytes → advance (Some (state_at (character_state state other) word)) bytes ≡ Some (state_at (character_state state other) (word ++ bytes))
+high_run state word [] h = ap (λ w. Some (state_at (character_state state other) w)) (sym (append-nil word))
+high_run state word (byte ∷ bytes) h =
+    ap (λ p. advance p bytes) (ap (λ s. state_after (state_at (character_state state other) word) s byte) (high_sign byte h.0) ∙ kept state byte word)
+    ∙ high_run state (word ++ byte ∷ []) bytes h.1
+    ∙ ap (λ w. Some (state_at (character_state state other) w)) (append_assoc word (byte ∷ []) bytes)
 
 -- the word after the bytes of a character from 128 on
-grown : (place : Place) (byte c : ℕ) (run word : List ℕ) → 128 ≤ byte → 128 ≤ c
-    → character_word place other byte word (byte ∷ []) ++ run ≡ character_word place other c word (byte ∷ run)
+grown : (state : QuoteState) (byte c : ℕ) (run word : List ℕ) → 128 ≤ byte → 128 ≤ c
+    → character_word state other byte word (byte ∷ []) ++ run ≡ character_word state other c word (byte ∷ run)
 unfolding character_word
 grown Bare byte c run word h k = append_assoc word (byte ∷ []) run
 grown BareEscaped byte c run word h k =
@@ -147,43 +147,43 @@ grown InDoubleEscaped byte c run word h k = append_assoc (word ++ codes "\\") (b
 -- ---- one character
 
 -- the first byte of such a character
-first_high : (place : Place) (byte : ℕ) (word : List ℕ) → 128 ≤ byte
-    → place_after (place_at place word) (fish_sign byte) byte ≡ Some (place_at (character_place place other) (character_word place other byte word (byte ∷ [])))
-first_high place byte word h = ap (λ s. place_after (place_at place word) s byte) (high_sign byte h) ∙ step place other byte word (never_ends place)
+first_high : (state : QuoteState) (byte : ℕ) (word : List ℕ) → 128 ≤ byte
+    → state_after (state_at state word) (fish_sign byte) byte ≡ Some (state_at (character_state state other) (character_word state other byte word (byte ∷ [])))
+first_high state byte word h = ap (λ s. state_after (state_at state word) s byte) (high_sign byte h) ∙ step state other byte word (never_ends state)
 
 -- a character before which the word does not end
-advances : (place : Place) (c : ℕ) (bytes word : List ℕ) → IsCharacter c bytes → ends_word place (fish_sign c) ≡ false
-    → advance (Some (place_at place word)) bytes ≡ Some (place_at (character_place place (fish_sign c)) (character_word place (fish_sign c) c word bytes))
-advances place c bytes word (low byte below) e = step place (fish_sign byte) byte word e
-advances place c bytes word (high number byte run above first h) e =
-    ap (λ p. advance p run) (first_high place byte word first)
-    ∙ high_run place (character_word place other byte word (byte ∷ [])) run h
-    ∙ ap (λ w. Some (place_at (character_place place other) w)) (grown place byte number run word first above)
-    ∙ ap (λ s. Some (place_at (character_place place s) (character_word place s number word (byte ∷ run)))) (sym (high_sign number above))
+advances : (state : QuoteState) (c : ℕ) (bytes word : List ℕ) → IsCharacter c bytes → ends_word state (fish_sign c) ≡ false
+    → advance (Some (state_at state word)) bytes ≡ Some (state_at (character_state state (fish_sign c)) (character_word state (fish_sign c) c word bytes))
+advances state c bytes word (low byte below) e = step state (fish_sign byte) byte word e
+advances state c bytes word (high number byte run above first h) e =
+    ap (λ p. advance p run) (first_high state byte word first)
+    ∙ high_run state (character_word state other byte word (byte ∷ [])) run h
+    ∙ ap (λ w. Some (state_at (character_state state other) w)) (grown state byte number run word first above)
+    ∙ ap (λ s. Some (state_at (character_state state s) (character_word state s number word (byte ∷ run)))) (sym (high_sign number above))
 
--- the place and the word after a character
-abbrev pub after : Place → ℕ → List ℕ → FishPlace
-after place c word = place_at (character_place place (fish_sign c)) (character_word place (fish_sign c) c word (encode_utf8 c))
+-- the state and the word after a character
+abbrev pub after : QuoteState → ℕ → List ℕ → FishState
+after state c word = state_at (character_state state (fish_sign c)) (character_word state (fish_sign c) c word (encode_utf8 c))
 
 -- the reader of a word goes on
-pub character_read : (place : Place) (c : ℕ) (rest word : List ℕ) → ends_word place (fish_sign c) ≡ false
-    → fish_word_from (place_at place word) (encode_utf8 c ++ rest) ≡ fish_word_from (after place c word) rest
-character_read place c rest word e =
-    word_after (encode_utf8 c) (place_at place word) (after place c word) rest (advances place c (encode_utf8 c) word (character c) e)
+pub character_read : (state : QuoteState) (c : ℕ) (rest word : List ℕ) → ends_word state (fish_sign c) ≡ false
+    → fish_word_from (state_at state word) (encode_utf8 c ++ rest) ≡ fish_word_from (after state c word) rest
+character_read state c rest word e =
+    word_after (encode_utf8 c) (state_at state word) (after state c word) rest (advances state c (encode_utf8 c) word (character c) e)
 
 -- it stops
-pub character_stops : (place : Place) (c : ℕ) (rest word : List ℕ) → ends_word place (fish_sign c) ≡ true
-    → fish_word_from (place_at place word) (encode_utf8 c ++ rest) ≡ Some (word, encode_utf8 c ++ rest)
-character_stops place c rest word e = by_bytes c (encode_utf8 c) (character c) e
+pub character_stops : (state : QuoteState) (c : ℕ) (rest word : List ℕ) → ends_word state (fish_sign c) ≡ true
+    → fish_word_from (state_at state word) (encode_utf8 c ++ rest) ≡ Some (word, encode_utf8 c ++ rest)
+character_stops state c rest word e = by_bytes c (encode_utf8 c) (character c) e
   where
-    by_bytes : (c : ℕ) (bytes : List ℕ) → IsCharacter c bytes → ends_word place (fish_sign c) ≡ true → fish_word_from (place_at place word) (bytes ++ rest) ≡ Some (word, bytes ++ rest)
-    by_bytes c bytes (low byte below) e = stops place byte rest word e
+    by_bytes : (c : ℕ) (bytes : List ℕ) → IsCharacter c bytes → ends_word state (fish_sign c) ≡ true → fish_word_from (state_at state word) (bytes ++ rest) ≡ Some (word, bytes ++ rest)
+    by_bytes c bytes (low byte below) e = stops state byte rest word e
     by_bytes c bytes (high number byte run above first h) e =
-        let wrong : false ≡ true = sym (never_ends place) ∙ ap (ends_word place) (sym (high_sign number above)) ∙ e in cc
+        let wrong : false ≡ true = sym (never_ends state) ∙ ap (ends_word state) (sym (high_sign number above)) ∙ e in cc
 
 -- ---- the end of a text
 
-pub ends_bare : (place : Place) (word : List ℕ) → is_bare place ≡ true → fish_word_from (place_at place word) [] ≡ Some (word, [])
+pub ends_bare : (state : QuoteState) (word : List ℕ) → is_bare state ≡ true → fish_word_from (state_at state word) [] ≡ Some (word, [])
 unfolding is_bare
 ends_bare Bare word e = refl
 ends_bare BareEscaped word e = cc
@@ -192,7 +192,7 @@ ends_bare InSingleEscaped word e = cc
 ends_bare InDouble word e = cc
 ends_bare InDoubleEscaped word e = cc
 
-pub ends_open : (place : Place) (word : List ℕ) → is_bare place ≡ false → fish_word_from (place_at place word) [] ≡ None
+pub ends_open : (state : QuoteState) (word : List ℕ) → is_bare state ≡ false → fish_word_from (state_at state word) [] ≡ None
 unfolding is_bare
 ends_open Bare word e = cc
 ends_open BareEscaped word e = refl
@@ -203,12 +203,12 @@ ends_open InDoubleEscaped word e = refl
 
 -- ---- between `"`
 
-abbrev pub IsWithin : Place → Type 0
+abbrev pub IsWithin : QuoteState → Type 0
 IsWithin InDouble = ⊤
 IsWithin InDoubleEscaped = ⊤
 IsWithin _ = ⊥
 
-within_goes_on : (place : Place) (s : FishSign) → IsWithin place → ends_word place s ≡ false
+within_goes_on : (state : QuoteState) (s : FishSign) → IsWithin state → ends_word state s ≡ false
 unfolding ends_word
 within_goes_on Bare s h = absurd h
 within_goes_on BareEscaped s h = absurd h
@@ -217,8 +217,8 @@ within_goes_on InSingleEscaped s h = absurd h
 within_goes_on InDouble s h = refl
 within_goes_on InDoubleEscaped s h = refl
 
-within_next : (place : Place) (s : FishSign) → IsWithin place → is_bare (character_place place s) ≡ false → IsWithin (character_place place s)
-unfolding character_place is_bare
+within_next : (state : QuoteState) (s : FishSign) → IsWithin state → is_bare (character_state state s) ≡ false → IsWithin (character_state state s)
+unfolding character_state is_bare
 within_next InDouble blank h e = tt
 within_next InDouble line_feed h e = tt
 within_next InDouble single h e = tt
@@ -233,9 +233,9 @@ within_next BareEscaped s h e = absurd h
 within_next InSingle s h e = absurd h
 within_next InSingleEscaped s h e = absurd h
 
--- the reading from the next place on
-abbrev resumed : Option FishPlace → List ℕ → Option (List ℕ × List ℕ)
-resumed place rest = elim place [
+-- the reading from the next state on
+abbrev resumed : Option FishState → List ℕ → Option (List ℕ × List ℕ)
+resumed state rest = elim state [
   | Some (bare word) ↦ Some (word, rest)
   | Some next ↦ fish_double_from next rest
   | None ↦ None
@@ -254,13 +254,13 @@ double_none (byte ∷ rest) h = by (byte == 34) refl
 double_run : (bytes rest word : List ℕ) → AreHigh bytes → fish_double_from (in_double word) (bytes ++ rest) ≡ fish_double_from (in_double (word ++ bytes)) rest
 double_run [] rest word h = ap (λ w. fish_double_from (in_double w) rest) (sym (append-nil word))
 double_run (byte ∷ bytes) rest word h =
-    ap (λ s. resumed (place_after (in_double word) s byte) (bytes ++ rest)) (high_sign byte h.0)
+    ap (λ s. resumed (state_after (in_double word) s byte) (bytes ++ rest)) (high_sign byte h.0)
     ∙ double_run bytes rest (word ++ byte ∷ []) h.1
     ∙ ap (λ w. fish_double_from (in_double w) rest) (append_assoc word (byte ∷ []) bytes)
 
-within_run : (place : Place) (bytes rest word : List ℕ) → IsWithin place → AreHigh bytes
-    → resumed (Some (place_at (character_place place other) word)) (bytes ++ rest) ≡ resumed (Some (place_at (character_place place other) (word ++ bytes))) rest
-unfolding character_place
+within_run : (state : QuoteState) (bytes rest word : List ℕ) → IsWithin state → AreHigh bytes
+    → resumed (Some (state_at (character_state state other) word)) (bytes ++ rest) ≡ resumed (Some (state_at (character_state state other) (word ++ bytes))) rest
+unfolding character_state
 within_run InDouble bytes rest word h k = double_run bytes rest word k
 within_run InDoubleEscaped bytes rest word h k = double_run bytes rest word k
 within_run Bare bytes rest word h k = absurd h
@@ -269,16 +269,16 @@ within_run InSingle bytes rest word h k = absurd h
 within_run InSingleEscaped bytes rest word h k = absurd h
 
 -- over a character
-double_read : (place : Place) (c : ℕ) (bytes rest word : List ℕ) → IsCharacter c bytes → IsWithin place
-    → fish_double_from (place_at place word) (bytes ++ rest) ≡ resumed (Some (place_at (character_place place (fish_sign c)) (character_word place (fish_sign c) c word bytes))) rest
-double_read place c bytes rest word (low byte below) h = ap (λ p. resumed p rest) (step place (fish_sign byte) byte word (within_goes_on place (fish_sign byte) h))
-double_read place c bytes rest word (high number byte run above first k) h =
-    ap (λ p. resumed p (run ++ rest)) (first_high place byte word first)
-    ∙ within_run place run rest (character_word place other byte word (byte ∷ [])) h k
-    ∙ ap (λ w. resumed (Some (place_at (character_place place other) w)) rest) (grown place byte number run word first above)
-    ∙ ap (λ s. resumed (Some (place_at (character_place place s) (character_word place s number word (byte ∷ run)))) rest) (sym (high_sign number above))
+double_read : (state : QuoteState) (c : ℕ) (bytes rest word : List ℕ) → IsCharacter c bytes → IsWithin state
+    → fish_double_from (state_at state word) (bytes ++ rest) ≡ resumed (Some (state_at (character_state state (fish_sign c)) (character_word state (fish_sign c) c word bytes))) rest
+double_read state c bytes rest word (low byte below) h = ap (λ p. resumed p rest) (step state (fish_sign byte) byte word (within_goes_on state (fish_sign byte) h))
+double_read state c bytes rest word (high number byte run above first k) h =
+    ap (λ p. resumed p (run ++ rest)) (first_high state byte word first)
+    ∙ within_run state run rest (character_word state other byte word (byte ∷ [])) h k
+    ∙ ap (λ w. resumed (Some (state_at (character_state state other) w)) rest) (grown state byte number run word first above)
+    ∙ ap (λ s. resumed (Some (state_at (character_state state s) (character_word state s number word (byte ∷ run)))) rest) (sym (high_sign number above))
 
-resumed-bare : (place : Place) (rest word : List ℕ) → is_bare place ≡ true → resumed (Some (place_at place word)) rest ≡ Some (word, rest)
+resumed-bare : (state : QuoteState) (rest word : List ℕ) → is_bare state ≡ true → resumed (Some (state_at state word)) rest ≡ Some (word, rest)
 unfolding is_bare
 resumed-bare Bare rest word e = refl
 resumed-bare BareEscaped rest word e = cc
@@ -287,7 +287,7 @@ resumed-bare InSingleEscaped rest word e = cc
 resumed-bare InDouble rest word e = cc
 resumed-bare InDoubleEscaped rest word e = cc
 
-resumed-open : (place : Place) (rest word : List ℕ) → is_bare place ≡ false → resumed (Some (place_at place word)) rest ≡ fish_double_from (place_at place word) rest
+resumed-open : (state : QuoteState) (rest word : List ℕ) → is_bare state ≡ false → resumed (Some (state_at state word)) rest ≡ fish_double_from (state_at state word) rest
 unfolding is_bare
 resumed-open Bare rest word e = cc
 resumed-open BareEscaped rest word e = refl
@@ -297,18 +297,18 @@ resumed-open InDouble rest word e = refl
 resumed-open InDoubleEscaped rest word e = refl
 
 -- the quote that closes
-pub character_closes : (place : Place) (c : ℕ) (rest word : List ℕ) → IsWithin place → is_bare (character_place place (fish_sign c)) ≡ true
-    → fish_double_from (place_at place word) (encode_utf8 c ++ rest) ≡ Some (character_word place (fish_sign c) c word (encode_utf8 c), rest)
-character_closes place c rest word within e =
-    double_read place c (encode_utf8 c) rest word (character c) within
-    ∙ resumed-bare (character_place place (fish_sign c)) rest (character_word place (fish_sign c) c word (encode_utf8 c)) e
+pub character_closes : (state : QuoteState) (c : ℕ) (rest word : List ℕ) → IsWithin state → is_bare (character_state state (fish_sign c)) ≡ true
+    → fish_double_from (state_at state word) (encode_utf8 c ++ rest) ≡ Some (character_word state (fish_sign c) c word (encode_utf8 c), rest)
+character_closes state c rest word within e =
+    double_read state c (encode_utf8 c) rest word (character c) within
+    ∙ resumed-bare (character_state state (fish_sign c)) rest (character_word state (fish_sign c) c word (encode_utf8 c)) e
 
 -- any other character
-pub character_within : (place : Place) (c : ℕ) (rest word : List ℕ) → IsWithin place → is_bare (character_place place (fish_sign c)) ≡ false
-    → fish_double_from (place_at place word) (encode_utf8 c ++ rest) ≡ fish_double_from (after place c word) rest
-character_within place c rest word within e =
-    double_read place c (encode_utf8 c) rest word (character c) within
-    ∙ resumed-open (character_place place (fish_sign c)) rest (character_word place (fish_sign c) c word (encode_utf8 c)) e
+pub character_within : (state : QuoteState) (c : ℕ) (rest word : List ℕ) → IsWithin state → is_bare (character_state state (fish_sign c)) ≡ false
+    → fish_double_from (state_at state word) (encode_utf8 c ++ rest) ≡ fish_double_from (after state c word) rest
+character_within state c rest word within e =
+    double_read state c (encode_utf8 c) rest word (character c) within
+    ∙ resumed-open (character_state state (fish_sign c)) rest (character_word state (fish_sign c) c word (encode_utf8 c)) e
 
-pub stays_within : (place : Place) (c : ℕ) → IsWithin place → is_bare (character_place place (fish_sign c)) ≡ false → IsWithin (character_place place (fish_sign c))
-stays_within place c within e = within_next place (fish_sign c) within e
+pub stays_within : (state : QuoteState) (c : ℕ) → IsWithin state → is_bare (character_state state (fish_sign c)) ≡ false → IsWithin (character_state state (fish_sign c))
+stays_within state c within e = within_next state (fish_sign c) within e

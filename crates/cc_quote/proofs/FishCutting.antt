@@ -2,9 +2,9 @@
 use Rattle.std.proofs.Common.{◌≡◌, ℕ, List, [], ◌∷◌, ◌++◌, refl, ap, ◌∙◌, sym, append_assoc, append-nil, inl, inr, ◌⊎◌, Some, None, IsTrue, flat_map}
 use Rattle.std.specs.List.{AllByRecursion}
 use Rattle.cc_base.specs.Bytes as ascii
-use Rattle.cc_quote.specs.FishQuote.{FishSign, FishPlace, fish_sign, next_place, advance, begins_word, begins_with_word}
+use Rattle.cc_quote.specs.FishQuote.{FishSign, FishState, fish_sign, next_state, advance, begins_word, begins_with_word}
 use Rattle.cc_quote.specs.FishQuote.FishSign.{blank, line_feed, single, double, backslash, dollar, hash, other}
-use Rattle.cc_quote.specs.FishQuote.FishPlace.{bare}
+use Rattle.cc_quote.specs.FishQuote.FishState.{bare}
 use Rattle.cc_quote.specs.FishTokens.{between, in_word, commands_from}
 use Rattle.cc_quote.proofs.FishWords.{IsSafe, safe_bare}
 use Rattle.cc_quote.proofs.FishReaders.{option_cases, advance_none}
@@ -15,12 +15,12 @@ EndsWord [] = ⊥
 EndsWord (byte ∷ bytes) = (fish_sign byte ≡ blank) ⊎ (fish_sign byte ≡ line_feed)
 
 -- a word goes on over a text that leads on
-pub word_goes_on : (text : List ℕ) (words : List (List ℕ)) (from to : FishPlace) (rest : List ℕ) → advance (Some from) text ≡ Some to
+pub word_goes_on : (text : List ℕ) (words : List (List ℕ)) (from to : FishState) (rest : List ℕ) → advance (Some from) text ≡ Some to
     → commands_from (in_word words from) (text ++ rest) ≡ commands_from (in_word words to) rest
-word_goes_on [] words from to rest h = let same : from ≡ to = cc in ap (λ place. commands_from (in_word words place) rest) same
-word_goes_on (byte ∷ text) words from to rest h = elim (option_cases (next_place from byte)) [
-  | inl found ↦ rw (commands_from, found.1) (word_goes_on text words found.0 to rest (ap (λ place. advance place text) (sym found.1) ∙ h))
-  | inr none ↦ absurd (let stops : None ≡ Some to = sym (advance_none text) ∙ ap (λ place. advance place text) (sym none) ∙ h in cc)
+word_goes_on [] words from to rest h = let same : from ≡ to = cc in ap (λ state. commands_from (in_word words state) rest) same
+word_goes_on (byte ∷ text) words from to rest h = elim (option_cases (next_state from byte)) [
+  | inl found ↦ rw (commands_from, found.1) (word_goes_on text words found.0 to rest (ap (λ state. advance state text) (sym found.1) ∙ h))
+  | inr none ↦ absurd (let stops : None ≡ Some to = sym (advance_none text) ∙ ap (λ state. advance state text) (sym none) ∙ h in cc)
 ]
 
 -- bytes that need no quotes, in a word outside quotes
@@ -32,8 +32,8 @@ safe_goes_on text words word rest h = word_goes_on text words (bare word) (bare 
 pub word_ends : (words : List (List ℕ)) (word rest : List ℕ) → EndsWord rest → commands_from (in_word words (bare word)) rest ≡ commands_from (between (words ++ word ∷ [])) rest
 word_ends words word [] h = absurd h
 word_ends words word (byte ∷ rest) h = elim h [
-  | inl is ↦ rw (commands_from, next_place, is, is)
-  | inr is ↦ rw (commands_from, next_place, is, is)
+  | inl is ↦ rw (commands_from, next_state, is, is)
+  | inr is ↦ rw (commands_from, next_state, is, is)
 ]
 
 -- a word begins
@@ -46,11 +46,11 @@ word_begins (byte ∷ text) words rest h = by (fish_sign byte) refl h
     by blank e h = cc
     by line_feed e h = cc
     by hash e h = cc
-    by single e h = rw (commands_from, e, next_place, e)
-    by double e h = rw (commands_from, e, next_place, e)
-    by backslash e h = rw (commands_from, e, next_place, e)
-    by dollar e h = rw (commands_from, e, next_place, e)
-    by other e h = rw (commands_from, e, next_place, e)
+    by single e h = rw (commands_from, e, next_state, e)
+    by double e h = rw (commands_from, e, next_state, e)
+    by backslash e h = rw (commands_from, e, next_state, e)
+    by dollar e h = rw (commands_from, e, next_state, e)
+    by other e h = rw (commands_from, e, next_state, e)
 
 -- the text spells the word
 pub record Spells (text word : List ℕ) : Type 0 where

@@ -44,7 +44,7 @@ help_composed help =
     ∙ composed (λ byte. marked_byte is_single_marked (space_for_line_feed byte)) (marked_byte is_double_marked) help
     ∙ ap double_escaped (sym (flat_map-map (marked_byte is_single_marked) space_for_line_feed help))
 
--- a text in `'` that stand between `"`
+-- a text in `'` that are between `"`
 pub double_escaped-single_quoted : (text : List ℕ) → double_escaped (single_quoted text) ≡ codes "'" ++ double_escaped (single_escaped text) ++ codes "'"
 double_escaped-single_quoted text = ap (λ bytes. codes "'" ++ bytes) (flat_map-append (marked_byte is_double_marked) (single_escaped text) (codes "'"))
 

@@ -5,8 +5,8 @@ use Rattle.std.proofs.lemmas.Bool.Decides.{nat_tests}
 use Rattle.std.specs.List.{list_all}
 use Rattle.cc_quote.specs.QuotedWord.{line_feeds_as_spaces}
 use Rattle.cc_quote.specs.Escapes.{marked_byte}
-use Rattle.cc_quote.specs.FishQuote.{FishPlace, fish_sign, next_place, advance, fish_word_from, fish_word_of, fish_double_from, fish_double_of, is_fish_safe, is_double_marked, double_escaped, single_quoted, fish_quoted, fish_quoted_for_eval, fish_help_for_eval_of, fish_escaped, ReadsTwice}
-use Rattle.cc_quote.specs.FishQuote.FishPlace.{bare, in_double}
+use Rattle.cc_quote.specs.FishQuote.{FishState, fish_sign, next_state, advance, fish_word_from, fish_word_of, fish_double_from, fish_double_of, is_fish_safe, is_double_marked, double_escaped, single_quoted, fish_quoted, fish_quoted_for_eval, fish_help_for_eval_of, fish_escaped, ReadsTwice}
+use Rattle.cc_quote.specs.FishQuote.FishState.{bare, in_double}
 use Rattle.cc_quote.proofs.FishEscaped.{fish_escaped_composed}
 use Rattle.cc_quote.proofs.FishWords.{safe_sign, safe_bytes, single_quoted_read, fish_quoted_read}
 
@@ -19,11 +19,11 @@ advance_none [] = refl
 advance_none (byte ∷ bytes) = refl
 
 -- the reader of a word goes over bytes that lead on
-pub word_after : (bytes : List ℕ) (from to : FishPlace) (rest : List ℕ) → advance (Some from) bytes ≡ Some to → fish_word_from from (bytes ++ rest) ≡ fish_word_from to rest
-word_after [] from to rest h = let same : from ≡ to = cc in ap (λ place. fish_word_from place rest) same
-word_after (byte ∷ bytes) from to rest h = elim (option_cases (next_place from byte)) [
-  | inl found ↦ rw (fish_word_from, found.1) (word_after bytes found.0 to rest (ap (λ place. advance place bytes) (sym found.1) ∙ h))
-  | inr none ↦ absurd (let stops : None ≡ Some to = sym (advance_none bytes) ∙ ap (λ place. advance place bytes) (sym none) ∙ h in cc)
+pub word_after : (bytes : List ℕ) (from to : FishState) (rest : List ℕ) → advance (Some from) bytes ≡ Some to → fish_word_from from (bytes ++ rest) ≡ fish_word_from to rest
+word_after [] from to rest h = let same : from ≡ to = cc in ap (λ state. fish_word_from state rest) same
+word_after (byte ∷ bytes) from to rest h = elim (option_cases (next_state from byte)) [
+  | inl found ↦ rw (fish_word_from, found.1) (word_after bytes found.0 to rest (ap (λ state. advance state bytes) (sym found.1) ∙ h))
+  | inr none ↦ absurd (let stops : None ≡ Some to = sym (advance_none bytes) ∙ ap (λ state. advance state bytes) (sym none) ∙ h in cc)
 ]
 
 -- a text that spells a word is read as that word

@@ -4,9 +4,9 @@ use Rattle.std.proofs.lemmas.Bool.{cases_Bool, ne_eqb, and_parts}
 use Rattle.std.proofs.lemmas.Bool.Decides.{nat_tests}
 use Rattle.std.specs.List.{list_all, AllByRecursion}
 use Rattle.cc_quote.specs.Escapes.{marked_byte}
-use Rattle.cc_quote.specs.FishQuote.{FishPlace, fish_sign, next_place, advance, is_fish_safe, is_single_marked, single_escaped, is_double_marked, double_escaped, single_quoted, fish_quoted}
+use Rattle.cc_quote.specs.FishQuote.{FishState, fish_sign, next_state, advance, is_fish_safe, is_single_marked, single_escaped, is_double_marked, double_escaped, single_quoted, fish_quoted}
 use Rattle.cc_quote.specs.FishQuote.FishSign.{other}
-use Rattle.cc_quote.specs.FishQuote.FishPlace.{bare, in_single, in_double}
+use Rattle.cc_quote.specs.FishQuote.FishState.{bare, in_single, in_double}
 
 -- a text of bytes that need no quotes
 abbrev pub IsSafe : List ℕ → Type 0
@@ -38,11 +38,11 @@ double_byte_read byte word rest = grind (arith, nat_tests)
 -- ---- a text
 
 -- what advances over one text and then another
-pub advance-append : (bytes rest : List ℕ) (place : Option FishPlace) → advance place (bytes ++ rest) ≡ advance (advance place bytes) rest
-advance-append [] rest place = refl
+pub advance-append : (bytes rest : List ℕ) (state : Option FishState) → advance state (bytes ++ rest) ≡ advance (advance state bytes) rest
+advance-append [] rest state = refl
 advance-append (byte ∷ bytes) [] None = refl
 advance-append (byte ∷ bytes) (next ∷ rest) None = refl
-advance-append (byte ∷ bytes) rest (Some place) = advance-append bytes rest (next_place place byte)
+advance-append (byte ∷ bytes) rest (Some state) = advance-append bytes rest (next_state state byte)
 
 -- bytes that need no quotes stand for themselves outside quotes
 pub safe_bare : (text word : List ℕ) → IsSafe text → advance (Some (bare word)) text ≡ Some (bare (word ++ text))
@@ -71,7 +71,7 @@ safe_in_double text word h = ap (advance (Some (in_double word))) (sym (safe_dou
 -- a text in `'`
 pub single_quoted_read : (text word : List ℕ) → advance (Some (bare word)) (single_quoted text) ≡ Some (bare (word ++ text))
 unfolding fish_sign
-single_quoted_read text word = advance-append (single_escaped text) (codes "'") (Some (in_single word)) ∙ ap (λ place. advance place (codes "'")) (single_read text word)
+single_quoted_read text word = advance-append (single_escaped text) (codes "'") (Some (in_single word)) ∙ ap (λ state. advance state (codes "'")) (single_read text word)
 
 -- whether a text is a safe word: its bytes need no quotes
 pub safe_bytes : (text : List ℕ) → list_all is_fish_safe text ≡ true → IsSafe text

@@ -22,13 +22,13 @@ use Rattle.std.proofs.Common.{
   append-nil,
 }
 use Rattle.cc_quote.specs.PosixQuote.{
-  next_place,
+  next_state,
   word_after,
   ended,
   posix_word_from,
   posix_word_of,
 }
-use Rattle.cc_quote.specs.PosixTokens.{Sign, Place, sign, byte_of, cut, posix_tokens}
+use Rattle.cc_quote.specs.PosixTokens.{Sign, QuoteState, sign, byte_of, cut, posix_tokens}
 use Rattle.cc_quote.specs.PosixTokens.Sign.{
   blank,
   line_feed,
@@ -38,7 +38,7 @@ use Rattle.cc_quote.specs.PosixTokens.Sign.{
   special,
   other,
 }
-use Rattle.cc_quote.specs.PosixTokens.Place.{
+use Rattle.cc_quote.specs.PosixTokens.QuoteState.{
   between,
   between_escaped,
   in_bare,
@@ -59,8 +59,8 @@ use Rattle.cc_quote.specs.PosixTokenWords.{
 }
 use Rattle.cc_quote.specs.Tokens.{Token}
 use Rattle.cc_quote.specs.Tokens.Piece.{bare, quoted, unclosed}
-use Rattle.cc_quote.specs.declared.posix.Place.{Place as WordPlace}
-use Rattle.cc_quote.specs.declared.posix.Place.TheVariants.{
+use Rattle.cc_quote.specs.declared.posix.QuoteState.{QuoteState as WordState}
+use Rattle.cc_quote.specs.declared.posix.QuoteState.TheVariants.{
   Before,
   BeforeEscaped,
   Bare,
@@ -158,10 +158,10 @@ open_last pieces more word h e =
     ∙ ap (λ w. joined w (word_of_token more)) h
     ∙ ap (joined (Some word)) e
 
--- ---- from place to place
+-- ---- from state to state
 
--- the place of the reader of words, where the cutting stands
-abbrev reader : Place → WordPlace
+-- the state of the reader of words, where the cutting is
+abbrev reader : QuoteState → WordState
 reader between = Before
 reader between_escaped = BeforeEscaped
 reader (in_bare pieces run) = Bare
@@ -173,7 +173,7 @@ reader (after_quotes pieces) = Bare
 reader (after_quotes_escaped pieces) = BareEscaped
 
 -- the word so far of a token that has begun
-abbrev IsSoFar : Place → List ℕ → Type 0
+abbrev IsSoFar : QuoteState → List ℕ → Type 0
 IsSoFar between word = ⊥
 IsSoFar between_escaped word = ⊥
 IsSoFar (in_bare pieces run) word = Holds pieces run word
@@ -184,14 +184,14 @@ IsSoFar (in_double_escaped pieces text) word = Holds pieces text word
 IsSoFar (after_quotes pieces) word = word_of_token pieces ≡ Some word
 IsSoFar (after_quotes_escaped pieces) word = word_of_token pieces ≡ Some word
 
--- from such a place on, what is read is what the tokens tell
-abbrev Agree : Place → List ℕ → List Sign → Type 0
+-- from such a state on, what is read is what the tokens tell
+abbrev Agree : QuoteState → List ℕ → List Sign → Type 0
 Agree p word signs = IsTokenRead (cut p signs) (posix_word_from (reader p) word signs)
 
 abbrev AgreeOn : List Sign → Type 0
-AgreeOn signs = (p : Place) (word : List ℕ) → IsSoFar p word → Agree p word signs
+AgreeOn signs = (p : QuoteState) (word : List ℕ) → IsSoFar p word → Agree p word signs
 
--- a text that ends at its place
+-- a text that ends at its state
 at_end : AgreeOn []
 unfolding cut posix_word_from ended posix_tokens word_of_token ends_token
 at_end between word h = absurd h
@@ -310,11 +310,11 @@ double_begins : (signs : List Sign) → AgreeOn signs
 double_begins signs goes pieces word h =
     goes (in_double pieces []) word (opened pieces word h)
 
--- one sign in each place
+-- one sign in each state
 in_bare_goes : (s : Sign) (text : List ℕ) → sign (byte_of s) ≡ s → AgreeOn (map sign text)
     → (pieces : Token) (run word : List ℕ) → Holds pieces run word
     → Agree (in_bare pieces run) word (s ∷ map sign text)
-unfolding cut posix_word_from next_place word_after ended ends_token byte_of
+unfolding cut posix_word_from next_state word_after ended ends_token byte_of
 in_bare_goes (blank b) text is goes pieces run word h =
     ended_token
     (blank b)
@@ -350,7 +350,7 @@ in_bare_goes (other b) text is goes pieces run word h =
 in_bare_escaped_goes : (s : Sign) (signs : List Sign) → AgreeOn signs
     → (pieces : Token) (run word : List ℕ) → Holds pieces run word
     → Agree (in_bare_escaped pieces run) word (s ∷ signs)
-unfolding cut posix_word_from next_place word_after byte_of
+unfolding cut posix_word_from next_state word_after byte_of
 in_bare_escaped_goes (blank b) signs goes pieces run word h =
     bare_on signs goes pieces run word (b ∷ []) h
 in_bare_escaped_goes line_feed signs goes pieces run word h = goes (in_bare pieces run) word h
@@ -368,7 +368,7 @@ in_bare_escaped_goes (other b) signs goes pieces run word h =
 in_single_goes : (s : Sign) (signs : List Sign) → AgreeOn signs
     → (pieces : Token) (text word : List ℕ) → Holds pieces text word
     → Agree (in_single pieces text) word (s ∷ signs)
-unfolding cut posix_word_from next_place word_after byte_of
+unfolding cut posix_word_from next_state word_after byte_of
 in_single_goes (blank b) signs goes pieces text word h =
     single_on signs goes pieces text word (b ∷ []) h
 in_single_goes line_feed signs goes pieces text word h =
@@ -390,7 +390,7 @@ in_single_goes (other b) signs goes pieces text word h =
 in_double_goes : (s : Sign) (signs : List Sign) → AgreeOn signs
     → (pieces : Token) (text word : List ℕ) → Holds pieces text word
     → Agree (in_double pieces text) word (s ∷ signs)
-unfolding cut posix_word_from next_place word_after byte_of
+unfolding cut posix_word_from next_state word_after byte_of
 in_double_goes (blank b) signs goes pieces text word h =
     double_on signs goes pieces text word (b ∷ []) h
 in_double_goes line_feed signs goes pieces text word h =
@@ -411,7 +411,7 @@ in_double_goes (other b) signs goes pieces text word h =
 in_double_escaped_goes : (s : Sign) (signs : List Sign) → AgreeOn signs
     → (pieces : Token) (text word : List ℕ) → Holds pieces text word
     → Agree (in_double_escaped pieces text) word (s ∷ signs)
-unfolding cut posix_word_from next_place word_after byte_of
+unfolding cut posix_word_from next_state word_after byte_of
 in_double_escaped_goes (blank b) signs goes pieces text word h =
     double_kept signs goes pieces text word b h
 in_double_escaped_goes line_feed signs goes pieces text word h = goes (in_double pieces text) word h
@@ -429,7 +429,7 @@ in_double_escaped_goes (other b) signs goes pieces text word h =
 after_quotes_goes : (s : Sign) (text : List ℕ) → sign (byte_of s) ≡ s → AgreeOn (map sign text)
     → (pieces : Token) (word : List ℕ) → word_of_token pieces ≡ Some word
     → Agree (after_quotes pieces) word (s ∷ map sign text)
-unfolding cut posix_word_from next_place word_after ended ends_token byte_of
+unfolding cut posix_word_from next_state word_after ended ends_token byte_of
 after_quotes_goes (blank b) text is goes pieces word h =
     ended_token (blank b) text pieces word is refl refl h
 after_quotes_goes line_feed text is goes pieces word h =
@@ -447,7 +447,7 @@ after_quotes_goes (other b) text is goes pieces word h =
 after_quotes_escaped_goes : (s : Sign) (signs : List Sign) → AgreeOn signs
     → (pieces : Token) (word : List ℕ) → word_of_token pieces ≡ Some word
     → Agree (after_quotes_escaped pieces) word (s ∷ signs)
-unfolding cut posix_word_from next_place word_after byte_of
+unfolding cut posix_word_from next_state word_after byte_of
 after_quotes_escaped_goes (blank b) signs goes pieces word h =
     bare_begins signs goes pieces word b h
 after_quotes_escaped_goes line_feed signs goes pieces word h = goes (after_quotes pieces) word h
@@ -551,7 +551,7 @@ BeginsEscapedOn signs =
 
 escaped_goes : (s : Sign) (signs : List Sign)
     → AgreeOn signs → BeginsOn signs → BeginsEscapedOn (s ∷ signs)
-unfolding cut posix_word_from next_place word_after byte_of begins_no_token ends_token
+unfolding cut posix_word_from next_state word_after byte_of begins_no_token ends_token
 escaped_goes (blank b) signs goes begins =
     bare_first (backslash ∷ blank b ∷ signs) signs b goes refl
 escaped_goes line_feed signs goes begins = record { nothing = begins.nothing; token = begins.token }
@@ -568,7 +568,7 @@ escaped_goes (other b) signs goes begins =
 
 between_goes : (s : Sign) (signs : List Sign)
     → AgreeOn signs → BeginsEscapedOn signs → BeginsOn (s ∷ signs)
-unfolding cut posix_word_from next_place word_after ended byte_of begins_no_token ends_token
+unfolding cut posix_word_from next_state word_after ended byte_of begins_no_token ends_token
 between_goes (blank b) signs goes begins = begins_none (blank b ∷ signs) (cut between signs) refl
 between_goes line_feed signs goes begins = begins_none (line_feed ∷ signs) (cut between signs) refl
 between_goes single_quote signs goes begins = single_first (single_quote ∷ signs) signs goes refl

@@ -8,9 +8,9 @@ use Rattle.memchr.specs.Find.{is_byte}
 use Rattle.cc_quote.specs.Escapes.{escaped_byte as written}
 use Rattle.cc_quote.specs.PosixTokens.{Sign, sign, byte_of}
 use Rattle.cc_quote.specs.PosixTokens.Sign.{blank, line_feed, single_quote, double_quote, backslash, special, other}
-use Rattle.cc_quote.specs.PosixQuote.{next_place, word_after, ended, posix_word_from, posix_word_of, is_posix_safe, is_posix_safe_word, posix_escaped, posix_quoted}
-use Rattle.cc_quote.specs.declared.posix.Place.{Place}
-use Rattle.cc_quote.specs.declared.posix.Place.TheVariants.{Before, BeforeEscaped, Bare, BareEscaped, InSingle, InDouble, InDoubleEscaped}
+use Rattle.cc_quote.specs.PosixQuote.{next_state, word_after, ended, posix_word_from, posix_word_of, is_posix_safe, is_posix_safe_word, posix_escaped, posix_quoted}
+use Rattle.cc_quote.specs.declared.posix.QuoteState.{QuoteState}
+use Rattle.cc_quote.specs.declared.posix.QuoteState.TheVariants.{Before, BeforeEscaped, Bare, BareEscaped, InSingle, InDouble, InDoubleEscaped}
 use Rattle.cc_quote.proofs.Characters.{AreHigh, IsCharacter, character}
 use Rattle.cc_quote.proofs.Characters.IsCharacter.{low, high}
 
@@ -26,26 +26,26 @@ pub bytes-signs : (text : List ℕ) → map byte_of (map sign text) ≡ text
 bytes-signs [] = refl
 bytes-signs (byte ∷ text) = ap₂ (λ b bs. b ∷ bs) (byte_of-sign byte) (bytes-signs text)
 
--- the reading from a place on, by the place after the next sign
-abbrev resumed : Place → List ℕ → Sign → List Sign → Option Place → Option (List ℕ × List ℕ)
-resumed place word s rest after = elim after [
-  | Some next ↦ posix_word_from next (word_after place s word (byte_of s ∷ [])) rest
-  | None ↦ ended place word (byte_of s ∷ map byte_of rest)
+-- the reading from a state on, by the state after the next sign
+abbrev resumed : QuoteState → List ℕ → Sign → List Sign → Option QuoteState → Option (List ℕ × List ℕ)
+resumed state word s rest after = elim after [
+  | Some next ↦ posix_word_from next (word_after state s word (byte_of s ∷ [])) rest
+  | None ↦ ended state word (byte_of s ∷ map byte_of rest)
 ]
 
 -- it goes on
-pub goes_on : (place next : Place) (byte : ℕ) (rest : List Sign) (word : List ℕ) → next_place place (sign byte) ≡ Some next
-    → posix_word_from place word (sign byte ∷ rest) ≡ posix_word_from next (word_after place (sign byte) word (byte ∷ [])) rest
+pub goes_on : (state next : QuoteState) (byte : ℕ) (rest : List Sign) (word : List ℕ) → next_state state (sign byte) ≡ Some next
+    → posix_word_from state word (sign byte ∷ rest) ≡ posix_word_from next (word_after state (sign byte) word (byte ∷ [])) rest
 unfolding posix_word_from
-goes_on place next byte rest word e =
-    ap (resumed place word (sign byte) rest) e ∙ ap (λ b. posix_word_from next (word_after place (sign byte) word (b ∷ [])) rest) (byte_of-sign byte)
+goes_on state next byte rest word e =
+    ap (resumed state word (sign byte) rest) e ∙ ap (λ b. posix_word_from next (word_after state (sign byte) word (b ∷ [])) rest) (byte_of-sign byte)
 
 -- it stops
-stops : (place : Place) (byte : ℕ) (rest word : List ℕ) → next_place place (sign byte) ≡ None
-    → posix_word_from place word (map sign (byte ∷ rest)) ≡ ended place word (byte ∷ rest)
+stops : (state : QuoteState) (byte : ℕ) (rest word : List ℕ) → next_state state (sign byte) ≡ None
+    → posix_word_from state word (map sign (byte ∷ rest)) ≡ ended state word (byte ∷ rest)
 unfolding posix_word_from
-stops place byte rest word e =
-    ap (resumed place word (sign byte) (map sign rest)) e ∙ ap₂ (λ b bs. ended place word (b ∷ bs)) (byte_of-sign byte) (bytes-signs rest)
+stops state byte rest word e =
+    ap (resumed state word (sign byte) (map sign rest)) e ∙ ap₂ (λ b bs. ended state word (b ∷ bs)) (byte_of-sign byte) (bytes-signs rest)
 
 -- ---- one character
 
@@ -54,15 +54,15 @@ pub high_sign : (byte : ℕ) → 128 ≤ byte → sign byte ≡ other byte
 unfolding sign
 high_sign byte h = grind (arith, nat_tests)
 
--- the place after such a byte
-abbrev pub after_other : Place → Place
+-- the state after such a byte
+abbrev pub after_other : QuoteState → QuoteState
 after_other InSingle = InSingle
 after_other InDouble = InDouble
 after_other InDoubleEscaped = InDouble
 after_other _ = Bare
 
-pub next-other : (place : Place) (byte : ℕ) → next_place place (other byte) ≡ Some (after_other place)
-unfolding next_place
+pub next-other : (state : QuoteState) (byte : ℕ) → next_state state (other byte) ≡ Some (after_other state)
+unfolding next_state
 next-other Before byte = refl
 next-other BeforeEscaped byte = refl
 next-other Bare byte = refl
@@ -72,8 +72,8 @@ next-other InDouble byte = refl
 next-other InDoubleEscaped byte = refl
 
 -- two such bytes in a row
-pub more-other : (place : Place) (first byte : ℕ) (word run bytes : List ℕ)
-    → word_after (after_other place) (other byte) (word_after place (other first) word run) bytes ≡ word_after place (other first) word (run ++ bytes)
+pub more-other : (state : QuoteState) (first byte : ℕ) (word run bytes : List ℕ)
+    → word_after (after_other state) (other byte) (word_after state (other first) word run) bytes ≡ word_after state (other first) word (run ++ bytes)
 unfolding word_after
 more-other Before first byte word run bytes = append_assoc word run bytes
 more-other BeforeEscaped first byte word run bytes = append_assoc word run bytes
@@ -83,7 +83,7 @@ more-other InSingle first byte word run bytes = append_assoc word run bytes
 more-other InDouble first byte word run bytes = append_assoc word run bytes
 more-other InDoubleEscaped first byte word run bytes = append_assoc (word ++ codes "\\") run bytes
 
-after_other-twice : (place : Place) → after_other (after_other place) ≡ after_other place
+after_other-twice : (state : QuoteState) → after_other (after_other state) ≡ after_other state
 after_other-twice Before = refl
 after_other-twice BeforeEscaped = refl
 after_other-twice Bare = refl
@@ -93,23 +93,23 @@ after_other-twice InDouble = refl
 after_other-twice InDoubleEscaped = refl
 
 -- such bytes, after a first one
-high_run : (place : Place) (first : ℕ) (run bytes rest word : List ℕ) → AreHigh bytes
-    → posix_word_from (after_other place) (word_after place (other first) word run) (map sign (bytes ++ rest))
-    ≡ posix_word_from (after_other place) (word_after place (other first) word (run ++ bytes)) (map sign rest)
-high_run place first run [] rest word h =
-    ap (λ r. posix_word_from (after_other place) (word_after place (other first) word r) (map sign rest)) (sym (append-nil run))
-high_run place first run (byte ∷ bytes) rest word h =
+high_run : (state : QuoteState) (first : ℕ) (run bytes rest word : List ℕ) → AreHigh bytes
+    → posix_word_from (after_other state) (word_after state (other first) word run) (map sign (bytes ++ rest))
+    ≡ posix_word_from (after_other state) (word_after state (other first) word (run ++ bytes)) (map sign rest)
+high_run state first run [] rest word h =
+    ap (λ r. posix_word_from (after_other state) (word_after state (other first) word r) (map sign rest)) (sym (append-nil run))
+high_run state first run (byte ∷ bytes) rest word h =
     let is : sign byte ≡ other byte = high_sign byte h.0 in
-    let next : next_place (after_other place) (sign byte) ≡ Some (after_other place) =
-    ap (next_place (after_other place)) is ∙ next-other (after_other place) byte ∙ ap Some (after_other-twice place) in
-    goes_on (after_other place) (after_other place) byte (map sign (bytes ++ rest)) (word_after place (other first) word run) next
-    ∙ ap (λ w. posix_word_from (after_other place) w (map sign (bytes ++ rest)))
-    (ap (λ s. word_after (after_other place) s (word_after place (other first) word run) (byte ∷ [])) is ∙ more-other place first byte word run (byte ∷ []))
-    ∙ high_run place first (run ++ byte ∷ []) bytes rest word h.1
-    ∙ ap (λ r. posix_word_from (after_other place) (word_after place (other first) word r) (map sign rest)) (append_assoc run (byte ∷ []) bytes)
+    let next : next_state (after_other state) (sign byte) ≡ Some (after_other state) =
+    ap (next_state (after_other state)) is ∙ next-other (after_other state) byte ∙ ap Some (after_other-twice state) in
+    goes_on (after_other state) (after_other state) byte (map sign (bytes ++ rest)) (word_after state (other first) word run) next
+    ∙ ap (λ w. posix_word_from (after_other state) w (map sign (bytes ++ rest)))
+    (ap (λ s. word_after (after_other state) s (word_after state (other first) word run) (byte ∷ [])) is ∙ more-other state first byte word run (byte ∷ []))
+    ∙ high_run state first (run ++ byte ∷ []) bytes rest word h.1
+    ∙ ap (λ r. posix_word_from (after_other state) (word_after state (other first) word r) (map sign rest)) (append_assoc run (byte ∷ []) bytes)
 
--- what the place and the word are after such a byte does not depend on which it is
-pub same-word : (place : Place) (a b : ℕ) (word bytes : List ℕ) → word_after place (other a) word bytes ≡ word_after place (other b) word bytes
+-- what the state and the word are after such a byte does not depend on which it is
+pub same-word : (state : QuoteState) (a b : ℕ) (word bytes : List ℕ) → word_after state (other a) word bytes ≡ word_after state (other b) word bytes
 unfolding word_after
 same-word Before a b word bytes = refl
 same-word BeforeEscaped a b word bytes = refl
@@ -120,33 +120,33 @@ same-word InDouble a b word bytes = refl
 same-word InDoubleEscaped a b word bytes = refl
 
 -- the reading goes on after a character
-pub character_read : (place next : Place) (c : ℕ) (rest word : List ℕ) → next_place place (sign c) ≡ Some next
-    → posix_word_from place word (map sign (encode_utf8 c ++ rest)) ≡ posix_word_from next (word_after place (sign c) word (encode_utf8 c)) (map sign rest)
-character_read place next c rest word e = by_bytes c (encode_utf8 c) (character c) e
+pub character_read : (state next : QuoteState) (c : ℕ) (rest word : List ℕ) → next_state state (sign c) ≡ Some next
+    → posix_word_from state word (map sign (encode_utf8 c ++ rest)) ≡ posix_word_from next (word_after state (sign c) word (encode_utf8 c)) (map sign rest)
+character_read state next c rest word e = by_bytes c (encode_utf8 c) (character c) e
   where
-    by_bytes : (c : ℕ) (bytes : List ℕ) → IsCharacter c bytes → next_place place (sign c) ≡ Some next
-        → posix_word_from place word (map sign (bytes ++ rest)) ≡ posix_word_from next (word_after place (sign c) word bytes) (map sign rest)
-    by_bytes c bytes (low byte below) e = goes_on place next byte (map sign rest) word e
+    by_bytes : (c : ℕ) (bytes : List ℕ) → IsCharacter c bytes → next_state state (sign c) ≡ Some next
+        → posix_word_from state word (map sign (bytes ++ rest)) ≡ posix_word_from next (word_after state (sign c) word bytes) (map sign rest)
+    by_bytes c bytes (low byte below) e = goes_on state next byte (map sign rest) word e
     by_bytes c bytes (high character byte run above first h) e =
         let is : sign byte ≡ other byte = high_sign byte first in
         let as_c : sign character ≡ other character = high_sign character above in
-        let place_is : Some (after_other place) ≡ Some next = sym (next-other place character) ∙ ap (next_place place) (sym as_c) ∙ e in
-        goes_on place (after_other place) byte (map sign (run ++ rest)) word (ap (next_place place) is ∙ next-other place byte)
-        ∙ ap (λ s. posix_word_from (after_other place) (word_after place s word (byte ∷ [])) (map sign (run ++ rest))) is
-        ∙ high_run place byte (byte ∷ []) run rest word h
-        ∙ ap (λ w. posix_word_from (after_other place) w (map sign rest)) (same-word place byte character word (byte ∷ run) ∙ ap (λ s. word_after place s word (byte ∷ run)) (sym as_c))
-        ∙ ap (λ p. posix_word_from p (word_after place (sign character) word (byte ∷ run)) (map sign rest)) (ap (λ p. unwrap_or p Bare) place_is)
+        let state_is : Some (after_other state) ≡ Some next = sym (next-other state character) ∙ ap (next_state state) (sym as_c) ∙ e in
+        goes_on state (after_other state) byte (map sign (run ++ rest)) word (ap (next_state state) is ∙ next-other state byte)
+        ∙ ap (λ s. posix_word_from (after_other state) (word_after state s word (byte ∷ [])) (map sign (run ++ rest))) is
+        ∙ high_run state byte (byte ∷ []) run rest word h
+        ∙ ap (λ w. posix_word_from (after_other state) w (map sign rest)) (same-word state byte character word (byte ∷ run) ∙ ap (λ s. word_after state s word (byte ∷ run)) (sym as_c))
+        ∙ ap (λ p. posix_word_from p (word_after state (sign character) word (byte ∷ run)) (map sign rest)) (ap (λ p. unwrap_or p Bare) state_is)
 
 -- it stops before a character
-pub character_stops : (place : Place) (c : ℕ) (rest word : List ℕ) → next_place place (sign c) ≡ None
-    → posix_word_from place word (map sign (encode_utf8 c ++ rest)) ≡ ended place word (encode_utf8 c ++ rest)
-character_stops place c rest word e = by_bytes c (encode_utf8 c) (character c) e
+pub character_stops : (state : QuoteState) (c : ℕ) (rest word : List ℕ) → next_state state (sign c) ≡ None
+    → posix_word_from state word (map sign (encode_utf8 c ++ rest)) ≡ ended state word (encode_utf8 c ++ rest)
+character_stops state c rest word e = by_bytes c (encode_utf8 c) (character c) e
   where
-    by_bytes : (c : ℕ) (bytes : List ℕ) → IsCharacter c bytes → next_place place (sign c) ≡ None
-        → posix_word_from place word (map sign (bytes ++ rest)) ≡ ended place word (bytes ++ rest)
-    by_bytes c bytes (low byte below) e = stops place byte rest word e
+    by_bytes : (c : ℕ) (bytes : List ℕ) → IsCharacter c bytes → next_state state (sign c) ≡ None
+        → posix_word_from state word (map sign (bytes ++ rest)) ≡ ended state word (bytes ++ rest)
+    by_bytes c bytes (low byte below) e = stops state byte rest word e
     by_bytes c bytes (high character byte run above first h) e =
-        let none : Some (after_other place) ≡ None = sym (next-other place character) ∙ ap (next_place place) (sym (high_sign character above)) ∙ e in cc
+        let none : Some (after_other state) ≡ None = sym (next-other state character) ∙ ap (next_state state) (sym (high_sign character above)) ∙ e in cc
 
 -- ---- quoted texts
 
@@ -157,24 +157,24 @@ safe_sign byte h = grind (arith, nat_tests)
 
 -- such bytes in a bare word
 pub bare_run : (run rest word : List ℕ) → list_all is_posix_safe run ≡ true → posix_word_from Bare word (map sign (run ++ rest)) ≡ posix_word_from Bare (word ++ run) (map sign rest)
-unfolding next_place word_after
+unfolding next_state word_after
 bare_run [] rest word h = ap (λ w. posix_word_from Bare w (map sign rest)) (sym (append-nil word))
 bare_run (byte ∷ run) rest word h =
     let parts = and_parts (is_posix_safe byte) (list_all is_posix_safe run) h in
     let is : sign byte ≡ other byte = safe_sign byte parts.0 in
-    goes_on Bare Bare byte (map sign (run ++ rest)) word (ap (next_place Bare) is)
+    goes_on Bare Bare byte (map sign (run ++ rest)) word (ap (next_state Bare) is)
     ∙ ap (λ s. posix_word_from Bare (word_after Bare s word (byte ∷ [])) (map sign (run ++ rest))) is
     ∙ bare_run run rest (word ++ byte ∷ []) parts.1
     ∙ ap (λ w. posix_word_from Bare w (map sign rest)) (append_assoc word (byte ∷ []) run)
 
 -- such a word
 safe_reads : (text : List ℕ) → is_posix_safe_word text ≡ true → posix_word_of text ≡ Some (text, [])
-unfolding posix_word_of is_posix_safe_word next_place word_after posix_word_from ended
+unfolding posix_word_of is_posix_safe_word next_state word_after posix_word_from ended
 safe_reads [] h = cc
 safe_reads (byte ∷ text) h =
     let parts = and_parts (is_posix_safe byte) (list_all is_posix_safe text) h in
     let is : sign byte ≡ other byte = safe_sign byte parts.0 in
-    goes_on Before Bare byte (map sign text) [] (ap (next_place Before) is)
+    goes_on Before Bare byte (map sign text) [] (ap (next_state Before) is)
     ∙ ap (λ s. posix_word_from Bare (word_after Before s [] (byte ∷ [])) (map sign text)) is
     ∙ ap (λ t. posix_word_from Bare (byte ∷ []) (map sign t)) (sym (append-nil text))
     ∙ bare_run text [] (byte ∷ []) parts.1
@@ -184,7 +184,7 @@ abbrev pub posix_escaped_byte : ℕ → List ℕ
 posix_escaped_byte = written (is_byte 39) (λ _. codes "'\\''")
 
 escaped_byte : (byte : ℕ) (rest word : List ℕ) → posix_word_from InSingle word (map sign (posix_escaped_byte byte ++ rest)) ≡ posix_word_from InSingle (word ++ byte ∷ []) (map sign rest)
-unfolding posix_word_from next_place word_after sign byte_of
+unfolding posix_word_from next_state word_after sign byte_of
 escaped_byte byte rest word = by_test (byte == 39) refl
   where
     kept : byte == 39 ≡ false → sign byte ≢ single_quote
@@ -213,7 +213,7 @@ escaped_text (byte ∷ text) rest word =
     ∙ ap (λ w. posix_word_from InSingle w (map sign rest)) (append_assoc word (byte ∷ []) text)
 
 pub quoted_reads : (text : List ℕ) → posix_word_of (codes "'" ++ posix_escaped text ++ codes "'") ≡ Some (text, [])
-unfolding posix_word_of posix_word_from next_place word_after ended sign
+unfolding posix_word_of posix_word_from next_state word_after ended sign
 quoted_reads text = escaped_text text (39 ∷ []) []
 
 -- a text that was quoted is read as the text, and nothing is left

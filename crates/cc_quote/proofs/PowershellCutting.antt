@@ -10,7 +10,7 @@ use Rattle.cc_quote.specs.PowershellTokens.{is_quote_first, IsUnquoted}
 use Rattle.cc_quote.specs.QuotedWord.{space_for_line_feed, line_feeds_as_spaces}
 use Rattle.cc_quote.specs.Signs.{Sign, sign}
 use Rattle.cc_quote.specs.Tokens.{Piece, cut}
-use Rattle.cc_quote.specs.Tokens.Place.{in_quotes}
+use Rattle.cc_quote.specs.Tokens.QuoteState.{in_quotes}
 use Rattle.cc_quote.proofs.PowershellSigns.{Beginning, beginning, signs-plain, signs-unquoted, HasNoQuote-IsUnquoted}
 use Rattle.cc_quote.proofs.PowershellSigns.Beginning.{right, plain}
 use Rattle.cc_quote.proofs.WithinQuotes.{ReadsQuoted, kept_byte, kept_text, cutting_reads}

@@ -12,11 +12,11 @@ use Rattle.cc_quote.specs.PowershellQuote.{begins_second, begins_right_quote, be
 abbrev pub may_begin : ℕ → Bool
 may_begin = is_byte3 single_quote line_feed right_quote_first
 
--- nothing else stands for the bytes before a place
+-- nothing else stands for the bytes before an index
 abbrev pub IsKeptTo : List ℕ → ℕ → Type 0
 IsKeptTo text at = powershell_escaped text ≡ take at text ++ powershell_escaped (drop at text)
 
--- for any other byte nothing else stands
+-- any other byte has no replacement
 not_escaped : (byte : ℕ) (rest : List ℕ) → may_begin byte ≡ false → is_escaped byte rest ≡ false
 not_escaped byte rest other =
     let feed : byte == 10 ≡ false = grind (arith, nat_tests) in
@@ -52,7 +52,7 @@ kept_past text at within kept same =
     longer : take (at + 1) text ≡ take at text ++ byte ∷ []
     longer = rw add-one (take-suc text at 0 within)
 
--- the places that a search has not given yet: it stands at a place, up to which the text is kept
+-- the indexes that a search has not given yet: it is at an index, up to which the text is kept
 pub record AreLeft (text left : List ℕ) : Type 0 where
   pub from : ℕ
   pub count : ℕ
@@ -60,7 +60,7 @@ pub record AreLeft (text left : List ℕ) : Type 0 where
   pub kept : IsKeptTo text from
   pub left_are : left ≡ places_from may_begin text from count
 
--- the next place that it gives, and those after it
+-- the next index that it gives, and those after it
 pub record IsNext (text : List ℕ) (at : ℕ) (left : List ℕ) : Type 0 where
   pub within : at < length text
   pub kept : IsKeptTo text at
@@ -109,13 +109,13 @@ none text from (suc count) ends kept e = by (may_begin (get_or text from 0)) ref
     by true is below e = cc
     by false is below e = below (kept_past text from (omega arith) kept (not_escaped (get_or text from 0) (drop (from + 1) text) is)) e
 
--- it gives a place
-pub next_place : (text left after : List ℕ) (at : ℕ) → AreLeft text left → left ≡ at ∷ after → IsNext text at after
-next_place text left after at h e = found text h.from h.count h.ends h.kept at after (sym e ∙ h.left_are)
+-- it gives an index
+pub next_state : (text left after : List ℕ) (at : ℕ) → AreLeft text left → left ≡ at ∷ after → IsNext text at after
+next_state text left after at h e = found text h.from h.count h.ends h.kept at after (sym e ∙ h.left_are)
 
 -- it gives none
-pub no_place : (text left : List ℕ) → AreLeft text left → left ≡ [] → powershell_escaped text ≡ text
-no_place text left h e = none text h.from h.count h.ends h.kept (sym e ∙ h.left_are)
+pub no_state : (text left : List ℕ) → AreLeft text left → left ≡ [] → powershell_escaped text ≡ text
+no_state text left h e = none text h.from h.count h.ends h.kept (sym e ∙ h.left_are)
 
 -- it goes on past a byte that is not escaped
 pub goes_on : (text after : List ℕ) (at : ℕ) → IsNext text at after → is_escaped (get_or text at 0) (drop (at + 1) text) ≡ false → AreLeft text after

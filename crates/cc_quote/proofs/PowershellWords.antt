@@ -22,7 +22,7 @@ pub powershell_reads_back : (text escaped : List ℕ) → escaped ≡ powershell
 unfolding powershell_signs sign_before sign
 powershell_reads_back text escaped e = rw e (escaped_reads (λ w s. word_from (quoted w) s) word_reads text [] [])
 
--- ---- U+2019 at a place of a text
+-- ---- U+2019 at an index of a text
 
 -- its bytes
 pub encoded : encode_utf8 8217 ≡ right_quote
@@ -85,7 +85,7 @@ escaped_at_right text at first begins =
 
 -- ---- where the first quote of a text is
 
--- a place further, past a byte that begins no quote
+-- an index further, past a byte that begins no quote
 pub no_quote_before : (text : List ℕ) (at : ℕ) → at < length text → HasNoQuoteBefore text at → begins_quote (get_or text at 0) (drop (at + 1) text) ≡ false → HasNoQuoteBefore text (at + 1)
 no_quote_before text at within h none = record {
   signs_are =

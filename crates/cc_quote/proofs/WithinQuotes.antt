@@ -4,7 +4,7 @@ use Rattle.cc_base.specs.Bytes.{single_quote}
 use Rattle.cc_quote.specs.QuotedWord.{quoted, word_from}
 use Rattle.cc_quote.specs.Signs.{Sign, blank, quote, other, is_blank, sign, HasNoQuote}
 use Rattle.cc_quote.specs.Tokens.{Piece, cut}
-use Rattle.cc_quote.specs.Tokens.Place.{in_quotes}
+use Rattle.cc_quote.specs.Tokens.QuoteState.{in_quotes}
 
 -- within quotes blanks are kept, and of two quotes in a row the second
 pub record ReadsQuoted {A : Type 0} (reading : List ℕ → List Sign → A) : Type 0 where

@@ -145,7 +145,7 @@ character_unescaped c bytes rest (high character byte run above first h) =
     both None = refl
     both (Some more) = refl
 
--- what is read where this word stands already
+-- what is read where this word is there already
 abbrev pub unescaped_after : List ℕ → List ℕ → Option (List ℕ)
 unescaped_after word rest = option_map (λ bytes. word ++ bytes) (zsh_unescaped rest)
 

@@ -4,7 +4,7 @@ use Rattle.std.specs.List.{AllByRecursion}
 use Rattle.cc_base.specs.Bytes.{single_quote}
 use Rattle.cc_quote.specs.Signs.{is_blank, sign}
 use Rattle.cc_quote.specs.Tokens.{Token, cut}
-use Rattle.cc_quote.specs.Tokens.Place.{between}
+use Rattle.cc_quote.specs.Tokens.QuoteState.{between}
 
 -- the tokens of a script
 unfoldable pub elvish_tokens : List ℕ → List Token

@@ -16,8 +16,8 @@ abbrev pub escaped_by : (ℕ → Bool) → (ℕ → List ℕ) → List ℕ → L
 escaped_by escapes replacement text = flat_map (escaped_byte escapes replacement) text
 
 -- a text with another in place of each such byte
-abbrev pub replaced : ℕ → List ℕ → List ℕ → List ℕ
-replaced byte by text = escaped_by (is_byte byte) (λ _. by) text
+abbrev pub replace_byte : ℕ → List ℕ → List ℕ → List ℕ
+replace_byte byte by text = escaped_by (is_byte byte) (λ _. by) text
 
 -- a byte after a backslash
 abbrev pub backslashed : ℕ → List ℕ

@@ -5,7 +5,7 @@ use Rattle.cc_quote.specs.Escapes.{marked_byte}
 use Rattle.cc_quote.specs.QuotedWord.{space_for_line_feed}
 use Rattle.cc_quote.specs.FishQuote.{is_single_marked, is_double_marked, double_escaped}
 
--- between `'` that stand between `"`
+-- between `'` that are between `"`
 abbrev pub eval_byte : ℕ → List ℕ
 eval_byte byte = double_escaped (marked_byte is_single_marked byte)
 

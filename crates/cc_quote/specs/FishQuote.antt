@@ -30,15 +30,15 @@ fish_sign byte =
     else if byte == ascii.backslash then backslash else if byte == ascii.dollar then dollar
     else if byte == ascii.hash then hash else other
 
--- Where the reader stands in a word that spells this so far: outside quotes, after a backslash
+-- Where the reader is in a word that spells this so far: outside quotes, after a backslash
 -- there, between `'`, after a backslash there, between `"`, or after a backslash there.
-pub data FishPlace : Type 0 where
-  bare : List ℕ → FishPlace
-  bare_escape : List ℕ → FishPlace
-  in_single : List ℕ → FishPlace
-  single_escape : List ℕ → FishPlace
-  in_double : List ℕ → FishPlace
-  double_escape : List ℕ → FishPlace
+pub data FishState : Type 0 where
+  bare : List ℕ → FishState
+  bare_escape : List ℕ → FishState
+  in_single : List ℕ → FishState
+  single_escape : List ℕ → FishState
+  in_double : List ℕ → FishState
+  double_escape : List ℕ → FishState
 
 -- what a byte spells after a backslash outside quotes: `t` (116) a tab, `n` (110) a line feed, any
 -- other itself
@@ -46,42 +46,42 @@ abbrev pub after_backslash : ℕ → ℕ
 after_backslash byte =
     if byte == 116 then ascii.tab else if byte == 110 then ascii.line_feed else byte
 
--- the place after one more byte, which has this sign; none where the word ends before it
-abbrev pub place_after : FishPlace → FishSign → ℕ → Option FishPlace
-place_after (bare word) blank byte = None
-place_after (bare word) line_feed byte = None
-place_after (bare word) single byte = Some (in_single word)
-place_after (bare word) double byte = Some (in_double word)
-place_after (bare word) backslash byte = Some (bare_escape word)
-place_after (bare word) _ byte = Some (bare (word ++ byte ∷ []))
-place_after (bare_escape word) _ byte = Some (bare (word ++ after_backslash byte ∷ []))
-place_after (in_single word) single byte = Some (bare word)
-place_after (in_single word) backslash byte = Some (single_escape word)
-place_after (in_single word) _ byte = Some (in_single (word ++ byte ∷ []))
-place_after (single_escape word) single byte = Some (in_single (word ++ byte ∷ []))
-place_after (single_escape word) backslash byte = Some (in_single (word ++ byte ∷ []))
-place_after (single_escape word) _ byte = Some (in_single (word ++ codes "\\" ++ byte ∷ []))
-place_after (in_double word) double byte = Some (bare word)
-place_after (in_double word) backslash byte = Some (double_escape word)
-place_after (in_double word) _ byte = Some (in_double (word ++ byte ∷ []))
-place_after (double_escape word) double byte = Some (in_double (word ++ byte ∷ []))
-place_after (double_escape word) backslash byte = Some (in_double (word ++ byte ∷ []))
-place_after (double_escape word) dollar byte = Some (in_double (word ++ byte ∷ []))
-place_after (double_escape word) line_feed byte = Some (in_double word)
-place_after (double_escape word) _ byte = Some (in_double (word ++ codes "\\" ++ byte ∷ []))
+-- the state after one more byte, which has this sign; none where the word ends before it
+abbrev pub state_after : FishState → FishSign → ℕ → Option FishState
+state_after (bare word) blank byte = None
+state_after (bare word) line_feed byte = None
+state_after (bare word) single byte = Some (in_single word)
+state_after (bare word) double byte = Some (in_double word)
+state_after (bare word) backslash byte = Some (bare_escape word)
+state_after (bare word) _ byte = Some (bare (word ++ byte ∷ []))
+state_after (bare_escape word) _ byte = Some (bare (word ++ after_backslash byte ∷ []))
+state_after (in_single word) single byte = Some (bare word)
+state_after (in_single word) backslash byte = Some (single_escape word)
+state_after (in_single word) _ byte = Some (in_single (word ++ byte ∷ []))
+state_after (single_escape word) single byte = Some (in_single (word ++ byte ∷ []))
+state_after (single_escape word) backslash byte = Some (in_single (word ++ byte ∷ []))
+state_after (single_escape word) _ byte = Some (in_single (word ++ codes "\\" ++ byte ∷ []))
+state_after (in_double word) double byte = Some (bare word)
+state_after (in_double word) backslash byte = Some (double_escape word)
+state_after (in_double word) _ byte = Some (in_double (word ++ byte ∷ []))
+state_after (double_escape word) double byte = Some (in_double (word ++ byte ∷ []))
+state_after (double_escape word) backslash byte = Some (in_double (word ++ byte ∷ []))
+state_after (double_escape word) dollar byte = Some (in_double (word ++ byte ∷ []))
+state_after (double_escape word) line_feed byte = Some (in_double word)
+state_after (double_escape word) _ byte = Some (in_double (word ++ codes "\\" ++ byte ∷ []))
 
--- the place after one more byte; none where the word ends before it
-abbrev pub next_place : FishPlace → ℕ → Option FishPlace
-next_place place byte = place_after place (fish_sign byte) byte
+-- the state after one more byte; none where the word ends before it
+abbrev pub next_state : FishState → ℕ → Option FishState
+next_state state byte = state_after state (fish_sign byte) byte
 
--- the place after some more bytes; none where the word ends before the last of them
-abbrev pub advance : Option FishPlace → List ℕ → Option FishPlace
-advance place [] = place
+-- the state after some more bytes; none where the word ends before the last of them
+abbrev pub advance : Option FishState → List ℕ → Option FishState
+advance state [] = state
 advance None (byte ∷ bytes) = None
-advance (Some place) (byte ∷ bytes) = advance (next_place place byte) bytes
+advance (Some state) (byte ∷ bytes) = advance (next_state state byte) bytes
 
 -- what the word spells so far
-abbrev pub spelled : FishPlace → List ℕ
+abbrev pub spelled : FishState → List ℕ
 spelled (bare word) = word
 spelled (bare_escape word) = word
 spelled (in_single word) = word
@@ -89,16 +89,16 @@ spelled (single_escape word) = word
 spelled (in_double word) = word
 spelled (double_escape word) = word
 
--- from a place on, the word and what follows it; none where a quote or an escape is open at the end
-abbrev pub fish_word_from : FishPlace → List ℕ → Option (List ℕ × List ℕ)
+-- from a state on, the word and what follows it; none where a quote or an escape is open at the end
+abbrev pub fish_word_from : FishState → List ℕ → Option (List ℕ × List ℕ)
 fish_word_from (bare word) [] = Some (word, [])
-fish_word_from place [] = None
-fish_word_from place (byte ∷ bytes) = elim (next_place place byte) [
+fish_word_from state [] = None
+fish_word_from state (byte ∷ bytes) = elim (next_state state byte) [
   | Some next ↦ fish_word_from next bytes
-  | None ↦ Some (spelled place, byte ∷ bytes)
+  | None ↦ Some (spelled state, byte ∷ bytes)
 ]
 
--- whether a word begins with a byte of this sign: no blank stands before it, and `#` begins a
+-- whether a word begins with a byte of this sign: no blank is before it, and `#` begins a
 -- comment
 abbrev pub begins_word : FishSign → Bool
 begins_word blank = false
@@ -115,10 +115,10 @@ begins_with_word (byte ∷ bytes) = begins_word (fish_sign byte)
 abbrev pub fish_word_of : List ℕ → Option (List ℕ × List ℕ)
 fish_word_of text = if begins_with_word text then fish_word_from (bare []) text else None
 
--- from a place between `"` on, what is spelled up to the `"` that closes them, and what follows it
-abbrev pub fish_double_from : FishPlace → List ℕ → Option (List ℕ × List ℕ)
-fish_double_from place [] = None
-fish_double_from place (byte ∷ bytes) = elim (next_place place byte) [
+-- from a state between `"` on, what is spelled up to the `"` that closes them, and what follows it
+abbrev pub fish_double_from : FishState → List ℕ → Option (List ℕ × List ℕ)
+fish_double_from state [] = None
+fish_double_from state (byte ∷ bytes) = elim (next_state state byte) [
   | Some (bare word) ↦ Some (word, bytes)
   | Some next ↦ fish_double_from next bytes
   | None ↦ None
@@ -143,7 +143,7 @@ abbrev pub is_fish_safe_word : List ℕ → Bool
 is_fish_safe_word [] = false
 is_fish_safe_word (byte ∷ bytes) = list_all is_fish_safe (byte ∷ bytes)
 
--- `\` and `'`, which stand after a backslash between `'`
+-- `\` and `'`, which are after a backslash between `'`
 abbrev pub is_single_marked : ℕ → Bool
 is_single_marked byte = byte == ascii.backslash || byte == ascii.single_quote
 
@@ -151,7 +151,7 @@ is_single_marked byte = byte == ascii.backslash || byte == ascii.single_quote
 abbrev pub single_escaped : List ℕ → List ℕ
 single_escaped text = marked is_single_marked text
 
--- `\`, `"` and `$`, which stand after a backslash between `"`
+-- `\`, `"` and `$`, which are after a backslash between `"`
 abbrev pub is_double_marked : ℕ → Bool
 is_double_marked byte =
     byte == ascii.backslash || byte == ascii.double_quote || byte == ascii.dollar
@@ -168,7 +168,7 @@ single_quoted text = codes "'" ++ single_escaped text ++ codes "'"
 unfoldable pub fish_quoted : List ℕ → List ℕ
 fish_quoted text = if is_fish_safe_word text then text else single_quoted text
 
--- a text as a word of what stands between `"` and is read a second time: the word, escaped again
+-- a text as a word of what is between `"` and is read a second time: the word, escaped again
 unfoldable pub fish_quoted_for_eval : List ℕ → List ℕ
 fish_quoted_for_eval text = double_escaped (fish_quoted text)
 
@@ -187,7 +187,7 @@ fish_escaped text =
     escaped_by (is_byte3 ascii.backslash ascii.single_quote ascii.line_feed)
     description_replacement text
 
--- what stands between `"` is read as the text that spells it there, and that text as one word
+-- what is between `"` is read as the text that spells it there, and that text as one word
 pub record ReadsTwice (quoted word : List ℕ) : Type 0 where
   pub between : List ℕ
   pub first : fish_double_of (codes "\"" ++ quoted ++ codes "\"") ≡ Some (between, [])

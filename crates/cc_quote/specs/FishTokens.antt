@@ -1,19 +1,19 @@
 -- How a fish script is cut into commands, each a list of the words that it spells; none for a last
 -- one in which a quote or an escape is open at the end.
 use Rattle.std.specs.Prelude.{ℕ, List, [], ◌∷◌, ◌++◌, Option, Some, None}
-use Rattle.cc_quote.specs.FishQuote.{fish_sign, FishPlace, next_place, spelled}
+use Rattle.cc_quote.specs.FishQuote.{fish_sign, FishState, next_state, spelled}
 use Rattle.cc_quote.specs.FishQuote.FishSign.{blank, line_feed, hash}
-use Rattle.cc_quote.specs.FishQuote.FishPlace.{bare}
+use Rattle.cc_quote.specs.FishQuote.FishState.{bare}
 
--- where the cutting stands, with the words of the command so far: before a word, in a comment,
+-- where the cutting is, with the words of the command so far: before a word, in a comment,
 -- which goes to the end of its line, or in a word
-pub data CommandPlace : Type 0 where
-  between : List (List ℕ) → CommandPlace
-  comment : List (List ℕ) → CommandPlace
-  in_word : List (List ℕ) → FishPlace → CommandPlace
+pub data CommandState : Type 0 where
+  between : List (List ℕ) → CommandState
+  comment : List (List ℕ) → CommandState
+  in_word : List (List ℕ) → FishState → CommandState
 
--- the commands from a place on; a line feed outside quotes ends a command
-abbrev pub commands_from : CommandPlace → List ℕ → List (Option (List (List ℕ)))
+-- the commands from a state on; a line feed outside quotes ends a command
+abbrev pub commands_from : CommandState → List ℕ → List (Option (List (List ℕ)))
 commands_from (between words) [] = Some words ∷ []
 commands_from (comment words) [] = Some words ∷ []
 commands_from (in_word words (bare word)) [] = Some (words ++ word ∷ []) ∷ []
@@ -22,8 +22,8 @@ commands_from (between words) (byte ∷ bytes) = elim (fish_sign byte) [
   | blank ↦ commands_from (between words) bytes
   | line_feed ↦ Some words ∷ commands_from (between []) bytes
   | hash ↦ commands_from (comment words) bytes
-  | _ ↦ elim (next_place (bare []) byte) [
-    | Some place ↦ commands_from (in_word words place) bytes
+  | _ ↦ elim (next_state (bare []) byte) [
+    | Some state ↦ commands_from (in_word words state) bytes
     | None ↦ None ∷ []
   ]
 ]
@@ -31,11 +31,11 @@ commands_from (comment words) (byte ∷ bytes) = elim (fish_sign byte) [
   | line_feed ↦ Some words ∷ commands_from (between []) bytes
   | _ ↦ commands_from (comment words) bytes
 ]
-commands_from (in_word words place) (byte ∷ bytes) = elim (next_place place byte) [
+commands_from (in_word words state) (byte ∷ bytes) = elim (next_state state byte) [
   | Some next ↦ commands_from (in_word words next) bytes
   | None ↦ elim (fish_sign byte) [
-    | line_feed ↦ Some (words ++ spelled place ∷ []) ∷ commands_from (between []) bytes
-    | _ ↦ commands_from (between (words ++ spelled place ∷ [])) bytes
+    | line_feed ↦ Some (words ++ spelled state ∷ []) ∷ commands_from (between []) bytes
+    | _ ↦ commands_from (between (words ++ spelled state ∷ [])) bytes
   ]
 ]
 

@@ -3,7 +3,7 @@ pub mod ElvishQuote
 pub mod ElvishTokens
 pub mod Escapes
 pub mod FishEscapes
-pub mod FishPlaces
+pub mod FishStates
 pub mod FishQuote
 pub mod FishTokens
 pub mod PosixQuote

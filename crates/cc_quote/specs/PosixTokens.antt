@@ -68,24 +68,24 @@ double text = quoted (double_quote_byte ∷ []) text
 abbrev pub is_double_quote : List ℕ → Bool
 is_double_quote opening = bytes_eq opening (double_quote_byte ∷ [])
 
--- where the cutting stands: between two tokens, or in one, with the pieces that it has so far and
+-- where the cutting is: between two tokens, or in one, with the pieces that it has so far and
 -- the text of the piece that is open; after a closing quote; and after a backslash in each of these
 -- but single quotes
-pub data Place : Type 0 where
-  between : Place
-  between_escaped : Place
-  in_bare : Token → List ℕ → Place
-  in_bare_escaped : Token → List ℕ → Place
-  in_single : Token → List ℕ → Place
-  in_double : Token → List ℕ → Place
-  in_double_escaped : Token → List ℕ → Place
-  after_quotes : Token → Place
-  after_quotes_escaped : Token → Place
+pub data QuoteState : Type 0 where
+  between : QuoteState
+  between_escaped : QuoteState
+  in_bare : Token → List ℕ → QuoteState
+  in_bare_escaped : Token → List ℕ → QuoteState
+  in_single : Token → List ℕ → QuoteState
+  in_double : Token → List ℕ → QuoteState
+  in_double_escaped : Token → List ℕ → QuoteState
+  after_quotes : Token → QuoteState
+  after_quotes_escaped : Token → QuoteState
 
--- The tokens that the signs give from a place on. A backslash with a line feed vanishes outside
+-- The tokens that the signs give from a state on. A backslash with a line feed vanishes outside
 -- quotes and within double ones. Before any other byte outside quotes, and before `$`, a backtick,
 -- `"` and `\` within double ones, the backslash alone vanishes.
-unfoldable pub cut : Place → List Sign → List Token
+unfoldable pub cut : QuoteState → List Sign → List Token
 cut between [] = []
 cut between (blank _ ∷ signs) = cut between signs
 cut between (line_feed ∷ signs) = cut between signs

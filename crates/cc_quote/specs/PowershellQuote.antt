@@ -54,7 +54,7 @@ abbrev pub begins_quote : ℕ → List ℕ → Bool
 begins_quote byte rest = byte == single_quote || begins_right_quote byte rest
 
 -- what stands for a byte between two quotes: `'` is doubled, a line feed is a space, and before
--- U+2019 stands a `'`
+-- U+2019 is a `'`
 abbrev pub powershell_escaped_byte : ℕ → List ℕ → List ℕ
 powershell_escaped_byte byte rest =
     if byte == single_quote then single_quote ∷ single_quote ∷ []
@@ -88,18 +88,18 @@ powershell_word_of text = word_from before (powershell_signs text)
 abbrev pub is_escaped : ℕ → List ℕ → Bool
 is_escaped byte rest = byte == line_feed || begins_quote byte rest
 
--- `at` is the place of the first byte of a text for which something else stands
+-- `at` is the index of the first byte of a text that has a replacement
 pub record IsFirstEscaped (text : List ℕ) (at : ℕ) : Type 0 where
   pub within : at < length text
   pub before : powershell_escaped text ≡ take at text ++ powershell_escaped (drop at text)
   pub here : is_escaped (slice_index text at) (drop (at + 1) text) ≡ true
 
--- no quote is in a text before a place
+-- no quote is in a text before an index
 pub record HasNoQuoteBefore (text : List ℕ) (at : ℕ) : Type 0 where
   pub signs_are : powershell_signs text ≡ map sign (take at text) ++ powershell_signs (drop at text)
   pub no_quote : HasNoQuote (take at text)
 
--- `at` is the place of the first quote of a text
+-- `at` is the index of the first quote of a text
 pub record IsFirstQuote (text : List ℕ) (at : ℕ) : Type 0 where
   pub within : at < length text
   pub before : HasNoQuoteBefore text at

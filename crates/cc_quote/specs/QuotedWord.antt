@@ -29,17 +29,17 @@ use Rattle.cc_quote.specs.Signs.{Sign, blank, quote, other, bytes, is_blank, sig
 
 -- where a reader is, with the word so far: before the word, in a bare one, in a quoted one, or
 -- after a quote that closes it unless another follows
-pub data Place : Type 0 where
-  before : Place
-  bare : List ℕ → Place
-  quoted : List ℕ → Place
-  after_quote : List ℕ → Place
+pub data QuoteState : Type 0 where
+  before : QuoteState
+  bare : List ℕ → QuoteState
+  quoted : List ℕ → QuoteState
+  after_quote : List ℕ → QuoteState
 
 -- The word and what follows it. A word that begins with a quote goes to the quote that closes it,
 -- and two quotes in a row inside it stand for the second. Any other ends before the first blank,
 -- and a quote in it is a character like any other. There is none before a blank or the end, and
 -- none where a quote is open at the end.
-abbrev pub word_from : Place → List Sign → Option (List ℕ × List ℕ)
+abbrev pub word_from : QuoteState → List Sign → Option (List ℕ × List ℕ)
 word_from before [] = None
 word_from before (quote _ ∷ rest) = word_from (quoted []) rest
 word_from before (blank _ ∷ _) = None

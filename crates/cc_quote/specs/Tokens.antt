@@ -24,21 +24,21 @@ pub data Piece : Type 0 where
   quoted : List ℕ → List ℕ → Piece
   unclosed : List ℕ → List ℕ → Piece
 
--- what stands between two blanks: its pieces, in order
+-- what is between two blanks: its pieces, in order
 abbrev pub Token : Type 0
 Token = List Piece
 
--- where the cutting stands: between two tokens, or in one, with the pieces that it has so far, the
+-- where the cutting is: between two tokens, or in one, with the pieces that it has so far, the
 -- opening quote if it is within quotes, and the text of the piece that is open. After a quote that
--- may close the text, or be the first of two, is a place of its own.
-pub data Place : Type 0 where
-  between : Place
-  in_bare : List Piece → List ℕ → Place
-  in_quotes : List Piece → List ℕ → List ℕ → Place
-  after_quotes : List Piece → List ℕ → List ℕ → Place
+-- may close the text, or be the first of two, is a state of its own.
+pub data QuoteState : Type 0 where
+  between : QuoteState
+  in_bare : List Piece → List ℕ → QuoteState
+  in_quotes : List Piece → List ℕ → List ℕ → QuoteState
+  after_quotes : List Piece → List ℕ → List ℕ → QuoteState
 
--- the tokens that the signs give from a place on
-unfoldable pub cut : Place → List Sign → List Token
+-- the tokens that the signs give from a state on
+unfoldable pub cut : QuoteState → List Sign → List Token
 cut between [] = []
 cut between (blank bytes ∷ signs) = cut between signs
 cut between (quote bytes ∷ signs) = cut (in_quotes [] bytes []) signs
@@ -75,8 +75,8 @@ strip_words (word ∷ words) [] = None
 strip_words (word ∷ words) (token ∷ tokens) =
     if is_word word token then strip_words words tokens else None
 
--- the tokens after the first place where these bare words stand in a row; none, if there is no such
--- place
+-- the tokens after the first occurrence of these bare words in a row; none, if there is no such
+-- occurrence
 unfoldable pub after_words : List (List ℕ) → List Token → List Token
 after_words words [] = []
 after_words words (token ∷ tokens) =

@@ -28,7 +28,7 @@ marks_from false (byte ∷ bytes) = elim (byte == backslash) [
 unfoldable pub marks : List ℕ → List Mark
 marks text = marks_from false text
 
--- the bytes that stand there; none where a backslash is last
+-- the bytes that are there; none where a backslash is last
 unfoldable pub unmarked : List Mark → Option (List ℕ)
 unmarked [] = Some []
 unmarked (unended ∷ rest) = None
@@ -41,13 +41,13 @@ zsh_unescaped text = unmarked (marks text)
 
 -- ---- how a text is escaped
 
--- `\ [ ] : $` and a backtick, which stand after a backslash in a description
+-- `\ [ ] : $` and a backtick, which are after a backslash in a description
 abbrev pub is_help_marked : ℕ → Bool
 is_help_marked byte =
     byte == backslash || byte == 91 || byte == 93 || byte == 58 || byte == dollar
     || byte == backtick
 
--- these, `(`, `)` and a space, which stand after one in a value
+-- these, `(`, `)` and a space, which are after one in a value
 abbrev pub is_value_marked : ℕ → Bool
 is_value_marked byte = is_help_marked byte || byte == 40 || byte == 41 || byte == space
 
@@ -75,7 +75,7 @@ zsh_escaped_help text = escaped_by is_help_escaped zsh_help_replacement text
 unfoldable pub zsh_escaped_value : List ℕ → List ℕ
 zsh_escaped_value text = escaped_by is_value_escaped zsh_replacement text
 
--- what stands between two `'` is read as the text that it spells, and without the backslashes that
+-- what is between two `'` is read as the text that it spells, and without the backslashes that
 -- is the other text
 pub record ReadsUnescaped (quoted text : List ℕ) : Type 0 where
   pub between : List ℕ

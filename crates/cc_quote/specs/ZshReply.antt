@@ -3,11 +3,11 @@ use Rattle.std.specs.Prelude.{ℕ, Bool, List, ◌==◌, ◌||◌}
 use Rattle.cc_base.specs.Bytes.{backslash, colon}
 use Rattle.cc_quote.specs.Escapes.{marked}
 
--- `\` and `:`, which stand after a backslash in a value
+-- `\` and `:`, which are after a backslash in a value
 abbrev pub is_reply_value_marked : ℕ → Bool
 is_reply_value_marked byte = byte == backslash || byte == colon
 
--- `\`, which stands after one in a help
+-- `\`, which is after one in a help
 abbrev pub is_reply_help_marked : ℕ → Bool
 is_reply_help_marked byte = byte == backslash
 

@@ -12,10 +12,10 @@ ghost use Rattle.cc_quote.specs.BashDouble.{
 ghost use Rattle.cc_quote.specs.Escapes.{backslashed};
 ghost use Rattle.cc_quote.specs.PosixTokens.{sign};
 ghost use Rattle.cc_quote.specs.QuotedWord.{contents};
-ghost use Rattle.cc_quote.specs.declared.posix.Place.TheVariants.{InDouble};
+ghost use Rattle.cc_quote.specs.declared.posix.QuoteState.TheVariants.{InDouble};
 
 use crate::escape::{ByteEscape, escape_text};
-use crate::posix::{Place, next_place, push_added};
+use crate::posix::{QuoteState, next_state, push_added};
 use crate::word::split_first;
 use cc_base::Error;
 use std::alloc::{AllocError, Global};
@@ -39,7 +39,7 @@ impl ByteEscape for BashDouble {
     }
 }
 
-/// The text as it stands between two `"` in bash: a backslash before `\`, `"`, `$` and a backtick.
+/// The text as it is between two `"` in bash: a backslash before `\`, `"`, `$` and a backtick.
 /// Fails with `Memory` alone.
 #[tactic(auto, using(crate::proofs::BashDoubles::doubled_reads_back))]
 pub fn bash_double(alloc: Global, text: &str) -> Result<String, Error>
@@ -67,23 +67,23 @@ pub fn bash_double_word(alloc: Global, text: &str) -> Result<Option<(String, &st
     }
 }
 
-// What stands up to the quote that closes, where memory suffices.
+// The text up to the quote that closes, where memory suffices.
 fn read_double(alloc: Global, text: &str) -> Result<Option<(String, &str)>, AllocError>
     ensures { IfOk result (λ read. contents read
         ≡ bash_double_from InDouble [] (map sign text.now)) }
 {
-    let mut place = Place::InDouble;
+    let mut state = QuoteState::InDouble;
     let mut word = String::new(alloc);
     let mut rest = text;
     while let Some((character, after)) = split_first(rest) {
-        if closes_double(place, character) {
+        if closes_double(state, character) {
             return Ok(Some((word, after)));
         }
-        let Some(next) = next_place(place, character) else {
+        let Some(next) = next_state(state, character) else {
             return Ok(None);
         };
-        push_added(place, character, &mut word)?;
-        place = next;
+        push_added(state, character, &mut word)?;
+        state = next;
         rest = after;
     }
     Ok(None)
@@ -91,8 +91,8 @@ fn read_double(alloc: Global, text: &str) -> Result<Option<(String, &str)>, Allo
 
 // Whether a character is the quote that closes.
 #[tactic(auto, unfolding(crate::specs::BashDouble::closes_double, crate::specs::PosixTokens::sign))]
-fn closes_double(place: Place, character: char) -> bool
-    ensures { result ≡ closes_double place (sign character) }
+fn closes_double(state: QuoteState, character: char) -> bool
+    ensures { result ≡ closes_double state (sign character) }
 {
-    matches!((place, character), (Place::InDouble, '"'))
+    matches!((state, character), (QuoteState::InDouble, '"'))
 }

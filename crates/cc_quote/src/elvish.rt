@@ -35,7 +35,7 @@ impl ByteEscape for ElvishEscape {
     }
 }
 
-/// The text as it stands between two `'` in Elvish: each `'` as `''`, and each line feed as a
+/// The text as it is between two `'` in Elvish: each `'` as `''`, and each line feed as a
 /// space. Fails with `Memory` alone.
 #[tactic(auto, using(crate::proofs::ElvishWords::elvish_reads_back))]
 pub fn elvish_escape(alloc: Global, text: &str) -> Result<String, Error>

@@ -37,7 +37,7 @@ pub trait ByteEscape {
             ≡ replacement_by (escapes self.now) (replacement self.now) byte }
         ensures ascii { IsSome result → byte < 128 };
 
-    /// The place of the first byte that is escaped.
+    /// The index of the first byte that is escaped.
     fn find(&self, bytes: &[u8]) -> Option<usize>
         ensures { IsFirstByte (escapes self.now) bytes.now result }
     {

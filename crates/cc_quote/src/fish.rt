@@ -69,7 +69,7 @@ impl ByteEscape for SingleEscape {
     }
 }
 
-// The escape of a text between two `'` that stand between two `"`.
+// The escape of a text between two `'` that are between two `"`.
 struct EvalEscape;
 
 impl ByteEscape for EvalEscape {
@@ -147,12 +147,12 @@ pub fn fish_quote(alloc: Global, text: &str) -> Result<String, Error>
         (λ quoted. fish_word_of (string_bytes quoted) ≡ Some (text.now, [])) }
     ensures memory { IfErr result (λ error. error ≡ Error.Memory) }
 {
-    Ok(quoted(alloc, text)?)
+    Ok(quote_word(alloc, text)?)
 }
 
 // The word, where memory suffices.
 #[tactic(auto, using(crate::proofs::FishEscaped::quoted_safe, crate::proofs::FishEscaped::quoted_unsafe))]
-fn quoted(alloc: Global, text: &str) -> Result<String, AllocError>
+fn quote_word(alloc: Global, text: &str) -> Result<String, AllocError>
     ensures { IfOk result (λ quoted. string_bytes quoted ≡ fish_quoted text.now) }
 {
     if is_safe_word(text) {
@@ -164,7 +164,7 @@ fn quoted(alloc: Global, text: &str) -> Result<String, AllocError>
     Ok(quoted)
 }
 
-/// The text as one word of what stands between two `"` and is read a second time: as it is where
+/// The text as one word of what is between two `"` and is read a second time: as it is where
 /// `fish_quote` leaves it; else in `'`, with `\` as `\\\\`, `'` as `\\'`, `"` as `\"` and `$` as
 /// `\$`. Fails with `Memory` alone.
 #[tactic(auto, using(crate::proofs::FishReaders::quoted_for_eval_reads_twice))]
@@ -175,12 +175,12 @@ pub fn fish_quote_for_eval(alloc: Global, text: &str) -> Result<String, Error>
     ensures read_back { IfOk result (λ quoted. ReadsTwice (string_bytes quoted) text.now) }
     ensures memory { IfErr result (λ error. error ≡ Error.Memory) }
 {
-    Ok(quoted_for_eval(alloc, text)?)
+    Ok(quote_for_eval(alloc, text)?)
 }
 
 // The word for two readings, where memory suffices.
 #[tactic(auto, using(crate::proofs::FishEscaped::eval_safe, crate::proofs::FishEscaped::eval_unsafe))]
-fn quoted_for_eval(alloc: Global, text: &str) -> Result<String, AllocError>
+fn quote_for_eval(alloc: Global, text: &str) -> Result<String, AllocError>
     ensures { IfOk result (λ quoted. string_bytes quoted ≡ fish_quoted_for_eval text.now) }
 {
     if is_safe_word(text) {
@@ -192,7 +192,7 @@ fn quoted_for_eval(alloc: Global, text: &str) -> Result<String, AllocError>
     Ok(quoted)
 }
 
-/// A help as one word of what stands between two `"` and is read a second time: always in `'`, with
+/// A help as one word of what is between two `"` and is read a second time: always in `'`, with
 /// the escapes of `fish_quote_for_eval` and each line feed as a space. Fails with `Memory` alone.
 #[tactic(auto, using(crate::proofs::FishReaders::help_for_eval_reads_twice))]
 pub fn fish_help_for_eval(alloc: Global, help: &str) -> Result<String, Error>
@@ -217,7 +217,7 @@ fn quoted_help(alloc: Global, help: &str) -> Result<String, AllocError>
     Ok(quoted)
 }
 
-/// The text as it stands between two `'` in fish: `\` as `\\`, `'` as `\'`, and each line feed as a
+/// The text as it is between two `'` in fish: `\` as `\\`, `'` as `\'`, and each line feed as a
 /// space. Fails with `Memory` alone.
 #[tactic(auto, unfolding(crate::specs::FishQuote::fish_escaped), using(crate::proofs::FishReaders::fish_escaped_reads_back))]
 pub fn fish_escape(alloc: Global, text: &str) -> Result<String, Error>

@@ -2,7 +2,7 @@
 
 ghost use Rattle.std.specs.Prelude.{◌≡◌, [], encode_utf8, false, IfOk, IfErr, OnOk};
 ghost use Rattle.std.specs.String.{string_bytes};
-ghost use Rattle.cc_quote.specs.FishPlaces.{character_place, character_word, ends_word, is_bare};
+ghost use Rattle.cc_quote.specs.FishStates.{character_state, character_word, ends_word, is_bare};
 ghost use Rattle.cc_quote.specs.FishQuote.{
   begins_with_word,
   fish_double_from,
@@ -11,7 +11,7 @@ ghost use Rattle.cc_quote.specs.FishQuote.{
   fish_word_from,
   fish_word_of,
 };
-ghost use Rattle.cc_quote.specs.FishQuote.FishPlace.{bare, in_double};
+ghost use Rattle.cc_quote.specs.FishQuote.FishState.{bare, in_double};
 ghost use Rattle.cc_quote.specs.QuotedWord.{contents};
 
 use crate::word::split_first;
@@ -21,7 +21,7 @@ use std::alloc::{AllocError, Global};
 // Where a reader is in a word: outside quotes, between `'` or between `"`; or after a backslash in
 // each of these.
 #[derive(Clone, Copy)]
-enum Place {
+enum QuoteState {
     Bare,
     BareEscaped,
     InSingle,
@@ -71,35 +71,35 @@ fn begins_word(text: &[u8]) -> bool
 fn read_word(alloc: Global, text: &str) -> Result<Option<(String, &str)>, AllocError>
     ensures { IfOk result (λ read. contents read ≡ fish_word_from (bare []) text.now) }
 {
-    let mut place = Place::Bare;
+    let mut state = QuoteState::Bare;
     let mut word = String::new(alloc);
     let mut rest = text;
     while let Some((character, after)) = split_first(rest) {
-        if ends_word(place, character) {
+        if ends_word(state, character) {
             return Ok(Some((word, rest)));
         }
-        push_added(place, character, &mut word)?;
-        place = next_place(place, character);
+        push_added(state, character, &mut word)?;
+        state = next_state(state, character);
         rest = after;
     }
-    if is_bare(place) {
+    if is_bare(state) {
         return Ok(Some((word, rest)));
     }
     Ok(None)
 }
 
-// What stands up to the quote that closes, where memory suffices.
+// The text up to the quote that closes, where memory suffices.
 fn read_double(alloc: Global, text: &str) -> Result<Option<(String, &str)>, AllocError>
     ensures { IfOk result (λ read. contents read ≡ fish_double_from (in_double []) text.now) }
 {
-    let mut place = Place::InDouble;
+    let mut state = QuoteState::InDouble;
     let mut word = String::new(alloc);
     let mut rest = text;
     while let Some((character, after)) = split_first(rest) {
-        push_added(place, character, &mut word)?;
-        place = next_place(place, character);
+        push_added(state, character, &mut word)?;
+        state = next_state(state, character);
         rest = after;
-        if is_bare(place) {
+        if is_bare(state) {
             return Ok(Some((word, rest)));
         }
     }
@@ -107,49 +107,49 @@ fn read_double(alloc: Global, text: &str) -> Result<Option<(String, &str)>, Allo
 }
 
 // Whether the word ends before a character.
-#[tactic(auto, unfolding(crate::specs::FishPlaces::ends_word, crate::specs::FishQuote::fish_sign))]
-fn ends_word(place: Place, character: char) -> bool
-    ensures { result ≡ ends_word place (fish_sign character) }
+#[tactic(auto, unfolding(crate::specs::FishStates::ends_word, crate::specs::FishQuote::fish_sign))]
+fn ends_word(state: QuoteState, character: char) -> bool
+    ensures { result ≡ ends_word state (fish_sign character) }
 {
-    matches!((place, character), (Place::Bare, ' ' | '\t' | '\n'))
+    matches!((state, character), (QuoteState::Bare, ' ' | '\t' | '\n'))
 }
 
-// The place after a character before which the word does not end.
-#[tactic(auto, unfolding(crate::specs::FishPlaces::character_place, crate::specs::FishQuote::fish_sign))]
-fn next_place(place: Place, character: char) -> Place
-    ensures { result ≡ character_place place (fish_sign character) }
+// The state after a character before which the word does not end.
+#[tactic(auto, unfolding(crate::specs::FishStates::character_state, crate::specs::FishQuote::fish_sign))]
+fn next_state(state: QuoteState, character: char) -> QuoteState
+    ensures { result ≡ character_state state (fish_sign character) }
 {
-    match (place, character) {
-        (Place::Bare, '\'') => Place::InSingle,
-        (Place::Bare, '"') => Place::InDouble,
-        (Place::Bare, '\\') => Place::BareEscaped,
-        (Place::Bare | Place::BareEscaped, _) => Place::Bare,
-        (Place::InSingle, '\'') => Place::Bare,
-        (Place::InSingle, '\\') => Place::InSingleEscaped,
-        (Place::InSingle | Place::InSingleEscaped, _) => Place::InSingle,
-        (Place::InDouble, '"') => Place::Bare,
-        (Place::InDouble, '\\') => Place::InDoubleEscaped,
-        (Place::InDouble | Place::InDoubleEscaped, _) => Place::InDouble,
+    match (state, character) {
+        (QuoteState::Bare, '\'') => QuoteState::InSingle,
+        (QuoteState::Bare, '"') => QuoteState::InDouble,
+        (QuoteState::Bare, '\\') => QuoteState::BareEscaped,
+        (QuoteState::Bare | QuoteState::BareEscaped, _) => QuoteState::Bare,
+        (QuoteState::InSingle, '\'') => QuoteState::Bare,
+        (QuoteState::InSingle, '\\') => QuoteState::InSingleEscaped,
+        (QuoteState::InSingle | QuoteState::InSingleEscaped, _) => QuoteState::InSingle,
+        (QuoteState::InDouble, '"') => QuoteState::Bare,
+        (QuoteState::InDouble, '\\') => QuoteState::InDoubleEscaped,
+        (QuoteState::InDouble | QuoteState::InDoubleEscaped, _) => QuoteState::InDouble,
     }
 }
 
-// Adds to the word what a character spells at a place.
-#[tactic(auto, unfolding(crate::specs::FishPlaces::character_word, crate::specs::FishQuote::fish_sign))]
-fn push_added(place: Place, character: char, word: &mut String) -> Result<(), AllocError>
+// Adds to the word what a character spells at a state.
+#[tactic(auto, unfolding(crate::specs::FishStates::character_word, crate::specs::FishQuote::fish_sign))]
+fn push_added(state: QuoteState, character: char, word: &mut String) -> Result<(), AllocError>
     ensures { OnOk result
-        (string_bytes word.new ≡ character_word place (fish_sign character) character
+        (string_bytes word.new ≡ character_word state (fish_sign character) character
         (string_bytes word.old) (encode_utf8 character)) }
 {
-    match (place, character) {
-        (Place::Bare, '\'' | '"' | '\\') => Ok(()),
-        (Place::InSingle, '\'' | '\\') => Ok(()),
-        (Place::InDouble, '"' | '\\') => Ok(()),
-        (Place::InDoubleEscaped, '\n') => Ok(()),
-        (Place::BareEscaped, 't') => word.push('\t'),
-        (Place::BareEscaped, 'n') => word.push('\n'),
-        (Place::InSingleEscaped, '\'' | '\\') => word.push(character),
-        (Place::InDoubleEscaped, '"' | '\\' | '$') => word.push(character),
-        (Place::InSingleEscaped | Place::InDoubleEscaped, _) => {
+    match (state, character) {
+        (QuoteState::Bare, '\'' | '"' | '\\') => Ok(()),
+        (QuoteState::InSingle, '\'' | '\\') => Ok(()),
+        (QuoteState::InDouble, '"' | '\\') => Ok(()),
+        (QuoteState::InDoubleEscaped, '\n') => Ok(()),
+        (QuoteState::BareEscaped, 't') => word.push('\t'),
+        (QuoteState::BareEscaped, 'n') => word.push('\n'),
+        (QuoteState::InSingleEscaped, '\'' | '\\') => word.push(character),
+        (QuoteState::InDoubleEscaped, '"' | '\\' | '$') => word.push(character),
+        (QuoteState::InSingleEscaped | QuoteState::InDoubleEscaped, _) => {
             word.push('\\')?;
             word.push(character)
         }
@@ -157,10 +157,10 @@ fn push_added(place: Place, character: char, word: &mut String) -> Result<(), Al
     }
 }
 
-// Whether a place is outside quotes and after no backslash.
-#[tactic(auto, unfolding(crate::specs::FishPlaces::is_bare))]
-fn is_bare(place: Place) -> bool
-    ensures { result ≡ is_bare place }
+// Whether a state is outside quotes and after no backslash.
+#[tactic(auto, unfolding(crate::specs::FishStates::is_bare))]
+fn is_bare(state: QuoteState) -> bool
+    ensures { result ≡ is_bare state }
 {
-    matches!(place, Place::Bare)
+    matches!(state, QuoteState::Bare)
 }

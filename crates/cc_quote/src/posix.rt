@@ -20,7 +20,7 @@ ghost use Rattle.cc_quote.specs.PosixQuote.{
   ended,
   is_posix_safe,
   is_posix_safe_word,
-  next_place,
+  next_state,
   posix_escaped,
   posix_quoted,
   posix_word_of,
@@ -99,7 +99,7 @@ fn is_safe(byte: u8) -> bool
 // Where the reader of a word is: before the word; in it, outside quotes, between `'` or between
 // `"`; or after a backslash in each of these but `'`.
 #[derive(Clone, Copy)]
-pub(crate) enum Place {
+pub(crate) enum QuoteState {
     Before,
     BeforeEscaped,
     Bare,
@@ -128,57 +128,66 @@ pub fn posix_word(alloc: Global, text: &str) -> Result<Option<(String, &str)>, E
 fn read_word(alloc: Global, text: &str) -> Result<Option<(String, &str)>, AllocError>
     ensures { IfOk result (λ read. contents read ≡ posix_word_of text.now) }
 {
-    let mut place = Place::Before;
+    let mut state = QuoteState::Before;
     let mut word = String::new(alloc);
     let mut rest = text;
     while let Some((character, after)) = split_first(rest) {
-        let Some(next) = next_place(place, character) else {
-            return Ok(end_word(place, word, rest));
+        let Some(next) = next_state(state, character) else {
+            return Ok(end_word(state, word, rest));
         };
-        push_added(place, character, &mut word)?;
-        place = next;
+        push_added(state, character, &mut word)?;
+        state = next;
         rest = after;
     }
-    Ok(end_word(place, word, rest))
+    Ok(end_word(state, word, rest))
 }
 
-// The place after a character; `None` where the word ends before it.
-#[tactic(auto, unfolding(crate::specs::PosixQuote::next_place, crate::specs::PosixTokens::sign))]
-pub(crate) fn next_place(place: Place, character: char) -> Option<Place>
-    ensures { result ≡ next_place place (sign character) }
+// The state after a character; `None` where the word ends before it.
+#[tactic(auto, unfolding(crate::specs::PosixQuote::next_state, crate::specs::PosixTokens::sign))]
+pub(crate) fn next_state(state: QuoteState, character: char) -> Option<QuoteState>
+    ensures { result ≡ next_state state (sign character) }
 {
-    match (place, character) {
-        (Place::Before | Place::Bare, ' ' | '\t' | '\n') => None,
-        (Place::Before | Place::Bare, '\'') => Some(Place::InSingle),
-        (Place::Before | Place::Bare, '"') => Some(Place::InDouble),
-        (Place::Before, '\\') => Some(Place::BeforeEscaped),
-        (Place::Bare, '\\') => Some(Place::BareEscaped),
-        (Place::BeforeEscaped, '\n') => Some(Place::Before),
-        (Place::Before | Place::Bare | Place::BeforeEscaped | Place::BareEscaped, _) => {
-            Some(Place::Bare)
-        }
-        (Place::InSingle, '\'') => Some(Place::Bare),
-        (Place::InSingle, _) => Some(Place::InSingle),
-        (Place::InDouble, '"') => Some(Place::Bare),
-        (Place::InDouble, '\\') => Some(Place::InDoubleEscaped),
-        (Place::InDouble | Place::InDoubleEscaped, _) => Some(Place::InDouble),
+    match (state, character) {
+        (QuoteState::Before | QuoteState::Bare, ' ' | '\t' | '\n') => None,
+        (QuoteState::Before | QuoteState::Bare, '\'') => Some(QuoteState::InSingle),
+        (QuoteState::Before | QuoteState::Bare, '"') => Some(QuoteState::InDouble),
+        (QuoteState::Before, '\\') => Some(QuoteState::BeforeEscaped),
+        (QuoteState::Bare, '\\') => Some(QuoteState::BareEscaped),
+        (QuoteState::BeforeEscaped, '\n') => Some(QuoteState::Before),
+        (
+            QuoteState::Before
+            | QuoteState::Bare
+            | QuoteState::BeforeEscaped
+            | QuoteState::BareEscaped,
+            _,
+        ) => { Some(QuoteState::Bare) }
+        (QuoteState::InSingle, '\'') => Some(QuoteState::Bare),
+        (QuoteState::InSingle, _) => Some(QuoteState::InSingle),
+        (QuoteState::InDouble, '"') => Some(QuoteState::Bare),
+        (QuoteState::InDouble, '\\') => Some(QuoteState::InDoubleEscaped),
+        (QuoteState::InDouble | QuoteState::InDoubleEscaped, _) => Some(QuoteState::InDouble),
     }
 }
 
-// Adds to the word what the character at a place spells.
+// Adds to the word what the character at a state spells.
 #[tactic(auto, unfolding(crate::specs::PosixQuote::word_after, crate::specs::PosixTokens::sign))]
-pub(crate) fn push_added(place: Place, character: char, word: &mut String) -> Result<(), AllocError>
+pub(crate) fn push_added(
+    state: QuoteState,
+    character: char,
+    word: &mut String,
+) -> Result<(), AllocError>
     ensures { OnOk result
         (string_bytes word.new
-        ≡ word_after place (sign character) (string_bytes word.old) (encode_utf8 character)) }
+        ≡ word_after state (sign character) (string_bytes word.old) (encode_utf8 character)) }
 {
-    match (place, character) {
-        (Place::InSingle, '\'') => Ok(()),
-        (Place::InDouble | Place::Before | Place::Bare, '"' | '\\') => Ok(()),
-        (Place::Before | Place::Bare, '\'') => Ok(()),
-        (Place::InDoubleEscaped | Place::BeforeEscaped | Place::BareEscaped, '\n') => Ok(()),
-        (Place::InDoubleEscaped, '"' | '\\' | '$' | '`') => word.push(character),
-        (Place::InDoubleEscaped, _) => {
+    match (state, character) {
+        (QuoteState::InSingle, '\'') => Ok(()),
+        (QuoteState::InDouble | QuoteState::Before | QuoteState::Bare, '"' | '\\') => Ok(()),
+        (QuoteState::Before | QuoteState::Bare, '\'') => Ok(()),
+        (QuoteState::InDoubleEscaped | QuoteState::BeforeEscaped | QuoteState::BareEscaped, '\n') =>
+            Ok(()),
+        (QuoteState::InDoubleEscaped, '"' | '\\' | '$' | '`') => word.push(character),
+        (QuoteState::InDoubleEscaped, _) => {
             word.push('\\')?;
             word.push(character)
         }
@@ -186,13 +195,13 @@ pub(crate) fn push_added(place: Place, character: char, word: &mut String) -> Re
     }
 }
 
-// The word and what follows it, where the reading stops at a place.
+// The word and what follows it, where the reading stops at a state.
 #[tactic(auto, unfolding(crate::specs::PosixQuote::ended))]
-fn end_word(place: Place, word: String, rest: &str) -> Option<(String, &str)>
-    ensures { contents result ≡ ended place (string_bytes word) rest.now }
+fn end_word(state: QuoteState, word: String, rest: &str) -> Option<(String, &str)>
+    ensures { contents result ≡ ended state (string_bytes word) rest.now }
 {
-    match place {
-        Place::Bare => Some((word, rest)),
+    match state {
+        QuoteState::Bare => Some((word, rest)),
         _ => None,
     }
 }

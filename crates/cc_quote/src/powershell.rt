@@ -79,7 +79,7 @@ impl Escape for PowershellEscape {
     }
 }
 
-// The place of the first byte for which something else stands.
+// The index of the first byte that has a replacement.
 fn find_escaped(text: &[u8]) -> Option<usize>
     ensures { MatchOption result (powershell_escaped text.now ≡ text.now)
         (λ at. IsFirstEscaped text.now at) }
@@ -117,7 +117,7 @@ fn begins_second(text: &[u8]) -> bool
     matches!(text, [RIGHT_QUOTE_SECOND, RIGHT_QUOTE_THIRD, ..])
 }
 
-/// The text as it stands between two `'` in PowerShell: each `'` as `''`, each `’` (U+2019) as
+/// The text as it is between two `'` in PowerShell: each `'` as `''`, each `’` (U+2019) as
 /// `'’`, and each line feed as a space. Fails with `Memory` alone.
 #[tactic(auto, using(crate::proofs::PowershellWords::powershell_reads_back))]
 pub fn powershell_escape(alloc: Global, text: &str) -> Result<String, Error>

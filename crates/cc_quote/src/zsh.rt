@@ -1,4 +1,4 @@
-//! Texts as zsh's completion reads them between two `'`: backslashes stand before what it takes for
+//! Texts as zsh's completion reads them between two `'`: backslashes are before what it takes for
 //! syntax.
 
 ghost use Rattle.std.specs.Prelude.{◌≡◌, [], ◌++◌, ◌∷◌, true, option_map, encode_utf8, IfOk, IfErr, MatchOption, Some};
@@ -94,11 +94,11 @@ pub fn zsh_unescape(alloc: Global, text: &str) -> Result<Option<String>, Error>
         (λ read. option_map string_bytes read ≡ zsh_unescaped text.now) }
     ensures memory { IfErr result (λ error. error ≡ Error.Memory) }
 {
-    Ok(unescaped(alloc, text)?)
+    Ok(unescape(alloc, text)?)
 }
 
 // The text without its backslashes, where memory suffices.
-fn unescaped(alloc: Global, text: &str) -> Result<Option<String>, AllocError>
+fn unescape(alloc: Global, text: &str) -> Result<Option<String>, AllocError>
     ensures { IfOk result (λ read. option_map string_bytes read ≡ zsh_unescaped text.now) }
 {
     let mut word = String::new(alloc);

@@ -49,7 +49,7 @@ impl ByteEscape for ZshReplyHelp {
     }
 }
 
-/// The value as it stands before a colon: `\` as `\\` and `:` as `\:`. Fails with `Memory` alone.
+/// The value as it is before a colon: `\` as `\\` and `:` as `\:`. Fails with `Memory` alone.
 #[tactic(auto, using(crate::proofs::ZshReplies::value_unescaped))]
 pub fn zsh_reply_value(alloc: Global, value: &str) -> Result<String, Error>
     ensures escaped { IfOk result (λ escaped. string_bytes escaped ≡ zsh_replied_value value.now) }
@@ -62,7 +62,7 @@ pub fn zsh_reply_value(alloc: Global, value: &str) -> Result<String, Error>
     Ok(escape_text(alloc, &ZshReplyValue, value)?)
 }
 
-/// The help as it stands after a colon: `\` as `\\`. Fails with `Memory` alone.
+/// The help as it is after a colon: `\` as `\\`. Fails with `Memory` alone.
 #[tactic(auto, using(crate::proofs::ZshReplies::help_unescaped))]
 pub fn zsh_reply_help(alloc: Global, help: &str) -> Result<String, Error>
     ensures escaped { IfOk result (λ escaped. string_bytes escaped ≡ zsh_replied_help help.now) }

@@ -32,7 +32,7 @@ module _ (variable name bin completer : List ℕ) where
       ∙ append_assoc (function_begins ++ n) function_head (variable ++ (variable_ends ++ call))
       ∙ append_assoc function_begins n (function_head ++ (variable ++ (variable_ends ++ call)))
 
-  -- what stands before the binary's last place
+  -- what is before the binary's last occurrence
   abbrev before_bin : List ℕ
   before_bin = (registration_front variable name ++ bash_doubled completer) ++ (((((call_ends ++ n) ++ name_ends) ++ bin) ++ otherwise) ++ n)
 

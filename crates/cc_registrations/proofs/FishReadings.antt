@@ -4,7 +4,7 @@ use Rattle.std.specs.Option.{option_and_then}
 use Rattle.cc_command.specs.PlainName.{is_plain_name, name_byte}
 use Rattle.cc_command.proofs.NameBytes.{plain_bytes}
 use Rattle.cc_quote.specs.FishQuote.{fish_sign, fish_quoted, fish_quoted_for_eval, fish_double_from, fish_double_of, fish_word_of}
-use Rattle.cc_quote.specs.FishQuote.FishPlace.{in_double}
+use Rattle.cc_quote.specs.FishQuote.FishState.{in_double}
 use Rattle.cc_quote.proofs.FishWords.{safe_double_escaped}
 use Rattle.cc_quote.proofs.FishReaders.{double_from}
 use Rattle.cc_quote.proofs.BeforeBlanks.{fish_before_space}

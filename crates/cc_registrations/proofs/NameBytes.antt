@@ -13,7 +13,7 @@ use Rattle.cc_quote.specs.Signs.{is_blank}
 use Rattle.cc_registrations.specs.Names.{underscored, is_path_byte, is_plain_path}
 use Rattle.cc_registrations.proofs.Finding.{Lacks, NonePasses}
 
--- each byte may stand in a name
+-- each byte may occur in a name
 abbrev pub AreNameBytes : List ℕ → Type 0
 AreNameBytes text = AllByRecursion (λ byte. name_byte byte ≢ foreign) text
 

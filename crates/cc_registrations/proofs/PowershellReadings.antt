@@ -16,7 +16,7 @@ module _ (variable bin completer : List ℕ) (variable_plain : IsTrue (is_plain_
   abbrev completed : List ℕ
   completed = completer ++ registration_tail variable
 
-  -- from the first place of the variable on
+  -- from the first occurrence of the variable on
   abbrev called : List ℕ
   called = variable ++ (prev_ends ++ (variable ++ (arguments ++ (call_begins ++ completed))))
 

@@ -11,7 +11,7 @@ use Rattle.cc_registrations.specs.ZshRegistration.{registration_begins, function
 use Rattle.cc_registrations.proofs.Finding.{cut_at-none, after-none, with_front-append, past_lacking, past_free, run_on, no_blanks, bare_first}
 use Rattle.cc_registrations.proofs.NameBytes.{AreNameBytes, name_lacks, name_no_blanks, name_no_line_feeds, underscored_bytes, posix_plain, no_underscore_first, plain_some}
 
--- past what stands before the binary, which begins with no `_`
+-- past what is before the binary, which begins with no `_`
 past_first : (bin rest : List ℕ) → IsTrue (is_plain_name bin) → cut_at (codes " _clap_dynamic_completer_") (registration_begins ++ (bin ++ rest)) ≡ with_front registration_begins (cut_at (codes " _clap_dynamic_completer_") (bin ++ rest))
 unfolding after registration_begins
 past_first [] rest h = absurd (plain_some [] h refl)
@@ -57,7 +57,7 @@ module _ (variable name bin completer : List ℕ) where
     of_name : AreNameBytes n
     of_name = underscored_bytes name (plain_bytes name name_plain)
 
-    -- a plain binary stands as it is
+    -- a plain binary is written as it is
     plainly : zsh_registration variable name bin completer ≡ registration_begins ++ (bin ++ (function_begins ++ (n ++ after_name)))
     plainly = in_turn ∙ ap (λ text. registration_begins ++ (text ++ (function_begins ++ (n ++ after_name)))) (posix_plain bin bin_plain)
 

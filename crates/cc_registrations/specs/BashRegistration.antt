@@ -39,7 +39,7 @@ function_head =
 unfoldable pub call_begins : List ℕ
 call_begins = codes "=\"bash\" \\\n        \""
 
--- between the completer and the second place of the name
+-- between the completer and the second occurrence of the name
 unfoldable pub call_ends : List ℕ
 call_ends =
     codes "\" -- \"${words[@]}\" \\\n"
@@ -58,7 +58,7 @@ call_ends =
 unfoldable pub name_ends : List ℕ
 name_ends = codes " "
 
--- between the binary and the third place of the name
+-- between the binary and the third occurrence of the name
 unfoldable pub otherwise : List ℕ
 otherwise = codes "\nelse\n    complete -o nospace -o bashdefault -F _clap_complete_"
 
@@ -71,7 +71,7 @@ unfoldable pub registration_front : List ℕ → List ℕ → List ℕ
 registration_front variable name =
     (((function_begins ++ underscored name) ++ function_head) ++ variable) ++ call_begins
 
--- from the completer on, up to the third place of the name
+-- from the completer on, up to the third occurrence of the name
 unfoldable pub sorted_call : List ℕ → List ℕ → List ℕ
 sorted_call name bin = (((call_ends ++ underscored name) ++ name_ends) ++ bin) ++ otherwise
 

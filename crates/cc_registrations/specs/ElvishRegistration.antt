@@ -47,7 +47,7 @@ elvish_registration variable bin completer =
 unfoldable pub variable_ends : List ℕ
 variable_ends = codes "=\"elvish\""
 
--- the variable: what stands before it, after the last blank
+-- the variable: what is before it, after the last blank
 unfoldable pub elvish_variable : List ℕ → Option (List ℕ)
 elvish_variable text = option_map last_run (up_to variable_ends text)
 

@@ -1,4 +1,4 @@
--- Places in a text, found by what stands there.
+-- Occurrences in a text.
 use Rattle.std.specs.Prelude.{ℕ, Bool, true, false, List, [], ◌∷◌, ◌++◌, ◌==◌, Option, Some, None, option_map, if◌then◌else◌, bytes_eq}
 use Rattle.std.specs.Option.{option_and_then}
 use Rattle.cc_base.specs.Bytes.{line_feed}
@@ -18,8 +18,8 @@ unfoldable pub with_front : List ℕ → Option (List ℕ × List ℕ) → Optio
 with_front front None = None
 with_front front (Some (before, rest)) = Some (front ++ before, rest)
 
--- the text before the first place where a mark stands, and the text after the mark; none where it
--- stands nowhere
+-- the text before the first occurrence where a mark is, and the text after the mark; none where it
+-- occurs nowhere
 unfoldable pub cut_at : List ℕ → List ℕ → Option (List ℕ × List ℕ)
 cut_at mark [] = None
 cut_at mark (byte ∷ text) = elim (after mark (byte ∷ text)) [
@@ -27,7 +27,7 @@ cut_at mark (byte ∷ text) = elim (after mark (byte ∷ text)) [
   | None ↦ with_front (byte ∷ []) (cut_at mark text)
 ]
 
--- the text before the first place where a mark stands
+-- the text before the first occurrence where a mark is
 unfoldable pub up_to : List ℕ → List ℕ → Option (List ℕ)
 up_to mark text = option_map (λ cut. cut.0) (cut_at mark text)
 
@@ -35,7 +35,7 @@ up_to mark text = option_map (λ cut. cut.0) (cut_at mark text)
 unfoldable pub after_mark : List ℕ → List ℕ → Option (List ℕ)
 after_mark mark text = option_map (λ cut. cut.1) (cut_at mark text)
 
--- the text between the first place of a mark and the next place of another
+-- the text between the first occurrence of a mark and the next occurrence of another
 unfoldable pub between : List ℕ → List ℕ → List ℕ → Option (List ℕ)
 between opening closing text = option_and_then (up_to closing) (after_mark opening text)
 
@@ -47,7 +47,7 @@ without_blanks (byte ∷ text) = elim (is_blank byte) [
   | false ↦ byte ∷ text
 ]
 
--- the text after the last byte that passes, with what stands before it since one passed
+-- the text after the last byte that passes, with what is before it since one passed
 unfoldable pub after_last_from : (ℕ → Bool) → List ℕ → List ℕ → List ℕ
 after_last_from passes run [] = run
 after_last_from passes run (byte ∷ text) = elim (passes byte) [
@@ -67,7 +67,7 @@ last_run text = after_last_from is_blank [] text
 unfoldable pub word_by : (List ℕ → Option (List ℕ × List ℕ)) → List ℕ → Option (List ℕ)
 word_by reader text = option_map (λ read. read.0) (reader (without_blanks text))
 
--- that word after the first place of a mark
+-- that word after the first occurrence of a mark
 unfoldable pub word_after : (List ℕ → Option (List ℕ × List ℕ)) → List ℕ → List ℕ → Option (List ℕ)
 word_after reader mark text = option_and_then (word_by reader) (after_mark mark text)
 

@@ -3,11 +3,11 @@ use Rattle.std.specs.Prelude.{ℕ, Bool, false, List, [], ◌∷◌, codes, ◌=
 use Rattle.std.specs.Char.{is_ascii_alphanumeric}
 use Rattle.std.specs.List.{list_all, list_any}
 use Rattle.cc_base.specs.Bytes.{dash}
-use Rattle.cc_quote.specs.Escapes.{replaced}
+use Rattle.cc_quote.specs.Escapes.{replace_byte}
 
 -- a name with `_` for each `-`
 abbrev pub underscored : List ℕ → List ℕ
-underscored name = replaced dash (codes "_") name
+underscored name = replace_byte dash (codes "_") name
 
 -- ASCII letters, digits and `/ . _ -`
 unfoldable pub is_path_byte : ℕ → Bool

@@ -26,7 +26,7 @@ script_head =
 unfoldable pub environment : List ℕ
 environment = codes "$env:"
 
--- between the first two places of the variable
+-- between the first two occurrences of the variable
 unfoldable pub prev_ends : List ℕ
 prev_ends =
     codes ";\n"
@@ -51,7 +51,7 @@ call_begins =
     codes "\n"
     ++ codes "& "
 
--- between the completer and the third place of the variable
+-- between the completer and the third occurrence of the variable
 unfoldable pub call_ends : List ℕ
 call_ends =
     codes " -- $args\n"
@@ -59,7 +59,7 @@ call_ends =
     ++ codes "    if ($null -eq $prev) {\n"
     ++ codes "        Remove-Item Env:\\"
 
--- between the last two places of the variable
+-- between the last two occurrences of the variable
 unfoldable pub otherwise : List ℕ
 otherwise =
     codes ";\n"
@@ -87,7 +87,7 @@ registration_ends =
     ++ codes "};\n"
     ++ codes "        \n"
 
--- up to the first place of the variable
+-- up to the first occurrence of the variable
 unfoldable pub registration_head : List ℕ → List ℕ
 registration_head bin = ((registration_begins ++ posix_quoted bin) ++ script_head) ++ environment
 

@@ -31,7 +31,7 @@ function_head =
 unfoldable pub call_begins : List ℕ
 call_begins = codes "=\"zsh\" \\\n        "
 
--- between the completer and the second place of the name
+-- between the completer and the second occurrence of the name
 unfoldable pub call_ends : List ℕ
 call_ends =
     codes " -- \"${words[@]}\" 2>/dev/null \\\n"

@@ -47,7 +47,7 @@ fn write_text<W: Sink>(
     write_tail(name, bin, sink)
 }
 
-// What stands up to the completer.
+// The text up to the completer.
 #[tactic(auto, unfolding(crate::specs::BashRegistration::registration_front))]
 fn write_front<W: Sink>(variable: &str, name: &str, sink: &mut W) -> Result<(), Error>
     ensures written { Writes W.taken W.failed result sink.old sink.new
@@ -61,7 +61,7 @@ fn write_front<W: Sink>(variable: &str, name: &str, sink: &mut W) -> Result<(), 
     put_all(sink, call_begins().as_bytes())
 }
 
-// What stands from the completer on.
+// The text from the completer on.
 #[tactic(auto, unfolding(crate::specs::BashRegistration::registration_tail))]
 fn write_tail<W: Sink>(name: &str, bin: &str, sink: &mut W) -> Result<(), Error>
     ensures written { Writes W.taken W.failed result sink.old sink.new
@@ -72,7 +72,7 @@ fn write_tail<W: Sink>(name: &str, bin: &str, sink: &mut W) -> Result<(), Error>
     write_plain_call(name, bin, sink)
 }
 
-// What stands from there up to the third place of the name.
+// The text from there up to the third occurrence of the name.
 #[tactic(auto, unfolding(crate::specs::BashRegistration::sorted_call))]
 fn write_sorted_call<W: Sink>(name: &str, bin: &str, sink: &mut W) -> Result<(), Error>
     ensures written { Writes W.taken W.failed result sink.old sink.new
@@ -86,7 +86,7 @@ fn write_sorted_call<W: Sink>(name: &str, bin: &str, sink: &mut W) -> Result<(),
     put_all(sink, otherwise().as_bytes())
 }
 
-// What stands from that name on.
+// The text from that name on.
 #[tactic(auto, unfolding(crate::specs::BashRegistration::plain_call))]
 fn write_plain_call<W: Sink>(name: &str, bin: &str, sink: &mut W) -> Result<(), Error>
     ensures written { Writes W.taken W.failed result sink.old sink.new

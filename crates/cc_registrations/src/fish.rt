@@ -47,7 +47,7 @@ fn write_text<W: Sink>(
     put_all(sink, registration_ends().as_bytes())
 }
 
-// What stands up to the binary, and that.
+// The text up to the binary, and that.
 fn write_bin<W: Sink>(alloc: Global, bin: &str, sink: &mut W) -> Result<(), Error>
     ensures { Writes W.taken W.failed result sink.old sink.new
         (registration_begins ++ fish_quoted bin.now) }

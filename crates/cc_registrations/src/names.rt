@@ -29,7 +29,7 @@ pub fn is_plain_path(path: &str) -> bool
     !path.is_empty() && are_path_bytes(path.as_bytes())
 }
 
-// Whether each byte may stand in a plain path.
+// Whether each byte may occur in a plain path.
 fn are_path_bytes(bytes: &[u8]) -> bool
     ensures { result ≡ list_all is_path_byte bytes.now }
 {
@@ -41,7 +41,7 @@ fn are_path_bytes(bytes: &[u8]) -> bool
     true
 }
 
-// Whether a byte may stand in a plain path.
+// Whether a byte may occur in a plain path.
 #[tactic(auto, unfolding(crate::specs::Names::is_path_byte))]
 fn is_path_byte(byte: u8) -> bool
     ensures { result ≡ is_path_byte byte }

@@ -57,7 +57,7 @@ fn write_text<W: Sink>(
     write_tail(variable, sink)
 }
 
-// What stands up to the first place of the variable.
+// The text up to the first occurrence of the variable.
 #[tactic(auto, unfolding(crate::specs::PowershellRegistration::registration_head))]
 fn write_head<W: Sink>(alloc: Global, bin: &str, sink: &mut W) -> Result<(), Error>
     ensures { Writes W.taken W.failed result sink.old sink.new (registration_head bin.now) }
@@ -68,7 +68,7 @@ fn write_head<W: Sink>(alloc: Global, bin: &str, sink: &mut W) -> Result<(), Err
     put_all(sink, environment().as_bytes())
 }
 
-// What stands from there up to the completer.
+// The text from there up to the completer.
 #[tactic(auto, unfolding(crate::specs::PowershellRegistration::call))]
 fn write_call<W: Sink>(variable: &str, sink: &mut W) -> Result<(), Error>
     ensures { Writes W.taken W.failed result sink.old sink.new (call variable.now) }
@@ -80,7 +80,7 @@ fn write_call<W: Sink>(variable: &str, sink: &mut W) -> Result<(), Error>
     put_all(sink, call_begins().as_bytes())
 }
 
-// What stands after the completer.
+// The text after the completer.
 #[tactic(auto, unfolding(crate::specs::PowershellRegistration::registration_tail))]
 fn write_tail<W: Sink>(variable: &str, sink: &mut W) -> Result<(), Error>
     ensures { Writes W.taken W.failed result sink.old sink.new (registration_tail variable.now) }

@@ -49,7 +49,7 @@ fn write_text<W: Sink>(
     write_tail(alloc, name, bin, sink)
 }
 
-// What stands up to the completer.
+// The text up to the completer.
 #[tactic(auto, unfolding(crate::specs::ZshRegistration::registration_front))]
 fn write_front<W: Sink>(
     alloc: Global,
@@ -68,7 +68,7 @@ fn write_front<W: Sink>(
     put_all(sink, call_begins().as_bytes())
 }
 
-// What stands up to the name.
+// The text up to the name.
 #[tactic(auto, unfolding(crate::specs::ZshRegistration::registration_head))]
 fn write_head<W: Sink>(alloc: Global, bin: &str, sink: &mut W) -> Result<(), Error>
     ensures { Writes W.taken W.failed result sink.old sink.new (registration_head bin.now) }
@@ -78,7 +78,7 @@ fn write_head<W: Sink>(alloc: Global, bin: &str, sink: &mut W) -> Result<(), Err
     put_all(sink, function_begins().as_bytes())
 }
 
-// What stands after the completer.
+// The text after the completer.
 #[tactic(auto, unfolding(crate::specs::ZshRegistration::registration_tail))]
 fn write_tail<W: Sink>(alloc: Global, name: &str, bin: &str, sink: &mut W) -> Result<(), Error>
     ensures { Writes W.taken W.failed result sink.old sink.new

@@ -59,7 +59,7 @@ message_row = refl
 words_row : asked_words (codes "app" ∷ codes "--" ∷ codes "app" ∷ codes "--" ∷ []) ≡ codes "app" ∷ codes "--" ∷ []
 words_row = refl
 
--- a `--` in the place of the program is none
+-- a `--` as the program is none
 first_row : asked_words (codes "--" ∷ codes "app" ∷ []) ≡ []
 first_row = refl
 

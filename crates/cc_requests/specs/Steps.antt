@@ -3,7 +3,7 @@ use Rattle.std.specs.Prelude.{◌≡◌, ◌≢◌, ◌++◌, ⊤, ℕ, Bool, tr
 use Rattle.std.specs.declared.io.ErrorKind.{ErrorKind}
 use Rattle.cc_adapters.specs.Replies.{AsksInRange, AsksOutOfRange, IsReply}
 use Rattle.cc_base.specs.Collected.{collected_bytes}
-use Rattle.cc_base.specs.Sink.{raised}
+use Rattle.cc_base.specs.Sink.{add_failure}
 use Rattle.cc_base.specs.declared.collected.Collected.{Collected}
 use Rattle.cc_base.specs.declared.error.Error.{Error}
 use Rattle.cc_base.specs.declared.error.Error.TheVariants.{Memory, NoArguments, NoCompletion, Write}
@@ -118,7 +118,7 @@ pub data Ends {S : Type 0} (taken : S → List ℕ) (failed : S → Failures)
       → Ends taken failed Makes old new (Err error)
   -- a write failed, which is counted with its kind; how much was written is left open
   write_failed : (text : List ℕ) (kind : ErrorKind) → Makes (Ok text)
-      → failed new ≡ raised kind (failed old) → Ends taken failed Makes old new (Err (Write kind))
+      → failed new ≡ add_failure kind (failed old) → Ends taken failed Makes old new (Err (Write kind))
   -- the text is written
   text_written : (text : List ℕ) → Makes (Ok text) → taken new ≡ taken old ++ text
       → failed new ≡ failed old → Ends taken failed Makes old new (Ok true)

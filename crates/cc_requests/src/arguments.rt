@@ -6,7 +6,7 @@ ghost use Rattle.std.specs.String.{string_bytes};
 ghost use Rattle.cc_requests.specs.Arguments.{after_dashes, asked_words, has_folder, program_path};
 
 use cc_base::Text;
-use cc_paths::{join, trimmed};
+use cc_paths::{join, trim_trailing};
 use std::alloc::{AllocError, Global};
 
 /// The words after the first `--` that follows the first argument; none without such a `--`.
@@ -69,5 +69,5 @@ pub(crate) fn program_path(
 fn has_folder(path: &str) -> bool
     ensures { result ≡ has_folder path.now }
 {
-    trimmed(path).as_bytes().contains(&b'/')
+    trim_trailing(path).as_bytes().contains(&b'/')
 }

@@ -159,7 +159,7 @@ impl<'s, F: Fn(Global) -> Result<Command, Error> + Drop, E: EnvCompleter> Comple
             return Ok(false);
         };
         let shell = known_shell(alloc, &self.shells, name)?;
-        let text = self.made_text(alloc, shell, args, current_dir, env, folder, completers)?;
+        let text = self.make_text(alloc, shell, args, current_dir, env, folder, completers)?;
         put_all(out, text.as_slice())?;
         Ok(true)
     }

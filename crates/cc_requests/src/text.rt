@@ -24,7 +24,7 @@ use std::alloc::{AllocError, Global};
 impl<'s, F: Fn(Global) -> Result<Command, Error>, E: EnvCompleter> CompleteEnv<'s, F, E> {
     /// The text for a shell and the arguments of the program: the registration where no words
     /// follow a `--`, else the reply to these words.
-    pub(crate) fn made_text<D: Folder>(
+    pub(crate) fn make_text<D: Folder>(
         &self,
         alloc: Global,
         shell: &E,

@@ -1,6 +1,6 @@
 //! Requests that fail, with nothing written.
 
-use crate::tried::{end, ends, is, tested};
+use crate::tried::{end, ends, is, test_command};
 use cc_adapters::{Builtin, Shells};
 use cc_base::Error;
 use cc_command::Command;
@@ -64,7 +64,7 @@ fn a_shell_that_there_is_not(rt: HostRuntime) {
 
 #[test]
 fn a_shell_that_is_not_offered(rt: HostRuntime) {
-    let program = CompleteEnv::with_factory(|alloc: Global| tested(alloc)).shells(Shells(&[
+    let program = CompleteEnv::with_factory(|alloc: Global| test_command(alloc)).shells(Shells(&[
         Builtin::Fish,
     ]));
     is(

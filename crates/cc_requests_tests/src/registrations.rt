@@ -1,6 +1,6 @@
 //! Registrations: the names that they are made of, and how each shell reads the completer.
 
-use crate::tried::{end, ends, has, is, named, tested};
+use crate::tried::{end, ends, has, is, named_command, test_command};
 use cc_requests::CompleteEnv;
 use std::alloc::{AllocError, Global};
 use std::process::Abort;
@@ -93,7 +93,7 @@ fn a_registration_with_names_of_its_own(rt: HostRuntime) {
 fn with_names(alloc: Global, bin: &str, completer: &str) -> Result<String, AllocError> {
     let bin = String::from_str(alloc, bin)?;
     let completer = String::from_str(alloc, completer)?;
-    let program = CompleteEnv::with_factory(|alloc: Global| tested(alloc))
+    let program = CompleteEnv::with_factory(|alloc: Global| test_command(alloc))
         .var("V")
         .bin(bin)
         .completer(completer);
@@ -117,7 +117,7 @@ fn the_binary_is_the_bin_name(rt: HostRuntime) {
 
 // The registration of `VAR-x` for bash with a binary that was set.
 fn with_bin(alloc: Global) -> Result<String, AllocError> {
-    let program = CompleteEnv::with_factory(|alloc: Global| named(alloc));
+    let program = CompleteEnv::with_factory(|alloc: Global| named_command(alloc));
     let program = program.bin(String::from_str(alloc, "other")?);
     end(alloc, program, &[("COMPLETE", "bash")], &["app"], None)
 }
@@ -198,7 +198,7 @@ fn calls<R: Abort + AllocGlobal>(rt: &R, shell: &str, completer: &str, part: &st
 
 // The registration of `VAR-x` with this completer.
 fn with_completer(alloc: Global, shell: &str, completer: &str) -> Result<String, AllocError> {
-    let program = CompleteEnv::with_factory(|alloc: Global| named(alloc));
+    let program = CompleteEnv::with_factory(|alloc: Global| named_command(alloc));
     let program = program.completer(String::from_str(alloc, completer)?);
     end(alloc, program, &[("COMPLETE", shell)], &["app"], None)
 }

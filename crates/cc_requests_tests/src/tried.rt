@@ -6,7 +6,7 @@ use cc_candidates::Completers;
 use cc_command::Command;
 use cc_env::EnvValues;
 use cc_fixtures::trees::{TESTED, read};
-use cc_fixtures::words::copies;
+use cc_fixtures::words::to_strings;
 use cc_paths::MemoryFolder;
 use cc_requests::CompleteEnv;
 use std::alloc::{AllocError, Global};
@@ -16,12 +16,12 @@ use std::process::Abort;
 const NAMED: &str = r#"{"name": "VAR-x", "bin_name": "my-bin"}"#;
 
 /// The command `app`, which has a child.
-pub(crate) fn tested(alloc: Global) -> Result<Command, Error> {
+pub(crate) fn test_command(alloc: Global) -> Result<Command, Error> {
     read(alloc, TESTED)
 }
 
 /// The command `VAR-x`, whose bin name is `my-bin`.
-pub(crate) fn named(alloc: Global) -> Result<Command, Error> {
+pub(crate) fn named_command(alloc: Global) -> Result<Command, Error> {
     read(alloc, NAMED)
 }
 
@@ -34,7 +34,7 @@ pub(crate) fn ends<R: Abort + AllocGlobal>(
     current_dir: Option<&str>,
     wanted: &str,
 ) {
-    let program = CompleteEnv::with_factory(|alloc: Global| tested(alloc));
+    let program = CompleteEnv::with_factory(|alloc: Global| test_command(alloc));
     is(
         rt,
         end(rt.alloc(), program, variables, arguments, current_dir),
@@ -65,15 +65,15 @@ pub(crate) fn end<F: Fn(Global) -> Result<Command, Error> + Drop>(
     requires { F.IsAlwaysCallable program.factory }
 {
     let mut out = Collected::new(alloc);
-    let done = tried(alloc, program, variables, arguments, current_dir, &mut out);
-    let mut text = returned(alloc, done)?;
+    let done = attempt(alloc, program, variables, arguments, current_dir, &mut out);
+    let mut text = result_text(alloc, done)?;
     let written = String::from_utf8_lossy(alloc, out.as_slice())?;
     text.push_str(written.as_str())?;
     Ok(text)
 }
 
 /// What `try_complete` of the program returns.
-pub(crate) fn tried<F: Fn(Global) -> Result<Command, Error> + Drop, W: Sink>(
+pub(crate) fn attempt<F: Fn(Global) -> Result<Command, Error> + Drop, W: Sink>(
     alloc: Global,
     program: CompleteEnv<'static, F, Builtin>,
     variables: &[(&str, &str)],
@@ -85,7 +85,7 @@ pub(crate) fn tried<F: Fn(Global) -> Result<Command, Error> + Drop, W: Sink>(
 {
     program.try_complete(
         alloc,
-        copies(alloc, arguments)?,
+        to_strings(alloc, arguments)?,
         current_dir,
         &environment(alloc, variables)?,
         &MemoryFolder::new(&[], &[]),
@@ -94,7 +94,7 @@ pub(crate) fn tried<F: Fn(Global) -> Result<Command, Error> + Drop, W: Sink>(
     )
 }
 
-fn returned(alloc: Global, done: Result<bool, Error>) -> Result<String, AllocError> {
+fn result_text(alloc: Global, done: Result<bool, Error>) -> Result<String, AllocError> {
     match done {
         Ok(true) => Ok(String::new(alloc)),
         Ok(false) => String::from_str(alloc, "nothing"),

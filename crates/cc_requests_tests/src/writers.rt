@@ -1,6 +1,6 @@
 //! Writers that fail.
 
-use crate::tried::{ends, tested, tried};
+use crate::tried::{attempt, ends, test_command};
 use cc_base::{Counted, Error};
 use cc_fixtures::writers::Narrow;
 use cc_requests::CompleteEnv;
@@ -44,8 +44,8 @@ fn fails<R: Abort + AllocGlobal>(
     kind: Option<ErrorKind>,
 ) {
     let mut sink = Counted::new(Narrow::new(rt.alloc(), room, kind));
-    let program = CompleteEnv::with_factory(|alloc: Global| tested(alloc));
-    let done = tried(rt.alloc(), program, &FISH, arguments, None, &mut sink);
+    let program = CompleteEnv::with_factory(|alloc: Global| test_command(alloc));
+    let done = attempt(rt.alloc(), program, &FISH, arguments, None, &mut sink);
     let wanted = kind.unwrap_or(ErrorKind::WriteZero);
     assert!(rt; matches!(done, Err(Error::Write(failed)) if failed == wanted));
     let held = sink.get_ref().held.as_slice();

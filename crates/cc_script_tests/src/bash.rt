@@ -1,7 +1,7 @@
 //! Bash scripts.
 
 use crate::checks::{has, is, is_twice, same};
-use crate::fixtures::{self, chain, hinted, tree};
+use crate::fixtures::{self, chain, script_of_hint, tree};
 use crate::written::{script, script_for, script_of, twice};
 use cc_base::{Collected, Error};
 use cc_bash::Bash;
@@ -397,7 +397,7 @@ const UNKNOWN: &str = "
 
 // Fails unless the script of an option with this hint has these lines.
 fn offers<R: Abort + AllocGlobal>(rt: &R, hint: &str, lines: &str) {
-    let text = hinted(rt, hint).expect(rt, "no tree");
+    let text = script_of_hint(rt, hint).expect(rt, "no tree");
     has(rt, script(rt, Bash, text.as_str()), lines);
 }
 

@@ -76,20 +76,20 @@ impl Described for Fish {
 
 impl Described for Zsh {
     fn help(alloc: Global, script: &str) -> Result<Option<String>, Error> {
-        bracketed(alloc, script, "'--x", "[", "]")
+        between_brackets(alloc, script, "'--x", "[", "]")
     }
 
     fn value_help(alloc: Global, script: &str) -> Result<Option<String>, Error> {
-        bracketed(alloc, script, "'--o", "=[]:N:((v\\:\"", "\"))")
+        between_brackets(alloc, script, "'--o", "=[]:N:((v\\:\"", "\"))")
     }
 
     fn about(alloc: Global, script: &str) -> Result<Option<String>, Error> {
-        bracketed(alloc, script, "'c", ":", "")
+        between_brackets(alloc, script, "'c", ":", "")
     }
 }
 
 // What a line of zsh's script that begins so describes between two texts.
-fn bracketed(
+fn between_brackets(
     alloc: Global,
     script: &str,
     begins: &str,
@@ -156,7 +156,7 @@ fn reads<R: Abort + AllocGlobal, S: Described + Copy + Drop>(
     let alloc = rt.alloc();
     let tree = tree_file(alloc, text).expect(rt, "no tree");
     let script = script(rt, shell, tree.as_str()).expect(rt, "no script");
-    let wanted = spaced(alloc, text).expect(rt, "no text");
+    let wanted = with_spaces(alloc, text).expect(rt, "no text");
     is_read(rt, S::help(alloc, script.as_str()), wanted.as_str());
     is_read(rt, S::about(alloc, script.as_str()), wanted.as_str());
     if values {
@@ -177,13 +177,13 @@ fn nushell_reads_any_character_of_a_help(rt: HostRuntime) {
 fn nushell_reads<R: Abort + AllocGlobal>(rt: &R, text: &[char]) {
     let tree = tree_file(rt.alloc(), text).expect(rt, "no tree");
     let script = script(rt, Nushell, tree.as_str()).expect(rt, "no script");
-    let wanted = spaced(rt.alloc(), text).expect(rt, "no text");
-    is_read(rt, commented(rt.alloc(), script.as_str()), wanted.as_str());
+    let wanted = with_spaces(rt.alloc(), text).expect(rt, "no text");
+    is_read(rt, comment_of(rt.alloc(), script.as_str()), wanted.as_str());
 }
 
-// What stands after the first ` # ` of the line of the flag `--x`, up to the line that closes its
+// What is after the first ` # ` of the line of the flag `--x`, up to the line that closes its
 // block.
-fn commented(alloc: Global, script: &str) -> Result<Option<String>, Error> {
+fn comment_of(alloc: Global, script: &str) -> Result<Option<String>, Error> {
     let Some((line, _)) = after(script, "\n    --x").split_once("\n  ]\n") else {
         return Ok(None);
     };
@@ -215,7 +215,7 @@ fn tree_file(alloc: Global, text: &[char]) -> Result<String, AllocError> {
 }
 
 // The text with a space for each line feed.
-fn spaced(alloc: Global, text: &[char]) -> Result<String, AllocError> {
+fn with_spaces(alloc: Global, text: &[char]) -> Result<String, AllocError> {
     let mut spaced = String::new(alloc);
     for character in text {
         spaced.push(if *character == '\n' { ' ' } else { *character })?;

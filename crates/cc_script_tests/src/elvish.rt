@@ -120,7 +120,7 @@ const END: &str = "'= {
             cand --end 'end'
         }";
 
-// What stands in the frame; the whole script where the frame is another.
+// What is in the frame; the whole script where the frame is another.
 fn tables(script: &str) -> &str {
     let Some(rest) = script.strip_prefix(HEAD) else {
         return script;
@@ -128,7 +128,7 @@ fn tables(script: &str) -> &str {
     rest.strip_suffix(TAIL).unwrap_or(script)
 }
 
-// Fails unless this stands in the frame of the script of the command of a tree file.
+// Fails unless this is in the frame of the script of the command of a tree file.
 fn has_tables<R: Abort + AllocGlobal>(rt: &R, text: &str, wanted: &str) {
     let script = script(rt, Elvish, text).expect(rt, "no script");
     same(rt, tables(script.as_str()), wanted);

@@ -1,7 +1,7 @@
 //! Fish scripts.
 
 use crate::checks::{ends, has, is, is_twice, same};
-use crate::fixtures::{self, chain, hinted};
+use crate::fixtures::{self, chain, script_of_hint};
 use crate::written::{script, script_for, script_of, twice};
 use cc_fish::Fish;
 use cc_fixtures::trees;
@@ -171,7 +171,7 @@ fn the_last_of_two_hundred_commands_has_its_record(rt: HostRuntime) {
 
 // Fails unless the script of an option with this hint is this line.
 fn offers<R: Abort + AllocGlobal>(rt: &R, hint: &str, line: &str) {
-    let text = hinted(rt, hint).expect(rt, "no tree");
+    let text = script_of_hint(rt, hint).expect(rt, "no tree");
     is(rt, script(rt, Fish, text.as_str()), line);
 }
 

@@ -62,7 +62,7 @@ pub(crate) const PLACED: &str = r#"{"name": "app", "disable_help_flag": true, "a
     {"id": "rest", "num_args": [0, null], "help": "a:b"}]}"#;
 
 /// `app` with an option `--path` whose values are what this hint says.
-pub(crate) fn hinted<R: AllocGlobal>(rt: &R, hint: &str) -> Result<String, AllocError> {
+pub(crate) fn script_of_hint<R: AllocGlobal>(rt: &R, hint: &str) -> Result<String, AllocError> {
     format!(in rt.alloc();
         r#"{{"name": "app", "disable_help_flag": true, "args": [
         {{"id": "path", "long": "path", "value_hint": "{hint}"}}]}}"#

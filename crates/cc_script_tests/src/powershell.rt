@@ -90,7 +90,7 @@ const CURLY_FLAG: &str = r#"{"name": "app", "disable_help_flag": true, "args": [
 
 const CURLY: &str = "ParameterName, 'it'’s')";
 
-// What stands in the frame; the whole script where the frame is another.
+// What is in the frame; the whole script where the frame is another.
 fn tables(script: &str) -> &str {
     let Some(rest) = script.strip_prefix(HEAD) else {
         return script;
@@ -98,7 +98,7 @@ fn tables(script: &str) -> &str {
     rest.strip_suffix(TAIL).unwrap_or(script)
 }
 
-// Fails unless this stands in the frame of the script of the command of a tree file.
+// Fails unless this is in the frame of the script of the command of a tree file.
 fn has_tables<R: Abort + AllocGlobal>(rt: &R, text: &str, wanted: &str) {
     let script = script(rt, PowerShell, text).expect(rt, "no script");
     same(rt, tables(script.as_str()), wanted);

@@ -66,7 +66,7 @@ nested = record {
       (more (new_node (codes "job")) none none) none;
 }
 
--- its tables stand under each visible path
+-- its tables are under each visible path
 nested_keys : map (λ table. table.key) (tree_tables offer_row nested)
     ≡ codes "app" ∷ codes "app;run" ∷ codes "app;r" ∷ codes "app;run;job" ∷ codes "app;r;job" ∷ []
 unfolding tables_below path_tables
@@ -97,7 +97,7 @@ two_tables : elvish_tables (script_text elvish_frame row_text (codes "app") give
 unfolding is_word strip_words after_words sign cut elvish_tokens part step spelling after_step next tables_of read tables_begin elvish_tables elvish_named elvish_frame named_text head_text row_begin text_begin row_end row_text table_text script_text
 two_tables = refl
 
--- a program named as the word after which its tables stand
+-- a program named as the word after which its tables are
 no_table : elvish_tables (script_text elvish_frame row_text (codes "completions") []) ≡ Some []
 unfolding is_word strip_words after_words sign cut elvish_tokens part step spelling after_step next tables_of read tables_begin elvish_tables elvish_named elvish_frame named_text head_text script_text
 no_table = refl

@@ -21,7 +21,7 @@ use Rattle.cc_tables.proofs.ElvishReadsBack.{elvish_reads_back}
 use Rattle.cc_tables.proofs.PlainOffers.{IsPlainOffer}
 use Rattle.cc_tables.proofs.PlainTables.{of_plain_name, reads_offers}
 
--- a byte that may stand in a plain name is bare
+-- a byte that may occur in a plain name is bare
 bare_byte : (byte : ℕ) → name_byte byte ≢ foreign → IsTrue (is_bare byte)
 unfolding name_byte is_bare
 bare_byte byte h = by_tests (is_ascii_alphanumeric byte) (byte == 45 || byte == 95) refl refl h

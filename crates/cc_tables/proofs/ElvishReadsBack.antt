@@ -4,9 +4,9 @@ use Rattle.std.proofs.Common.{codes, refl, ap, ◌∙◌}
 use Rattle.std.specs.List.{AllByRecursion}
 use Rattle.cc_base.proofs.Lines.{IsLine, regroup_six}
 use Rattle.cc_base.proofs.Lines.IsLine.{line}
-use Rattle.cc_quote.specs.Tokens.{Place, cut, is_word, strip_words, after_words}
+use Rattle.cc_quote.specs.Tokens.{QuoteState, cut, is_word, strip_words, after_words}
 use Rattle.cc_quote.specs.Tokens.Piece.{bare}
-use Rattle.cc_quote.specs.Tokens.Place.{between}
+use Rattle.cc_quote.specs.Tokens.QuoteState.{between}
 use Rattle.cc_base.specs.Bytes.{single_quote}
 use Rattle.cc_quote.specs.Signs.{sign, HasNoQuote}
 use Rattle.cc_quote.specs.ElvishQuote.{elvish_escaped}
@@ -16,7 +16,7 @@ use Rattle.cc_quote.proofs.ElvishCutting.{bare_run, bare_word, quoted_text, esca
 use Rattle.cc_quote.proofs.ElvishCutting.{HasNoQuote-IsBare}
 use Rattle.cc_tables.specs.ElvishReader.{part, between_rows, after_cand, after_word, step, spelling}
 use Rattle.cc_tables.specs.ElvishReader.{tables_begin, elvish_tables, offer_read}
-use Rattle.cc_tables.specs.ElvishReader.{Place as RowPlace}
+use Rattle.cc_tables.specs.ElvishReader.{RowState}
 use Rattle.cc_tables.specs.ElvishScript.{Row, elvish_frame, elvish_named, offer_row, offer_text}
 use Rattle.cc_tables.specs.ElvishScript.{row_begin, row_end, row_text, text_begin}
 use Rattle.cc_tables.specs.Offers.{word}
@@ -28,9 +28,9 @@ use Rattle.cc_tables.specs.declared.offers.Offer.{Offer}
 use Rattle.cc_tables.proofs.PlainTables.{IsReadable, table_read}
 use Rattle.cc_tables.proofs.ScriptReadsBack.{ReadsParts, named_head, script_reads}
 
--- what the reader gives from a state on, where the script is cut from a place on
-abbrev reading : State RowPlace Row → Place → List ℕ → Option (List (Table Row))
-reading state place script = read spelling state (cut place (map sign script))
+-- what the reader gives from a state on, where the script is cut from a state of quotes on
+abbrev reading : State RowState Row → QuoteState → List ℕ → Option (List (Table Row))
+reading state quote script = read spelling state (cut quote (map sign script))
 
 -- within a table, with the rows so far
 abbrev in_rows : List (Table Row) → List ℕ → List Row → List ℕ → Option (List (Table Row))
@@ -66,7 +66,7 @@ end_reads : (tables : List (Table Row)) (name : List ℕ) (rows : List Row) (res
 unfolding elvish_frame sign cut part step spelling after_step next read
 end_reads tables name rows rest (line tail) = refl
 
--- after the last table stands what ends them
+-- after the last table is what ends them
 tail_reads : (tables : List (Table Row)) → in_tables tables elvish_frame.tail ≡ Some tables
 unfolding elvish_frame sign cut part spelling next tables_of read
 tail_reads tables = refl

@@ -1,4 +1,4 @@
--- Items that stand one after another are read one after another, and each is added to those read before.
+-- Items that are one after another are read one after another, and each is added to those read before.
 use Rattle.std.proofs.Common.{◌≡◌, ℕ, List, [], ◌∷◌, ◌++◌, map, flat_map, sym, ap, ◌∙◌}
 use Rattle.std.proofs.Common.{append_assoc, append-nil}
 use Rattle.std.specs.List.{AllByRecursion}

@@ -62,7 +62,7 @@ app = record {
   }) none none;
 }
 
--- its blocks stand under each visible path
+-- its blocks are under each visible path
 app_blocks : path_tables (codes " ") node_lines app
     ≡ record {
       key = codes "app";

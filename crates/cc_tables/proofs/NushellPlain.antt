@@ -23,7 +23,7 @@ use Rattle.cc_tables.proofs.NushellReadsBack.{IsReadableLine, nushell_reads_back
 use Rattle.cc_tables.proofs.PlainOffers.{IsPlainOffer, arguments_plain}
 use Rattle.cc_tables.proofs.PlainTables.{reads_tables, space_foreign, tables_readable}
 
--- a byte of a plain name is no byte that stands in none
+-- a byte of a plain name is no byte that occurs in none
 is_no : (byte stop : ℕ) → name_byte stop ≡ foreign → name_byte byte ≢ foreign
     → (byte == stop) ≡ false
 is_no byte stop f h =

@@ -183,7 +183,7 @@ line_reads blocks key lines line rest h =
 
 -- ---- blocks
 
--- the key is what stands before the end of its line
+-- the key is what is before the end of its line
 key_before : (key : List ℕ) → before (codes "\" [") (key ++ codes "\" [") ≡ Some key
 unfolding before after
 key_before key =
@@ -231,7 +231,7 @@ end_reads : (blocks : List (Table Line)) (key : List ℕ) (lines : List Line) (r
 unfolding nushell_frame lines_from after before sign key_sign in_block_sign next read
 end_reads blocks key lines rest = refl
 
--- before the blocks stands no key
+-- there is no key before the blocks
 head_reads : (bin rest : List ℕ)
     → in_blocks [] (head_text nushell_frame bin ++ rest) ≡ in_blocks [] rest
 unfolding nushell_frame head_text named_text lines_from after before sign key_sign in_block_sign next read

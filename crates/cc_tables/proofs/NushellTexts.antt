@@ -5,7 +5,7 @@ use Rattle.std.proofs.lemmas.List.Folds.{flat_map-map}
 use Rattle.cc_arg.specs.declared.parts.ArgParts.{ArgParts as Arg}
 use Rattle.cc_command.specs.ArgumentLists.{options, flags}
 use Rattle.cc_command.specs.Tree.{Tree}
-use Rattle.cc_quote.specs.Escapes.{replaced}
+use Rattle.cc_quote.specs.Escapes.{replace_byte}
 use Rattle.cc_quote.specs.QuotedWord.{line_feeds_as_spaces}
 use Rattle.cc_tables.specs.NushellScript.{argument_lines, line_text, node_lines, offer_line}
 use Rattle.cc_tables.specs.NushellScript.{offer_text}
@@ -31,7 +31,7 @@ lines_of_node tree =
     (lines_of_arguments false (flags tree.node))
 
 -- a help on one line
-pub line_feeds_replaced : (text : List ℕ) → replaced 10 (codes " ") text ≡ line_feeds_as_spaces text
+pub line_feeds_replaced : (text : List ℕ) → replace_byte 10 (codes " ") text ≡ line_feeds_as_spaces text
 line_feeds_replaced [] = refl
 line_feeds_replaced (byte ∷ text) = ap₂ (λ first second. first ++ second) (by_test (byte == 10)) (line_feeds_replaced text)
   where

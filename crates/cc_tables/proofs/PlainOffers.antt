@@ -25,11 +25,11 @@ use Rattle.cc_tables.specs.Offers.{word, short_offer, long_offer, argument_offer
 use Rattle.cc_tables.specs.Offers.{child_offer, child_offers, children_offers, node_offers}
 use Rattle.cc_tables.specs.declared.offers.Offer.{Offer}
 
--- every byte may stand in a plain name
+-- every byte may occur in a plain name
 abbrev pub AreNameBytes : List ℕ → Type 0
 AreNameBytes text = AllByRecursion (λ byte. name_byte byte ≢ foreign) text
 
--- the word of an offer is not empty, and its bytes may stand in a plain name
+-- the word of an offer is not empty, and its bytes may occur in a plain name
 pub record IsPlainOffer (offer : Offer) : Type 0 where
   pub is_some : word offer ≢ []
   pub bytes : AreNameBytes (word offer)

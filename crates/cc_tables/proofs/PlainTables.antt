@@ -39,7 +39,7 @@ of_plain_name IsByte of_byte name h =
     AllByRecursion-weaker (λ byte. name_byte byte ≢ foreign) IsByte of_byte name
     (plain_bytes name h)
 
--- `;` and the space stand in no plain name
+-- `;` and the space occur in no plain name
 pub semicolon_foreign : name_byte 59 ≡ foreign
 unfolding name_byte
 semicolon_foreign = refl

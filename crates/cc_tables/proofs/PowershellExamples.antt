@@ -66,7 +66,7 @@ read_back =
 abbrev switch : Arg
 switch = record (new_arg (codes "switch")) { short = Some 83; visible_short_aliases = 120 ∷ []; help = Some [] }
 
--- its rows: a space stands after the capital, and the short describes both
+-- its rows: a space is after the capital, and the short describes both
 switch_rows : flat_map row_text (map offer_row (argument_offers switch)) ≡ codes "\n            [CompletionResult]::new('-S', '-S ', [CompletionResultType]::ParameterName, 'S')\n            [CompletionResult]::new('-x', '-x', [CompletionResultType]::ParameterName, 'S')"
 unfolding encode_utf8 kind_text row_begin list_begin kind_begin text_begin row_end words_text details_text row_text
 switch_rows = refl

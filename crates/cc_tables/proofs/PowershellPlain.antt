@@ -23,7 +23,7 @@ use Rattle.cc_tables.proofs.PowershellReadsBack.{IsPowershellRow, powershell_rea
 use Rattle.cc_tables.proofs.PlainOffers.{IsPlainOffer}
 use Rattle.cc_tables.proofs.PlainTables.{of_plain_name, reads_offers}
 
--- a byte that may stand in a plain name begins no quote
+-- a byte that may occur in a plain name begins no quote
 unquoted_byte : (byte : ℕ) → name_byte byte ≢ foreign → IsTrue (not (is_quote_first byte))
 unfolding name_byte is_quote_first
 unquoted_byte byte h = by_tests (is_ascii_alphanumeric byte) (byte == 45 || byte == 95) refl refl h

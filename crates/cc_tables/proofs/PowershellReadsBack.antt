@@ -4,9 +4,9 @@ use Rattle.std.proofs.Common.{codes, refl, ap, ◌∙◌, append_assoc}
 use Rattle.std.specs.List.{AllByRecursion}
 use Rattle.cc_base.proofs.Lines.{IsLine, regroup_six}
 use Rattle.cc_base.proofs.Lines.IsLine.{line}
-use Rattle.cc_quote.specs.Tokens.{Place, cut, is_word, strip_words, after_words}
+use Rattle.cc_quote.specs.Tokens.{QuoteState, cut, is_word, strip_words, after_words}
 use Rattle.cc_quote.specs.Tokens.Piece.{bare}
-use Rattle.cc_quote.specs.Tokens.Place.{between, in_quotes}
+use Rattle.cc_quote.specs.Tokens.QuoteState.{between, in_quotes}
 use Rattle.cc_quote.specs.Signs.{sign}
 use Rattle.cc_quote.specs.PowershellQuote.{sign_before, powershell_signs, powershell_escaped}
 use Rattle.cc_quote.specs.PowershellTokens.{is_quote_first, powershell_tokens, IsUnquoted}
@@ -15,7 +15,7 @@ use Rattle.cc_quote.proofs.PowershellCutting.{quoted_text, escaped_text}
 use Rattle.cc_tables.specs.PowershellReader.{if_quoted, part, kind_of, between_rows, after_word}
 use Rattle.cc_tables.specs.PowershellReader.{after_kind, step, spelling, tables_begin}
 use Rattle.cc_tables.specs.PowershellReader.{offer_read, powershell_tables}
-use Rattle.cc_tables.specs.PowershellReader.{Place as RowPlace}
+use Rattle.cc_tables.specs.PowershellReader.{RowState}
 use Rattle.cc_tables.specs.PowershellScript.{ResultKind, parameter_name, parameter_value, Row}
 use Rattle.cc_tables.specs.PowershellScript.{details_text, kind_begin, kind_text, list_begin}
 use Rattle.cc_tables.specs.PowershellScript.{offer_row, offer_text, powershell_frame}
@@ -34,22 +34,22 @@ use Rattle.cc_tables.proofs.ScriptReadsBack.{ReadsParts, named_head, script_read
 abbrev spaced_row : Row → Row
 spaced_row row = record row { text = line_feeds_as_spaces row.text }
 
--- no quote stands in the word and in the list text; the other text may be any
+-- no quote is in the word and in the list text; the other text may be any
 pub record IsPowershellRow (row : Row) : Type 0 where
   pub word : IsUnquoted row.word
   pub list : IsUnquoted row.list
 
--- what the reader gives from a state on, where the script is cut from a place on
-abbrev reading : State RowPlace Row → Place → List ℕ → Option (List (Table Row))
-reading state place script = read spelling state (cut place (powershell_signs script))
+-- what the reader gives from a state on, where the script is cut from a state of quotes on
+abbrev reading : State RowState Row → QuoteState → List ℕ → Option (List (Table Row))
+reading state quote script = read spelling state (cut quote (powershell_signs script))
 
 -- within a table, with the rows so far
 abbrev in_rows : List (Table Row) → List ℕ → List Row → List ℕ → Option (List (Table Row))
 in_rows tables name rows script = reading (in_table tables (record { key = name; rows = rows }) between_rows) between script
 
 -- within the row of a table that has a key and rows so far
-abbrev in_row : List (Table Row) → List ℕ → List Row → RowPlace → State RowPlace Row
-in_row tables name rows place = in_table tables (record { key = name; rows = rows }) place
+abbrev in_row : List (Table Row) → List ℕ → List Row → RowState → State RowState Row
+in_row tables name rows state = in_table tables (record { key = name; rows = rows }) state
 
 -- a row gives its word, and the list text is still open
 words_read : (tables : List (Table Row)) (name : List ℕ) (rows : List Row) (row : Row) (rest : List ℕ) → IsPowershellRow row
@@ -107,7 +107,7 @@ end_reads : (tables : List (Table Row)) (name : List ℕ) (rows : List Row) (res
 unfolding powershell_frame sign sign_before powershell_signs cut part step spelling after_step next read
 end_reads tables name rows rest (line tail) = refl
 
--- after the last table stands what ends them
+-- after the last table is what ends them
 tail_reads : (tables : List (Table Row)) → in_tables tables powershell_frame.tail ≡ Some tables
 unfolding powershell_frame sign sign_before powershell_signs cut if_quoted part spelling next tables_of read
 tail_reads tables = refl
@@ -134,8 +134,8 @@ head_reads bin rest h (line tail) =
     ∙ ap (after_words tables_begin) (quoted_text bin (powershell_named.between ++ last) [] (39 ∷ []) [] h)
     ∙ ap (after_words tables_begin) (quoted_text bin (powershell_named.completions ++ rest) [] (39 ∷ []) [] h)
 
--- a script reads back to its tables, with a space for each line feed of a text, where no quote stands
--- in a key, in a word and in a list text
+-- a script reads back to its tables, with a space for each line feed of a text, where no quote
+-- is in a key, in a word and in a list text
 pub powershell_reads_back : (bin : List ℕ) (tables : List (Table Offer)) → IsUnquoted bin
     → AllByRecursion (IsReadable (λ byte. IsTrue (not (is_quote_first byte))) (λ offer. IsPowershellRow (offer_row offer))) tables
     → powershell_tables (script_text powershell_frame offer_text bin tables) ≡ Some (map (table_read offer_read) tables)

@@ -1,4 +1,4 @@
--- The tables that an Elvish script spells: after the bare words `completions`, `=` and `[` stand
+-- The tables that an Elvish script spells: after the bare words `completions`, `=` and `[` are
 -- groups of `&'key'=`, `{`, rows and `}`, up to `]`. A row is `cand`, a bare word and a quoted
 -- text. What follows is not read.
 use Rattle.std.specs.Prelude.{ℕ, List, [], ◌∷◌, ◌&&◌, if◌then◌else◌, Option, bytes_eq, codes}
@@ -15,7 +15,7 @@ use Rattle.cc_tables.specs.TableReader.Step.{goes_on, ends_row, ends_table, fail
 use Rattle.cc_tables.specs.Tables.{Table, tree_tables}
 use Rattle.cc_tables.specs.declared.offers.Offer.{Offer}
 
--- one piece is a word or a text, and a key stands between `&` and `=`
+-- one piece is a word or a text, and a key is between `&` and `=`
 unfoldable pub part : Token → Part (List ℕ)
 part (bare run ∷ []) = word run
 part (quoted _ text ∷ []) = argument text
@@ -24,13 +24,13 @@ part (bare before ∷ quoted _ text ∷ bare after ∷ []) =
 part _ = unknown
 
 -- where the reader is in a table: between two rows, after `cand`, or after the word of a row
-pub data Place : Type 0 where
-  between_rows : Place
-  after_cand : Place
-  after_word : List ℕ → Place
+pub data RowState : Type 0 where
+  between_rows : RowState
+  after_cand : RowState
+  after_word : List ℕ → RowState
 
 -- what a part does there
-unfoldable pub step : Place → Part (List ℕ) → Step Place Row
+unfoldable pub step : RowState → Part (List ℕ) → Step RowState Row
 step between_rows (word run) =
     if bytes_eq run (codes "cand") then goes_on after_cand
     else (if bytes_eq run (codes "}") then ends_table else fails)
@@ -38,7 +38,7 @@ step after_cand (word run) = goes_on (after_word run)
 step (after_word run) (argument text) = ends_row (record { word = run; text = text })
 step _ _ = fails
 
-unfoldable pub spelling : Spelling (List ℕ) Place Row
+unfoldable pub spelling : Spelling (List ℕ) RowState Row
 spelling = record { part = part; between_rows = between_rows; step = step; last_word = codes "]" }
 
 -- the bare words before the tables

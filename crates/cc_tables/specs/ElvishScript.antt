@@ -17,14 +17,14 @@ pub record Row : Type 0 where
 abbrev pub offer_row : Offer → Row
 offer_row offer = record { word = word offer; text = unwrap_or offer.description offer.fallback }
 
--- around the two places of the program's name
+-- around the two occurrences of the program's name
 unfoldable pub elvish_named : Named
 elvish_named = record {
   between = codes "] = {|@words|\n    fn spaces {|n|\n        builtin:repeat $n ' ' | str:join ''\n    }\n    fn cand {|text desc|\n        edit:complex-candidate $text &display=$text' '(spaces (- 14 (wcswidth $text)))$desc\n    }\n    var command = '";
   completions = codes "'\n    for word $words[1..-1] {\n        if (str:has-prefix $word '-') {\n            break\n        }\n        set command = $command';'$word\n    }\n    var completions = [";
 }
 
--- the frame, and what stands around a key and the rows of a table
+-- the frame, and what is around a key and the rows of a table
 unfoldable pub elvish_frame : Frame
 elvish_frame = record {
   head = codes "\nuse builtin;\nuse str;\n\nset edit:completion:arg-completer[";

@@ -19,17 +19,17 @@ lines_from begun (byte ∷ bytes) = elim (byte == line_feed) [
   | false ↦ lines_from (begun ++ byte ∷ []) bytes
 ]
 
--- what stands after this beginning of a text; none where the text begins otherwise
+-- what is after this beginning of a text; none where the text begins otherwise
 unfoldable pub after : List ℕ → List ℕ → Option (List ℕ)
 after [] text = Some text
 after (byte ∷ bytes) [] = None
 after (byte ∷ bytes) (first ∷ text) = if byte == first then after bytes text else None
 
--- what stands before this ending of a text; none where the text ends otherwise
+-- what is before this ending of a text; none where the text ends otherwise
 unfoldable pub before : List ℕ → List ℕ → Option (List ℕ)
 before ending text = option_map (λ rest. reverse rest) (after (reverse ending) (reverse text))
 
--- what stands after the first place where a text holds another; none where it holds it nowhere
+-- what is after the first occurrence where a text holds another; none where it holds it nowhere
 unfoldable pub after_first : List ℕ → List ℕ → Option (List ℕ)
 after_first found [] = None
 after_first found (byte ∷ bytes) = elim (after found (byte ∷ bytes)) [
@@ -53,7 +53,7 @@ after_name [] = []
 after_name (byte ∷ bytes) = if ends_name byte then byte ∷ bytes else after_name bytes
 
 -- the record of a line, without the spaces before it: its name; whether `: string` follows; and
--- what stands after the first ` # `
+-- what is after the first ` # `
 unfoldable pub record_of : List ℕ → Line
 record_of text = record {
   name = name_of text;

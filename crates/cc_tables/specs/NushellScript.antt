@@ -30,7 +30,7 @@ argument_lines takes_value arguments =
 unfoldable pub node_lines : Tree → List Line
 node_lines tree = argument_lines true (options tree.node) ++ argument_lines false (flags tree.node)
 
--- the frame, and what stands around a key and the lines of a block
+-- the frame, and what is around a key and the lines of a block
 unfoldable pub nushell_frame : Frame
 nushell_frame = record {
   head = codes "module completions {\n\n";
@@ -54,7 +54,7 @@ value_text = codes ": string"
 unfoldable pub help_begin : List ℕ
 help_begin = codes " # "
 
--- what stands after a name: an option takes a value
+-- what is after a name: an option takes a value
 unfoldable pub type_text : Bool → List ℕ
 type_text takes_value = if takes_value then value_text else []
 

@@ -1,5 +1,5 @@
 -- The tables that a PowerShell script spells: after the bare words `@(switch`, `($command)` and `{`
--- stand groups of a quoted key, `{`, rows, `break` and `}`, up to the bare word `})`. A row is a
+-- are groups of a quoted key, `{`, rows, `break` and `}`, up to the bare word `})`. A row is a
 -- call `[CompletionResult]::new(` with four arguments and `)`. Every quote is a `'`. What follows
 -- is not read.
 use Rattle.std.specs.Prelude.{ℕ, List, [], ◌∷◌, ◌&&◌, if◌then◌else◌, Option, Some, None, option_map}
@@ -28,7 +28,7 @@ pub data Argument : Type 0 where
 unfoldable pub if_quoted : List ℕ → Part Argument → Part Argument
 if_quoted opening part = if bytes_eq opening (codes "'") then part else unknown
 
--- a key stands alone; the first argument stands between the name of the call and `,`, a further one
+-- a key is alone; the first argument is between the name of the call and `,`, a further one
 -- before `,`, and the last one before `)`
 unfoldable pub part : Token → Part Argument
 part (bare run ∷ []) = word run
@@ -51,15 +51,15 @@ kind_of run =
 
 -- where the reader is in a table: between two rows, after the word, the list text or the kind of a
 -- row, or after `break`
-pub data Place : Type 0 where
-  between_rows : Place
-  after_word : List ℕ → Place
-  after_list : List ℕ → List ℕ → Place
-  after_kind : List ℕ → List ℕ → ResultKind → Place
-  after_break : Place
+pub data RowState : Type 0 where
+  between_rows : RowState
+  after_word : List ℕ → RowState
+  after_list : List ℕ → List ℕ → RowState
+  after_kind : List ℕ → List ℕ → ResultKind → RowState
+  after_break : RowState
 
 -- what a part does there
-unfoldable pub step : Place → Part Argument → Step Place Row
+unfoldable pub step : RowState → Part Argument → Step RowState Row
 step between_rows (argument (first run)) = goes_on (after_word run)
 step between_rows (word run) = if bytes_eq run (codes "break") then goes_on after_break else fails
 step (after_word run) (argument (further list)) = goes_on (after_list run list)
@@ -70,7 +70,7 @@ step (after_kind run list kind) (argument (last text)) =
 step after_break (word run) = if bytes_eq run (codes "}") then ends_table else fails
 step _ _ = fails
 
-unfoldable pub spelling : Spelling Argument Place Row
+unfoldable pub spelling : Spelling Argument RowState Row
 spelling = record { part = part; between_rows = between_rows; step = step; last_word = codes "})" }
 
 -- the bare words before the tables

@@ -47,14 +47,14 @@ offer_row offer = record {
   text = shown_text offer.description offer.fallback;
 }
 
--- around the two places of the program's name
+-- around the two occurrences of the program's name
 unfoldable pub powershell_named : Named
 powershell_named = record {
   between = codes "' -ScriptBlock {\n    param($wordToComplete, $commandAst, $cursorPosition)\n\n    $commandElements = $commandAst.CommandElements\n    $command = @(\n        '";
   completions = codes "'\n        for ($i = 1; $i -lt $commandElements.Count; $i++) {\n            $element = $commandElements[$i]\n            if ($element -isnot [StringConstantExpressionAst] -or\n                $element.StringConstantType -ne [StringConstantType]::BareWord -or\n                $element.Value.StartsWith('-') -or\n                $element.Value -eq $wordToComplete) {\n                break\n        }\n        $element.Value\n    }) -join ';'\n\n    $completions = @(switch ($command) {";
 }
 
--- the frame, and what stands around a key and the rows of a table
+-- the frame, and what is around a key and the rows of a table
 unfoldable pub powershell_frame : Frame
 powershell_frame = record {
   head = codes "\nusing namespace System.Management.Automation\nusing namespace System.Management.Automation.Language\n\nRegister-ArgumentCompleter -Native -CommandName '";

@@ -11,7 +11,7 @@ unfoldable pub named_text : Option Named → List ℕ → List ℕ
 named_text (Some named) bin = bin ++ named.between ++ bin ++ named.completions
 named_text None bin = []
 
--- all that stands before the tables, for the program bin
+-- all that is before the tables, for the program bin
 unfoldable pub head_text : Frame → List ℕ → List ℕ
 head_text frame bin = frame.head ++ named_text frame.named bin
 

@@ -18,7 +18,7 @@ use std::io::ErrorKind;
 
 // ---- the fixed texts
 
-// The frame, and what stands around a key and the rows of a table.
+// The frame, and what is around a key and the rows of a table.
 #[tactic(auto, unfolding(crate::specs::ElvishScript::elvish_frame, crate::specs::ElvishScript::elvish_named))]
 fn frame() -> Frame<'static>
     ensures { result ≡ elvish_frame }

@@ -21,7 +21,7 @@ use std::io::ErrorKind;
 
 // ---- the fixed texts
 
-// The frame, and what stands around a key and the lines of a block.
+// The frame, and what is around a key and the lines of a block.
 #[tactic(auto, unfolding(crate::specs::NushellScript::nushell_frame))]
 fn frame() -> Frame<'static>
     ensures { result ≡ nushell_frame }
@@ -49,7 +49,7 @@ fn line_begin(kind: Kind) -> &'static str
     }
 }
 
-// What stands after a name.
+// What is after a name.
 #[tactic(auto, unfolding(crate::specs::NushellScript::type_text, crate::specs::NushellScript::value_text))]
 fn type_text(takes_value: bool) -> &'static str
     ensures { result.now ≡ type_text takes_value }

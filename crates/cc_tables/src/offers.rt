@@ -129,7 +129,7 @@ fn write_name<R: Rows, W: Sink>(
         ShownName::Short(short) => write_short(rows, argument, short, sink),
         ShownName::Long(long) => {
             let fallback = TextRef::new(argument.get_long().unwrap_or(long.as_str()));
-            let description = described(argument.get_help());
+            let description = help_of(argument.get_help());
             let offer = Offer {
                 kind: Kind::Long,
                 name: long,
@@ -156,13 +156,13 @@ fn write_short<R: Rows, W: Sink>(
     let offer = Offer {
         kind: Kind::Short,
         name: TextRef::new(short.encode_utf8(&mut name)),
-        description: described(argument.get_help()),
+        description: help_of(argument.get_help()),
         fallback: TextRef::new(own.encode_utf8(&mut fallback)),
     };
     rows.write_row(&offer, sink)
 }
 
-fn described<'a>(help: Option<&'a str>) -> Option<TextRef<'a>>
+fn help_of<'a>(help: Option<&'a str>) -> Option<TextRef<'a>>
     ensures { result ≡ option_copied help.entry }
 {
     match help {
@@ -208,7 +208,7 @@ fn write_child_name<R: Rows, W: Sink>(
     let offer = Offer {
         kind: Kind::Subcommand,
         name: TextRef::new(name),
-        description: described(child.get_about()),
+        description: help_of(child.get_about()),
         fallback: TextRef::new(name),
     };
     rows.write_row(&offer, sink)

@@ -20,7 +20,7 @@ use std::io::ErrorKind;
 
 // ---- the fixed texts
 
-// The frame, and what stands around a key and the rows of a table.
+// The frame, and what is around a key and the rows of a table.
 #[tactic(auto, unfolding(crate::specs::PowershellScript::powershell_frame, crate::specs::PowershellScript::powershell_named))]
 fn frame() -> Frame<'static>
     ensures { result ≡ powershell_frame }

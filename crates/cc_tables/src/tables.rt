@@ -45,7 +45,7 @@ impl<'a> Keys for Frame<'a> {
 /// The fixed texts of a script that names the program twice before its tables.
 #[derive(Drop)]
 pub struct Named<'a> {
-    /// Between the two places of the name.
+    /// Between the two occurrences of the name.
     pub between: TextRef<'a>,
     /// From the name to the tables.
     pub completions: TextRef<'a>,

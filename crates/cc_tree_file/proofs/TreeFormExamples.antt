@@ -68,7 +68,7 @@ parent_read : read (codes "{\"subcommands\":[{\"visible_aliases\":[\"r\",\"go\"]
 unfolding serde_json_on_literals
 parent_read = refl
 
--- the children stand in their order, each with the next display order
+-- the children are in their order, each with the next display order
 with_children : command_of parent ≡ Some (record {
   node = record (new_node (codes "app")) { hide = true; next_order = 2 };
   children = more (record (new_node (codes "run")) {

@@ -21,13 +21,13 @@ pub fn read_tree(alloc: Global, bytes: &[u8]) -> Result<Command, TreeError>
     ensures { ReadsTree bytes.now result }
 {
     match std::str::from_utf8(bytes) {
-        Ok(text) => described(alloc, text),
+        Ok(text) => read_command(alloc, text),
         Err(_) => Err(TreeError::NotJson),
     }
 }
 
 // The command that a text describes.
-fn described(alloc: Global, text: &str) -> Result<Command, TreeError>
+fn read_command(alloc: Global, text: &str) -> Result<Command, TreeError>
     ensures { ReadsTree text.now result }
 {
     let mut scratch = Scratch::new(alloc);

@@ -12,7 +12,7 @@ use Rattle.cc_candidates.specs.declared.candidate.CompletionCandidate.{Completio
 use Rattle.cc_candidates.specs.declared.numbers.ArgValueCandidates.{ArgValueCandidates}
 use Rattle.cc_candidates.specs.declared.numbers.ArgValueCompleter.{ArgValueCompleter}
 use Rattle.cc_values.specs.Parts.{front, part}
-use Rattle.cc_values.specs.Values.{Allows, Gathers, Lent, ArgumentValues, as_value, gathered, gathered_by, is_path, question, question_by, question_of_hint, sorted, value_candidate, values}
+use Rattle.cc_values.specs.Values.{Allows, Gathers, Lent, ArgumentValues, as_value, gather, gathered_by, is_path, question, question_by, question_of_hint, sorted, value_candidate, values}
 
 sorted_none : sorted [] ≡ []
 unfolding sorted in_order
@@ -21,7 +21,7 @@ sorted_none = refl
 module _ (lent : Lent) (arg : Arg) (number : ℕ) (text : List ℕ) where
   by_parts : (completer : Option ArgValueCompleter) (list : Option ArgValueCandidates) (values : Option (List PossibleValue)) → arg.completer ≡ completer → arg.candidates ≡ list → possible_values arg ≡ values
       → (answer : List CompletionCandidate) → Allows lent (question_by completer list values arg.value_hint number text) answer → Gathers lent arg number text (gathered_by completer list values text answer)
-  unfolding question gathered
+  unfolding question gather
   by_parts completer list values is_completer is_list is_values answer allowed = (
     answer,
     subst (λ (x : Option ArgValueCompleter × Option ArgValueCandidates × Option (List PossibleValue)). Allows lent (question_by x.0 x.1 x.2 arg.value_hint number text) answer) (λ k. (sym is_completer k, sym is_list k, sym is_values k)) allowed,
@@ -57,5 +57,5 @@ unfolding values
 argument_values lent arg number word before text found result is_before is_text gathers made = (
   gathers.0,
   subst (λ t. Allows lent (question arg number t) gathers.0) is_text gathers.1,
-  made ∙ (λ k. map (as_value (is_before k) (printed arg)) (gathers.2 k)) ∙ ap (λ t. map (as_value (front arg.value_delimiter word) (printed arg)) (gathered arg t gathers.0)) is_text,
+  made ∙ (λ k. map (as_value (is_before k) (printed arg)) (gathers.2 k)) ∙ ap (λ t. map (as_value (front arg.value_delimiter word) (printed arg)) (gather arg t gathers.0)) is_text,
 )

@@ -31,7 +31,7 @@ pub record Lent : Type 1 where
   pub lists : ℕ → List CompletionCandidate → Type 0
   pub finds : ValueHint → List ℕ → List CompletionCandidate → Type 0
 
--- what is lent: completers and closures, lists and closures, each by its place, and a source of
+-- what is lent: completers and closures, lists and closures, each by its index, and a source of
 -- paths
 abbrev pub lent_by : {C F L G : Type 0}
     → (C → ℕ → List ℕ → List CompletionCandidate → Type 0) → List C
@@ -96,14 +96,14 @@ gathered_by None (Some which) values text lent = filter (begins text) lent
 gathered_by None None (Some values) text lent = filter (begins text) (map value_candidate values)
 gathered_by None None None text lent = sorted lent
 
-unfoldable pub gathered : Arg → List ℕ → List CompletionCandidate → List CompletionCandidate
-gathered arg text lent = gathered_by arg.completer arg.candidates (possible_values arg) text lent
+unfoldable pub gather : Arg → List ℕ → List CompletionCandidate → List CompletionCandidate
+gather arg text lent = gathered_by arg.completer arg.candidates (possible_values arg) text lent
 
 -- what an argument offers for a text that holds no delimiter
 abbrev pub Gathers : Lent → Arg → ℕ → List ℕ → List CompletionCandidate → Type 0
 Gathers lent arg number text result =
     (answer : List CompletionCandidate) × Allows lent (question arg number text) answer
-    × (result ≡ gathered arg text answer)
+    × (result ≡ gather arg text answer)
 
 -- a candidate after the earlier values of its word; a missing tag is the printed form
 abbrev pub as_value : List ℕ → List ℕ → CompletionCandidate → CompletionCandidate
@@ -117,7 +117,7 @@ as_value before form candidate =
 -- the values of an argument for a word, where the question is answered by this list
 unfoldable pub values : Arg → List ℕ → List CompletionCandidate → List CompletionCandidate
 values arg word lent = map (as_value (front arg.value_delimiter word) (printed arg))
-    (gathered arg (part arg.value_delimiter word) lent)
+    (gather arg (part arg.value_delimiter word) lent)
 
 -- the values of an argument for a word, as the value of this number
 abbrev pub ArgumentValues : Lent → Arg → List ℕ → ℕ → List CompletionCandidate → Type 0

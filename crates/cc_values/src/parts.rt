@@ -1,7 +1,7 @@
 //! A word of several values.
 
 ghost use Rattle.std.specs.Prelude.{◌≡◌, ◌<◌, length, take, drop};
-ghost use Rattle.cc_values.specs.Parts.{front, last_place, part, through};
+ghost use Rattle.cc_values.specs.Parts.{front, last_position, part, through};
 
 /// A word up to the end of its last delimiter, and what follows. Without a delimiter all follows.
 #[tactic(auto, unfolding(crate::specs::Parts::front_length))]
@@ -16,16 +16,16 @@ pub(crate) fn cut(word: &str, delimiter: Option<char>) -> (&str, &str)
     cut_after(word, delimiter.encode_utf8(&mut buffer))
 }
 
-// A text up to the end of the place where another stands for the last time, and what follows.
+// A text up to the end of the last occurrence of another, and what follows.
 fn cut_after<'a>(text: &'a str, sought: &str) -> (&'a str, &'a str)
     requires { 0 < length sought.now }
     ensures front { result.0.now
-        ≡ take (through sought.now (last_place sought.now text.now)) text.now }
+        ≡ take (through sought.now (last_position sought.now text.now)) text.now }
     ensures part { result.1.now
-        ≡ drop (through sought.now (last_place sought.now text.now)) text.now }
+        ≡ drop (through sought.now (last_position sought.now text.now)) text.now }
 {
     match text.rfind(sought) {
-        Some(place) => text.split_at(place + sought.len()),
+        Some(position) => text.split_at(position + sought.len()),
         None => ("", text),
     }
 }

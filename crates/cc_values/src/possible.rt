@@ -6,7 +6,7 @@ ghost use Rattle.cc_values.specs.Values.{value_candidate};
 
 use cc_arg::PossibleValue;
 use cc_base::Error;
-use cc_candidates::{CompletionCandidate, begins_with, copied};
+use cc_candidates::{CompletionCandidate, begins_with, copy_of_some};
 use std::alloc::{AllocError, Global};
 
 /// A candidate for each value: its name, its help and whether it is hidden, in the values' order.
@@ -72,7 +72,7 @@ pub(crate) fn candidates_beginning(
 fn candidate_of(alloc: Global, value: &PossibleValue) -> Result<CompletionCandidate, AllocError>
     ensures { IfOk result (λ candidate. candidate ≡ value_candidate value.now) }
 {
-    let help = copied(alloc, value.get_help())?;
+    let help = copy_of_some(alloc, value.get_help())?;
     let name = String::from_str(alloc, value.get_name())?;
     Ok(
         CompletionCandidate::new(name)

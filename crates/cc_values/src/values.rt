@@ -11,7 +11,7 @@ use crate::possible::candidates_beginning;
 use cc_arg::{Arg, ValueHint, possible_values};
 use cc_candidates::{
     Completers, CompletionCandidate, FnCandidates, FnCompleter, ValueCandidates, ValueCompleter,
-    beginning,
+    retain_beginning_with,
 };
 use std::alloc::{AllocError, Global};
 
@@ -32,7 +32,7 @@ pub trait PathSource {
 }
 
 /// The candidates for a word that is the value of this number, counted from 0, in one use of an
-/// argument. What stands up to the last delimiter of the word stays before each value, and a
+/// argument. The text up to the last delimiter of the word stays before each value, and a
 /// candidate without a tag gets the printed form of the argument. Fails when an allocation fails.
 pub fn arg_values<P: PathSource>(
     alloc: Global,
@@ -53,12 +53,12 @@ pub fn arg_values<P: PathSource>(
         argument.now word.now number found.items) }
 {
     let (before, part) = cut(word, argument.get_value_delimiter());
-    let found = gathered(alloc, argument, part, number, completers, paths)?;
+    let found = gather(alloc, argument, part, number, completers, paths)?;
     as_values(alloc, argument, before, found)
 }
 
 // The candidates for a text without a delimiter.
-fn gathered<P: PathSource>(
+fn gather<P: PathSource>(
     alloc: Global,
     argument: &Arg,
     part: &str,
@@ -81,7 +81,7 @@ fn gathered<P: PathSource>(
     }
     if let Some(list) = argument.get_candidates() {
         let found = list.candidates(alloc, completers)?;
-        return Ok(beginning(found, part));
+        return Ok(retain_beginning_with(found, part));
     }
     if let Some(values) = possible_values(argument) {
         return candidates_beginning(alloc, values, part);
@@ -172,5 +172,5 @@ fn after(
     if before.is_empty() {
         return Ok(candidate);
     }
-    candidate.prefixed(alloc, before)
+    candidate.with_prefix(alloc, before)
 }

@@ -4,94 +4,94 @@ use Rattle.std.specs.List.{All}
 use Rattle.std.proofs.lemmas.Bool.{cases_Bool, cases_lt, lt-ltb}
 use Rattle.std.proofs.lemmas.List.Elements.{All-nil, All-cons}
 use Rattle.cc_arg.specs.declared.parts.ArgParts.{ArgParts as Arg}
-use Rattle.cc_walk.specs.Blocks.{AreBlocks, BeginsWithNoFollower, BeginsWithNoValues, Block, Dashes, Flag, Follows, IsValueAt, Opened, Values, follows, is_value, is_value_at, join, place_after}
+use Rattle.cc_walk.specs.Blocks.{AreBlocks, BeginsWithNoFollower, BeginsWithNoValues, Block, Dashes, Flag, Follows, IsValueAt, Opened, Values, follows, is_value, is_value_at, join, position_after}
 use Rattle.cc_walk.specs.Lookup.{allows_hyphens_at, greatest, limit, positional_at}
 use Rattle.cc_walk.specs.Signs.{sign_of}
 use Rattle.cc_walk.specs.declared.sign.Sign.{Sign}
 use Rattle.cc_walk.specs.declared.sign.Sign.TheVariants.{Closed, Escape, Opens, Plain, Unknown}
 
-limit_some : (arguments : List Arg) (place : ℕ) → 1 ≤ limit arguments place
+limit_some : (arguments : List Arg) (position : ℕ) → 1 ≤ limit arguments position
 unfolding limit
-limit_some arguments place = elim (positional_at arguments place) as (λ o. 1 ≤ elim o [ None ↦ 1 | Some a ↦ max 1 (greatest a) ]) [ None ↦ omega arith | Some a ↦ omega arith ]
+limit_some arguments position = elim (positional_at arguments position) as (λ o. 1 ≤ elim o [ None ↦ 1 | Some a ↦ max 1 (greatest a) ]) [ None ↦ omega arith | Some a ↦ omega arith ]
 
 -- blocks that spell these words
-record Cut (arguments : List Arg) (place : ℕ) (escaped : Bool) (words : List (List ℕ)) : Type 0 where
+record Cut (arguments : List Arg) (position : ℕ) (escaped : Bool) (words : List (List ℕ)) : Type 0 where
   blocks : List Block
-  are : AreBlocks arguments place escaped blocks
+  are : AreBlocks arguments position escaped blocks
   spell : join blocks ≡ words
 
-record OtherCut (arguments : List Arg) (place : ℕ) (escaped : Bool) (words : List (List ℕ)) : Type 0 where
+record OtherCut (arguments : List Arg) (position : ℕ) (escaped : Bool) (words : List (List ℕ)) : Type 0 where
   blocks : List Block
-  are : AreBlocks arguments place escaped blocks
+  are : AreBlocks arguments position escaped blocks
   spell : join blocks ≡ words
   none : BeginsWithNoValues arguments blocks
 
 -- the values that the option still takes, and the blocks after them
-record OptionCut (arguments : List Arg) (place : ℕ) (a : Arg) (k : ℕ) (words : List (List ℕ)) : Type 0 where
+record OptionCut (arguments : List Arg) (position : ℕ) (a : Arg) (k : ℕ) (words : List (List ℕ)) : Type 0 where
   values : List (List ℕ)
   blocks : List Block
   all : All (Follows arguments a) values
   fits : k + length values ≤ (greatest a)
   next : k + length values < (greatest a) → BeginsWithNoFollower arguments a (join blocks)
-  are : AreBlocks arguments place false blocks
+  are : AreBlocks arguments position false blocks
   spell : values ++ join blocks ≡ words
 
 -- the values that still belong to the run, and the blocks after them
-record RunCut (arguments : List Arg) (place : ℕ) (escaped : Bool) (k : ℕ) (words : List (List ℕ)) : Type 0 where
+record RunCut (arguments : List Arg) (position : ℕ) (escaped : Bool) (k : ℕ) (words : List (List ℕ)) : Type 0 where
   more : List (List ℕ)
   blocks : List Block
-  all : All (IsValueAt arguments place escaped) more
-  fits : k + length more ≤ limit arguments place
-  next : k + length more < limit arguments place → BeginsWithNoValues arguments blocks
-  are : AreBlocks arguments (place_after arguments place (k + length more)) escaped blocks
+  all : All (IsValueAt arguments position escaped) more
+  fits : k + length more ≤ limit arguments position
+  next : k + length more < limit arguments position → BeginsWithNoValues arguments blocks
+  are : AreBlocks arguments (position_after arguments position (k + length more)) escaped blocks
   spell : more ++ join blocks ≡ words
 
 record Cuts (arguments : List Arg) (words : List (List ℕ)) : Type 0 where
-  plain : (place : ℕ) (escaped : Bool) → Cut arguments place escaped words
-  option : (place : ℕ) (a : Arg) (k : ℕ) → k ≤ (greatest a) → OptionCut arguments place a k words
-  run : (place : ℕ) (escaped : Bool) (k : ℕ) → k ≤ limit arguments place → RunCut arguments place escaped k words
+  plain : (position : ℕ) (escaped : Bool) → Cut arguments position escaped words
+  option : (position : ℕ) (a : Arg) (k : ℕ) → k ≤ (greatest a) → OptionCut arguments position a k words
+  run : (position : ℕ) (escaped : Bool) (k : ℕ) → k ≤ limit arguments position → RunCut arguments position escaped k words
 
 cuts_none : (arguments : List Arg) → Cuts arguments []
 cuts_none arguments = record {
-  plain = λ place escaped. record { blocks = []; are = tt; spell = refl };
-  option = λ place a k fits. record { values = []; blocks = []; all = All-nil (Follows arguments a); fits = rw add-zero fits; next = λ h. tt; are = tt; spell = refl };
-  run = λ place escaped k fits. record { more = []; blocks = []; all = All-nil (IsValueAt arguments place escaped); fits = rw add-zero fits; next = λ h. tt; are = tt; spell = refl };
+  plain = λ position escaped. record { blocks = []; are = tt; spell = refl };
+  option = λ position a k fits. record { values = []; blocks = []; all = All-nil (Follows arguments a); fits = rw add-zero fits; next = λ h. tt; are = tt; spell = refl };
+  run = λ position escaped k fits. record { more = []; blocks = []; all = All-nil (IsValueAt arguments position escaped); fits = rw add-zero fits; next = λ h. tt; are = tt; spell = refl };
 }
 
 module _ (arguments : List Arg) (word : List ℕ) (words : List (List ℕ)) (rest : Cuts arguments words) where
-  other_sign : (place : ℕ) (sign : Sign) → sign_of arguments word ≡ sign → is_value (allows_hyphens_at arguments place) sign ≡ false → OtherCut arguments place false (word ∷ words)
-  other_sign place Escape is e = let c = rest.plain place true in record { blocks = Dashes word ∷ c.blocks; are = (refl, is, c.are); spell = ap (λ s. word ∷ s) c.spell; none = tt }
-  other_sign place Plain is e = cc
-  other_sign place Unknown is e = let c = rest.plain place false in record { blocks = Flag word ∷ c.blocks; are = (refl, inr (is, e), c.are); spell = ap (λ s. word ∷ s) c.spell; none = tt }
-  other_sign place Closed is e = let c = rest.plain place false in record { blocks = Flag word ∷ c.blocks; are = (refl, inl is, c.are); spell = ap (λ s. word ∷ s) c.spell; none = tt }
-  other_sign place (Opens a) is e = let c = rest.option place a 0 (omega arith) in record {
+  other_sign : (position : ℕ) (sign : Sign) → sign_of arguments word ≡ sign → is_value (allows_hyphens_at arguments position) sign ≡ false → OtherCut arguments position false (word ∷ words)
+  other_sign position Escape is e = let c = rest.plain position true in record { blocks = Dashes word ∷ c.blocks; are = (refl, is, c.are); spell = ap (λ s. word ∷ s) c.spell; none = tt }
+  other_sign position Plain is e = cc
+  other_sign position Unknown is e = let c = rest.plain position false in record { blocks = Flag word ∷ c.blocks; are = (refl, inr (is, e), c.are); spell = ap (λ s. word ∷ s) c.spell; none = tt }
+  other_sign position Closed is e = let c = rest.plain position false in record { blocks = Flag word ∷ c.blocks; are = (refl, inl is, c.are); spell = ap (λ s. word ∷ s) c.spell; none = tt }
+  other_sign position (Opens a) is e = let c = rest.option position a 0 (omega arith) in record {
     blocks = Opened word a c.values ∷ c.blocks;
     are = (refl, is, c.all, rw zero-add at c.fits, rw zero-add at c.next, c.are);
     spell = ap (λ s. word ∷ s) c.spell;
     none = tt;
   }
 
-  other : (place : ℕ) (escaped : Bool) → is_value_at arguments place escaped word ≡ false → OtherCut arguments place escaped (word ∷ words)
-  other place true e = cc
-  other place false e = other_sign place (sign_of arguments word) refl e
+  other : (position : ℕ) (escaped : Bool) → is_value_at arguments position escaped word ≡ false → OtherCut arguments position escaped (word ∷ words)
+  other position true e = cc
+  other position false e = other_sign position (sign_of arguments word) refl e
 
-  values : (place : ℕ) (escaped : Bool) → IsValueAt arguments place escaped word → Cut arguments place escaped (word ∷ words)
-  values place escaped e = let c = rest.run place escaped 1 (limit_some arguments place) in record {
+  values : (position : ℕ) (escaped : Bool) → IsValueAt arguments position escaped word → Cut arguments position escaped (word ∷ words)
+  values position escaped e = let c = rest.run position escaped 1 (limit_some arguments position) in record {
     blocks = Values word c.more ∷ c.blocks;
     are = (e, c.all, rw one-add at c.fits, rw one-add at c.next, rw one-add at c.are);
     spell = ap (λ s. word ∷ s) c.spell;
   }
 
-  plain : (place : ℕ) (escaped : Bool) → Cut arguments place escaped (word ∷ words)
-  plain place escaped = elim (cases_Bool (is_value_at arguments place escaped word)) [
-    | inl t ↦ values place escaped t
-    | inr f ↦ let c = other place escaped f in record { blocks = c.blocks; are = c.are; spell = c.spell }
+  plain : (position : ℕ) (escaped : Bool) → Cut arguments position escaped (word ∷ words)
+  plain position escaped = elim (cases_Bool (is_value_at arguments position escaped word)) [
+    | inl t ↦ values position escaped t
+    | inr f ↦ let c = other position escaped f in record { blocks = c.blocks; are = c.are; spell = c.spell }
   ]
 
-  option : (place : ℕ) (a : Arg) (k : ℕ) → k ≤ (greatest a) → OptionCut arguments place a k (word ∷ words)
-  option place a k fits = elim (cases_lt k (greatest a)) [
+  option : (position : ℕ) (a : Arg) (k : ℕ) → k ≤ (greatest a) → OptionCut arguments position a k (word ∷ words)
+  option position a k fits = elim (cases_lt k (greatest a)) [
     | inl below ↦ elim (cases_Bool (follows a (sign_of arguments word))) [
-      | inl t ↦ let c = rest.option place a (suc k) (omega arith) in let same : suc k + length c.values ≡ k + suc (length c.values) = omega arith in record {
+      | inl t ↦ let c = rest.option position a (suc k) (omega arith) in let same : suc k + length c.values ≡ k + suc (length c.values) = omega arith in record {
         values = word ∷ c.values;
         blocks = c.blocks;
         all = All-cons (Follows arguments a) word c.values t c.all;
@@ -100,7 +100,7 @@ module _ (arguments : List Arg) (word : List ℕ) (words : List (List ℕ)) (res
         are = c.are;
         spell = ap (λ s. word ∷ s) c.spell;
       }
-      | inr f ↦ let c = plain place false in record {
+      | inr f ↦ let c = plain position false in record {
         values = [];
         blocks = c.blocks;
         all = All-nil (Follows arguments a);
@@ -110,7 +110,7 @@ module _ (arguments : List Arg) (word : List ℕ) (words : List (List ℕ)) (res
         spell = c.spell;
       }
     ]
-    | inr full ↦ let c = plain place false in record {
+    | inr full ↦ let c = plain position false in record {
       values = [];
       blocks = c.blocks;
       all = All-nil (Follows arguments a);
@@ -121,32 +121,32 @@ module _ (arguments : List Arg) (word : List ℕ) (words : List (List ℕ)) (res
     }
   ]
 
-  more : (place : ℕ) (escaped : Bool) (k : ℕ) → k ≤ limit arguments place → RunCut arguments place escaped k (word ∷ words)
-  more place escaped k fits = elim (cases_lt k (limit arguments place)) [
-    | inl below ↦ elim (cases_Bool (is_value_at arguments place escaped word)) [
-      | inl t ↦ let c = rest.run place escaped (suc k) (omega arith) in let same : suc k + length c.more ≡ k + suc (length c.more) = omega arith in record {
+  more : (position : ℕ) (escaped : Bool) (k : ℕ) → k ≤ limit arguments position → RunCut arguments position escaped k (word ∷ words)
+  more position escaped k fits = elim (cases_lt k (limit arguments position)) [
+    | inl below ↦ elim (cases_Bool (is_value_at arguments position escaped word)) [
+      | inl t ↦ let c = rest.run position escaped (suc k) (omega arith) in let same : suc k + length c.more ≡ k + suc (length c.more) = omega arith in record {
         more = word ∷ c.more;
         blocks = c.blocks;
-        all = All-cons (IsValueAt arguments place escaped) word c.more t c.all;
+        all = All-cons (IsValueAt arguments position escaped) word c.more t c.all;
         fits = rw same at c.fits;
         next = rw same at c.next;
         are = rw same at c.are;
         spell = ap (λ s. word ∷ s) c.spell;
       }
-      | inr f ↦ let c = other place escaped f in record {
+      | inr f ↦ let c = other position escaped f in record {
         more = [];
         blocks = c.blocks;
-        all = All-nil (IsValueAt arguments place escaped);
+        all = All-nil (IsValueAt arguments position escaped);
         fits = omega arith;
         next = λ h. c.none;
-        are = rw (add-zero, lt-ltb k (limit arguments place) below) c.are;
+        are = rw (add-zero, lt-ltb k (limit arguments position) below) c.are;
         spell = c.spell;
       }
     ]
-    | inr full ↦ let c = plain (place_after arguments place k) escaped in record {
+    | inr full ↦ let c = plain (position_after arguments position k) escaped in record {
       more = [];
       blocks = c.blocks;
-      all = All-nil (IsValueAt arguments place escaped);
+      all = All-nil (IsValueAt arguments position escaped);
       fits = omega arith;
       next = λ h. absurd (omega arith);
       are = rw add-zero c.are;
@@ -159,5 +159,5 @@ cuts arguments [] = cuts_none arguments
 cuts arguments (word ∷ words) = let rest = cuts arguments words in record { plain = plain arguments word words rest; option = option arguments word words rest; run = more arguments word words rest }
 
 -- EVERY TAIL HAS BLOCKS
-pub blocks_exist : (arguments : List Arg) (place : ℕ) (escaped : Bool) (words : List (List ℕ)) → (bs : List Block) × AreBlocks arguments place escaped bs × (join bs ≡ words)
-blocks_exist arguments place escaped words = let c = (cuts arguments words).plain place escaped in (c.blocks, c.are, c.spell)
+pub blocks_exist : (arguments : List Arg) (position : ℕ) (escaped : Bool) (words : List (List ℕ)) → (bs : List Block) × AreBlocks arguments position escaped bs × (join bs ≡ words)
+blocks_exist arguments position escaped words = let c = (cuts arguments words).plain position escaped in (c.blocks, c.are, c.spell)

@@ -6,7 +6,7 @@ use Rattle.cc_arg.specs.Arguments.{exactly, new_arg}
 use Rattle.cc_command.specs.Tree.{Tree}
 use Rattle.cc_command.specs.Made.{new_tree, with_argument, with_child}
 use Rattle.cc_walk.specs.declared.state.Pending.{Pending}
-use Rattle.cc_walk.specs.declared.state.Pending.TheVariants.{OptionOpen, PlaceMoved, Nothing, PositionalRun}
+use Rattle.cc_walk.specs.declared.state.Pending.TheVariants.{OptionOpen, PositionMoved, Nothing, PositionalRun}
 use Rattle.cc_walk.specs.Lookup.{allows_hyphens_at, limit, positional_at}
 use Rattle.cc_walk.specs.Machine.{Stand}
 use Rattle.cc_walk.specs.Signs.{sign_of}
@@ -19,13 +19,13 @@ abbrev option : List ℕ → Arg
 option name = record (new_arg name) { long = Some name; display_order = Some 0 }
 
 abbrev positional : ℕ → Arg
-positional place = record (new_arg (codes "values")) { index = Some place }
+positional position = record (new_arg (codes "values")) { index = Some position }
 
 abbrev stand : Tree → ℕ → Pending → Stand
-stand tree place pending = record { tree = tree; state = record { place = place; escaped = false; pending = pending } }
+stand tree position pending = record { tree = tree; state = record { position = position; escaped = false; pending = pending } }
 
 abbrev escaped_stand : Tree → ℕ → Pending → Stand
-escaped_stand tree place pending = record { tree = tree; state = record { place = place; escaped = true; pending = pending } }
+escaped_stand tree position pending = record { tree = tree; state = record { position = position; escaped = true; pending = pending } }
 
 -- `test`, with a visible and a hidden alias
 abbrev test : Tree
@@ -127,13 +127,13 @@ run_is_left : walked two (codes "a" ∷ codes "--" ∷ []) ≡ escaped_stand two
 unfolding sign_of limit positional_at
 run_is_left = refl
 
-moved : walked two (codes "--" ∷ codes "a" ∷ codes "b" ∷ []) ≡ escaped_stand two 2 PlaceMoved
+moved : walked two (codes "--" ∷ codes "a" ∷ codes "b" ∷ []) ≡ escaped_stand two 2 PositionMoved
 unfolding sign_of limit positional_at
 moved = refl
 
-place_without_values : walked two (codes "a" ∷ codes "b" ∷ codes "c" ∷ []) ≡ stand two 3 Nothing
+position_without_values : walked two (codes "a" ∷ codes "b" ∷ codes "c" ∷ []) ≡ stand two 3 Nothing
 unfolding sign_of limit positional_at
-place_without_values = refl
+position_without_values = refl
 
 -- an option that takes words with hyphens leaves `--` alone
 abbrev greedy : Tree

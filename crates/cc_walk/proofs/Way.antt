@@ -19,19 +19,19 @@ use Rattle.cc_walk.specs.Signs.{sign_of}
 use Rattle.cc_walk.specs.declared.sign.Sign.{Sign}
 use Rattle.cc_walk.specs.declared.sign.Sign.TheVariants.{Closed, Escape, Opens, Plain, Unknown}
 use Rattle.cc_walk.specs.declared.state.Pending.{Pending}
-use Rattle.cc_walk.specs.declared.state.Pending.TheVariants.{OptionOpen, PlaceMoved, Nothing, PositionalRun}
+use Rattle.cc_walk.specs.declared.state.Pending.TheVariants.{OptionOpen, PositionMoved, Nothing, PositionalRun}
 use Rattle.cc_walk.specs.declared.state.State.{State}
 use Rattle.cc_walk.proofs.Cut.{run_blocks, fresh_nothing}
 
-value_escaped : (arguments : List Arg) (place : ℕ) (escaped : Bool) (k : ℕ) → (value_state arguments place escaped k).escaped ≡ escaped
-value_escaped arguments place escaped k = elim (cases_Bool (ltb (suc k) (limit arguments place))) [ inl t ↦ rw t refl | inr f ↦ rw f refl ]
+value_escaped : (arguments : List Arg) (position : ℕ) (escaped : Bool) (k : ℕ) → (value_state arguments position escaped k).escaped ≡ escaped
+value_escaped arguments position escaped k = elim (cases_Bool (ltb (suc k) (limit arguments position))) [ inl t ↦ rw t refl | inr f ↦ rw f refl ]
 
-closed_escaped : (arguments : List Arg) (place values : ℕ) (sign : Sign) → (closed_step arguments place values sign).escaped ≡ is_escape_sign sign
-closed_escaped arguments place values Escape = refl
-closed_escaped arguments place values (Opens a) = refl
-closed_escaped arguments place values Closed = refl
-closed_escaped arguments place values Plain = value_escaped arguments place false values
-closed_escaped arguments place values Unknown = elim (cases_Bool (allows_hyphens_at arguments place)) [ inl t ↦ rw t (value_escaped arguments place false values) | inr f ↦ rw f refl ]
+closed_escaped : (arguments : List Arg) (position values : ℕ) (sign : Sign) → (closed_step arguments position values sign).escaped ≡ is_escape_sign sign
+closed_escaped arguments position values Escape = refl
+closed_escaped arguments position values (Opens a) = refl
+closed_escaped arguments position values Closed = refl
+closed_escaped arguments position values Plain = value_escaped arguments position false values
+closed_escaped arguments position values Unknown = elim (cases_Bool (allows_hyphens_at arguments position)) [ inl t ↦ rw t (value_escaped arguments position false values) | inr f ↦ rw f refl ]
 
 follows_escaped : (a : Arg) (sign : Sign) → follows a sign ≡ true → false ≡ is_escape_sign sign
 follows_escaped a Escape e = cc
@@ -40,29 +40,29 @@ follows_escaped a (Opens b) e = refl
 follows_escaped a Closed e = refl
 follows_escaped a Unknown e = refl
 
-open_escaped : (arguments : List Arg) (place : ℕ) (a : Arg) (value : ℕ) (sign : Sign) → (open_step arguments place a value sign).escaped ≡ is_escape_sign sign
-open_escaped arguments place a value sign = elim (cases_Bool (follows a sign)) [ inl t ↦ rw t (follows_escaped a sign t) | inr f ↦ rw f (closed_escaped arguments place 0 sign) ]
+open_escaped : (arguments : List Arg) (position : ℕ) (a : Arg) (value : ℕ) (sign : Sign) → (open_step arguments position a value sign).escaped ≡ is_escape_sign sign
+open_escaped arguments position a value sign = elim (cases_Bool (follows a sign)) [ inl t ↦ rw t (follows_escaped a sign t) | inr f ↦ rw f (closed_escaped arguments position 0 sign) ]
 
-step_escaped : (arguments : List Arg) (place : ℕ) (escaped : Bool) (pending : Pending) (sign : Sign) → (step arguments place escaped pending sign).escaped ≡ (escaped || is_escape_sign sign)
-step_escaped arguments place true pending sign = value_escaped arguments place true (run_length pending)
-step_escaped arguments place false (OptionOpen a value) sign = open_escaped arguments place a value sign
-step_escaped arguments place false Nothing sign = closed_escaped arguments place 0 sign
-step_escaped arguments place false (PositionalRun values) sign = closed_escaped arguments place values sign
-step_escaped arguments place false PlaceMoved sign = closed_escaped arguments place 0 sign
+step_escaped : (arguments : List Arg) (position : ℕ) (escaped : Bool) (pending : Pending) (sign : Sign) → (step arguments position escaped pending sign).escaped ≡ (escaped || is_escape_sign sign)
+step_escaped arguments position true pending sign = value_escaped arguments position true (run_length pending)
+step_escaped arguments position false (OptionOpen a value) sign = open_escaped arguments position a value sign
+step_escaped arguments position false Nothing sign = closed_escaped arguments position 0 sign
+step_escaped arguments position false (PositionalRun values) sign = closed_escaped arguments position values sign
+step_escaped arguments position false PositionMoved sign = closed_escaped arguments position 0 sign
 
-escaped_more : (arguments : List Arg) (state : State) (word : List ℕ) → (step arguments state.place state.escaped state.pending (sign_of arguments word)).escaped ≡ (state.escaped || bytes_eq word (codes "--"))
+escaped_more : (arguments : List Arg) (state : State) (word : List ℕ) → (step arguments state.position state.escaped state.pending (sign_of arguments word)).escaped ≡ (state.escaped || bytes_eq word (codes "--"))
 escaped_more arguments state word =
-    step_escaped arguments state.place state.escaped state.pending (sign_of arguments word)
+    step_escaped arguments state.position state.escaped state.pending (sign_of arguments word)
     ∙ ap (λ b. state.escaped || b) (sign_escapes arguments word)
 
 run_escaped : (arguments : List Arg) (words : List (List ℕ)) (state : State) → (run arguments state words).escaped ≡ (state.escaped || contains_name words (codes "--"))
 run_escaped arguments [] state = sym (or-false state.escaped)
 run_escaped arguments (word ∷ words) state =
-    run_escaped arguments words (step arguments state.place state.escaped state.pending (sign_of arguments word))
+    run_escaped arguments words (step arguments state.position state.escaped state.pending (sign_of arguments word))
     ∙ ap (λ b. b || contains_name words (codes "--")) (escaped_more arguments state word)
     ∙ or_assoc state.escaped (bytes_eq word (codes "--")) (contains_name words (codes "--"))
 
-stands : (tree : Tree) (state : State) (word : List ℕ) → find_child tree.children word ≡ None → stand_step (record { tree = tree; state = state }) word ≡ record { tree = tree; state = step tree.node.arguments state.place state.escaped state.pending (sign_of tree.node.arguments word) }
+stands : (tree : Tree) (state : State) (word : List ℕ) → find_child tree.children word ≡ None → stand_step (record { tree = tree; state = state }) word ≡ record { tree = tree; state = step tree.node.arguments state.position state.escaped state.pending (sign_of tree.node.arguments word) }
 stands tree state word e = ap (entered (record { tree = tree; state = state }) word) e
 
 descends : (tree child : Tree) (state : State) (word : List ℕ) → find_child tree.children word ≡ Some child → stand_step (record { tree = tree; state = state }) word ≡ record { tree = child; state = start state.escaped }
@@ -72,9 +72,9 @@ walk_skipped : (tree : Tree) (words rest : List (List ℕ)) (state : State) → 
 walk_skipped tree [] rest state all = refl
 walk_skipped tree (word ∷ words) rest state all =
     ap (λ s. walk s (words ++ rest)) (stands tree state word (All-head (NamesNoChild tree) word words all))
-    ∙ walk_skipped tree words rest (step tree.node.arguments state.place state.escaped state.pending (sign_of tree.node.arguments word)) (All-tail (NamesNoChild tree) word words all)
+    ∙ walk_skipped tree words rest (step tree.node.arguments state.position state.escaped state.pending (sign_of tree.node.arguments word)) (All-tail (NamesNoChild tree) word words all)
 
--- the walk stands at the last node, in the state after the tail
+-- the walk is at the last node, in the state after the tail
 pub walk_reach : {tree last : Tree} {words tail : List (List ℕ)} {before : Bool} → Reach tree words last tail before → (escaped : Bool) → walk (record { tree = tree; state = start escaped }) words ≡ record { tree = last; state = run last.node.arguments (start (escaped || before)) tail }
 walk_reach {tree} {last} {words} (Stay all) escaped =
     ap (λ s. walk (record { tree = tree; state = start escaped }) s) (sym (append-nil words))

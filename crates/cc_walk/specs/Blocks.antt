@@ -4,7 +4,7 @@ use Rattle.std.specs.List.{All}
 use Rattle.cc_arg.specs.declared.parts.ArgParts.{ArgParts as Arg}
 use Rattle.cc_walk.specs.declared.sign.Sign.{Sign}
 use Rattle.cc_walk.specs.declared.sign.Sign.TheVariants.{Escape, Opens, Unknown, Closed, Plain}
-use Rattle.cc_walk.specs.declared.state.Pending.TheVariants.{Nothing, OptionOpen, PositionalRun, PlaceMoved}
+use Rattle.cc_walk.specs.declared.state.Pending.TheVariants.{Nothing, OptionOpen, PositionalRun, PositionMoved}
 use Rattle.cc_walk.specs.declared.state.State.{State}
 use Rattle.cc_walk.specs.Lookup.{greatest, limit, allows_hyphens_at}
 use Rattle.cc_walk.specs.Signs.{sign_of}
@@ -17,7 +17,7 @@ follows option (Opens other) = option.allow_hyphen_values
 follows option Unknown = option.allow_hyphen_values
 follows option Closed = option.allow_hyphen_values
 
--- an unescaped word that is a positional value, by whether the place allows hyphens
+-- an unescaped word that is a positional value, by whether the position allows hyphens
 abbrev pub is_value : Bool → Sign → Bool
 is_value hyphens Escape = false
 is_value hyphens Plain = true
@@ -30,7 +30,7 @@ pub data Block : Type 0 where
   Dashes : List ℕ → Block
   -- O(option, k): an opener and k values
   Opened : (opener : List ℕ) (option : Arg) (values : List (List ℕ)) → Block
-  -- P(place, k): k values of the place
+  -- P(position, k): k values of the position
   Values : (first : List ℕ) (more : List (List ℕ)) → Block
   -- F: any other unescaped word
   Flag : List ℕ → Block
@@ -50,11 +50,11 @@ module _ (arguments : List Arg) where
   Follows option word = follows option (sign_of arguments word) ≡ true
 
   abbrev pub is_value_at : ℕ → Bool → List ℕ → Bool
-  is_value_at place escaped word =
-      escaped || is_value (allows_hyphens_at arguments place) (sign_of arguments word)
+  is_value_at position escaped word =
+      escaped || is_value (allows_hyphens_at arguments position) (sign_of arguments word)
 
   abbrev pub IsValueAt : ℕ → Bool → List ℕ → Type 0
-  IsValueAt place escaped word = is_value_at place escaped word ≡ true
+  IsValueAt position escaped word = is_value_at position escaped word ≡ true
 
   -- the next of the words, if there is one, is none that the option takes
   abbrev pub BeginsWithNoFollower : Arg → List (List ℕ) → Type 0
@@ -68,61 +68,61 @@ module _ (arguments : List Arg) where
   BeginsWithNoValues (Opened opener option values ∷ bs) = Unit {0}
   BeginsWithNoValues (Flag word ∷ bs) = Unit {0}
 
-  -- the place after k values of a place
-  abbrev pub place_after : ℕ → ℕ → ℕ
-  place_after place k = if nat_lt k (limit arguments place) then place else place + 1
+  -- the position after k values of a position
+  abbrev pub position_after : ℕ → ℕ → ℕ
+  position_after position k = if nat_lt k (limit arguments position) then position else position + 1
 
-  -- the blocks stand side by side, from this place on
+  -- the blocks are side by side, from this position on
   abbrev pub AreBlocks : ℕ → Bool → List Block → Type 0
-  AreBlocks place escaped [] = Unit {0}
-  AreBlocks place escaped (Dashes word ∷ bs) =
+  AreBlocks position escaped [] = Unit {0}
+  AreBlocks position escaped (Dashes word ∷ bs) =
       (escaped ≡ false)
       × (sign_of arguments word ≡ Escape)
-      × AreBlocks place true bs
-  AreBlocks place escaped (Opened opener option values ∷ bs) =
+      × AreBlocks position true bs
+  AreBlocks position escaped (Opened opener option values ∷ bs) =
       (escaped ≡ false)
       × (sign_of arguments opener ≡ Opens option)
       × All (Follows option) values
       × (length values ≤ greatest option)
       × (length values < greatest option → BeginsWithNoFollower option (join bs))
-      × AreBlocks place false bs
-  AreBlocks place escaped (Values first more ∷ bs) =
-      IsValueAt place escaped first
-      × All (IsValueAt place escaped) more
-      × (suc (length more) ≤ limit arguments place)
-      × (suc (length more) < limit arguments place → BeginsWithNoValues bs)
-      × AreBlocks (place_after place (suc (length more))) escaped bs
-  AreBlocks place escaped (Flag word ∷ bs) =
+      × AreBlocks position false bs
+  AreBlocks position escaped (Values first more ∷ bs) =
+      IsValueAt position escaped first
+      × All (IsValueAt position escaped) more
+      × (suc (length more) ≤ limit arguments position)
+      × (suc (length more) < limit arguments position → BeginsWithNoValues bs)
+      × AreBlocks (position_after position (suc (length more))) escaped bs
+  AreBlocks position escaped (Flag word ∷ bs) =
       (escaped ≡ false)
       × ((sign_of arguments word ≡ Closed) ⊎
-      ((sign_of arguments word ≡ Unknown) × (allows_hyphens_at arguments place ≡ false)))
-      × AreBlocks place false bs
+      ((sign_of arguments word ≡ Unknown) × (allows_hyphens_at arguments position ≡ false)))
+      × AreBlocks position false bs
 
 -- where a node's words begin
 abbrev pub start : Bool → State
-start escaped = record { place = 1; escaped = escaped; pending = Nothing }
+start escaped = record { position = 1; escaped = escaped; pending = Nothing }
 
 -- the state after one block
 abbrev pub after_block : List Arg → ℕ → Bool → Block → State
-after_block arguments place escaped (Dashes word) =
-    record { place = place; escaped = true; pending = Nothing }
-after_block arguments place escaped (Opened opener option values) = record {
-  place = place;
+after_block arguments position escaped (Dashes word) =
+    record { position = position; escaped = true; pending = Nothing }
+after_block arguments position escaped (Opened opener option values) = record {
+  position = position;
   escaped = escaped;
   pending = if nat_lt (length values) (greatest option) then OptionOpen option (length values)
       else Nothing;
 }
-after_block arguments place escaped (Values first more) = record {
-  place = place_after arguments place (suc (length more));
+after_block arguments position escaped (Values first more) = record {
+  position = position_after arguments position (suc (length more));
   escaped = escaped;
-  pending = if nat_lt (suc (length more)) (limit arguments place)
-      then PositionalRun (suc (length more)) else if escaped then PlaceMoved else Nothing;
+  pending = if nat_lt (suc (length more)) (limit arguments position)
+      then PositionalRun (suc (length more)) else if escaped then PositionMoved else Nothing;
 }
-after_block arguments place escaped (Flag word) =
-    record { place = place; escaped = escaped; pending = Nothing }
+after_block arguments position escaped (Flag word) =
+    record { position = position; escaped = escaped; pending = Nothing }
 
 -- the last block tells what is pending
 abbrev pub state_after : List Arg → State → List Block → State
 state_after arguments state [] = state
 state_after arguments state (b ∷ bs) =
-    state_after arguments (after_block arguments state.place state.escaped b) bs
+    state_after arguments (after_block arguments state.position state.escaped b) bs

@@ -1,11 +1,11 @@
--- Where the words before the index stand.
+-- Where the words before the index are.
 use Rattle.std.specs.Prelude.{ℕ, List, Bool, ◌≡◌}
 use Rattle.cc_command.specs.Tree.{Tree}
 use Rattle.cc_walk.specs.declared.state.State.{State}
 use Rattle.cc_walk.specs.Reach.{Reach}
 use Rattle.cc_walk.specs.Blocks.{Block, AreBlocks, join, start, state_after}
 
--- the words lead from the root to this tree, and what stands after the last descent is the join of
+-- the words lead from the root to this tree, and what is after the last descent is the join of
 -- blocks that tell the state there
 pub record IsLine (root : Tree) (words : List (List ℕ)) (tree : Tree) (state : State) : Type 0 where
   pub tail : List (List ℕ)

@@ -6,7 +6,7 @@ use Rattle.cc_command.specs.Names.{find_child}
 use Rattle.cc_walk.specs.declared.sign.Sign.{Sign}
 use Rattle.cc_walk.specs.declared.sign.Sign.TheVariants.{Escape, Opens, Unknown, Closed, Plain}
 use Rattle.cc_walk.specs.declared.state.Pending.{Pending}
-use Rattle.cc_walk.specs.declared.state.Pending.TheVariants.{Nothing, OptionOpen, PositionalRun, PlaceMoved}
+use Rattle.cc_walk.specs.declared.state.Pending.TheVariants.{Nothing, OptionOpen, PositionalRun, PositionMoved}
 use Rattle.cc_walk.specs.declared.state.State.{State}
 use Rattle.cc_walk.specs.Lookup.{greatest, limit, allows_hyphens_at}
 use Rattle.cc_walk.specs.Signs.{sign_of}
@@ -17,24 +17,24 @@ abbrev pub run_length : Pending → ℕ
 run_length Nothing = 0
 run_length (OptionOpen option values) = 0
 run_length (PositionalRun values) = values
-run_length PlaceMoved = 0
+run_length PositionMoved = 0
 
--- one more value at the place, after a run of so many
+-- one more value at the position, after a run of so many
 abbrev pub value_state : List Arg → ℕ → Bool → ℕ → State
-value_state arguments place escaped values = if nat_lt (suc values) (limit arguments place)
-    then record { place = place; escaped = escaped; pending = PositionalRun (suc values) }
+value_state arguments position escaped values = if nat_lt (suc values) (limit arguments position)
+    then record { position = position; escaped = escaped; pending = PositionalRun (suc values) }
     else record {
-      place = place + 1;
+      position = position + 1;
       escaped = escaped;
-      pending = if escaped then PlaceMoved
+      pending = if escaped then PositionMoved
           else Nothing;
     }
 
 -- after so many values of an open option
 abbrev pub option_state : ℕ → Arg → ℕ → State
-option_state place option values =
+option_state position option values =
     record {
-      place = place;
+      position = position;
       escaped = false;
       pending = if nat_lt values (greatest option)
           then OptionOpen option values else Nothing;
@@ -42,36 +42,36 @@ option_state place option values =
 
 -- an unescaped word that no option takes
 abbrev pub closed_step : List Arg → ℕ → ℕ → Sign → State
-closed_step arguments place values Escape =
-    record { place = place; escaped = true; pending = Nothing }
-closed_step arguments place values (Opens option) =
-    record { place = place; escaped = false; pending = OptionOpen option 0 }
-closed_step arguments place values Closed =
-    record { place = place; escaped = false; pending = Nothing }
-closed_step arguments place values Unknown =
-    if allows_hyphens_at arguments place then value_state arguments place false values
-    else record { place = place; escaped = false; pending = Nothing }
-closed_step arguments place values Plain = value_state arguments place false values
+closed_step arguments position values Escape =
+    record { position = position; escaped = true; pending = Nothing }
+closed_step arguments position values (Opens option) =
+    record { position = position; escaped = false; pending = OptionOpen option 0 }
+closed_step arguments position values Closed =
+    record { position = position; escaped = false; pending = Nothing }
+closed_step arguments position values Unknown =
+    if allows_hyphens_at arguments position then value_state arguments position false values
+    else record { position = position; escaped = false; pending = Nothing }
+closed_step arguments position values Plain = value_state arguments position false values
 
 -- an unescaped word while an option is open
 abbrev pub open_step : List Arg → ℕ → Arg → ℕ → Sign → State
-open_step arguments place option values sign =
-    if follows option sign then option_state place option (suc values)
-    else closed_step arguments place 0 sign
+open_step arguments position option values sign =
+    if follows option sign then option_state position option (suc values)
+    else closed_step arguments position 0 sign
 
 -- one word further at a node
 abbrev pub step : List Arg → ℕ → Bool → Pending → Sign → State
-step arguments place true pending sign = value_state arguments place true (run_length pending)
-step arguments place false (OptionOpen option values) sign =
-    open_step arguments place option values sign
-step arguments place false Nothing sign = closed_step arguments place 0 sign
-step arguments place false (PositionalRun values) sign = closed_step arguments place values sign
-step arguments place false PlaceMoved sign = closed_step arguments place 0 sign
+step arguments position true pending sign = value_state arguments position true (run_length pending)
+step arguments position false (OptionOpen option values) sign =
+    open_step arguments position option values sign
+step arguments position false Nothing sign = closed_step arguments position 0 sign
+step arguments position false (PositionalRun values) sign = closed_step arguments position values sign
+step arguments position false PositionMoved sign = closed_step arguments position 0 sign
 
 abbrev pub run : List Arg → State → List (List ℕ) → State
 run arguments state [] = state
 run arguments state (word ∷ words) =
-    run arguments (step arguments state.place state.escaped state.pending
+    run arguments (step arguments state.position state.escaped state.pending
     (sign_of arguments word)) words
 
 -- a node and the state there
@@ -84,7 +84,7 @@ entered stand word (Some child) = record { tree = child; state = start stand.sta
 entered stand word None =
     record {
       tree = stand.tree;
-      state = step stand.tree.node.arguments stand.state.place stand.state.escaped stand.state.pending (sign_of stand.tree.node.arguments word);
+      state = step stand.tree.node.arguments stand.state.position stand.state.escaped stand.state.pending (sign_of stand.tree.node.arguments word);
     }
 
 -- a word that names a child leads down, whatever is pending

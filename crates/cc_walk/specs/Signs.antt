@@ -1,4 +1,4 @@
--- What a word is to a node with these arguments, whatever stands before it.
+-- What a word is to a node with these arguments, whatever is before it.
 use Rattle.std.specs.Prelude.{ℕ, List, [], ◌∷◌, ◌&&◌, Bool, not, Option, Some, None, find, encode_utf8_all, if◌then◌else◌}
 use Rattle.cc_arg.specs.declared.parts.ArgParts.{ArgParts as Arg}
 use Rattle.cc_arg.specs.Arguments.{takes_values}
@@ -28,7 +28,7 @@ value_character arguments [] = None
 value_character arguments (c ∷ cs) =
     character_value (value_argument arguments c) cs (value_character arguments cs)
 
--- an option is opened where its character stands last
+-- an option is opened where its character is last
 abbrev pub last_sign : Arg → List ℕ → Sign
 last_sign argument [] = Opens argument
 last_sign argument (b ∷ bs) = Closed

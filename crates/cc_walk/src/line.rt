@@ -21,7 +21,7 @@ pub struct Line<'a> {
 
 /// Where the words lead from the root of the tree.
 ///
-/// A word that names a child, by its name or an alias, leads to the child, whatever stands before
+/// A word that names a child, by its name or an alias, leads to the child, whatever is before
 /// it. All other words after the last such word belong to the node that is reached. Allocates
 /// nothing; a word takes time that grows with the names of the node's children and with the count
 /// of its arguments.
@@ -54,7 +54,7 @@ impl<'a> Line<'a> {
     fn advance(self, flat: &Flat<'a>, word: &str) -> Line<'a>
         requires flat { IsFlat flat.now }
         requires node { self.node < length flat.now }
-        requires place { self.state.place < usize.MAX }
+        requires position { self.state.position < usize.MAX }
         ensures within { result.node < length flat.now }
         ensures stands { stand_of flat.now result
             ≡ stand_step (stand_of flat.now self.entry) word.now }

@@ -1,4 +1,4 @@
-//! Arguments of a node, found by a long, a short or a place.
+//! Arguments of a node, found by a long, a short or a position.
 
 ghost use Rattle.std.specs.Prelude.{◌≡◌, ◌<◌, find, ◌==◌};
 ghost use Rattle.std.specs.Option.{option_copied};
@@ -48,10 +48,10 @@ pub fn has_short(argument: &Arg, character: char) -> bool
     }
 }
 
-fn is_at(argument: &Arg, place: usize) -> bool
-    ensures { result ≡ is_at place argument.now }
+fn is_at(argument: &Arg, position: usize) -> bool
+    ensures { result ≡ is_at position argument.now }
 {
-    argument.is_positional() && argument.get_index() == Some(place)
+    argument.is_positional() && argument.get_index() == Some(position)
 }
 
 /// The first argument with this long or with a visible alias of its long.
@@ -100,30 +100,30 @@ pub(crate) fn greatest(argument: &Arg) -> usize
 
 /// The first positional with this index.
 #[tactic(auto, unfolding(crate::specs::Lookup::positional_at))]
-pub fn positional_at(arguments: &[Arg], place: usize) -> Option<&Arg>
-    ensures { option_copied result ≡ positional_at arguments.now place }
+pub fn positional_at(arguments: &[Arg], position: usize) -> Option<&Arg>
+    ensures { option_copied result ≡ positional_at arguments.now position }
 {
-    arguments.iter().find(|argument| is_at(argument, place))
+    arguments.iter().find(|argument| is_at(argument, position))
 }
 
-/// How many values the place holds.
+/// How many values the position holds.
 #[tactic(auto, unfolding(crate::specs::Lookup::limit))]
-pub(crate) fn limit(arguments: &[Arg], place: usize) -> usize
-    ensures value { result ≡ limit arguments.now place }
+pub(crate) fn limit(arguments: &[Arg], position: usize) -> usize
+    ensures value { result ≡ limit arguments.now position }
     ensures some { 0 < result }
 {
-    match positional_at(arguments, place) {
+    match positional_at(arguments, position) {
         None => 1,
         Some(argument) => greatest(argument).max(1),
     }
 }
 
-/// Whether the positional at the place takes words that begin with a hyphen.
+/// Whether the positional at the position takes words that begin with a hyphen.
 #[tactic(auto, unfolding(crate::specs::Lookup::allows_hyphens_at))]
-pub(crate) fn allows_hyphens_at(arguments: &[Arg], place: usize) -> bool
-    ensures { result ≡ allows_hyphens_at arguments.now place }
+pub(crate) fn allows_hyphens_at(arguments: &[Arg], position: usize) -> bool
+    ensures { result ≡ allows_hyphens_at arguments.now position }
 {
-    match positional_at(arguments, place) {
+    match positional_at(arguments, position) {
         None => false,
         Some(argument) => argument.is_allow_hyphen_values_set(),
     }

@@ -1,4 +1,4 @@
-//! The sign of a word: what it is to a node's arguments, whatever stands before it.
+//! The sign of a word: what it is to a node's arguments, whatever is before it.
 
 ghost use Rattle.std.specs.Prelude.{◌≡◌, chars, IfSome};
 ghost use Rattle.cc_walk.specs.Blocks.{follows};
@@ -40,7 +40,7 @@ impl<'a> ArgRef<'a> {
     }
 }
 
-/// The sign of a word: what it is to a node's arguments, whatever stands before it.
+/// The sign of a word: what it is to a node's arguments, whatever is before it.
 #[derive(Drop)]
 pub enum Sign<'a> {
     /// `--`.

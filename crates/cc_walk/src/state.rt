@@ -16,17 +16,17 @@ pub enum Pending<'a> {
     Nothing,
     /// The option has got so many values, and takes more.
     OptionOpen(ArgRef<'a>, usize),
-    /// The positional at the place has got so many values in a row, and takes more.
+    /// The positional at the position has got so many values in a row, and takes more.
     PositionalRun(usize),
-    /// After `--`, the positional before the place has just got its last value.
-    PlaceMoved,
+    /// After `--`, the positional before the position has just got its last value.
+    PositionMoved,
 }
 
 /// What the words at a node, which follow the last descent, lead to.
 #[derive(Drop)]
 pub struct State<'a> {
     /// The index, from 1 on, of the positional that the next positional value belongs to.
-    pub place: usize,
+    pub position: usize,
     /// Whether `--` has been read, at this node or one above it.
     pub escaped: bool,
     /// What may take more values.
@@ -39,7 +39,7 @@ impl<'a> Pending<'a> {
     {
         match self {
             Pending::PositionalRun(values) => *values,
-            Pending::Nothing | Pending::OptionOpen(_, _) | Pending::PlaceMoved => 0,
+            Pending::Nothing | Pending::OptionOpen(_, _) | Pending::PositionMoved => 0,
         }
     }
 }
@@ -50,40 +50,40 @@ impl<'a> State<'a> {
         ensures { result ≡ start escaped }
     {
         State {
-            place: 1,
+            position: 1,
             escaped,
             pending: Pending::Nothing,
         }
     }
 
-    // One more value at the place, after a run of so many.
-    fn after_value(arguments: &[Arg], place: usize, escaped: bool, values: usize) -> State<'a>
-        requires { place < usize.MAX }
-        ensures { result ≡ value_state arguments.now place escaped values }
+    // One more value at the position, after a run of so many.
+    fn after_value(arguments: &[Arg], position: usize, escaped: bool, values: usize) -> State<'a>
+        requires { position < usize.MAX }
+        ensures { result ≡ value_state arguments.now position escaped values }
     {
-        let limit = limit(arguments, place);
+        let limit = limit(arguments, position);
         if values < limit - 1 {
             return State {
-                place,
+                position,
                 escaped,
                 pending: Pending::PositionalRun(values + 1),
             };
         }
         let pending = if escaped {
-            Pending::PlaceMoved
+            Pending::PositionMoved
         } else {
             Pending::Nothing
         };
         State {
-            place: place + 1,
+            position: position + 1,
             escaped,
             pending,
         }
     }
 
     // One more value of an open option, after so many.
-    fn after_option(place: usize, option: ArgRef<'a>, values: usize) -> State<'a>
-        ensures { result ≡ option_state place option.entry (suc values) }
+    fn after_option(position: usize, option: ArgRef<'a>, values: usize) -> State<'a>
+        ensures { result ≡ option_state position option.entry (suc values) }
     {
         let greatest = greatest(option.get());
         let pending = if values < greatest && values + 1 < greatest {
@@ -92,22 +92,22 @@ impl<'a> State<'a> {
             Pending::Nothing
         };
         State {
-            place,
+            position,
             escaped: false,
             pending,
         }
     }
 
-    // After an unescaped word that no option takes, where a run of so many values stands before.
-    fn after_other(arguments: &[Arg], place: usize, values: usize, sign: Sign<'a>) -> State<'a>
-        requires { place < usize.MAX }
-        ensures { result ≡ closed_step arguments.now place values sign.entry }
+    // After an unescaped word that no option takes, where a run of so many values comes before.
+    fn after_other(arguments: &[Arg], position: usize, values: usize, sign: Sign<'a>) -> State<'a>
+        requires { position < usize.MAX }
+        ensures { result ≡ closed_step arguments.now position values sign.entry }
     {
         let (escaped, pending) = match sign {
-            Sign::Plain => return State::after_value(arguments, place, false, values),
+            Sign::Plain => return State::after_value(arguments, position, false, values),
             Sign::Unknown => {
-                if allows_hyphens_at(arguments, place) {
-                    return State::after_value(arguments, place, false, values);
+                if allows_hyphens_at(arguments, position) {
+                    return State::after_value(arguments, position, false, values);
                 }
                 (false, Pending::Nothing)
             }
@@ -116,7 +116,7 @@ impl<'a> State<'a> {
             Sign::Closed => (false, Pending::Nothing),
         };
         State {
-            place,
+            position,
             escaped,
             pending,
         }
@@ -124,27 +124,29 @@ impl<'a> State<'a> {
 
     /// One word further at a node with these arguments, none of whose children the word names.
     pub(crate) fn step(self, arguments: &'a [Arg], word: &str) -> State<'a>
-        requires { self.place < usize.MAX }
-        ensures { result ≡ step arguments.now self.entry.place self.entry.escaped
+        requires { self.position < usize.MAX }
+        ensures { result ≡ step arguments.now self.entry.position self.entry.escaped
             self.entry.pending (sign_of arguments.now word.now) }
     {
         let State {
-            place,
+            position,
             escaped,
             pending,
         } = self;
         if escaped {
-            return State::after_value(arguments, place, true, pending.run_length());
+            return State::after_value(arguments, position, true, pending.run_length());
         }
         let sign = sign_of(arguments, word);
         match pending {
-            Pending::Nothing | Pending::PlaceMoved => State::after_other(arguments, place, 0, sign),
-            Pending::PositionalRun(values) => State::after_other(arguments, place, values, sign),
+            Pending::Nothing | Pending::PositionMoved => State::after_other(
+                arguments, position, 0, sign,
+            ),
+            Pending::PositionalRun(values) => State::after_other(arguments, position, values, sign),
             Pending::OptionOpen(option, values) => {
                 if sign.follows(option.get()) {
-                    State::after_option(place, option, values)
+                    State::after_option(position, option, values)
                 } else {
-                    State::after_other(arguments, place, 0, sign)
+                    State::after_other(arguments, position, 0, sign)
                 }
             }
         }

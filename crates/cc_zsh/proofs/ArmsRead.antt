@@ -10,13 +10,13 @@ use Rattle.cc_command.specs.Names.{full_name, visible_names}
 use Rattle.cc_command.specs.Tree.{Forest, none, more, Tree, has_nodes}
 use Rattle.cc_command.proofs.PlainParts.{IsPlainName}
 use Rattle.cc_quote.specs.PosixTokens.{sign, byte_of, cut}
-use Rattle.cc_quote.specs.PosixTokens.Place.{between}
+use Rattle.cc_quote.specs.PosixTokens.QuoteState.{between}
 use Rattle.cc_quote.specs.Tokens.{is_word}
 use Rattle.cc_quote.specs.Tokens.Piece.{bare}
 use Rattle.cc_quote.proofs.PosixCutting.{IsOther, IsKept-IsOther, tokens_from, bare_run, double_run}
 use Rattle.cc_visits.specs.Visits.{Keyed, keyed, keys_below, longer_path, paths_below}
 use Rattle.cc_generator.proofs.ReadInTurn.{in_parts}
-use Rattle.cc_zsh.specs.Nested.{block_text, case_text, case_state, set_words, set_context, context_command, case_line, case_line_in, nested_ends, place_text, context_text, nested_begins, nested_text, nested_line, arm_ends, arm_text, arms_text}
+use Rattle.cc_zsh.specs.Nested.{block_text, case_text, case_state, set_words, set_context, context_command, case_line, case_line_in, nested_ends, index_text, context_text, nested_begins, nested_text, nested_line, arm_ends, arm_text, arms_text}
 use Rattle.cc_zsh.specs.Reader.{Block, Path, State, arm_word, is_line, next, next_arm, read, text_after}
 use Rattle.cc_zsh.specs.Reader.State.{after_block, after_nested, at_arms, at_block, between_arms, after_arms, malformed}
 use Rattle.cc_zsh.proofs.LastBytes.{before-last}
@@ -37,29 +37,29 @@ frame_read : (node : Node) (outer : List Path) (blocks : List Block) (path : Pat
     ≡ reading (between_arms outer blocks path) between rest
 unfolding case_text case_state set_words set_context context_command case_line case_line_in sign byte_of cut is_word is_line text_after next read
 frame_read node outer blocks path rest name context =
-    let place : List ℕ = place_text node in
-    let other : IsOther place = decimal_other (suc (length (positionals node))) in
-    let r5 : List ℕ = place ++ (case_line_in ++ rest) in
-    let r4 : List ℕ = place ++ (case_line ++ r5) in
+    let index : List ℕ = index_text node in
+    let other : IsOther index = decimal_other (suc (length (positionals node))) in
+    let r5 : List ℕ = index ++ (case_line_in ++ rest) in
+    let r4 : List ℕ = index ++ (case_line ++ r5) in
     let r3 : List ℕ = context_text node ++ (context_command ++ r4) in
-    let r2 : List ℕ = place ++ (set_context ++ r3) in
+    let r2 : List ℕ = index ++ (set_context ++ r3) in
     ap (reading (after_block outer blocks path) between)
-    (in_parts case_state (node.name ∷ set_words ∷ place ∷ set_context ∷ context_text node
-    ∷ context_command ∷ place ∷ case_line ∷ place ∷ case_line_in ∷ []) rest)
+    (in_parts case_state (node.name ∷ set_words ∷ index ∷ set_context ∷ context_text node
+    ∷ context_command ∷ index ∷ case_line ∷ index ∷ case_line_in ∷ []) rest)
     ∙ ap (read (at_arms outer blocks path))
     (bare_run node.name (set_words ++ r2) [] (codes "(") name)
     ∙ ap (read (at_arms outer blocks path))
-    (bare_run place (set_context ++ r3) [] (codes "words=($line[") other)
+    (bare_run index (set_context ++ r3) [] (codes "words=($line[") other)
     ∙ ap (read (at_arms outer blocks path))
     (double_run (context_text node) (context_command ++ r4) (bare (codes "curcontext=") ∷ [])
     (codes "${curcontext%:*:*}:") (IsKept-IsOther (context_text node) context))
     ∙ ap (read (at_arms outer blocks path))
-    (double_run place (case_line ++ r5) (bare (codes "curcontext=") ∷ [])
+    (double_run index (case_line ++ r5) (bare (codes "curcontext=") ∷ [])
     (fold (λ t b. t ++ b ∷ []) (codes "${curcontext%:*:*}:" ++ context_text node)
     (codes "-command-$line["))
-    (IsKept-IsOther place other))
+    (IsKept-IsOther index other))
     ∙ ap (read (at_arms outer blocks path))
-    (bare_run place (case_line_in ++ rest) [] (codes "$line[") other)
+    (bare_run index (case_line_in ++ rest) [] (codes "$line[") other)
 
 frame_ends : (outer : List Path) (blocks : List Block) (path : Path) (rest : List ℕ) →
     IsLine rest → reading (between_arms outer blocks path) between (nested_ends ++ rest)
@@ -132,7 +132,7 @@ Reads above forest = (outer : List Path) (blocks : List Block) (path : Path) (re
     ≡ reading (between_arms outer (blocks ++ map block_at (paths_below longer_path path above forest)) path)
     between rest
 
--- the text that stands in an arm after its block
+-- the text that is in an arm after its block
 nested_read : (node : Node) (below : Forest) → IsOther node.name → IsOther (context_text node) →
     Reads node below → (up : Path) (outer : List Path) (blocks : List Block) (path : Path)
     (rest : List ℕ) →
@@ -239,7 +239,7 @@ arms_read above (more node below rest) (h, (hs, ks)) outer blocks path after =
     (append_assoc blocks (map block_at here) (map block_at (paths_below longer_path path above rest))
     ∙ ap (λ bs. blocks ++ bs) (sym (map-append block_at here (paths_below longer_path path above rest))))
 
--- what stands at the root after its block, up to a line that begins after all
+-- what is at the root after its block, up to a line that begins after all
 pub root_nested_read : (node : Node) (children : Forest) → IsOther node.name →
     IsOther (context_text node) → AreReadable node children → (blocks : List Block) (path : Path)
     (rest : List ℕ) → IsLine rest → has_nodes children ≡ true →

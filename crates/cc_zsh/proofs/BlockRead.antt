@@ -10,15 +10,15 @@ use Rattle.cc_command.specs.Names.{full_name}
 use Rattle.cc_command.specs.Tree.{Forest, Tree, has_nodes}
 use Rattle.cc_command.proofs.PlainParts.{IsPlainArgument, IsPlainNode}
 use Rattle.cc_quote.specs.PosixTokens.{sign, byte_of, cut, double}
-use Rattle.cc_quote.specs.PosixTokens.Place.{between, in_double}
+use Rattle.cc_quote.specs.PosixTokens.QuoteState.{between, in_double}
 use Rattle.cc_quote.specs.Tokens.{Token, is_word}
 use Rattle.cc_quote.proofs.PosixCutting.{IsKept-IsOther, tokens_from, double_run}
-use Rattle.cc_quote.specs.Escapes.{replaced}
+use Rattle.cc_quote.specs.Escapes.{replace_byte}
 use Rattle.cc_generator.proofs.ReadInTurn.{in_parts}
 use Rattle.cc_zsh.specs.Nested.{function_label, block_begins, block_ends, external_text, command_begins, state_begins, state_ends, children_text, below_text, block_text}
 use Rattle.cc_zsh.specs.Options.{options_text, flags_text}
 use Rattle.cc_zsh.specs.Positionals.{positionals_text}
-use Rattle.cc_zsh.specs.Reader.{Block, Path, ZshOption, first_named, is_name_byte, named_function, new_block, next, next_place, option_of, place_after, read, read_option, text_after, with_word, word_of}
+use Rattle.cc_zsh.specs.Reader.{Block, Path, ZshOption, first_named, is_name_byte, named_function, new_block, next, next_state, option_of, state_after, read, read_option, text_after, with_word, word_of}
 use Rattle.cc_zsh.specs.Reader.State.{after_block, at_block, at_ret, before_blocks, in_block}
 use Rattle.cc_zsh.specs.Table.{node_rows}
 use Rattle.cc_zsh.proofs.OptionWords.{AreNameBytes, colon_none, name_byte-differs, star_none}
@@ -33,16 +33,16 @@ use Rattle.cc_zsh.proofs.PositionalsRead.{positionals_add}
 abbrev pub AreFullBytes : List ℕ → Type 0
 AreFullBytes text = AllByRecursion (λ byte. (is_name_byte byte ≡ true) ⊎ (byte ≡ 32)) text
 
-pub replaced_bytes : (by text : List ℕ) → AreNameBytes by → AreFullBytes text →
-    AreNameBytes (replaced 32 by text)
-replaced_bytes by [] h k = tt
-replaced_bytes by (byte ∷ text) h (inl k, ks) =
-    AllByRecursion-append (λ b. is_name_byte b ≡ true) (cond (byte == 32) by (byte ∷ [])) (replaced 32 by text)
+pub replace_byte_bytes : (by text : List ℕ) → AreNameBytes by → AreFullBytes text →
+    AreNameBytes (replace_byte 32 by text)
+replace_byte_bytes by [] h k = tt
+replace_byte_bytes by (byte ∷ text) h (inl k, ks) =
+    AllByRecursion-append (λ b. is_name_byte b ≡ true) (cond (byte == 32) by (byte ∷ [])) (replace_byte 32 by text)
     (let e : byte == 32 ≡ false = name_byte-differs 32 byte refl k in rw e (k, tt))
-    (replaced_bytes by text h ks)
-replaced_bytes by (byte ∷ text) h (inr e, ks) =
-    AllByRecursion-append (λ b. is_name_byte b ≡ true) (cond (byte == 32) by (byte ∷ [])) (replaced 32 by text)
-    (rw e h) (replaced_bytes by text h ks)
+    (replace_byte_bytes by text h ks)
+replace_byte_bytes by (byte ∷ text) h (inr e, ks) =
+    AllByRecursion-append (λ b. is_name_byte b ≡ true) (cond (byte == 32) by (byte ∷ [])) (replace_byte 32 by text)
+    (rw e h) (replace_byte_bytes by text h ks)
 
 subcmd_bytes : AreNameBytes (codes "__subcmd__")
 unfolding is_name_byte
@@ -58,11 +58,11 @@ dash_bytes = (refl, tt)
 
 pub label_bytes : (name : List ℕ) → AreFullBytes name → AreNameBytes (function_label name)
 label_bytes name h =
-    AllByRecursion-append (λ b. is_name_byte b ≡ true) (replaced 32 (codes "__subcmd__") name)
-    (codes "_commands") (replaced_bytes (codes "__subcmd__") name subcmd_bytes h) commands_bytes
+    AllByRecursion-append (λ b. is_name_byte b ≡ true) (replace_byte 32 (codes "__subcmd__") name)
+    (codes "_commands") (replace_byte_bytes (codes "__subcmd__") name subcmd_bytes h) commands_bytes
 
-pub context_bytes : (name : List ℕ) → AreFullBytes name → AreNameBytes (replaced 32 (codes "-") name)
-context_bytes name h = replaced_bytes (codes "-") name dash_bytes h
+pub context_bytes : (name : List ℕ) → AreFullBytes name → AreNameBytes (replace_byte 32 (codes "-") name)
+context_bytes name h = replace_byte_bytes (codes "-") name dash_bytes h
 
 -- ---- words that tell no option
 
@@ -223,12 +223,12 @@ body_read path above tree outer blocks rest is l =
 begins_arm : (outer : List Path) (blocks : List Block) (path : Path) (rest : List ℕ) →
     reading (at_block outer blocks path) between (block_begins ++ rest)
     ≡ reading (in_block outer blocks (new_block path)) between rest
-unfolding block_begins sign byte_of cut is_word next read with_word word_of named_function text_after option_of place_after next_place read_option
+unfolding block_begins sign byte_of cut is_word next read with_word word_of named_function text_after option_of state_after next_state read_option
 begins_arm outer blocks path rest = refl
 
 begins_root : (rest : List ℕ) → reading before_blocks between (block_begins ++ rest)
     ≡ reading (in_block [] [] (new_block [])) between rest
-unfolding block_begins sign byte_of cut is_word next read with_word word_of named_function text_after option_of place_after next_place read_option
+unfolding block_begins sign byte_of cut is_word next read with_word word_of named_function text_after option_of state_after next_state read_option
 begins_root rest = refl
 
 -- the block in an arm, and the root's

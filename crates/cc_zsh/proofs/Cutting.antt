@@ -1,4 +1,4 @@
--- Quoted words of a zsh script are cut into tokens, and texts that stand between `'`.
+-- Quoted words of a zsh script are cut into tokens, and texts that are between `'`.
 use Rattle.std.proofs.Common.{◌≡◌, ◌≢◌, ◌==◌, ℕ, Bool, true, false, cond, List, [], ◌∷◌, ◌++◌, map, None, codes, refl, sym, ◌∙◌, ap, ap₂, subst, arith, append_assoc, append-nil}
 use Rattle.std.specs.List.{AllByRecursion}
 use Rattle.std.proofs.lemmas.Bool.Decides.{Decides-eqb, nat_tests}
@@ -6,7 +6,7 @@ use Rattle.std.proofs.lemmas.List.Concat.{flat_map-append}
 use Rattle.cc_quote.specs.PosixQuote.{posix_escaped}
 use Rattle.cc_quote.specs.PosixTokens.{Sign, sign, byte_of, cut, single}
 use Rattle.cc_quote.specs.PosixTokens.Sign.{blank, line_feed, single_quote, double_quote, backslash, special, other}
-use Rattle.cc_quote.specs.PosixTokens.Place.{between, in_single}
+use Rattle.cc_quote.specs.PosixTokens.QuoteState.{between, in_single}
 use Rattle.cc_quote.specs.Tokens.{Piece, Token, is_word}
 use Rattle.cc_quote.specs.Tokens.Piece.{bare}
 use Rattle.cc_quote.proofs.PosixCutting.{tokens_from}
@@ -79,7 +79,7 @@ single_cut (byte ∷ word) rest pieces text =
 
 -- ---- what the token tells
 
--- the token begins with what stands between `'`
+-- the token begins with what is between `'`
 pub data IsQuoted : Token → Type 0 where
   quoted_word : (text : List ℕ) (rest : Token) → IsQuoted (single text ∷ rest)
 

@@ -7,7 +7,7 @@ use Rattle.cc_arg.specs.declared.action.ArgAction.TheVariants.{Count, SetTrue}
 use Rattle.cc_arg.specs.declared.possible_value.PossibleValue.{PossibleValue}
 use Rattle.cc_arg.specs.declared.value_hint.ValueHint.TheVariants.{FilePath}
 use Rattle.cc_arg.specs.Arguments.{new_arg}
-use Rattle.cc_base.specs.Sorting.{placed, in_order}
+use Rattle.cc_base.specs.Sorting.{insert, in_order}
 use Rattle.cc_command.specs.declared.node.Node.{Node}
 use Rattle.cc_command.specs.Tree.{Forest, none, more, Tree}
 use Rattle.cc_command.specs.Made.{new_node, new_tree, with_argument, with_child}
@@ -28,7 +28,7 @@ use Rattle.cc_zsh.specs.Script.{compdef_begins, autoloads, body_begins, begin_te
 abbrev flag : List ℕ → Arg
 flag name = record (new_arg name) { long = Some name; action = Some SetTrue }
 
--- what zsh takes for syntax stands after a backslash
+-- what zsh takes for syntax is after a backslash
 odd : List ℕ
 odd = codes "\\ [foo]() `bar https://$PATH"
 
@@ -57,7 +57,7 @@ conflicts : flags_text counted counted
 unfolding flags_text argument_text argument_line conflicts_text help_text line_end zsh_escaped_help encode_utf8 values_text
 conflicts = refl
 
--- a conflict with a positional has no name, and the brackets stand all the same
+-- a conflict with a positional has no name, and there are brackets all the same
 abbrev unnamed : Node
 unnamed =
     with_argument (with_argument (new_node (codes "app"))
@@ -248,5 +248,5 @@ whole : zsh_script app ≡
     ++ codes "else\n"
     ++ codes "    compdef _app app\n"
     ++ codes "fi\n"
-unfolding zsh_escaped_help encode_utf8 help_argument help_name help_help help_about placed in_order digits script_text begin_text compdef_begins autoloads body_begins body_ends root_text block_text block_begins block_ends options_text flags_text argument_text argument_line conflicts_text help_text line_end positionals_text below_text children_text command_begins state_begins state_ends case_text case_state set_words set_context context_command case_line case_line_in nested_ends arms_text arm_ends functions_text sorted_functions function_text unless_defined function_begins commands_begin describe_begins describe_ends entry_text entries_text entries_end end_text if_called then_call else_define if_ends values_text
+unfolding zsh_escaped_help encode_utf8 help_argument help_name help_help help_about insert in_order digits script_text begin_text compdef_begins autoloads body_begins body_ends root_text block_text block_begins block_ends options_text flags_text argument_text argument_line conflicts_text help_text line_end positionals_text below_text children_text command_begins state_begins state_ends case_text case_state set_words set_context context_command case_line case_line_in nested_ends arms_text arm_ends functions_text sorted_functions function_text unless_defined function_begins commands_begin describe_begins describe_ends entry_text entries_text entries_end end_text if_called then_call else_define if_ends values_text
 whole = refl

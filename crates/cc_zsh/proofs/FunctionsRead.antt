@@ -6,7 +6,7 @@ use Rattle.cc_base.proofs.Lines.{IsLine}
 use Rattle.cc_base.proofs.Lines.IsLine.{line}
 use Rattle.cc_generator.proofs.ReadInTurn.{in_parts, in_turn, lines}
 use Rattle.cc_quote.specs.PosixTokens.{sign, byte_of, cut}
-use Rattle.cc_quote.specs.PosixTokens.Place.{between, in_bare, in_single}
+use Rattle.cc_quote.specs.PosixTokens.QuoteState.{between, in_bare, in_single}
 use Rattle.cc_quote.specs.QuotedWord.{line_feeds_as_spaces}
 use Rattle.cc_quote.specs.Tokens.{is_word}
 use Rattle.cc_quote.specs.Tokens.Piece.{bare}

@@ -15,7 +15,7 @@ use Rattle.cc_command.proofs.PlainNames.{plain_after, plain_after_start, plain_a
 use Rattle.cc_command.proofs.PlainParts.{IsPlainName, plain_node, plain_more}
 use Rattle.cc_command.proofs.SiblingNames.{not_shared, first_differs}
 use Rattle.cc_zsh.specs.Functions.{Function, function_of, functions_below}
-use Rattle.cc_quote.specs.Escapes.{replaced}
+use Rattle.cc_quote.specs.Escapes.{replace_byte}
 use Rattle.cc_zsh.specs.Nested.{function_label}
 use Rattle.cc_zsh.proofs.OptionWords.{AreNameBytes, name_byte-differs}
 use Rattle.cc_zsh.proofs.PlainNames.{plain_name_bytes}
@@ -90,7 +90,7 @@ same_name follows (byte ∷ name) tail (first ∷ other) rest h k of by e =
 -- ---- names in full as labels
 
 abbrev stem : List ℕ → List ℕ
-stem name = replaced 32 (codes "__subcmd__") name
+stem name = replace_byte 32 (codes "__subcmd__") name
 
 stem-name : (name : List ℕ) → AreNameBytes name → stem name ≡ name
 stem-name [] h = refl

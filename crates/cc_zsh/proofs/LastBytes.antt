@@ -1,4 +1,4 @@
--- What stands before the last byte of a text.
+-- What is before the last byte of a text.
 use Rattle.std.proofs.Common.{◌≡◌, ◌==◌, ℕ, true, false, cond, List, [], ◌∷◌, ◌++◌, Some, None, option_map, ap}
 use Rattle.cc_zsh.specs.Reader.{text_before}
 

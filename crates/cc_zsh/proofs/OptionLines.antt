@@ -40,7 +40,7 @@ bracket_where : (bracket : Bracket) (b : Bool) →
 bracket_where bracket true = refl
 bracket_where bracket false = refl
 
--- what stands between the quotes of an option's line
+-- what is between the quotes of an option's line
 word_escapes : (has_front : Bool) (words : List (List ℕ)) (repeated : Bool) (name : List ℕ)
     (bracket : Bracket) (help values : List ℕ) (v : IsEscaped values) → IsFront has_front words →
     IsDashed name →

@@ -7,9 +7,9 @@ use Rattle.std.proofs.lemmas.Bool.Decides.{Decides-eqb, nat_tests}
 use Rattle.cc_base.specs.Joined.{joined, joined_after}
 use Rattle.cc_quote.specs.Escapes.{marked_byte, marked}
 use Rattle.cc_quote.specs.ZshQuote.{is_help_marked, is_value_marked}
-use Rattle.cc_zsh.specs.Reader.{Bracket, ZshOption, OptionPlace, new_option, with_help, with_name, is_name_byte, after_name, next_place, place_after, is_typed_name, with_typed_names, read_option, option_of}
+use Rattle.cc_zsh.specs.Reader.{Bracket, ZshOption, OptionState, new_option, with_help, with_name, is_name_byte, after_name, next_state, state_after, is_typed_name, with_typed_names, read_option, option_of}
 use Rattle.cc_zsh.specs.Reader.Bracket.{alone, after_plus, after_equals}
-use Rattle.cc_zsh.specs.Reader.OptionPlace.{before_option, in_conflicts, after_conflicts, after_star, in_name, at_bracket, in_help, in_help_escaped, after_help, no_option}
+use Rattle.cc_zsh.specs.Reader.OptionState.{before_option, in_conflicts, after_conflicts, after_star, in_name, at_bracket, in_help, in_help_escaped, after_help, no_option}
 
 -- ---- names
 
@@ -26,7 +26,7 @@ pub record IsDashed (text : List ℕ) : Type 0 where
   pub starts : StartsDashed text
   pub typed : IsTrue (is_typed_name text)
 
--- a byte of names differs from one that stands in no name
+-- a byte of names differs from one that is in no name
 pub name_byte-differs : (other byte : ℕ) →
     (is_ascii_alphanumeric other || other == 45 || other == 95) ≡ false → is_name_byte byte ≡ true →
     byte == other ≡ false
@@ -50,37 +50,37 @@ dashed_bytes text h = by_start text h.starts
     by_start (byte ∷ name) (e, k) = (ap is_name_byte e ∙ dash_is_name, k)
 
 name_read : (text rest name : List ℕ) (names : List (List ℕ)) (repeated : Bool) →
-    AreNameBytes text → place_after (in_name names repeated name) (text ++ rest)
-    ≡ place_after (in_name names repeated (name ++ text)) rest
-unfolding place_after next_place
+    AreNameBytes text → state_after (in_name names repeated name) (text ++ rest)
+    ≡ state_after (in_name names repeated (name ++ text)) rest
+unfolding state_after next_state
 name_read [] rest name names repeated h =
-    ap (λ n. place_after (in_name names repeated n) rest) (sym (append-nil name))
+    ap (λ n. state_after (in_name names repeated n) rest) (sym (append-nil name))
 name_read (byte ∷ text) rest name names repeated (h, hs) =
-    ap (λ b. place_after (cond b (in_name names repeated (name ++ byte ∷ []))
+    ap (λ b. state_after (cond b (in_name names repeated (name ++ byte ∷ []))
     (after_name names repeated name byte)) (text ++ rest)) h
     ∙ name_read text rest (name ++ byte ∷ []) names repeated hs
-    ∙ ap (λ n. place_after (in_name names repeated n) rest) (append_assoc name (byte ∷ []) text)
+    ∙ ap (λ n. state_after (in_name names repeated n) rest) (append_assoc name (byte ∷ []) text)
 
 -- ---- brackets and help
 
--- what stands between a name and its help
+-- what is between a name and its help
 abbrev pub bracket_text : Bracket → List ℕ
 bracket_text alone = []
 bracket_text after_plus = codes "+"
 bracket_text after_equals = codes "="
 
 bracket_read : (bracket : Bracket) (rest name : List ℕ) (names : List (List ℕ)) (repeated : Bool) →
-    place_after (in_name names repeated name) (bracket_text bracket ++ 91 ∷ rest)
-    ≡ place_after (in_help (new_option names repeated name bracket)) rest
-unfolding place_after next_place is_name_byte after_name
+    state_after (in_name names repeated name) (bracket_text bracket ++ 91 ∷ rest)
+    ≡ state_after (in_help (new_option names repeated name bracket)) rest
+unfolding state_after next_state is_name_byte after_name
 bracket_read alone rest name names repeated = refl
 bracket_read after_plus rest name names repeated = refl
 bracket_read after_equals rest name names repeated = refl
 
 -- after the help nothing changes
 pub after_stays : (option : ZshOption) (rest : List ℕ) →
-    place_after (after_help option) rest ≡ after_help option
-unfolding place_after next_place
+    state_after (after_help option) rest ≡ after_help option
+unfolding state_after next_state
 after_stays option [] = refl
 after_stays option (byte ∷ rest) = after_stays option rest
 
@@ -94,29 +94,29 @@ not_backslash : (byte : ℕ) → is_help_marked byte ≡ false → byte == 92 �
 not_backslash byte h = grind (arith, nat_tests)
 
 help_byte_read : (byte : ℕ) (rest : List ℕ) (option : ZshOption) →
-    place_after (in_help option) (marked_byte is_help_marked byte ++ rest)
-    ≡ place_after (in_help (with_help option byte)) rest
-unfolding place_after next_place
+    state_after (in_help option) (marked_byte is_help_marked byte ++ rest)
+    ≡ state_after (in_help (with_help option byte)) rest
+unfolding state_after next_state
 help_byte_read byte rest option = by_test (is_help_marked byte) refl
   where
     by_test : (m : Bool) → is_help_marked byte ≡ m →
-        place_after (in_help option) (cond m (92 ∷ byte ∷ []) (byte ∷ []) ++ rest)
-        ≡ place_after (in_help (with_help option byte)) rest
+        state_after (in_help option) (cond m (92 ∷ byte ∷ []) (byte ∷ []) ++ rest)
+        ≡ state_after (in_help (with_help option byte)) rest
     by_test true e = refl
     by_test false e =
-        ap (λ b. place_after (cond b (after_help option) (cond (byte == 92) (in_help_escaped option)
+        ap (λ b. state_after (cond b (after_help option) (cond (byte == 92) (in_help_escaped option)
         (in_help (with_help option byte)))) rest) (not_bracket byte e)
-        ∙ ap (λ b. place_after (cond b (in_help_escaped option)
+        ∙ ap (λ b. state_after (cond b (in_help_escaped option)
         (in_help (with_help option byte))) rest) (not_backslash byte e)
 
 help_read : (help rest : List ℕ) (option : ZshOption) →
-    place_after (in_help option) (marked is_help_marked help ++ 93 ∷ rest)
+    state_after (in_help option) (marked is_help_marked help ++ 93 ∷ rest)
     ≡ after_help (helped option help)
-unfolding place_after next_place
+unfolding state_after next_state
 help_read [] rest option =
     after_stays option rest ∙ ap (λ h. after_help (record option { help = h })) (sym (append-nil option.help))
 help_read (byte ∷ help) rest option =
-    ap (place_after (in_help option))
+    ap (state_after (in_help option))
     (append_assoc (marked_byte is_help_marked byte) (marked is_help_marked help) (93 ∷ rest))
     ∙ help_byte_read byte (marked is_help_marked help ++ 93 ∷ rest) option
     ∙ help_read help rest (with_help option byte)
@@ -125,19 +125,19 @@ help_read (byte ∷ help) rest option =
 -- ---- names in conflict
 
 conflict_read : (text rest name : List ℕ) (names : List (List ℕ)) → AreNameBytes text →
-    place_after (in_conflicts names name) (text ++ rest)
-    ≡ place_after (in_conflicts names (name ++ text)) rest
-unfolding place_after next_place
+    state_after (in_conflicts names name) (text ++ rest)
+    ≡ state_after (in_conflicts names (name ++ text)) rest
+unfolding state_after next_state
 conflict_read [] rest name names h =
-    ap (λ n. place_after (in_conflicts names n) rest) (sym (append-nil name))
+    ap (λ n. state_after (in_conflicts names n) rest) (sym (append-nil name))
 conflict_read (byte ∷ text) rest name names (h, hs) =
-    ap (λ b. place_after (cond b (after_conflicts (with_name names name))
+    ap (λ b. state_after (cond b (after_conflicts (with_name names name))
     (cond (byte == 32) (in_conflicts (with_name names name) [])
     (in_conflicts names (name ++ byte ∷ [])))) (text ++ rest)) (name_byte-differs 41 byte refl h)
-    ∙ ap (λ b. place_after (cond b (in_conflicts (with_name names name) [])
+    ∙ ap (λ b. state_after (cond b (in_conflicts (with_name names name) [])
     (in_conflicts names (name ++ byte ∷ []))) (text ++ rest)) (name_byte-differs 32 byte refl h)
     ∙ conflict_read text rest (name ++ byte ∷ []) names hs
-    ∙ ap (λ n. place_after (in_conflicts names n) rest) (append_assoc name (byte ∷ []) text)
+    ∙ ap (λ n. state_after (in_conflicts names n) rest) (append_assoc name (byte ∷ []) text)
 
 with_dashed : (names : List (List ℕ)) (name : List ℕ) → IsDashed name →
     with_name names name ≡ names ++ name ∷ []
@@ -147,37 +147,37 @@ with_dashed names (byte ∷ name) h = refl
 -- the names after the first
 names_read : (words : List (List ℕ)) (rest name : List ℕ) (names : List (List ℕ)) →
     AllByRecursion IsDashed words →
-    place_after (in_conflicts names name) (joined_after (codes " ") true words ++ 41 ∷ rest)
-    ≡ place_after (after_conflicts (with_name names name ++ words)) rest
-unfolding place_after next_place
+    state_after (in_conflicts names name) (joined_after (codes " ") true words ++ 41 ∷ rest)
+    ≡ state_after (after_conflicts (with_name names name ++ words)) rest
+unfolding state_after next_state
 names_read [] rest name names h =
-    ap (λ ns. place_after (after_conflicts ns) rest) (sym (append-nil (with_name names name)))
+    ap (λ ns. state_after (after_conflicts ns) rest) (sym (append-nil (with_name names name)))
 names_read (word ∷ words) rest name names (h, hs) =
     let before : List (List ℕ) = with_name names name in
     let more : List ℕ = joined_after (codes " ") true words ++ 41 ∷ rest in
-    ap (place_after (in_conflicts before []))
+    ap (state_after (in_conflicts before []))
     (append_assoc word (joined_after (codes " ") true words) (41 ∷ rest))
     ∙ conflict_read word more [] before (dashed_bytes word h)
     ∙ names_read words rest word before hs
-    ∙ ap (λ ns. place_after (after_conflicts (ns ++ words)) rest) (with_dashed before word h)
-    ∙ ap (λ ns. place_after (after_conflicts ns) rest) (append_assoc before (word ∷ []) words)
+    ∙ ap (λ ns. state_after (after_conflicts (ns ++ words)) rest) (with_dashed before word h)
+    ∙ ap (λ ns. state_after (after_conflicts ns) rest) (append_assoc before (word ∷ []) words)
 
 -- all names between brackets
 pub conflicts_read : (words : List (List ℕ)) (rest : List ℕ) → AllByRecursion IsDashed words →
-    place_after before_option (codes "(" ++ (joined (codes " ") words ++ (codes ")" ++ rest)))
-    ≡ place_after (after_conflicts words) rest
-unfolding place_after next_place
+    state_after before_option (codes "(" ++ (joined (codes " ") words ++ (codes ")" ++ rest)))
+    ≡ state_after (after_conflicts words) rest
+unfolding state_after next_state
 conflicts_read [] rest h = refl
 conflicts_read (word ∷ words) rest (h, hs) =
-    ap (place_after (in_conflicts [] []))
+    ap (state_after (in_conflicts [] []))
     (append_assoc word (joined_after (codes " ") true words) (41 ∷ rest))
     ∙ conflict_read word (joined_after (codes " ") true words ++ 41 ∷ rest) [] [] (dashed_bytes word h)
     ∙ names_read words rest word [] hs
-    ∙ ap (λ ns. place_after (after_conflicts (ns ++ words)) rest) (with_dashed [] word h)
+    ∙ ap (λ ns. state_after (after_conflicts (ns ++ words)) rest) (with_dashed [] word h)
 
 -- ---- whole words
 
--- what stands before the name
+-- what is before the name
 abbrev pub front_of : Bool → List (List ℕ) → List ℕ
 front_of false words = []
 front_of true words = codes "(" ++ (joined (codes " ") words ++ codes ")")
@@ -185,7 +185,7 @@ front_of true words = codes "(" ++ (joined (codes " ") words ++ codes ")")
 abbrev pub star_of : Bool → List ℕ
 star_of repeated = cond repeated (codes "*") []
 
--- what stands after the name
+-- what is after the name
 abbrev pub after_name_text : Bracket → List ℕ → List ℕ → List ℕ
 after_name_text bracket help values =
     bracket_text bracket ++ (codes "[" ++ (help ++ (codes "]" ++ values)))
@@ -207,7 +207,7 @@ option_with words repeated name bracket help = record {
 -- from the first byte of the name on
 rest_read : (words : List (List ℕ)) (repeated : Bool) (name : List ℕ) (bracket : Bracket)
     (help values : List ℕ) → AreNameBytes name →
-    place_after (in_name words repeated (45 ∷ []))
+    state_after (in_name words repeated (45 ∷ []))
     (name ++ after_name_text bracket (marked is_help_marked help) values)
     ≡ after_help (option_with words repeated (45 ∷ name) bracket help)
 rest_read words repeated name bracket help values h =
@@ -218,20 +218,20 @@ rest_read words repeated name bracket help values h =
     ∙ help_read help values (new_option words repeated (45 ∷ name) bracket)
 
 -- from the star on, where a star and a dash lead on as after these names in conflict
-star_read : (place : OptionPlace) (words : List (List ℕ)) →
-    ((rest : List ℕ) → place_after place (42 ∷ rest) ≡ place_after (after_star words) rest) →
-    ((rest : List ℕ) → place_after place (45 ∷ rest)
-    ≡ place_after (in_name words false (45 ∷ [])) rest) →
+star_read : (state : OptionState) (words : List (List ℕ)) →
+    ((rest : List ℕ) → state_after state (42 ∷ rest) ≡ state_after (after_star words) rest) →
+    ((rest : List ℕ) → state_after state (45 ∷ rest)
+    ≡ state_after (in_name words false (45 ∷ [])) rest) →
     (repeated : Bool) (name : List ℕ) (bracket : Bracket) (help values : List ℕ) →
-    StartsDashed name → place_after place
+    StartsDashed name → state_after state
     (star_of repeated ++ (name ++ after_name_text bracket (marked is_help_marked help) values))
     ≡ after_help (option_with words repeated name bracket help)
-unfolding place_after next_place
-star_read place words star dash repeated [] bracket help values h = absurd h
-star_read place words star dash true (byte ∷ name) bracket help values (e, h) =
+unfolding state_after next_state
+star_read state words star dash repeated [] bracket help values h = absurd h
+star_read state words star dash true (byte ∷ name) bracket help values (e, h) =
     star ((byte ∷ name) ++ after_name_text bracket (marked is_help_marked help) values)
     ∙ rw e (rest_read words true name bracket help values h)
-star_read place words star dash false (byte ∷ name) bracket help values (e, h) =
+star_read state words star dash false (byte ∷ name) bracket help values (e, h) =
     rw e (dash (name ++ after_name_text bracket (marked is_help_marked help) values)
     ∙ rest_read words false name bracket help values h)
 
@@ -263,7 +263,7 @@ pub option_read : (has_front : Bool) (words : List (List ℕ)) (repeated : Bool)
     option_of
     (option_word has_front words repeated name bracket (marked is_help_marked help) values)
     ≡ Some (option_with words repeated name bracket help)
-unfolding option_of place_after next_place
+unfolding option_of state_after next_state
 option_read false words repeated name bracket help values none h =
     ap read_option (star_read before_option [] (λ rest. refl) (λ rest. refl) repeated name bracket
     help values h.starts)
@@ -272,7 +272,7 @@ option_read false words repeated name bracket help values none h =
 option_read true words repeated name bracket help values are h =
     let rest : List ℕ = star_of repeated
     ++ (name ++ after_name_text bracket (marked is_help_marked help) values) in
-    ap (λ t. read_option (place_after before_option (codes "(" ++ t)))
+    ap (λ t. read_option (state_after before_option (codes "(" ++ t)))
     (append_assoc (joined (codes " ") words) (codes ")") rest)
     ∙ ap read_option (conflicts_read words rest are
     ∙ star_read (after_conflicts words) words (λ rest. refl) (λ rest. refl) repeated name bracket
@@ -281,26 +281,26 @@ option_read true words repeated name bracket help values are h =
 
 -- ---- words that tell none
 
-pub none_stays : (rest : List ℕ) → place_after no_option rest ≡ no_option
-unfolding place_after next_place
+pub none_stays : (rest : List ℕ) → state_after no_option rest ≡ no_option
+unfolding state_after next_state
 none_stays [] = refl
 none_stays (byte ∷ rest) = none_stays rest
 
 -- a word that begins with a colon
 pub colon_none : (rest : List ℕ) → option_of (codes ":" ++ rest) ≡ None
-unfolding option_of place_after next_place read_option
+unfolding option_of state_after next_state read_option
 colon_none rest = ap read_option (none_stays rest)
 
--- the places between the star and the bracket
-data BeforeBracket : OptionPlace → Type 0 where
-  star_place : (names : List (List ℕ)) → BeforeBracket (after_star names)
-  name_place : (names : List (List ℕ)) (repeated : Bool) (name : List ℕ) →
+-- the states between the star and the bracket
+data BeforeBracket : OptionState → Type 0 where
+  star_state : (names : List (List ℕ)) → BeforeBracket (after_star names)
+  name_state : (names : List (List ℕ)) (repeated : Bool) (name : List ℕ) →
       BeforeBracket (in_name names repeated name)
-  bracket_place : (names : List (List ℕ)) (repeated : Bool) (name : List ℕ) (bracket : Bracket) →
+  bracket_state : (names : List (List ℕ)) (repeated : Bool) (name : List ℕ) (bracket : Bracket) →
       BeforeBracket (at_bracket names repeated name bracket)
-  none_place : BeforeBracket no_option
+  none_state : BeforeBracket no_option
 
-by_cond : (q : Bool) {a b : OptionPlace} → BeforeBracket a → BeforeBracket b → BeforeBracket (cond q a b)
+by_cond : (q : Bool) {a b : OptionState} → BeforeBracket a → BeforeBracket b → BeforeBracket (cond q a b)
 by_cond true h k = h
 by_cond false h k = k
 
@@ -308,68 +308,68 @@ not_open : (byte : ℕ) → is_value_marked byte ≡ false → byte == 91 ≡ fa
 not_open byte h = grind (arith, nat_tests)
 
 -- a byte that is no bracket does not lead on to the help
-kept_before : (place : OptionPlace) (byte : ℕ) → BeforeBracket place → byte == 91 ≡ false →
-    BeforeBracket (next_place place byte)
-unfolding next_place after_name
-kept_before place byte (star_place names) e =
-    by_cond (byte == 45) (name_place names true (byte ∷ [])) none_place
-kept_before place byte (name_place names repeated name) e =
-    by_cond (is_name_byte byte) (name_place names repeated (name ++ byte ∷ []))
+kept_before : (state : OptionState) (byte : ℕ) → BeforeBracket state → byte == 91 ≡ false →
+    BeforeBracket (next_state state byte)
+unfolding next_state after_name
+kept_before state byte (star_state names) e =
+    by_cond (byte == 45) (name_state names true (byte ∷ [])) none_state
+kept_before state byte (name_state names repeated name) e =
+    by_cond (is_name_byte byte) (name_state names repeated (name ++ byte ∷ []))
     (subst (λ b. BeforeBracket (cond b (in_help (new_option names repeated name alone))
     (cond (byte == 43) (at_bracket names repeated name after_plus)
     (cond (byte == 61) (at_bracket names repeated name after_equals) no_option)))) (sym e)
-    (by_cond (byte == 43) (bracket_place names repeated name after_plus)
-    (by_cond (byte == 61) (bracket_place names repeated name after_equals) none_place)))
-kept_before place byte (bracket_place names repeated name bracket) e =
+    (by_cond (byte == 43) (bracket_state names repeated name after_plus)
+    (by_cond (byte == 61) (bracket_state names repeated name after_equals) none_state)))
+kept_before state byte (bracket_state names repeated name bracket) e =
     subst (λ b. BeforeBracket (cond b (in_help (new_option names repeated name bracket)) no_option))
-    (sym e) none_place
-kept_before place byte none_place e = none_place
+    (sym e) none_state
+kept_before state byte none_state e = none_state
 
 -- after a backslash nothing is an option
-backslash_none : (place : OptionPlace) → BeforeBracket place → next_place place 92 ≡ no_option
-unfolding next_place after_name is_name_byte
-backslash_none place (star_place names) = refl
-backslash_none place (name_place names repeated name) = refl
-backslash_none place (bracket_place names repeated name bracket) = refl
-backslash_none place none_place = refl
+backslash_none : (state : OptionState) → BeforeBracket state → next_state state 92 ≡ no_option
+unfolding next_state after_name is_name_byte
+backslash_none state (star_state names) = refl
+backslash_none state (name_state names repeated name) = refl
+backslash_none state (bracket_state names repeated name bracket) = refl
+backslash_none state none_state = refl
 
-value_before : (text : List ℕ) (place : OptionPlace) → BeforeBracket place →
-    BeforeBracket (place_after place (marked is_value_marked text))
-unfolding place_after
-value_before [] place h = h
-value_before (byte ∷ text) place h = by_test (is_value_marked byte) refl
-    (λ e. value_before text (next_place place byte) (kept_before place byte h (not_open byte e)))
+value_before : (text : List ℕ) (state : OptionState) → BeforeBracket state →
+    BeforeBracket (state_after state (marked is_value_marked text))
+unfolding state_after
+value_before [] state h = h
+value_before (byte ∷ text) state h = by_test (is_value_marked byte) refl
+    (λ e. value_before text (next_state state byte) (kept_before state byte h (not_open byte e)))
   where
     by_test : (m : Bool) → is_value_marked byte ≡ m → (is_value_marked byte ≡ false →
-        BeforeBracket (place_after (next_place place byte) (marked is_value_marked text))) →
-        BeforeBracket (place_after place (cond m (92 ∷ byte ∷ []) (byte ∷ [])
+        BeforeBracket (state_after (next_state state byte) (marked is_value_marked text))) →
+        BeforeBracket (state_after state (cond m (92 ∷ byte ∷ []) (byte ∷ [])
         ++ marked is_value_marked text))
     by_test true e again =
-        subst (λ p. BeforeBracket (place_after p (byte ∷ marked is_value_marked text)))
-        (sym (backslash_none place h))
-        (subst BeforeBracket (sym (none_stays (byte ∷ marked is_value_marked text))) none_place)
+        subst (λ p. BeforeBracket (state_after p (byte ∷ marked is_value_marked text)))
+        (sym (backslash_none state h))
+        (subst BeforeBracket (sym (none_stays (byte ∷ marked is_value_marked text))) none_state)
     by_test false e again = again e
 
 -- and a colon ends it
-colon_ends : (place : OptionPlace) (rest : List ℕ) → BeforeBracket place →
-    place_after place (58 ∷ rest) ≡ no_option
-unfolding place_after next_place after_name is_name_byte
-colon_ends place rest (star_place names) = none_stays rest
-colon_ends place rest (name_place names repeated name) = none_stays rest
-colon_ends place rest (bracket_place names repeated name bracket) = none_stays rest
-colon_ends place rest none_place = none_stays rest
+colon_ends : (state : OptionState) (rest : List ℕ) → BeforeBracket state →
+    state_after state (58 ∷ rest) ≡ no_option
+unfolding state_after next_state after_name is_name_byte
+colon_ends state rest (star_state names) = none_stays rest
+colon_ends state rest (name_state names repeated name) = none_stays rest
+colon_ends state rest (bracket_state names repeated name bracket) = none_stays rest
+colon_ends state rest none_state = none_stays rest
 
-place_after-append : (text rest : List ℕ) (place : OptionPlace) →
-    place_after place (text ++ rest) ≡ place_after (place_after place text) rest
-unfolding place_after
-place_after-append [] rest place = refl
-place_after-append (byte ∷ text) rest place = place_after-append text rest (next_place place byte)
+state_after-append : (text rest : List ℕ) (state : OptionState) →
+    state_after state (text ++ rest) ≡ state_after (state_after state text) rest
+unfolding state_after
+state_after-append [] rest state = refl
+state_after-append (byte ∷ text) rest state = state_after-append text rest (next_state state byte)
 
 -- a word that begins with a star, an escaped value and a colon
 pub star_none : (value rest : List ℕ) →
     option_of (codes "*" ++ (marked is_value_marked value ++ (codes ":" ++ rest))) ≡ None
-unfolding option_of place_after next_place read_option
+unfolding option_of state_after next_state read_option
 star_none value rest =
-    ap read_option (place_after-append (marked is_value_marked value) (58 ∷ rest) (after_star [])
-    ∙ colon_ends (place_after (after_star []) (marked is_value_marked value)) rest
-    (value_before value (after_star []) (star_place [])))
+    ap read_option (state_after-append (marked is_value_marked value) (58 ∷ rest) (after_star [])
+    ∙ colon_ends (state_after (after_star []) (marked is_value_marked value)) rest
+    (value_before value (after_star []) (star_state [])))

@@ -20,7 +20,7 @@ use Rattle.cc_command.proofs.PlainParts.{IsPlainName, IsPlainShort, IsPlainArgum
 use Rattle.cc_quote.specs.PosixTokens.{sign}
 use Rattle.cc_quote.specs.PosixTokens.Sign.{other}
 use Rattle.cc_quote.proofs.PosixCutting.{IsOther}
-use Rattle.cc_command.specs.ArgumentLists.{first_with}
+use Rattle.cc_command.specs.ArgumentLists.{first_with_id}
 use Rattle.cc_zsh.specs.Conflicts.{conflict_scope, conflicts_of, short_word, long_word, short_words, long_words, own_words, conflict_words, conflicts_text, has_arguments}
 use Rattle.cc_zsh.specs.Options.{name_word}
 use Rattle.cc_zsh.specs.Reader.{is_name_byte, is_typed_name}
@@ -137,25 +137,25 @@ words_dashed (argument ∷ arguments) (h, hs) =
     (own_dashed argument h) (words_dashed arguments hs)
 
 found_plain : (arguments : List Arg) (id : List ℕ) → AllByRecursion IsPlainArgument arguments →
-    AllByRecursion IsPlainArgument (option_to_list (first_with arguments id))
+    AllByRecursion IsPlainArgument (option_to_list (first_with_id arguments id))
 found_plain [] id h = tt
 found_plain (argument ∷ arguments) id (h, hs) =
     by_test (bytes_eq argument.id id) (found_plain arguments id hs)
   where
     by_test : (b : Bool) →
-        AllByRecursion IsPlainArgument (option_to_list (first_with arguments id)) →
+        AllByRecursion IsPlainArgument (option_to_list (first_with_id arguments id)) →
         AllByRecursion IsPlainArgument
-        (option_to_list (cond b (Some argument) (first_with arguments id)))
+        (option_to_list (cond b (Some argument) (first_with_id arguments id)))
     by_test true k = (h, tt)
     by_test false k = k
 
 ids_plain : (arguments : List Arg) (ids : List (List ℕ)) →
     AllByRecursion IsPlainArgument arguments →
-    AllByRecursion IsPlainArgument (flat_map (λ id. option_to_list (first_with arguments id)) ids)
+    AllByRecursion IsPlainArgument (flat_map (λ id. option_to_list (first_with_id arguments id)) ids)
 ids_plain arguments [] h = tt
 ids_plain arguments (id ∷ ids) h =
-    AllByRecursion-append IsPlainArgument (option_to_list (first_with arguments id))
-    (flat_map (λ id. option_to_list (first_with arguments id)) ids) (found_plain arguments id h) (ids_plain arguments ids h)
+    AllByRecursion-append IsPlainArgument (option_to_list (first_with_id arguments id))
+    (flat_map (λ id. option_to_list (first_with_id arguments id)) ids) (found_plain arguments id h) (ids_plain arguments ids h)
 
 conflicting_plain : (above node : Node) (argument : Arg) →
     AllByRecursion IsPlainArgument above.arguments →
@@ -176,7 +176,7 @@ pub conflicting_dashed : (above node : Node) (argument : Arg) →
 conflicting_dashed above node argument h k =
     words_dashed (conflicts_of above node argument) (conflicting_plain above node argument h k)
 
--- the brackets stand where there are arguments in conflict
+-- there are brackets where there are arguments in conflict
 pub conflicts_front : (arguments : List Arg) →
     conflicts_text arguments ≡ front_of (has_arguments arguments) (conflict_words arguments)
 unfolding conflicts_text

@@ -41,11 +41,11 @@ named_join : (parent : List ℕ) (first later : Forest) → IsNamed parent first
 named_join parent none later h k = k
 named_join parent (more node below rest) later h k = (h.0, (h.1.0, named_join parent rest later h.1.1 k))
 
-named_copies : (parent : List ℕ) (place : ℕ) (forest : Forest) →
-    IsNamed parent (copies parent place forest)
-named_copies parent place none = tt
-named_copies parent place (more node below rest) =
-    (refl, (named_copies (joined_name parent node.name) 0 below, named_copies parent (suc place) rest))
+named_copies : (parent : List ℕ) (position : ℕ) (forest : Forest) →
+    IsNamed parent (copies parent position forest)
+named_copies parent position none = tt
+named_copies parent position (more node below rest) =
+    (refl, (named_copies (joined_name parent node.name) 0 below, named_copies parent (suc position) rest))
 
 named_help_child : (parent : List ℕ) (node : Node) (children : Forest) →
     IsNamed parent (help_child parent node children)

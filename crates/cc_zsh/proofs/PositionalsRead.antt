@@ -65,7 +65,7 @@ pub record IsNone (text : List ℕ) : Type 0 where
 colon_escapes : Escapes (codes ":") (codes ":")
 colon_escapes = escapes_same (codes ":") (refl, tt)
 
--- where a colon stands first
+-- where a colon occurs first
 from_colon : (rest : List ℕ) → IsEscaped rest → IsNone (codes ":" ++ rest)
 from_colon rest h = record {
   word = codes ":" ++ h.word;

@@ -5,7 +5,7 @@ use Rattle.cc_quote.specs.PosixTokens.{sign, byte_of, cut, posix_tokens}
 use Rattle.cc_quote.specs.Tokens.{is_word}
 use Rattle.cc_quote.specs.ZshQuote.{marks, marks_from, unmarked}
 use Rattle.cc_zsh.specs.Functions.{Entry}
-use Rattle.cc_zsh.specs.Reader.{ZshOption, after_name, all_shown, arm_word, children_of, labelled_entries, parts_at_end, entry_from, entry_of, function_name, is_line, is_name_byte, is_typed_name, named_function, next, next_arm, next_function, next_place, option_of, place_after, read, read_option, shown_of, text_after, text_before, with_typed_names, with_word, word_of, zsh_parts, zsh_shown}
+use Rattle.cc_zsh.specs.Reader.{ZshOption, after_name, all_shown, arm_word, children_of, labelled_entries, parts_at_end, entry_from, entry_of, function_name, is_line, is_name_byte, is_typed_name, named_function, next, next_arm, next_function, next_state, option_of, state_after, read, read_option, shown_of, text_after, text_before, with_typed_names, with_word, word_of, zsh_parts, zsh_shown}
 use Rattle.cc_zsh.specs.Reader.Bracket.{alone, after_equals}
 
 -- names in conflict, a flag that may be used again, a help with quotes, brackets and backslashes, and
@@ -51,10 +51,10 @@ script_row : zsh_shown script ≡ Some (
     }
     ∷ record { path = codes "run" ∷ codes "deep" ∷ []; options = []; children = [] }
     ∷ [])
-unfolding sign byte_of cut posix_tokens is_word marks marks_from unmarked after_name all_shown arm_word children_of labelled_entries parts_at_end entry_from entry_of function_name is_line is_name_byte named_function next next_arm next_function next_place option_of place_after read read_option shown_of text_after text_before with_typed_names is_typed_name is_plain_name is_joined name_byte with_word word_of zsh_parts zsh_shown
+unfolding sign byte_of cut posix_tokens is_word marks marks_from unmarked after_name all_shown arm_word children_of labelled_entries parts_at_end entry_from entry_of function_name is_line is_name_byte named_function next next_arm next_function next_state option_of state_after read read_option shown_of text_after text_before with_typed_names is_typed_name is_plain_name is_joined name_byte with_word word_of zsh_parts zsh_shown
 script_row = refl
 
 -- three dashes begin no name
 three_dashes : option_of (codes "---long[help]") ≡ None
-unfolding after_name is_name_byte next_place option_of place_after read_option with_typed_names is_typed_name is_plain_name is_joined name_byte
+unfolding after_name is_name_byte next_state option_of state_after read_option with_typed_names is_typed_name is_plain_name is_joined name_byte
 three_dashes = refl

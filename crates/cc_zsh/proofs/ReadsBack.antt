@@ -23,7 +23,7 @@ use Rattle.cc_command.proofs.PlainParts.{plain_tree}
 use Rattle.cc_visits.specs.Visits.{Keyed, keyed, keys_below, longer_path, path_visits, paths_below}
 use Rattle.cc_visits.proofs.VisitedPaths.{paths_cover}
 use Rattle.cc_zsh.specs.Functions.{Function, entries_of, function_of, functions_below, function_below, is_again, once_after, sorted_functions, tree_functions}
-use Rattle.cc_quote.specs.Escapes.{replaced}
+use Rattle.cc_quote.specs.Escapes.{replace_byte}
 use Rattle.cc_zsh.specs.Nested.{function_label}
 use Rattle.cc_zsh.specs.Reader.{Description, Path, Shown, all_shown, children_of, labelled_entries, shown_of, with_shown, zsh_parts, zsh_shown}
 use Rattle.cc_zsh.specs.Reads.{ZshReads}
@@ -161,7 +161,7 @@ module _ (root : Tree) (plain : IsTrue (is_plain_tree root)) (built : built_tree
   labels_differ : AllDifferBy label (root_function ∷ unsorted)
   labels_differ =
       let below = (plain_tree root plain).below in
-      AllDifferBy-finer (λ function. replaced 32 (codes "__subcmd__") function.name) label
+      AllDifferBy-finer (λ function. replace_byte 32 (codes "__subcmd__") function.name) label
       (λ function. Unit {0}) (λ f g _ _ same. label_stem f.name g.name same) (root_function ∷ unsorted)
       (AllByRecursion-from_IsIn (λ function. Unit {0}) (root_function ∷ unsorted) (λ f at. tt))
       (all_stems_differ root.node root.children (named_tree root built) below.children below.differ)

@@ -9,7 +9,7 @@ use Rattle.cc_command.specs.declared.node.Node.{Node}
 use Rattle.cc_command.specs.Names.{full_name}
 use Rattle.cc_command.specs.Tree.{Forest, none, more, Tree}
 use Rattle.cc_quote.specs.PosixTokens.{sign, byte_of, cut, posix_tokens}
-use Rattle.cc_quote.specs.PosixTokens.Place.{between, in_bare}
+use Rattle.cc_quote.specs.PosixTokens.QuoteState.{between, in_bare}
 use Rattle.cc_quote.specs.Tokens.{is_word}
 use Rattle.cc_quote.specs.Tokens.Piece.{bare}
 use Rattle.cc_quote.proofs.PosixCutting.{IsOther, IsKept-IsOther, tokens_from, bare_word, bare_run, double_run}

@@ -5,12 +5,12 @@ use Rattle.std.specs.Option.{option_to_list}
 use Rattle.cc_base.specs.Joined.{joined}
 use Rattle.cc_arg.specs.declared.parts.ArgParts.{ArgParts as Arg}
 use Rattle.cc_command.specs.declared.node.Node.{Node}
-use Rattle.cc_command.specs.ArgumentLists.{conflicting, first_with}
+use Rattle.cc_command.specs.ArgumentLists.{conflicting, first_with_id}
 
 -- for each of these ids in order the first of the arguments with it; an id that none has is passed
 -- over
 abbrev pub with_ids : List Arg → List (List ℕ) → List Arg
-with_ids arguments ids = flat_map (λ id. option_to_list (first_with arguments id)) ids
+with_ids arguments ids = flat_map (λ id. option_to_list (first_with_id arguments id)) ids
 
 -- where the conflicts of an argument are looked up: those of a global one in the node above, which
 -- for the root is the root itself

@@ -39,7 +39,7 @@ functions_below none = []
 functions_below (more node below rest) =
     function_of node below ∷ (functions_below below ++ functions_below rest)
 
--- whether one name stands before another by its bytes
+-- whether one name comes before another by its bytes
 abbrev pub function_below : Function → Function → Bool
 function_below one other = is_lt (slice_cmp nat_cmp one.name other.name)
 

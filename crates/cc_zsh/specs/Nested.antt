@@ -7,13 +7,13 @@ use Rattle.cc_command.specs.ArgumentLists.{positionals}
 use Rattle.cc_command.specs.Names.{full_name, visible_names}
 use Rattle.cc_command.specs.Tree.{Forest, none, more, Tree, has_nodes}
 use Rattle.cc_base.specs.Bytes.{line_feed, space}
-use Rattle.cc_quote.specs.Escapes.{replaced}
+use Rattle.cc_quote.specs.Escapes.{replace_byte}
 use Rattle.cc_zsh.specs.Options.{flags_text, options_text}
 use Rattle.cc_zsh.specs.Positionals.{positionals_text}
 
 -- the name of the function that describes a node's children, without the first `_`
 abbrev pub function_label : List ℕ → List ℕ
-function_label name = replaced space (codes "__subcmd__") name ++ codes "_commands"
+function_label name = replace_byte space (codes "__subcmd__") name ++ codes "_commands"
 
 -- ---- what is offered at a node
 
@@ -35,7 +35,7 @@ state_begins = codes "\" \\\n\"*::: :->"
 unfoldable pub state_ends : List ℕ
 state_ends = codes "\" \\\n"
 
--- the children: the function that describes them, and the name of the node, at which its arms stand
+-- the children: the function that describes them, and the name of the node, at which its arms are
 unfoldable pub children_text : Node → List ℕ
 children_text node =
     (((command_begins ++ function_label (full_name node)) ++ state_begins) ++ node.name)
@@ -78,23 +78,23 @@ case_line_in = codes "] in\n            "
 unfoldable pub nested_ends : List ℕ
 nested_ends = codes "        esac\n    ;;\nesac"
 
--- the place of the word that names a child: after the positionals
-abbrev pub place_text : Node → List ℕ
-place_text node = decimal (suc (length (positionals node)))
+-- the index of the word that names a child: after the positionals
+abbrev pub index_text : Node → List ℕ
+index_text node = decimal (suc (length (positionals node)))
 
 -- the full name with dashes
 abbrev pub context_text : Node → List ℕ
-context_text node = replaced space (codes "-") (full_name node)
+context_text node = replace_byte space (codes "-") (full_name node)
 
--- what the arms begin with, where the word that names a child stands at this place: the words from
+-- what the arms begin with, where the word that names a child is at this index: the words from
 -- it on, the context in which zsh looks up its styles, and the choice by it
 unfoldable pub case_text : Node → List ℕ → List ℕ
-case_text node place =
-    (((((((((case_state ++ node.name) ++ set_words) ++ place) ++ set_context)
-    ++ context_text node) ++ context_command) ++ place) ++ case_line) ++ place) ++ case_line_in
+case_text node index =
+    (((((((((case_state ++ node.name) ++ set_words) ++ index) ++ set_context)
+    ++ context_text node) ++ context_command) ++ index) ++ case_line) ++ index) ++ case_line_in
 
 abbrev pub nested_begins : Node → List ℕ
-nested_begins node = case_text node (place_text node)
+nested_begins node = case_text node (index_text node)
 
 -- the arms of a node, where it has children
 abbrev pub nested_text : Node → Forest → List ℕ → List ℕ

@@ -34,7 +34,7 @@ text_after (first ∷ rest) (byte ∷ text) = elim (byte == first) [
   | false ↦ None
 ]
 
--- what stands before the last byte of a text, where it is this one
+-- what is before the last byte of a text, where it is this one
 unfoldable pub text_before : ℕ → List ℕ → Option (List ℕ)
 text_before last [] = None
 text_before last (byte ∷ []) = if byte == last then Some [] else None
@@ -43,7 +43,7 @@ text_before last (byte ∷ next ∷ text) =
 
 -- ---- options
 
--- what stands between an option's name and its help: `[`, `+[` or `=[`
+-- what is between an option's name and its help: `[`, `+[` or `=[`
 pub data Bracket : Type 0 where
   alone : Bracket
   after_plus : Bracket
@@ -70,17 +70,17 @@ with_help option byte = record option { help = option.help ++ byte ∷ [] }
 -- where the reader of a word is, with what it has read: before the option; among the names in
 -- conflict, of which one is open; after them; after the star; in the name; at the bracket; in the
 -- help, and after a backslash there; after the help; or in a word that is no option
-pub data OptionPlace : Type 0 where
-  before_option : OptionPlace
-  in_conflicts : List (List ℕ) → List ℕ → OptionPlace
-  after_conflicts : List (List ℕ) → OptionPlace
-  after_star : List (List ℕ) → OptionPlace
-  in_name : List (List ℕ) → Bool → List ℕ → OptionPlace
-  at_bracket : List (List ℕ) → Bool → List ℕ → Bracket → OptionPlace
-  in_help : ZshOption → OptionPlace
-  in_help_escaped : ZshOption → OptionPlace
-  after_help : ZshOption → OptionPlace
-  no_option : OptionPlace
+pub data OptionState : Type 0 where
+  before_option : OptionState
+  in_conflicts : List (List ℕ) → List ℕ → OptionState
+  after_conflicts : List (List ℕ) → OptionState
+  after_star : List (List ℕ) → OptionState
+  in_name : List (List ℕ) → Bool → List ℕ → OptionState
+  at_bracket : List (List ℕ) → Bool → List ℕ → Bracket → OptionState
+  in_help : ZshOption → OptionState
+  in_help_escaped : ZshOption → OptionState
+  after_help : ZshOption → OptionState
+  no_option : OptionState
 
 -- the names, with the one that was open, unless nothing of it was there
 abbrev pub with_name : List (List ℕ) → List ℕ → List (List ℕ)
@@ -92,46 +92,46 @@ unfoldable pub is_name_byte : ℕ → Bool
 is_name_byte byte =
     is_ascii_alphanumeric byte || byte == dash || byte == underscore
 
--- the place after a byte that does not belong to the name
-unfoldable pub after_name : List (List ℕ) → Bool → List ℕ → ℕ → OptionPlace
+-- the state after a byte that does not belong to the name
+unfoldable pub after_name : List (List ℕ) → Bool → List ℕ → ℕ → OptionState
 after_name conflicts repeated name byte =
     if byte == open_bracket then in_help (new_option conflicts repeated name alone)
     else (if byte == plus then at_bracket conflicts repeated name after_plus
     else (if byte == equals then at_bracket conflicts repeated name after_equals
     else no_option))
 
--- the place after one more byte
-unfoldable pub next_place : OptionPlace → ℕ → OptionPlace
-next_place before_option byte =
+-- the state after one more byte
+unfoldable pub next_state : OptionState → ℕ → OptionState
+next_state before_option byte =
     if byte == open_parenthesis then in_conflicts [] []
     else (if byte == star then after_star []
     else (if byte == dash then in_name [] false (byte ∷ []) else no_option))
-next_place (in_conflicts names name) byte =
+next_state (in_conflicts names name) byte =
     if byte == close_parenthesis then after_conflicts (with_name names name)
     else (if byte == space then in_conflicts (with_name names name) []
     else in_conflicts names (name ++ byte ∷ []))
-next_place (after_conflicts names) byte =
+next_state (after_conflicts names) byte =
     if byte == star then after_star names
     else (if byte == dash then in_name names false (byte ∷ []) else no_option)
-next_place (after_star names) byte =
+next_state (after_star names) byte =
     if byte == dash then in_name names true (byte ∷ []) else no_option
-next_place (in_name names repeated name) byte =
+next_state (in_name names repeated name) byte =
     if is_name_byte byte then in_name names repeated (name ++ byte ∷ [])
     else after_name names repeated name byte
-next_place (at_bracket names repeated name bracket) byte =
+next_state (at_bracket names repeated name bracket) byte =
     if byte == open_bracket then in_help (new_option names repeated name bracket) else no_option
-next_place (in_help option) byte =
+next_state (in_help option) byte =
     if byte == close_bracket then after_help option
     else (if byte == backslash then in_help_escaped option
     else in_help (with_help option byte))
-next_place (in_help_escaped option) byte = in_help (with_help option byte)
-next_place (after_help option) byte = after_help option
-next_place no_option byte = no_option
+next_state (in_help_escaped option) byte = in_help (with_help option byte)
+next_state (after_help option) byte = after_help option
+next_state no_option byte = no_option
 
--- the place after a word
-unfoldable pub place_after : OptionPlace → List ℕ → OptionPlace
-place_after place [] = place
-place_after place (byte ∷ word) = place_after (next_place place byte) word
+-- the state after a word
+unfoldable pub state_after : OptionState → List ℕ → OptionState
+state_after state [] = state
+state_after state (byte ∷ word) = state_after (next_state state byte) word
 
 -- a text without the dash at its start, if one is there
 abbrev pub without_dash : List ℕ → List ℕ
@@ -150,13 +150,13 @@ with_typed_names option =
     else None
 
 -- the option that was read up to there
-unfoldable pub read_option : OptionPlace → Option ZshOption
+unfoldable pub read_option : OptionState → Option ZshOption
 read_option (after_help option) = with_typed_names option
 read_option _ = None
 
 -- the option that a word tells, if it tells one
 unfoldable pub option_of : List ℕ → Option ZshOption
-option_of word = read_option (place_after before_option word)
+option_of word = read_option (state_after before_option word)
 
 -- ---- descriptions of children
 
@@ -164,7 +164,7 @@ option_of word = read_option (place_after before_option word)
 abbrev pub entry_with : List ℕ → List ℕ → Entry
 entry_with word help = record { word = word; help = help }
 
--- from what stands before the colon so far on: a word, and its description after the first colon
+-- from what is before the colon so far on: a word, and its description after the first colon
 -- that no backslash escapes
 unfoldable pub entry_from : List ℕ → List Mark → Option Entry
 entry_from word [] = None
@@ -237,7 +237,7 @@ arm_word (bare run ∷ []) = elim (text_after (open_parenthesis ∷ []) run) [
 ]
 arm_word _ = None
 
--- whether a token names the word at which the arms stand, `$line[..]`
+-- whether a token names the word at which the arms are, `$line[..]`
 unfoldable pub is_line : Token → Bool
 is_line (bare run ∷ []) = is_some (text_after (codes "$line[") run)
 is_line _ = false
@@ -287,7 +287,7 @@ abbrev pub with_description : List Description → List ℕ → List Entry → L
 with_description descriptions label entries =
     descriptions ++ record { label = label; entries = entries } ∷ []
 
--- the state after a token; what does not belong where it stands is malformed
+-- the state after a token; what does not belong there is malformed
 unfoldable pub next : State → Token → State
 next before_blocks token =
     if is_word (codes "_arguments") token then in_block [] [] (new_block []) else before_blocks

@@ -30,7 +30,7 @@ option_row above node argument bracket name = record {
   help = line_feeds_as_spaces (unwrap_or argument.help []);
 }
 
--- what stands before the bracket of an argument: a sign where it takes values
+-- what is before the bracket of an argument: a sign where it takes values
 abbrev pub bracket_after : Arg → ShownName → Bracket
 bracket_after argument (Short _) = if takes_values argument then after_plus else alone
 bracket_after argument (Long _) = if takes_values argument then after_equals else alone

@@ -31,7 +31,7 @@ unfolding zsh_escaped_value
 item_text Names value = zsh_escaped_value value.name
 item_text Helps value = zsh_escaped_value value.name ++ item_help (unwrap_or value.help [])
 
--- names stand on one line, and each name with its help on a line of its own
+-- names are on one line, and each name with its help on a line of its own
 abbrev pub item_separator : Form → List ℕ
 item_separator Names = codes " "
 item_separator Helps = codes "\n"

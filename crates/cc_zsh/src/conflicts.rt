@@ -5,12 +5,12 @@ ghost use Rattle.std.specs.Option.{option_to_list};
 ghost use Rattle.std.specs.List.{flat_map};
 ghost use Rattle.cc_base.specs.Joined.{has_texts, joined, joined_after, separator};
 ghost use Rattle.cc_base.specs.Writes.{Writes, as_write};
-ghost use Rattle.cc_command.specs.ArgumentLists.{first_with};
+ghost use Rattle.cc_command.specs.ArgumentLists.{first_with_id};
 ghost use Rattle.cc_zsh.specs.Conflicts.{conflict_scope, conflict_words, conflicts_of, conflicts_text, has_arguments, long_words, own_words, short_words, with_ids};
 
 use cc_arg::{Arg, conflicting_ids};
 use cc_base::{Sink, Text, put_piece};
-use cc_command::{Command, first_with};
+use cc_command::{Command, first_with_id};
 use cc_generator::put_word;
 use std::io::ErrorKind;
 
@@ -60,7 +60,7 @@ fn has_found(arguments: &[Arg], ids: &[Text]) -> bool
     ensures { result ≡ has_arguments (with_ids arguments.now ids.now) }
 {
     for id in ids {
-        if first_with(arguments, id.as_str()).is_some() {
+        if first_with_id(arguments, id.as_str()).is_some() {
             return true;
         }
     }
@@ -87,11 +87,11 @@ fn write_first<W: Sink>(
 ) -> Result<(), ErrorKind>
     ensures written { Writes W.taken W.failed (as_write result) sink.old sink.new
         (joined_after (codes " ") begun.old
-        (conflict_words (option_to_list (first_with arguments.now id.now)))) }
+        (conflict_words (option_to_list (first_with_id arguments.now id.now)))) }
     ensures begun { OnOk result (begun.new ≡ (begun.old
-        || has_texts (conflict_words (option_to_list (first_with arguments.now id.now))))) }
+        || has_texts (conflict_words (option_to_list (first_with_id arguments.now id.now))))) }
 {
-    let Some(argument) = first_with(arguments, id.as_str()) else {
+    let Some(argument) = first_with_id(arguments, id.as_str()) else {
         return Ok(());
     };
     write_short_word(argument, begun, sink)?;

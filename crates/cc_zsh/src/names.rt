@@ -3,7 +3,7 @@
 ghost use Rattle.std.specs.Prelude.{◌≡◌, codes, unwrap_or};
 ghost use Rattle.cc_base.specs.Bytes.{space};
 ghost use Rattle.cc_base.specs.Writes.{Writes, as_write};
-ghost use Rattle.cc_quote.specs.Escapes.{replaced};
+ghost use Rattle.cc_quote.specs.Escapes.{replace_byte};
 ghost use Rattle.cc_zsh.specs.Nested.{function_label};
 ghost use Rattle.cc_zsh.specs.Options.{name_word};
 
@@ -26,7 +26,7 @@ pub(crate) fn write_name<W: Sink>(name: &ShownName<'_>, sink: &mut W) -> Result<
     }
 }
 
-/// The name of the function begins with a `_`, which stands in the text before each place of it.
+/// The name of the function begins with a `_`, which is in the text before each occurrence of it.
 pub(crate) fn write_label<W: Sink>(name: &str, sink: &mut W) -> Result<(), ErrorKind>
     ensures { Writes W.taken W.failed (as_write result) sink.old sink.new
         (function_label name.now) }
@@ -41,7 +41,7 @@ pub(crate) fn write_label<W: Sink>(name: &str, sink: &mut W) -> Result<(), Error
 
 pub(crate) fn write_dashed<W: Sink>(name: &str, sink: &mut W) -> Result<(), ErrorKind>
     ensures { Writes W.taken W.failed (as_write result) sink.old sink.new
-        (replaced space (codes "-") name.now) }
+        (replace_byte space (codes "-") name.now) }
 {
     let escape = Replace {
         byte: b' ',

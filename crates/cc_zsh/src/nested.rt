@@ -7,7 +7,7 @@ ghost use Rattle.cc_base.specs.Writes.{Writes, as_write};
 ghost use Rattle.cc_command.specs.ArgumentLists.{positionals};
 ghost use Rattle.cc_flat.specs.Flat.{tree_at};
 ghost use Rattle.cc_visits.specs.Meaning.{step_of, visit_of};
-ghost use Rattle.cc_zsh.specs.Nested.{arm_begins, arms_text, below_text, block_text, case_text, children_text, nested_begins, place_text, root_text};
+ghost use Rattle.cc_zsh.specs.Nested.{arm_begins, arms_text, below_text, block_text, case_text, children_text, nested_begins, index_text, root_text};
 ghost use Rattle.cc_zsh.specs.Steps.{enter_text, leave_text, step_text};
 
 use crate::keys::LastNames;
@@ -145,43 +145,43 @@ fn write_nested_begins<W: Sink>(alloc: Global, command: &Command, sink: &mut W) 
     ensures { Writes W.taken W.failed result sink.old sink.new
         (nested_begins command.now.node) }
 {
-    let place = place(alloc, command)?;
-    as_error(write_case(command, place.as_str(), sink))
+    let index = index(alloc, command)?;
+    as_error(write_case(command, index.as_str(), sink))
 }
 
-// The place of the word is in digits.
+// The index of the word is in digits.
 #[tactic(auto, unfolding(crate::specs::Nested::case_text))]
 fn write_case<'a, W: Sink>(
     command: &'a Command,
-    place: &'a str,
+    index: &'a str,
     sink: &mut W,
 ) -> Result<(), ErrorKind>
     ensures { Writes W.taken W.failed (as_write result) sink.old sink.new
-        (case_text command.now.node place.now) }
+        (case_text command.now.node index.now) }
 {
     let words = [
         case_state().as_bytes(),
         command.get_name().as_bytes(),
         set_words().as_bytes(),
-        place.as_bytes(),
+        index.as_bytes(),
         set_context().as_bytes(),
     ];
     put_pieces(sink, &words)?;
     write_dashed(full_name(command), sink)?;
-    put_around(context_command(), place, case_line(), sink)?;
-    put_pieces(sink, &[place.as_bytes(), case_line_in().as_bytes()])
+    put_around(context_command(), index, case_line(), sink)?;
+    put_pieces(sink, &[index.as_bytes(), case_line_in().as_bytes()])
 }
 
-// The place of the word that names a child: after the positionals.
-fn place(alloc: Global, command: &Command) -> Result<String, AllocError>
-    ensures { IfOk result (λ place. string_bytes place ≡ place_text command.now.node) }
+// The index of the word that names a child: after the positionals.
+fn index(alloc: Global, command: &Command) -> Result<String, AllocError>
+    ensures { IfOk result (λ index. string_bytes index ≡ index_text command.now.node) }
 {
-    let mut place: usize = 1;
+    let mut index: usize = 1;
     for argument in command.get_arguments() {
         if !argument.is_positional() {
             continue;
         }
-        place += 1;
+        index += 1;
     }
-    format!(in alloc; "{place}")
+    format!(in alloc; "{index}")
 }

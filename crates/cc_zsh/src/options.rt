@@ -106,7 +106,7 @@ fn value_sign(argument: &Arg, name: &ShownName<'_>) -> &'static str
     }
 }
 
-// The brackets stand where there is no help, too.
+// There are brackets where there is no help, too.
 #[tactic(auto, unfolding(crate::specs::Options::help_text))]
 fn write_help<W: Sink>(argument: &Arg, sink: &mut W) -> Result<(), ErrorKind>
     ensures { Writes W.taken W.failed (as_write result) sink.old sink.new

@@ -34,7 +34,8 @@ fn carry_out<R: Env + Files + Print + AllocGlobal>(rt: &R) -> Result<(), Refusal
     let file = file.as_ref().map(Vec::as_slice);
     let folder = RealFolder::new(rt, home(rt)?);
     run(rt.alloc(), &plan, file, &folder, &mut out)?;
-    out.flush().map_err(|_| Refusal::fixed(1, WRITE_FAILED))
+    out.flush()
+        .map_err(|_| Refusal::from_static(1, WRITE_FAILED))
 }
 
 // The words of the command line; the first is the program's name.
@@ -42,7 +43,7 @@ fn words<R: Env + AllocGlobal>(rt: &R) -> Result<Vec<String>, Refusal> {
     match env::args(rt) {
         Ok(words) => Ok(words.collect(rt.alloc())?),
         Err(error) if error.kind() == io::ErrorKind::OutOfMemory => Err(Refusal::from(AllocError)),
-        Err(_) => Err(Refusal::fixed(2, NOT_UTF8)),
+        Err(_) => Err(Refusal::from_static(2, NOT_UTF8)),
     }
 }
 

@@ -1,4 +1,4 @@
-//! What the command line asks for, and what is printed in its place.
+//! What the command line asks for, and what is printed instead.
 
 use std::alloc::{AllocError, Global};
 use std::borrow::CowStr;
@@ -51,7 +51,7 @@ impl Refusal {
     ghost use Rattle.complgen_command_line.specs.Refusals.{text_of};
 
     /// A refusal with a fixed text. Allocates nothing.
-    pub fn fixed(status: u8, text: &'static str) -> Refusal
+    pub fn from_static(status: u8, text: &'static str) -> Refusal
         ensures status { result.status ≡ status }
         ensures text { text_of result ≡ text.entry.now }
     {
@@ -68,6 +68,6 @@ impl From<AllocError> for Refusal {
     ghost from_gives = { λ _ refusal. IsOutOfMemory refusal };
 
     fn from(_failed: AllocError) -> Refusal {
-        Refusal::fixed(1, OUT_OF_MEMORY)
+        Refusal::from_static(1, OUT_OF_MEMORY)
     }
 }

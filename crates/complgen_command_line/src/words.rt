@@ -34,7 +34,7 @@ pub fn plan(alloc: Global, words: &[String]) -> Result<Plan, Refusal>
     let command = command_line(alloc)?;
     match command.try_get_matches_from(words) {
         Ok(matches) => {
-            let planned = planned(alloc, &matches);
+            let planned = plan_of(alloc, &matches);
             drop(matches);
             planned
         }
@@ -43,7 +43,7 @@ pub fn plan(alloc: Global, words: &[String]) -> Result<Plan, Refusal>
 }
 
 // The plan of a parse.
-fn planned(alloc: Global, matches: &ArgMatches<'_>) -> Result<Plan, Refusal>
+fn plan_of(alloc: Global, matches: &ArgMatches<'_>) -> Result<Plan, Refusal>
     requires { EntersOne (subcommand_rows_of matches.now) }
     ensures ok { IfOk result (AsksFor (subcommand_rows_of matches.now)) }
     ensures err { IfErr result (Reports [] (subcommand_rows_of matches.now)) }
@@ -100,7 +100,7 @@ fn index(values: &ArgMatches<'_>) -> Result<usize, Refusal>
 {
     match text(values, "index").parse::<usize>() {
         Ok(index) => Ok(index),
-        Err(_) => Err(Refusal::fixed(2, BAD_INDEX)),
+        Err(_) => Err(Refusal::from_static(2, BAD_INDEX)),
     }
 }
 
@@ -110,12 +110,12 @@ fn words(alloc: Global, values: &ArgMatches<'_>) -> Result<Vec<String>, AllocErr
         map string_bytes words.items ≡ words_of (rows_of (found_of values.now))) }
 {
     match values.get_raw("words") {
-        Some(words) => copied(alloc, words),
+        Some(words) => copy_texts(alloc, words),
         None => Ok(Vec::new(alloc)),
     }
 }
 
-fn copied(alloc: Global, texts: &[&str]) -> Result<Vec<String>, AllocError>
+fn copy_texts(alloc: Global, texts: &[&str]) -> Result<Vec<String>, AllocError>
     ensures { IfOk result (λ copy. map string_bytes copy.items ≡ map (λ text. text.now) texts.now) }
 {
     let mut copy = Vec::new(alloc);

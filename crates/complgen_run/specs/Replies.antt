@@ -31,13 +31,13 @@ pub record AreFound (Finds : Paths) (words : List (List ℕ)) (index : ℕ) (tre
   pub in_range : is_in_range (built_tree tree).node (length words) index ≡ true
   pub completes : Completes (only_paths Finds) (built_tree tree) words index found
 
--- why no candidates are found: out of memory; or no word stands at the index
+-- why no candidates are found: out of memory; or no word is at the index
 abbrev pub FindsNone : ℕ → ℕ → Tree → Error → Type 0
 FindsNone count index tree Memory = ⊤
 FindsNone count index tree NoCompletion = is_in_range (built_tree tree).node count index ≡ false
 FindsNone count index tree _ = ⊥
 
--- no word of the command line stands at the index, and that is reported
+-- no word of the command line is at the index, and that is reported
 pub record IsOutOfRange (count index : ℕ) (tree : Tree) (refusal : Refusal) : Type 0 where
   pub out_of_range : is_in_range (built_tree tree).node count index ≡ false
   pub reported : IsRefusal (error_line NoCompletion) refusal

@@ -3,7 +3,7 @@ use Rattle.std.specs.Prelude.{◌≡◌, ◌++◌, ℕ, Bool, IsTrue, List, Opti
 use Rattle.std.specs.declared.io.ErrorKind.{ErrorKind}
 use Rattle.clap_complete.specs.Error.TheVariants.{Write}
 use Rattle.clap_complete.specs.Failures.{Failures}
-use Rattle.clap_complete.specs.Sink.{raised}
+use Rattle.clap_complete.specs.Sink.{add_failure}
 use Rattle.clap_complete.specs.Tree.{Tree}
 use Rattle.complgen_command_line.specs.Refusals.{IsOutOfMemory, IsRefusal}
 use Rattle.complgen_command_line.specs.declared.types.Refusal.{Refusal}
@@ -39,7 +39,7 @@ pub data Finishes {S : Type 0} (taken : S → List ℕ) (failed : S → Failures
   -- a write failed, which is counted with its kind
   write_failed : (bytes text : List ℕ) (tree : Tree) (kind : ErrorKind) (refusal : Refusal)
       → Describes bytes (Some tree) → IsText tree text
-      → IsRefusal (error_line (Write kind)) refusal → failed new ≡ raised kind (failed old)
+      → IsRefusal (error_line (Write kind)) refusal → failed new ≡ add_failure kind (failed old)
       → Finishes taken failed allocates Rejects IsText old new (Some bytes) (Err refusal)
   -- out of memory once the text may have been begun; how much of it is written is left open
   out_of_memory_in_text : (bytes text : List ℕ) (tree : Tree) (refusal : Refusal)

@@ -47,8 +47,8 @@ pub(crate) fn tree_refusal(error: TreeError) -> Refusal
     ensures { ReportsTree error result }
 {
     match error {
-        TreeError::NotJson => Refusal::fixed(1, NOT_JSON),
-        TreeError::BadForm => Refusal::fixed(1, BAD_FORM),
+        TreeError::NotJson => Refusal::from_static(1, NOT_JSON),
+        TreeError::BadForm => Refusal::from_static(1, BAD_FORM),
         TreeError::Memory => Refusal::from(AllocError),
     }
 }
@@ -59,9 +59,9 @@ pub(crate) fn error_refusal(alloc: Global, error: &Error) -> Refusal
 {
     match error {
         Error::Memory => Refusal::from(AllocError),
-        Error::Write(_) => Refusal::fixed(1, WRITE_FAILED),
-        Error::NoCompletion => Refusal::fixed(1, NO_COMPLETION),
-        Error::NoArguments => Refusal::fixed(1, NO_ARGUMENTS),
+        Error::Write(_) => Refusal::from_static(1, WRITE_FAILED),
+        Error::NoCompletion => Refusal::from_static(1, NO_COMPLETION),
+        Error::NoArguments => Refusal::from_static(1, NO_ARGUMENTS),
         Error::LabelClash(label) => {
             let label = label.as_str();
             with_text(format!(in alloc; "two commands share the label {label}\n"))

@@ -54,7 +54,7 @@ fn register_named<W: Sink>(
 {
     match adapter_of(name) {
         Some(adapter) => register_by(alloc, adapter, bin, file, out),
-        None => Err(Refusal::fixed(1, no_registration(shell))),
+        None => Err(Refusal::from_static(1, no_registration(shell))),
     }
 }
 

@@ -14,7 +14,7 @@ pub(crate) fn tree(alloc: Global, file: Option<&[u8]>) -> Result<Command, Refusa
     ensures { ReadsFile (option_copied file.entry) result }
 {
     let Some(bytes) = file else {
-        return Err(Refusal::fixed(1, UNREADABLE));
+        return Err(Refusal::from_static(1, UNREADABLE));
     };
     read_tree(alloc, bytes).map_err(tree_refusal)
 }

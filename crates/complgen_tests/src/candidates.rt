@@ -1,7 +1,7 @@
 //! What the plan of candidates writes, and how carrying it out fails.
 
 use crate::checks::is;
-use crate::runs::{candidates, fails, written, written_in};
+use crate::runs::{candidates, fails, output_in, output_of};
 use cc_fixtures::trees::{ANY, FILE, HYPHENS, TESTED};
 use cc_paths::MemoryFolder;
 use complgen_command_line::Refusal;
@@ -11,7 +11,7 @@ use std::process::Abort;
 // What is written of the candidates for the last of the words.
 fn last_of(alloc: Global, tree: &str, words: &[&str]) -> Result<String, Refusal> {
     let plan = candidates(alloc, words.len().saturating_sub(1), words)?;
-    written(alloc, &plan, tree.as_bytes())
+    output_of(alloc, &plan, tree.as_bytes())
 }
 
 #[test]
@@ -39,7 +39,7 @@ fn writes_the_values_of_a_positional(rt: HostRuntime) {
 #[test]
 fn completes_the_word_at_the_index(rt: HostRuntime) {
     let plan = candidates(rt.alloc(), 1, &["app", "t", "-"]).expect(&rt, "no plan");
-    is(&rt, written(rt.alloc(), &plan, TESTED.as_bytes()), "t\n");
+    is(&rt, output_of(rt.alloc(), &plan, TESTED.as_bytes()), "t\n");
 }
 
 #[test]
@@ -79,7 +79,7 @@ fn path_of(
     folder: &MemoryFolder,
 ) -> Result<String, Refusal> {
     let plan = candidates(alloc, 1, &["app", word])?;
-    written_in(alloc, &plan, tree.as_bytes(), folder)
+    output_in(alloc, &plan, tree.as_bytes(), folder)
 }
 
 #[test]

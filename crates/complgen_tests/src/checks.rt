@@ -1,4 +1,4 @@
-//! Checks of values. To prove what one `assert_eq!` writes takes seconds, so it stands here once,
+//! Checks of values. To prove what one `assert_eq!` writes takes seconds, so it is here once,
 //! and a test calls it.
 
 use std::fmt::Debug;

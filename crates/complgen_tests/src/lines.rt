@@ -1,8 +1,8 @@
 //! What the words of `register` and `candidates` ask for.
 
 use crate::checks::{is, same};
-use crate::words::{failed, planned, shows};
-use cc_fixtures::words::copies;
+use crate::words::{plan_of, refusal_of, shows};
+use cc_fixtures::words::to_strings;
 use complgen_command_line::Plan;
 use std::alloc::{AllocError, Global};
 use std::convert::AsStr;
@@ -18,7 +18,7 @@ fn asks_for_a_registration(rt: HostRuntime) {
         "app",
         "tree.json",
     ];
-    match planned(&rt, rt.alloc(), words.as_slice()).expect(&rt, "no plan") {
+    match plan_of(&rt, rt.alloc(), words.as_slice()).expect(&rt, "no plan") {
         Plan::Register(shell, bin, tree) => {
             let named = (shell.as_str(), bin.as_str(), tree.as_str());
             same(&rt, named, ("bash", "app", "tree.json"));
@@ -37,10 +37,10 @@ fn line<'a>(alloc: Global, index: &'a str, rest: &[&'a str]) -> Result<Vec<&'a s
 
 // Fails unless the line asks for candidates at this index of these words.
 fn asks(rt: &impl Abort, alloc: Global, line: &[&str], index: usize, words: &[&str]) {
-    match planned(rt, alloc, line).expect(rt, "no plan") {
+    match plan_of(rt, alloc, line).expect(rt, "no plan") {
         Plan::Candidates(at, tree, given) => {
             same(rt, (at, tree.as_str()), (index, "tree.json"));
-            same(rt, given, copies(alloc, words).expect(rt, "no words"));
+            same(rt, given, to_strings(alloc, words).expect(rt, "no words"));
         }
         _ => panic!(rt; "no candidates"),
     }
@@ -84,7 +84,7 @@ const BAD_INDEXES: [&str; 7] = ["18446744073709551616", "", "+", "one", "1.0", "
 
 // Fails unless the line ends with status 2 and the text of a bad index.
 fn is_bad(rt: &impl Abort, alloc: Global, line: &[&str]) {
-    let refusal = failed(rt, alloc, line);
+    let refusal = refusal_of(rt, alloc, line);
     let ends = (refusal.status, refusal.text.as_str());
     same(rt, ends, (2, "index: bad number\n"));
 }
@@ -103,7 +103,7 @@ fn fails_on_a_bad_index(rt: HostRuntime) {
 #[test]
 fn reports_missing_words_before_a_bad_index(rt: HostRuntime) {
     let words = ["complgen", "candidates", "--index", "one"];
-    let refusal = failed(&rt, rt.alloc(), words.as_slice());
+    let refusal = refusal_of(&rt, rt.alloc(), words.as_slice());
     let text = refusal.text.as_str();
     assert!(rt; text.contains("required arguments were not provided:\n  <TREE>\n"));
     same(&rt, refusal.status, 2);
@@ -139,7 +139,7 @@ fn shows_the_help_of_candidates(rt: HostRuntime) {
 #[test]
 fn debug_shows_the_words(rt: HostRuntime) {
     let line = line(rt.alloc(), "1", &["--", "app", ""]).expect(&rt, "no line");
-    let plan = planned(&rt, rt.alloc(), line.as_slice()).expect(&rt, "no plan");
+    let plan = plan_of(&rt, rt.alloc(), line.as_slice()).expect(&rt, "no plan");
     let wanted = "Candidates(1, \"tree.json\", [\"app\", \"\"])";
     is(&rt, format!(in rt.alloc(); "{plan:?}"), wanted);
 }

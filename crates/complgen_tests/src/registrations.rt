@@ -1,7 +1,7 @@
 //! What a registration's plan writes, and how carrying it out fails.
 
 use crate::checks::{has, is};
-use crate::runs::{fails, registration, written};
+use crate::runs::{fails, output_of, registration};
 use complgen_command_line::Refusal;
 use std::alloc::Global;
 use std::process::Abort;
@@ -11,7 +11,7 @@ const NAMED: &str = r#"{"name": "my-app"}"#;
 
 // The registration for this shell of the command, with the bin name `app`.
 fn registration_of(alloc: Global, shell: &str) -> Result<String, Refusal> {
-    written(alloc, &registration(alloc, shell, "app")?, NAMED.as_bytes())
+    output_of(alloc, &registration(alloc, shell, "app")?, NAMED.as_bytes())
 }
 
 #[test]

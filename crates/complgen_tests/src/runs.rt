@@ -1,7 +1,7 @@
 //! Carrying out a plan over a tree file and a folder in memory.
 
 use crate::checks::same;
-use cc_fixtures::words::copies;
+use cc_fixtures::words::to_strings;
 use cc_paths::MemoryFolder;
 use clap_complete::aot::Collected;
 use complgen_command_line::{Plan, Refusal};
@@ -26,12 +26,12 @@ pub(crate) fn registration(alloc: Global, shell: &str, bin: &str) -> Result<Plan
 
 /// The plan of candidates for the word at the index.
 pub(crate) fn candidates(alloc: Global, index: usize, words: &[&str]) -> Result<Plan, AllocError> {
-    let words = copies(alloc, words)?;
+    let words = to_strings(alloc, words)?;
     Ok(Plan::Candidates(index, String::from_str(alloc, "tree.json")?, words))
 }
 
 /// What the plan writes over this file, in a folder.
-pub(crate) fn written_in(
+pub(crate) fn output_in(
     alloc: Global,
     plan: &Plan,
     file: &[u8],
@@ -43,8 +43,8 @@ pub(crate) fn written_in(
 }
 
 /// What the plan writes over this file, where there are no other files.
-pub(crate) fn written(alloc: Global, plan: &Plan, file: &[u8]) -> Result<String, Refusal> {
-    written_in(alloc, plan, file, &MemoryFolder::new(&[], &[]))
+pub(crate) fn output_of(alloc: Global, plan: &Plan, file: &[u8]) -> Result<String, Refusal> {
+    output_in(alloc, plan, file, &MemoryFolder::new(&[], &[]))
 }
 
 /// Fails unless the plan, over this file, ends with this text at status 1, and nothing is written.

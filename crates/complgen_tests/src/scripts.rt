@@ -1,7 +1,7 @@
 //! What a script's plan writes, and how carrying it out fails.
 
 use crate::checks::{has, same};
-use crate::runs::{fails, script, written};
+use crate::runs::{fails, output_of, script};
 use cc_paths::MemoryFolder;
 use clap_complete::aot::Collected;
 use complgen_command_line::Refusal;
@@ -26,7 +26,7 @@ const PARENT: &str = "{\"name\": \"app\", \"disable_help_flag\": true, \"subcomm
 
 // The script for this shell of the tree in a file.
 fn script_of(alloc: Global, shell: &str, file: &[u8]) -> Result<String, Refusal> {
-    written(alloc, &script(alloc, shell)?, file)
+    output_of(alloc, &script(alloc, shell)?, file)
 }
 
 // In the gate there is memory enough. With `rt try --test --fail-alloc 4` the first allocation of

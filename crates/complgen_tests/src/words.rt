@@ -1,7 +1,7 @@
 //! What the words of the command line ask for.
 
 use crate::checks::{is, same};
-use cc_fixtures::words::copies;
+use cc_fixtures::words::to_strings;
 use clap_complete::Shell;
 use complgen_command_line::{Plan, Refusal, plan};
 use std::alloc::{AllocError, Global};
@@ -9,14 +9,14 @@ use std::convert::AsStr;
 use std::process::Abort;
 
 /// What `plan` returns for these words.
-pub(crate) fn planned(rt: &impl Abort, alloc: Global, words: &[&str]) -> Result<Plan, Refusal> {
-    let words = copies(alloc, words).expect(rt, "no words");
+pub(crate) fn plan_of(rt: &impl Abort, alloc: Global, words: &[&str]) -> Result<Plan, Refusal> {
+    let words = to_strings(alloc, words).expect(rt, "no words");
     plan(alloc, words.as_slice())
 }
 
 /// The refusal of these words; fails where there is a plan.
-pub(crate) fn failed(rt: &impl Abort, alloc: Global, words: &[&str]) -> Refusal {
-    match planned(rt, alloc, words) {
+pub(crate) fn refusal_of(rt: &impl Abort, alloc: Global, words: &[&str]) -> Refusal {
+    match plan_of(rt, alloc, words) {
         Ok(_) => panic!(rt; "a plan"),
         Err(refusal) => refusal,
     }
@@ -42,13 +42,13 @@ fn asks_for_a_script(rt: HostRuntime) {
         "--bin=app",
         "tree.json",
     ];
-    let plan = planned(&rt, rt.alloc(), words.as_slice()).expect(&rt, "no plan");
+    let plan = plan_of(&rt, rt.alloc(), words.as_slice()).expect(&rt, "no plan");
     is_script(&rt, plan, ("elvish", "app", "tree.json"));
 }
 
 #[test]
 fn fails_on_missing_words(rt: HostRuntime) {
-    let refusal = failed(&rt, rt.alloc(), &["complgen", "script"]);
+    let refusal = refusal_of(&rt, rt.alloc(), &["complgen", "script"]);
     let text = "error: the following required arguments were not provided:\n  \
         --shell <SHELL>\n  --bin <NAME>\n  <TREE>\n\n\
         Usage: complgen script --shell <SHELL> --bin <NAME> <TREE>\n\n\
@@ -59,13 +59,13 @@ fn fails_on_missing_words(rt: HostRuntime) {
 #[test]
 fn fails_on_unknown_words(rt: HostRuntime) {
     let words = ["complgen", "remove", "--bin", "app", "tree.json"];
-    let refusal = failed(&rt, rt.alloc(), words.as_slice());
+    let refusal = refusal_of(&rt, rt.alloc(), words.as_slice());
     same(&rt, refusal.status, 2);
 }
 
 /// Fails unless these words end with status 0 and this text.
 pub(crate) fn shows(rt: &impl Abort, alloc: Global, words: &[&str], wanted: &str) {
-    let refusal = failed(rt, alloc, words);
+    let refusal = refusal_of(rt, alloc, words);
     same(rt, (refusal.status, refusal.text.as_str()), (0, wanted));
 }
 
@@ -108,8 +108,8 @@ fn names(rt: &impl Abort, alloc: Global, text: &str, shell: Shell) {
 
 #[test]
 fn help_names_each_shell(rt: HostRuntime) {
-    let program = failed(&rt, rt.alloc(), &["complgen", "--help"]);
-    let script = failed(&rt, rt.alloc(), &["complgen", "script", "--help"]);
+    let program = refusal_of(&rt, rt.alloc(), &["complgen", "--help"]);
+    let script = refusal_of(&rt, rt.alloc(), &["complgen", "script", "--help"]);
     for shell in Shell::value_variants() {
         names(&rt, rt.alloc(), program.text.as_str(), *shell);
         names(&rt, rt.alloc(), script.text.as_str(), *shell);
@@ -129,7 +129,7 @@ fn shows_the_version(rt: HostRuntime) {
 // The first word may be any path.
 #[test]
 fn names_itself_in_usage(rt: HostRuntime) {
-    let refusal = failed(&rt, rt.alloc(), &["out/program"]);
+    let refusal = refusal_of(&rt, rt.alloc(), &["out/program"]);
     assert!(rt; refusal.text.as_str().contains("Usage: complgen <COMMAND>"));
     same(&rt, refusal.status, 2);
 }

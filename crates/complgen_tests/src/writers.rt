@@ -1,7 +1,7 @@
 //! Plans carried out over a writer that fails, or takes nothing, after any count of bytes.
 
 use crate::checks::same;
-use crate::runs::{candidates, registration, script, written};
+use crate::runs::{candidates, output_of, registration, script};
 use cc_fixtures::writers::Narrow;
 use cc_paths::MemoryFolder;
 use clap_complete::aot::Counted;
@@ -31,20 +31,20 @@ fn end_of(
     );
     let ended = match ended {
         Ok(()) => String::from_str(alloc, "carried out")?,
-        Err(refusal) => told(alloc, &refusal)?,
+        Err(refusal) => text_of(alloc, &refusal)?,
     };
     Ok((ended, String::from_utf8_lossy(alloc, &out.get_ref().held)?))
 }
 
-fn told(alloc: Global, refusal: &Refusal) -> Result<String, AllocError> {
+fn text_of(alloc: Global, refusal: &Refusal) -> Result<String, AllocError> {
     format!(in alloc; "{} {}", refusal.status, refusal.text.as_str())
 }
 
 // Fails unless the plan ends with `write failed` wherever the writer fails, and all before that
-// place is written.
+// position is written.
 fn fails_to_write(rt: &impl Abort, alloc: Global, plan: Result<Plan, AllocError>) {
     let plan = plan.expect(rt, "no plan");
-    let whole = written(alloc, &plan, TREE).expect(rt, "no text");
+    let whole = output_of(alloc, &plan, TREE).expect(rt, "no text");
     for room in 0..whole.len() {
         for kind in [Some(ErrorKind::BrokenPipe), None] {
             let (ended, held) = end_of(alloc, &plan, room, kind).expect(rt, "out of memory");

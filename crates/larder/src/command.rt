@@ -2,7 +2,7 @@
 //!
 //! What may have failed is handed on, and looked at in `with_arg`, `with_child` and `with_alias`
 //! alone: a command or an argument that is dropped where a function returns early takes seconds to
-//! prove, at each such place.
+//! prove, at each such call.
 
 use crate::arguments::{flag, option, positional, possible_values};
 use clap_complete::Error;
@@ -12,7 +12,7 @@ use std::alloc::Global;
 
 /// The whole tree.
 pub(crate) fn larder(alloc: Global) -> Result<Command, Error> {
-    let larder = described(alloc, "larder", "Install, update and publish packages");
+    let larder = command_with_about(alloc, "larder", "Install, update and publish packages");
     let larder = with_arg(larder, verbose(alloc));
     let larder = with_arg(larder, root(alloc));
     let larder = with_arg(larder, color(alloc));
@@ -46,7 +46,7 @@ fn color(alloc: Global) -> Result<Arg, Error> {
 
 fn install(alloc: Global) -> Result<Command, Error> {
     let from = "Take the packages from this source";
-    let install = described(alloc, "install", "Install packages");
+    let install = command_with_about(alloc, "install", "Install packages");
     let install = with_alias(alloc, install, "i");
     let install = with_arg(install, packages(alloc));
     let install = with_arg(install, option(alloc, "from", "SOURCE", from));
@@ -58,14 +58,14 @@ fn dry_run(alloc: Global) -> Result<Arg, Error> {
 }
 
 fn remove(alloc: Global) -> Result<Command, Error> {
-    let remove = described(alloc, "remove", "Remove packages");
+    let remove = command_with_about(alloc, "remove", "Remove packages");
     let remove = with_alias(alloc, remove, "rm");
-    let remove = with_arg(remove, installed(alloc));
+    let remove = with_arg(remove, installed_argument(alloc));
     with_arg(remove, flag(alloc, "purge", "Remove their settings too"))
 }
 
 // The first completer that is lent completes them.
-fn installed(alloc: Global) -> Result<Arg, Error> {
+fn installed_argument(alloc: Global) -> Result<Arg, Error> {
     Ok(packages(alloc)?.add(ArgValueCompleter::new(0)))
 }
 
@@ -76,14 +76,14 @@ fn packages(alloc: Global) -> Result<Arg, Error> {
 }
 
 fn source(alloc: Global) -> Result<Command, Error> {
-    let source = described(alloc, "source", "Manage the sources of packages");
+    let source = command_with_about(alloc, "source", "Manage the sources of packages");
     let source = with_alias(alloc, source, "src");
     let source = with_child(source, add_source(alloc));
     with_child(source, key(alloc))
 }
 
 fn add_source(alloc: Global) -> Result<Command, Error> {
-    let add = described(alloc, "add", "Add a source");
+    let add = command_with_about(alloc, "add", "Add a source");
     let add = with_arg(add, positional(alloc, "name", "NAME", "What to call it"));
     let add = with_arg(add, url(alloc));
     with_arg(add, priority(alloc))
@@ -99,11 +99,11 @@ fn priority(alloc: Global) -> Result<Arg, Error> {
 
 fn key(alloc: Global) -> Result<Command, Error> {
     let about = "Manage the keys that sign a source's packages";
-    with_child(described(alloc, "key", about), add_key(alloc))
+    with_child(command_with_about(alloc, "key", about), add_key(alloc))
 }
 
 fn add_key(alloc: Global) -> Result<Command, Error> {
-    let add = described(alloc, "add", "Trust a key");
+    let add = command_with_about(alloc, "add", "Trust a key");
     let add = with_arg(add, key_file(alloc));
     with_arg(add, expires(alloc))
 }
@@ -125,7 +125,7 @@ fn expires(alloc: Global) -> Result<Arg, Error> {
 }
 
 // A command with its name and its description alone.
-fn described(alloc: Global, name: &str, about: &str) -> Result<Command, Error> {
+fn command_with_about(alloc: Global, name: &str, about: &str) -> Result<Command, Error> {
     let name = String::from_str(alloc, name)?;
     let about = String::from_str(alloc, about)?;
     Ok(Command::new(alloc, name).about(about))

@@ -16,16 +16,16 @@ use std::process::ExitCode;
 fn main(rt: HostRuntime) -> ExitCode {
     let words = match words(&rt) {
         Ok(words) => words,
-        Err(error) => return failed(&rt, &error),
+        Err(error) => return fail(&rt, &error),
     };
     match completes(&rt, words) {
         Ok(true) => return ExitCode::SUCCESS,
         Ok(false) => {}
-        Err(error) => return failed(&rt, &error),
+        Err(error) => return fail(&rt, &error),
     }
     match print_words(&rt) {
         Ok(()) => ExitCode::SUCCESS,
-        Err(error) => failed(&rt, &error),
+        Err(error) => fail(&rt, &error),
     }
 }
 
@@ -45,7 +45,7 @@ fn print_words<R: Env + Print + AllocGlobal>(rt: &R) -> io::Result<()> {
 }
 
 // Prints why the program can't go on.
-fn failed<R: Eprint, E: Display>(rt: &R, error: &E) -> ExitCode {
+fn fail<R: Eprint, E: Display>(rt: &R, error: &E) -> ExitCode {
     let _ = eprintln!(rt; "larder: {error}");
     ExitCode::FAILURE
 }

@@ -16,13 +16,13 @@ ghost use Rattle.cc_command.specs.Quiet.{is_quiet_tree};
 mod additions;
 mod arguments;
 mod help;
-mod place;
+mod insertion;
 mod texts;
 
 use crate::command::Command;
 use crate::command::build::additions::{Addition, addition_to};
 use crate::command::build::arguments::push_globals;
-use crate::command::build::place::{finish, put_before};
+use crate::command::build::insertion::{finish, put_before};
 use cc_arg::Arg;
 use cc_base::{Error, Text};
 use std::alloc::{AllocError, Global};

@@ -2,7 +2,7 @@
 
 ghost use Rattle.std.specs.Prelude.{◌≡◌, map, IfOk, IfErr};
 ghost use Rattle.std.specs.Option.{option_copied};
-ghost use Rattle.cc_command.specs.ArgumentLists.{conflicting, first_with};
+ghost use Rattle.cc_command.specs.ArgumentLists.{conflicting, first_with_id};
 
 use crate::command::Command;
 use cc_arg::{Arg, conflicting_ids};
@@ -25,7 +25,7 @@ impl Command {
     {
         let mut found = Vec::new(alloc);
         for id in conflicting_ids(argument) {
-            let Some(other) = first_with(self.get_arguments(), id.as_str()) else {
+            let Some(other) = first_with_id(self.get_arguments(), id.as_str()) else {
                 continue;
             };
             found.push(other)?;
@@ -35,8 +35,8 @@ impl Command {
 }
 
 /// The first of the arguments that has the id.
-pub fn first_with<'a>(arguments: &'a [Arg], id: &str) -> Option<&'a Arg>
-    ensures { option_copied result ≡ first_with arguments.now id.now }
+pub fn first_with_id<'a>(arguments: &'a [Arg], id: &str) -> Option<&'a Arg>
+    ensures { option_copied result ≡ first_with_id arguments.now id.now }
 {
     for argument in arguments {
         if argument.get_id() == id {

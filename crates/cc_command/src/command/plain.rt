@@ -82,8 +82,8 @@ fn is_plain_forest(siblings: &[Command]) -> bool
 fn siblings_differ(siblings: &[Command]) -> bool
     ensures { result ≡ siblings_differ (forest_of siblings.now) }
 {
-    for (place, sibling) in siblings.iter().enumerate() {
-        if !sibling.names_differ() || !sibling.is_apart_from(&siblings[place + 1..]) {
+    for (position, sibling) in siblings.iter().enumerate() {
+        if !sibling.names_differ() || !sibling.is_apart_from(&siblings[position + 1..]) {
             return false;
         }
     }
@@ -100,8 +100,8 @@ fn none_has_name(siblings: &[Command], names: &[Text]) -> bool
 fn all_differ(names: &[Text]) -> bool
     ensures { result ≡ all_differ names.now }
 {
-    for (place, name) in names.iter().enumerate() {
-        if contains_name(&names[place + 1..], name.as_str()) {
+    for (position, name) in names.iter().enumerate() {
+        if contains_name(&names[position + 1..], name.as_str()) {
             return false;
         }
     }

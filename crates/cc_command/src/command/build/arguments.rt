@@ -11,7 +11,7 @@ ghost use Rattle.cc_command.specs.Additions.{HasRoom};
 
 use crate::command::build::texts::{help_help, help_name, version_help, version_name};
 use crate::node::Node;
-use cc_arg::{Arg, ArgAction, fill, fill_display_order, fill_index};
+use cc_arg::{Arg, ArgAction, fill_display_order, fill_index, fill_range_and_action};
 use std::alloc::{AllocError, Global};
 
 // Copies of the arguments that a node lacks: those of `inherited`, then `help` and `version`. The
@@ -159,14 +159,14 @@ fn has_id(arguments: &[Arg], id: &str) -> bool
 pub(super) fn fill_in(arguments: &mut [Arg])
     ensures ok { arguments.new ≡ indexed 1 (map filled arguments.old) }
 {
-    let mut placed = 0;
+    let mut count = 0;
     for argument in arguments.iter_mut() {
-        fill(argument);
+        fill_range_and_action(argument);
         if !lacks_index(argument) {
             continue;
         }
-        placed += 1;
-        fill_index(argument, placed);
+        count += 1;
+        fill_index(argument, count);
     }
 }
 

@@ -37,7 +37,7 @@ pub(super) fn help_command(
     let mut children = copies_of(siblings, alloc, name.as_str())?;
     let last = joined_name(alloc, name.as_str(), help_name())?;
     children.reserve_exact(1)?;
-    children.push(generated(
+    children.push(generated_command(
         alloc,
         help_name(),
         last,
@@ -46,7 +46,7 @@ pub(super) fn help_command(
         false,
         Vec::new(alloc),
     )?)?;
-    generated(
+    generated_command(
         alloc,
         help_name(),
         name,
@@ -62,16 +62,16 @@ fn copies_of(siblings: &[Command], alloc: Global, parent: &str) -> Result<Vec<Co
         forest_of made.items ≡ copies parent.now 0 (forest_of siblings.now)) }
 {
     let mut made = Vec::with_capacity(alloc, siblings.len())?;
-    for (place, sibling) in siblings.iter().enumerate() {
+    for (position, sibling) in siblings.iter().enumerate() {
         let name = joined_name(alloc, parent, sibling.get_name())?;
         let below = copies_of(&sibling.children, alloc, name.as_str())?;
         let hide = sibling.node.hide;
-        made.push(generated(
+        made.push(generated_command(
             alloc,
             sibling.get_name(),
             name,
             sibling.get_about(),
-            place,
+            position,
             hide,
             below,
         )?)?;
@@ -79,7 +79,7 @@ fn copies_of(siblings: &[Command], alloc: Global, parent: &str) -> Result<Vec<Co
     Ok(made)
 }
 
-fn generated(
+fn generated_command(
     alloc: Global,
     name: &str,
     bin_name: Text,

@@ -2,7 +2,7 @@ use Rattle.std.proofs.Common.{◌≡◌, ◌++◌, List, length, map, Some, ap, 
 use Rattle.std.proofs.lemmas.List.{append-nil, take_all}
 use Rattle.cc_command.specs.Tree.{Tree}
 use Rattle.cc_flat.specs.Flat.{Entry, entries_of, tree_at, trees_of}
-use Rattle.cc_flat.specs.Numbered.{unnumbered, with_count, with_children}
+use Rattle.cc_flat.specs.Numbered.{without_numbers, with_count, with_children}
 use Rattle.cc_flat.proofs.Numbering.{with_count-stored, tree_at-stored}
 use Rattle.cc_flat.proofs.Trees.{trees_of-forest_of}
 use Rattle.cc_flat.proofs.flat.number_children.Goals as goal
@@ -21,6 +21,6 @@ returns c =
     let theirs : children ≡ trees_of (tree_at entries c.args.number).children =
     sym (trees_of-forest_of children) ∙ ap trees_of c.get_subcommands-children.ensures ∙ ap (λ t. trees_of t.children) (sym here) in
     c.loop-command.invariant ∙
-    ap (λ trees. with_count entries c.args.number (length children) ++ map (unnumbered (Some c.args.number)) trees)
+    ap (λ trees. with_count entries c.args.number (length children) ++ map (without_numbers (Some c.args.number)) trees)
     (take_all c.loop-command.command-index children c.loop-command-test.false) ∙
     ap (with_children entries c.args.number) theirs

@@ -1,10 +1,10 @@
 use Rattle.std.proofs.Common.{◌≡◌, ◌++◌, length, map, take, Some}
 use Rattle.cc_flat.specs.Flat.{entries_of}
-use Rattle.cc_flat.specs.Numbered.{unnumbered, with_count}
+use Rattle.cc_flat.specs.Numbered.{without_numbers, with_count}
 use Rattle.cc_flat.proofs.flat.number_children.Given as goal
 
 -- the children that were passed over are listed
 abbrev pub invariant-loop-command : goal.invariant-loop-command
 invariant-loop-command l =
     entries_of l.nodes.items
-    ≡ with_count (entries_of l.fn.nodes.items) l.number (length l.children) ++ map (unnumbered (Some l.number)) (take l.command-index l.children)
+    ≡ with_count (entries_of l.fn.nodes.items) l.number (length l.children) ++ map (without_numbers (Some l.number)) (take l.command-index l.children)

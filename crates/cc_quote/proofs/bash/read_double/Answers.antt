@@ -2,7 +2,7 @@ use Rattle.std.proofs.Common.{◌∙◌, ap, sym, map, encode_utf8, string_bytes
 use Rattle.std.proofs.lemmas.Str.{length-encode, len_utf8_bounds, IsUtf8-past_char}
 use Rattle.cc_quote.specs.BashDouble.{bash_double_from}
 use Rattle.cc_quote.specs.PosixTokens.{sign}
-use Rattle.cc_quote.specs.declared.posix.Place.TheVariants.{InDouble}
+use Rattle.cc_quote.specs.declared.posix.QuoteState.TheVariants.{InDouble}
 use Rattle.cc_quote.proofs.BashCharacters.{character_closes, character_read, never_stops, stays_within}
 use Rattle.cc_quote.proofs.bash.read_double.Goals as goal
 
@@ -11,15 +11,15 @@ loop-character-init c = record { is_text = c.utf8.text; within = tt; same = ap (
 
 pub returns-then-closes_double : goal.returns-then-closes_double
 returns-then-closes_double c =
-    let place = c.loop-character.place in
+    let state = c.loop-character.state in
     let word = string_bytes c.loop-character.word in
-    sym (character_closes place c.in-Some.character c.in-Some.after.now word (sym c.closes_double.ensures ∙ c.if-closes_double.true))
-    ∙ ap (λ t. bash_double_from place word (map sign t)) (sym c.in-Some.ensures)
+    sym (character_closes state c.in-Some.character c.in-Some.after.now word (sym c.closes_double.ensures ∙ c.if-closes_double.true))
+    ∙ ap (λ t. bash_double_from state word (map sign t)) (sym c.in-Some.ensures)
     ∙ c.loop-character.invariant.same
 
-pub returns-in_default-next_place : goal.returns-in_default-next_place
-returns-in_default-next_place c =
-    absurd (never_stops c.loop-character.place c.in-Some.character c.loop-character.invariant.within (sym c.closes_double.ensures ∙ c.if-closes_double.false) (sym c.next_place.ensures ∙ c.in_default-next_place.is))
+pub returns-in_default-next_state : goal.returns-in_default-next_state
+returns-in_default-next_state c =
+    absurd (never_stops c.loop-character.state c.in-Some.character c.loop-character.invariant.within (sym c.closes_double.ensures ∙ c.if-closes_double.false) (sym c.next_state.ensures ∙ c.in_default-next_state.is))
 
 pub loop-character-smaller : goal.loop-character-smaller
 loop-character-smaller c =
@@ -28,25 +28,25 @@ loop-character-smaller c =
 
 pub loop-character-preserved : goal.loop-character-preserved
 loop-character-preserved c =
-    let place = c.loop-character.place in
-    let next = c.in-Some-next_place.next in
+    let state = c.loop-character.state in
+    let next = c.in-Some-next_state.next in
     let word = string_bytes c.loop-character.word in
     let rest = c.in-Some.after.now in
     let within = c.loop-character.invariant.within in
     let stays_open = sym c.closes_double.ensures ∙ c.if-closes_double.false in
-    let is = sym c.next_place.ensures ∙ c.in-Some-next_place.is in
+    let is = sym c.next_state.ensures ∙ c.in-Some-next_state.is in
     record {
       is_text = IsUtf8-past_char c.loop-character.rest.now rest c.in-Some.character c.loop-character.invariant.is_text c.in-Some.ensures;
-      within = stays_within place next c.in-Some.character within stays_open is;
+      within = stays_within state next c.in-Some.character within stays_open is;
       same =
           ap (λ w. bash_double_from next w (map sign rest)) c.in_ok-push_added.ensures
-          ∙ sym (character_read place next c.in-Some.character rest word within stays_open is)
-          ∙ ap (λ t. bash_double_from place word (map sign t)) (sym c.in-Some.ensures)
+          ∙ sym (character_read state next c.in-Some.character rest word within stays_open is)
+          ∙ ap (λ t. bash_double_from state word (map sign t)) (sym c.in-Some.ensures)
           ∙ c.loop-character.invariant.same;
     }
 
 pub returns : goal.returns
 unfolding bash_double_from
 returns c =
-    sym (ap (λ t. bash_double_from c.loop-character.place (string_bytes c.loop-character.word) (map sign t)) c.in_default.ensures)
+    sym (ap (λ t. bash_double_from c.loop-character.state (string_bytes c.loop-character.word) (map sign t)) c.in_default.ensures)
     ∙ c.loop-character.invariant.same

@@ -3,15 +3,15 @@ use denote.Text.{Utf8}
 use denote.Shadow.{shadow}
 use Rattle.cc_quote.specs.BashDouble.{bash_double_from}
 use Rattle.cc_quote.specs.PosixTokens.{sign}
-use Rattle.cc_quote.specs.declared.posix.Place.TheVariants.{InDouble}
+use Rattle.cc_quote.specs.declared.posix.QuoteState.TheVariants.{InDouble}
 use Rattle.cc_quote.proofs.BashCharacters.{IsWithin}
 use Rattle.cc_quote.proofs.bash.read_double.Given as goal
 
 abbrev pub invariant-loop-character : goal.invariant-loop-character
 invariant-loop-character l = record {
   is_text : shadow (Utf8 l.rest);
-  within : IsWithin l.place;
-  same : bash_double_from l.place (string_bytes l.word) (map sign l.rest) ≡ bash_double_from InDouble [] (map sign l.text);
+  within : IsWithin l.state;
+  same : bash_double_from l.state (string_bytes l.word) (map sign l.rest) ≡ bash_double_from InDouble [] (map sign l.text);
 }
 
 abbrev pub decreases-loop-character : goal.decreases-loop-character

@@ -1,8 +1,8 @@
 use Rattle.std.proofs.Common.{◌∙◌, ap, ap₂, sym, subst, Some, encode_utf8, string_bytes, arith, length, length-append}
 use Rattle.std.proofs.lemmas.Str.{length-encode, len_utf8_bounds, IsUtf8-past_char}
-use Rattle.cc_quote.specs.FishPlaces.{place_at, is_bare}
+use Rattle.cc_quote.specs.FishStates.{state_at, is_bare}
 use Rattle.cc_quote.specs.FishQuote.{fish_double_from}
-use Rattle.cc_quote.specs.FishQuote.FishPlace.{in_double}
+use Rattle.cc_quote.specs.FishQuote.FishState.{in_double}
 use Rattle.cc_quote.proofs.FishCharacters.{IsWithin, character_closes, character_within, stays_within}
 use Rattle.cc_quote.proofs.fish_reader.read_double.Goals as goal
 
@@ -11,12 +11,12 @@ loop-character-init c = record { is_text = c.utf8.text; within = tt; same = ap (
 
 pub returns-then-is_bare : goal.returns-then-is_bare
 returns-then-is_bare c =
-    let place = c.loop-character.place in
+    let state = c.loop-character.state in
     let word = string_bytes c.loop-character.word in
-    let closed = ap is_bare (sym c.next_place-place.ensures) ∙ sym c.is_bare.ensures ∙ c.if-is_bare.true in
+    let closed = ap is_bare (sym c.next_state-state.ensures) ∙ sym c.is_bare.ensures ∙ c.if-is_bare.true in
     ap (λ w. Some (w, c.in-Some.after.now)) c.in_ok-push_added.ensures
-    ∙ sym (character_closes place c.in-Some.character c.in-Some.after.now word c.loop-character.invariant.within closed)
-    ∙ ap (fish_double_from (place_at place word)) (sym c.in-Some.ensures)
+    ∙ sym (character_closes state c.in-Some.character c.in-Some.after.now word c.loop-character.invariant.within closed)
+    ∙ ap (fish_double_from (state_at state word)) (sym c.in-Some.ensures)
     ∙ c.loop-character.invariant.same
 
 pub loop-character-smaller : goal.loop-character-smaller
@@ -26,22 +26,22 @@ loop-character-smaller c =
 
 pub loop-character-preserved : goal.loop-character-preserved
 loop-character-preserved c =
-    let place = c.loop-character.place in
+    let state = c.loop-character.state in
     let word = string_bytes c.loop-character.word in
     let rest = c.in-Some.after.now in
     let within = c.loop-character.invariant.within in
-    let stays_open = ap is_bare (sym c.next_place-place.ensures) ∙ sym c.is_bare.ensures ∙ c.if-is_bare.false in
+    let stays_open = ap is_bare (sym c.next_state-state.ensures) ∙ sym c.is_bare.ensures ∙ c.if-is_bare.false in
     record {
       is_text = IsUtf8-past_char c.loop-character.rest.now rest c.in-Some.character c.loop-character.invariant.is_text c.in-Some.ensures;
-      within = subst IsWithin (sym c.next_place-place.ensures) (stays_within place c.in-Some.character within stays_open);
+      within = subst IsWithin (sym c.next_state-state.ensures) (stays_within state c.in-Some.character within stays_open);
       same =
-          ap₂ (λ p w. fish_double_from (place_at p w) rest) c.next_place-place.ensures c.in_ok-push_added.ensures
-          ∙ sym (character_within place c.in-Some.character rest word within stays_open)
-          ∙ ap (fish_double_from (place_at place word)) (sym c.in-Some.ensures)
+          ap₂ (λ p w. fish_double_from (state_at p w) rest) c.next_state-state.ensures c.in_ok-push_added.ensures
+          ∙ sym (character_within state c.in-Some.character rest word within stays_open)
+          ∙ ap (fish_double_from (state_at state word)) (sym c.in-Some.ensures)
           ∙ c.loop-character.invariant.same;
     }
 
 pub returns : goal.returns
 returns c =
-    ap (fish_double_from (place_at c.loop-character.place (string_bytes c.loop-character.word))) (sym c.in_default.ensures)
+    ap (fish_double_from (state_at c.loop-character.state (string_bytes c.loop-character.word))) (sym c.in_default.ensures)
     ∙ c.loop-character.invariant.same

@@ -1,8 +1,8 @@
 use Rattle.std.proofs.Common.{◌∙◌, ap, ap₂, sym, Some, encode_utf8, string_bytes, arith, length, length-append}
 use Rattle.std.proofs.lemmas.Str.{length-encode, len_utf8_bounds, IsUtf8-past_char}
-use Rattle.cc_quote.specs.FishPlaces.{place_at}
+use Rattle.cc_quote.specs.FishStates.{state_at}
 use Rattle.cc_quote.specs.FishQuote.{fish_word_from}
-use Rattle.cc_quote.specs.FishQuote.FishPlace.{bare}
+use Rattle.cc_quote.specs.FishQuote.FishState.{bare}
 use Rattle.cc_quote.proofs.FishCharacters.{character_read, character_stops, ends_bare, ends_open}
 use Rattle.cc_quote.proofs.fish_reader.read_word.Goals as goal
 
@@ -11,11 +11,11 @@ loop-character-init c = record { is_text = c.utf8.text; same = ap (λ w. fish_wo
 
 pub returns-then-ends_word : goal.returns-then-ends_word
 returns-then-ends_word c =
-    let place = c.loop-character.place in
+    let state = c.loop-character.state in
     let word = string_bytes c.loop-character.word in
-    let stop = character_stops place c.in-Some.character c.in-Some.after.now word (sym c.ends_word.ensures ∙ c.if-ends_word.true) in
+    let stop = character_stops state c.in-Some.character c.in-Some.after.now word (sym c.ends_word.ensures ∙ c.if-ends_word.true) in
     ap (λ t. Some (word, t)) c.in-Some.ensures ∙ sym stop
-    ∙ ap (fish_word_from (place_at place word)) (sym c.in-Some.ensures)
+    ∙ ap (fish_word_from (state_at state word)) (sym c.in-Some.ensures)
     ∙ c.loop-character.invariant.same
 
 pub loop-character-smaller : goal.loop-character-smaller
@@ -25,31 +25,31 @@ loop-character-smaller c =
 
 pub loop-character-preserved : goal.loop-character-preserved
 loop-character-preserved c =
-    let place = c.loop-character.place in
+    let state = c.loop-character.state in
     let word = string_bytes c.loop-character.word in
     let rest = c.in-Some.after.now in
-    let read = character_read place c.in-Some.character rest word (sym c.ends_word.ensures ∙ c.if-ends_word.false) in
+    let read = character_read state c.in-Some.character rest word (sym c.ends_word.ensures ∙ c.if-ends_word.false) in
     record {
       is_text = IsUtf8-past_char c.loop-character.rest.now rest c.in-Some.character c.loop-character.invariant.is_text c.in-Some.ensures;
       same =
-          ap₂ (λ p w. fish_word_from (place_at p w) rest) c.next_place-place.ensures c.in_ok-push_added.ensures ∙ sym read
-          ∙ ap (fish_word_from (place_at place word)) (sym c.in-Some.ensures)
+          ap₂ (λ p w. fish_word_from (state_at p w) rest) c.next_state-state.ensures c.in_ok-push_added.ensures ∙ sym read
+          ∙ ap (fish_word_from (state_at state word)) (sym c.in-Some.ensures)
           ∙ c.loop-character.invariant.same;
     }
 
 pub returns-then-is_bare : goal.returns-then-is_bare
 returns-then-is_bare c =
-    let place = c.loop-character.place in
+    let state = c.loop-character.state in
     let word = string_bytes c.loop-character.word in
     ap (λ t. Some (word, t)) c.in_default.ensures
-    ∙ sym (ends_bare place word (sym c.is_bare.ensures ∙ c.if-is_bare.true))
-    ∙ ap (fish_word_from (place_at place word)) (sym c.in_default.ensures)
+    ∙ sym (ends_bare state word (sym c.is_bare.ensures ∙ c.if-is_bare.true))
+    ∙ ap (fish_word_from (state_at state word)) (sym c.in_default.ensures)
     ∙ c.loop-character.invariant.same
 
 pub returns : goal.returns
 returns c =
-    let place = c.loop-character.place in
+    let state = c.loop-character.state in
     let word = string_bytes c.loop-character.word in
-    sym (ends_open place word (sym c.is_bare.ensures ∙ c.if-is_bare.false))
-    ∙ ap (fish_word_from (place_at place word)) (sym c.in_default.ensures)
+    sym (ends_open state word (sym c.is_bare.ensures ∙ c.if-is_bare.false))
+    ∙ ap (fish_word_from (state_at state word)) (sym c.in_default.ensures)
     ∙ c.loop-character.invariant.same

@@ -1,15 +1,15 @@
 use Rattle.std.proofs.Common.{◌≡◌, [], length, string_bytes}
 use denote.Text.{Utf8}
 use denote.Shadow.{shadow}
-use Rattle.cc_quote.specs.FishPlaces.{place_at}
+use Rattle.cc_quote.specs.FishStates.{state_at}
 use Rattle.cc_quote.specs.FishQuote.{fish_word_from}
-use Rattle.cc_quote.specs.FishQuote.FishPlace.{bare}
+use Rattle.cc_quote.specs.FishQuote.FishState.{bare}
 use Rattle.cc_quote.proofs.fish_reader.read_word.Given as goal
 
 abbrev pub invariant-loop-character : goal.invariant-loop-character
 invariant-loop-character l = record {
   is_text : shadow (Utf8 l.rest);
-  same : fish_word_from (place_at l.place (string_bytes l.word)) l.rest ≡ fish_word_from (bare []) l.text;
+  same : fish_word_from (state_at l.state (string_bytes l.word)) l.rest ≡ fish_word_from (bare []) l.text;
 }
 
 abbrev pub decreases-loop-character : goal.decreases-loop-character

@@ -8,7 +8,7 @@ use Rattle.cc_quote.proofs.posix.read_word.Given as goal
 abbrev pub invariant-loop-character : goal.invariant-loop-character
 invariant-loop-character l = record {
   is_text : shadow (Utf8 l.rest);
-  same : posix_word_from l.place (string_bytes l.word) (map sign l.rest) ≡ posix_word_of l.text;
+  same : posix_word_from l.state (string_bytes l.word) (map sign l.rest) ≡ posix_word_of l.text;
 }
 
 abbrev pub decreases-loop-character : goal.decreases-loop-character

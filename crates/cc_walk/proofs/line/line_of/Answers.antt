@@ -3,7 +3,7 @@ use Rattle.std.proofs.lemmas.List.{drop_all}
 use Rattle.cc_flat.specs.Flat.{tree_at}
 use Rattle.cc_walk.specs.Machine.{stand_step, walk}
 use Rattle.cc_walk.specs.Stands.{stand_of}
-use Rattle.cc_walk.proofs.Place.{stand_place}
+use Rattle.cc_walk.proofs.Position.{stand_position}
 use Rattle.cc_walk.proofs.Whole.{drop_more, line_there, only_line_there, visible_there}
 use Rattle.cc_walk.proofs.line.line_of.Goals as goal
 
@@ -14,7 +14,7 @@ loop-word-preserved c =
     let stepped = c.advance-line.ensures.stands ∙ ap (stand_step stand) c.deref.ensures in
     record {
       within = c.advance-line.ensures.within;
-      place = rw (ap (λ s. s.state.place) stepped) (stand_place stand (string_bytes c.word-item.result) i c.loop-word.invariant.place);
+      position = rw (ap (λ s. s.state.position) stepped) (stand_position stand (string_bytes c.word-item.result) i c.loop-word.invariant.position);
       rest = ap (λ s. walk s (map string_bytes (drop (i + 1) c.args.words.now))) stepped
           ∙ sym (ap (λ s. walk stand (map string_bytes s)) (drop_more c.args.words.now i c.word-item.result c.loop-word-test.true c.word-item.is))
           ∙ c.loop-word.invariant.rest;

@@ -8,6 +8,6 @@ use Rattle.cc_walk.proofs.line.line_of.Given as goal
 abbrev pub invariant-loop-word : goal.invariant-loop-word
 invariant-loop-word l = record {
   within : l.line.node < length l.flat;
-  place : l.line.state.place ≤ l.word-index + 1;
+  position : l.line.state.position ≤ l.word-index + 1;
   rest : walk (stand_of l.flat l.line) (map string_bytes (drop l.word-index l.words)) ≡ walked (tree_at l.flat 0) (map string_bytes l.words);
 }

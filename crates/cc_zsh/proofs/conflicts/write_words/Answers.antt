@@ -4,7 +4,7 @@ use Rattle.std.proofs.lemmas.List.Concat.{flat_map-append}
 use Rattle.cc_base.proofs.JoinedTexts.{joined_step}
 use Rattle.cc_base.proofs.Lists.{one_more}
 use Rattle.cc_base.specs.Joined.{joined_after}
-use Rattle.cc_command.specs.ArgumentLists.{first_with}
+use Rattle.cc_command.specs.ArgumentLists.{first_with_id}
 use Rattle.cc_zsh.specs.Conflicts.{conflict_words, own_words, with_ids}
 use Rattle.cc_zsh.proofs.conflicts.write_words.Goals as goal
 
@@ -15,7 +15,7 @@ loop-id-preserved g c =
     let i = c.loop-id.id-index in
     let item = c.id-item.result in
     let left = drop (i + 1) items in
-    let found = option_to_list (first_with arguments item) in
+    let found = option_to_list (first_with_id arguments item) in
     let taken = g.W.Sink.taken c.loop-id.sink in
     let opened = ap (λ ids. conflict_words (with_ids arguments ids))
     (one_more items i item item c.loop-id-test.true c.id-item.is)

@@ -15,7 +15,7 @@ returns-in-Ok-clause-ok c =
 
 pub returns-in-Err-clause-err : goal.returns-in-Err-clause-err
 returns-in-Err-clause-err c = (
-  record { status = c.fixed.ensures.status; text_is = c.fixed.ensures.text },
+  record { status = c.from_static.ensures.status; text_is = c.from_static.ensures.text },
   record {
     text = c.text.result.now;
     has_text = c.text.ensures;

@@ -11,8 +11,8 @@ use Rattle.complgen_command_line.proofs.CommandLineLemmas.{program_line_is_simpl
 use Rattle.complgen_command_line.proofs.CommandLineLemmas.{reports_words}
 use Rattle.complgen_command_line.proofs.words.plan.Goals as goal
 
-pub planned-planned-requires : goal.planned-planned-requires
-planned-planned-requires c =
+pub plan_of-planned-requires : goal.plan_of-planned-requires
+plan_of-planned-requires c =
     let words = map string_bytes c.args.words.now in
     let line = c.in_ok-command.ensures in
     let none = subst (λ (a : App). fault_of a words ≡ []) line
@@ -25,10 +25,10 @@ pub returns-in-Ok-clause-fits : goal.returns-in-Ok-clause-fits
 returns-in-Ok-clause-fits c =
     let words = map string_bytes c.args.words.now in
     let line = c.in_ok-command.ensures in
-    IfOk-weaker c.planned-planned.result _ _ (λ plan asks.
+    IfOk-weaker c.plan_of-planned.result _ _ (λ plan asks.
     subst (λ (a : App). fault_of a words ≡ []) line
     (c.in-Ok.ensures.kinds (ap is_simple_and_free line ∙ program_line_is_free)))
-    c.planned-planned.ensures.ok
+    c.plan_of-planned.ensures.ok
 
 pub returns-in-Ok-clause-taken : goal.returns-in-Ok-clause-taken
 returns-in-Ok-clause-taken c =
@@ -36,9 +36,9 @@ returns-in-Ok-clause-taken c =
     let line = c.in_ok-command.ensures in
     let entered = (c.in-Ok.ensures.matches (ap is_simple line ∙ program_line_is_simple)).1
     ∙ ap (λ (a : App). subcommand_of a words) line in
-    IfErr-weaker c.planned-planned.result _ _ (λ refusal reports. λ taken.
+    IfErr-weaker c.plan_of-planned.result _ _ (λ refusal reports. λ taken.
     subst (λ (e : Option (Text × List Row)). Reports [] e refusal) entered reports)
-    c.planned-planned.ensures.err
+    c.plan_of-planned.ensures.err
 
 pub returns-in-Ok-clause-err : goal.returns-in-Ok-clause-err
 returns-in-Ok-clause-err c =
@@ -48,10 +48,10 @@ returns-in-Ok-clause-err c =
     (c.in-Ok.ensures.kinds (ap is_simple_and_free line ∙ program_line_is_free)) in
     let entered = (c.in-Ok.ensures.matches (ap is_simple line ∙ program_line_is_simple)).1
     ∙ ap (λ (a : App). subcommand_of a words) line in
-    IfErr-weaker c.planned-planned.result _ _ (λ refusal reports.
+    IfErr-weaker c.plan_of-planned.result _ _ (λ refusal reports.
     subst (λ (kinds : Kinds). Reports kinds (subcommand_of program_line words) refusal) (sym none)
     (subst (λ (e : Option (Text × List Row)). Reports [] e refusal) entered reports))
-    c.planned-planned.ensures.err
+    c.plan_of-planned.ensures.err
 
 pub returns-in-Err-clause-taken : goal.returns-in-Err-clause-taken
 returns-in-Err-clause-taken c = λ taken.

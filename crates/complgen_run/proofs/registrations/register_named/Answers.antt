@@ -17,6 +17,6 @@ returns-in-None g c =
     (ap (λ n. find (λ adapter. builtin_named adapter n) all_builtins) (sym c.requires)
     ∙ sym c.adapter_of.ensures ∙ c.in-None.is)
     (record {
-      status = c.fixed.ensures.status;
-      text_is = c.fixed.ensures.text ∙ c.no_registration.ensures;
+      status = c.from_static.ensures.status;
+      text_is = c.from_static.ensures.text ∙ c.no_registration.ensures;
     })

@@ -1,7 +1,7 @@
 use Rattle.std.proofs.Common.{◌≡◌, [], ◌∷◌, map, Some, None, sym, ◌∙◌, rules}
 use Rattle.cc_flat.specs.Flat.{tree_at}
 use Rattle.cc_command.specs.Tree.{Tree}
-use Rattle.cc_bash.specs.Labels.{first_again, labelled, labelled_under, root_label}
+use Rattle.cc_bash.specs.Labels.{first_again, labelled_commands, labelled_under, root_label}
 use Rattle.cc_bash.specs.Nodes.{labelled_of}
 use Rattle.cc_bash.proofs.WholeScript.{clash_is, generates_clash, generates_script, nodes_are}
 use Rattle.cc_bash.proofs.bash.BashGenerator.generate.Goals as goal
@@ -16,7 +16,7 @@ returns-in-Some g c =
     let listed : map labelled_of c.in_ok-nodes.nodes.items
     ≡ labelled_under c.as_str.result.now 2 at.children = search rules in
     let are : map labelled_of c.in_ok-nodes.nodes.items
-    ≡ labelled tree =
+    ≡ labelled_commands tree =
     nodes_are tree at c.as_str.result.now c.in_ok-nodes.nodes.items is label listed in
     let found : Some c.in-Some.label ≡ first_again []
     (c.as_str-2.result.now ∷ map (λ n. n.label) c.in_ok-nodes.nodes.items) = search rules in
@@ -34,7 +34,7 @@ returns g c =
     let listed : map labelled_of c.in_ok-nodes.nodes.items
     ≡ labelled_under c.as_str.result.now 2 at.children = search rules in
     let are : map labelled_of c.in_ok-nodes.nodes.items
-    ≡ labelled tree =
+    ≡ labelled_commands tree =
     nodes_are tree at c.as_str.result.now c.in_ok-nodes.nodes.items is label listed in
     let found : None ≡ first_again [] (c.as_str-2.result.now
     ∷ map (λ n. n.label) c.in_ok-nodes.nodes.items) = search rules in

@@ -3,5 +3,5 @@ use Rattle.cc_command.specs.Plain.{all_differ}
 use Rattle.cc_command.proofs.command.plain.all_differ.Given as goal
 
 -- none of the names that were passed over comes again
-abbrev pub invariant-loop-place : goal.invariant-loop-place
-invariant-loop-place l = all_differ (drop l.place l.names) ≡ all_differ l.names
+abbrev pub invariant-loop-position : goal.invariant-loop-position
+invariant-loop-position l = all_differ (drop l.position l.names) ≡ all_differ l.names

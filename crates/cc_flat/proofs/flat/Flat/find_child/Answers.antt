@@ -5,12 +5,12 @@ use Rattle.cc_flat.specs.Flat.{entry_at, tree_at, trees_at, numbers_between, IsC
 use Rattle.cc_flat.specs.Lookup.{find_at, find_from}
 use Rattle.cc_flat.proofs.Names.{is_some-find_from, find_at-children, tree-find_at, child-find_at}
 use Rattle.cc_flat.proofs.flat.Flat.find_child.Goals as goal
-use Rattle.cc_flat.proofs.flat.Flat.find_child.Goals.{After-first_named}
+use Rattle.cc_flat.proofs.flat.Flat.find_child.Goals.{After-first_with_name}
 
-found : (c : After-first_named) → c.first_named.result ≡ find_at c.args.self.now c.args.number c.args.word.now
+found : (c : After-first_with_name) → c.first_with_name.result ≡ find_at c.args.self.now c.args.number c.args.word.now
 found c =
     let from : ℕ → List ℕ → Option ℕ = λ start numbers. find_from start (forest_of (trees_at c.args.self.now numbers)) c.args.word.now in
-    c.first_named.ensures ∙
+    c.first_with_name.ensures ∙
     ap (λ start. from start (numbers_between c.children.result.start c.children.result.end)) c.children.ensures.first ∙
     ap (from (entry_at c.args.self.now c.args.number).first_child) c.children.ensures.numbers ∙
     sym (find_at-children c.args.self.now c.args.number c.args.word.now c.children.ensures.children)

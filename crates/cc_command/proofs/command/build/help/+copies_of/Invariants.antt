@@ -4,5 +4,5 @@ use Rattle.cc_command.specs.Generated.{copies}
 use Rattle.cc_command.proofs.command.build.help.+copies_of.Given as goal
 
 -- the siblings that were passed over are copied
-abbrev pub invariant-loop-place : goal.invariant-loop-place
-invariant-loop-place l = forest_of l.made.items ≡ copies l.parent 0 (forest_of (take l.place l.siblings))
+abbrev pub invariant-loop-position : goal.invariant-loop-position
+invariant-loop-position l = forest_of l.made.items ≡ copies l.parent 0 (forest_of (take l.position l.siblings))

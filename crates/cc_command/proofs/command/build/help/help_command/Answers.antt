@@ -4,16 +4,16 @@ use Rattle.cc_command.proofs.BuiltAgain.{helped, built_forest-helped}
 use Rattle.cc_command.proofs.Forests.{helped-push}
 use Rattle.cc_command.proofs.command.build.help.help_command.Goals as goal
 
-pub generated-requires-2 : goal.generated-requires-2
-generated-requires-2 c =
-    let pushed : c.push.new.self.items ≡ c.in_ok-children.children.items ++ c.in_ok-generated.field-0 ∷ [] = search rules in
+pub generated_command-requires-2 : goal.generated_command-requires-2
+generated_command-requires-2 c =
+    let pushed : c.push.new.self.items ≡ c.in_ok-children.children.items ++ c.in_ok-generated_command.field-0 ∷ [] = search rules in
     let whole : forest_of c.push.new.self.items ≡ helped c.in_ok-name.name (forest_of c.args.siblings.now) =
-    ap forest_of pushed ∙ helped-push c.in_ok-name.name c.in_ok-children.children.items (forest_of c.args.siblings.now) c.in_ok-generated.field-0 (search rules) (search rules) in
+    ap forest_of pushed ∙ helped-push c.in_ok-name.name c.in_ok-children.children.items (forest_of c.args.siblings.now) c.in_ok-generated_command.field-0 (search rules) (search rules) in
     record { stays = rw whole (built_forest-helped [] c.in_ok-name.name (forest_of c.args.siblings.now)) }
 
 pub returns : goal.returns
 returns c =
-    let pushed : c.push.new.self.items ≡ c.in_ok-children.children.items ++ c.in_ok-generated.field-0 ∷ [] = search rules in
+    let pushed : c.push.new.self.items ≡ c.in_ok-children.children.items ++ c.in_ok-generated_command.field-0 ∷ [] = search rules in
     let whole : forest_of c.push.new.self.items ≡ helped c.in_ok-name.name (forest_of c.args.siblings.now) =
-    ap forest_of pushed ∙ helped-push c.in_ok-name.name c.in_ok-children.children.items (forest_of c.args.siblings.now) c.in_ok-generated.field-0 (search rules) (search rules) in
+    ap forest_of pushed ∙ helped-push c.in_ok-name.name c.in_ok-children.children.items (forest_of c.args.siblings.now) c.in_ok-generated_command.field-0 (search rules) (search rules) in
     search rules

@@ -1,0 +1,27 @@
+-- Candidates with the ranks of their tags.
+use Rattle.std.specs.Prelude.{ℕ, List, [], ◌∷◌}
+use Rattle.std.specs.declared.cmp.Ordering.{Ordering}
+use Rattle.std.specs.Cmp.{IsTotalOrder, on_total, then_total, nat_cmp_total}
+use Rattle.std.specs.Cmp.Lexicographic.{options_total}
+use Rattle.std.specs.Option.{option_cmp}
+use Rattle.std.specs.Ordering.{nat_cmp, ordering_then}
+use Rattle.cc_candidates.specs.declared.candidate.CompletionCandidate.{CompletionCandidate}
+use Rattle.cc_gather.specs.declared.finishing.Ranked.{Ranked}
+
+-- candidates, each with its rank
+abbrev pub with_ranks : List ℕ → List CompletionCandidate → List Ranked
+with_ranks [] cs = []
+with_ranks (rank ∷ ranks) [] = []
+with_ranks (rank ∷ ranks) (c ∷ cs) =
+    (record { rank = rank; candidate = c }) ∷ with_ranks ranks cs
+
+-- by the rank, then by the display order
+abbrev pub ranked_cmp : Ranked → Ranked → Ordering
+ranked_cmp one other =
+    ordering_then (nat_cmp one.rank other.rank)
+    (option_cmp nat_cmp one.candidate.display_order other.candidate.display_order)
+
+pub ranked_cmp_total : IsTotalOrder ranked_cmp
+ranked_cmp_total =
+    then_total (on_total (λ p. p.rank) nat_cmp_total)
+    (on_total (λ p. p.candidate.display_order) (options_total nat_cmp_total))
