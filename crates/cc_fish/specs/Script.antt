@@ -7,7 +7,7 @@ use Rattle.cc_arg.specs.declared.value_hint.ValueHint.TheVariants.{Unknown, AnyP
 use Rattle.cc_arg.specs.Arguments.{is_positional, takes_values, possible_values}
 use Rattle.cc_arg.specs.ShownNames.{shown_shorts, shown_longs}
 use Rattle.cc_command.specs.declared.node.Node.{Node}
-use Rattle.cc_command.specs.ArgumentLists.{is_flag, is_option, options, flags}
+use Rattle.cc_command.specs.ArgumentLists.{options, flags}
 use Rattle.cc_command.specs.Names.{full_name, visible_names}
 use Rattle.cc_command.specs.Tree.{Forest, none, more, Tree, has_nodes}
 use Rattle.cc_base.specs.Bytes.{space, line_feed}
@@ -130,11 +130,6 @@ children_text front no_files none = []
 children_text front no_files (more node below rest) =
     flat_map (child_text front no_files node.about) (visible_names node)
     ++ children_text front no_files rest
-
--- whether an argument is an option, or whether it is a flag
-abbrev pub is_of_kind : Bool → Arg → Bool
-is_of_kind true = is_option
-is_of_kind false = is_flag
 
 unfoldable pub options_text : List ℕ → Node → List ℕ
 options_text front node = flat_map (argument_text front true) (options node)

@@ -15,6 +15,7 @@ ghost use Rattle.std.specs.Prelude.{
 ghost use Rattle.std.specs.Option.{option_copied};
 ghost use Rattle.cc_arg.specs.ShownNames.{shown_longs, shown_shorts};
 ghost use Rattle.cc_base.specs.Writes.{Writes, as_write};
+ghost use Rattle.cc_command.specs.Iterators.{arguments_left};
 ghost use Rattle.cc_command.specs.Names.{visible_names};
 ghost use Rattle.cc_command.specs.Tree.{forest_of};
 ghost use Rattle.cc_visits.specs.Meaning.{visit_of};
@@ -24,7 +25,6 @@ ghost use Rattle.cc_fish.specs.Script.{
   child_text,
   children_text,
   help_text,
-  is_of_kind,
   long_text,
   names_text,
   node_text,
@@ -37,7 +37,7 @@ use crate::front::front;
 use crate::values::write_values;
 use cc_arg::{Arg, shown_longs, shown_shorts};
 use cc_base::{Error, Sink, as_error, put_all, put_around, put_piece, put_pieces};
-use cc_command::Command;
+use cc_command::{Arguments, Command};
 use cc_quote::{FishEscape, put_escaped_piece};
 use cc_visits::Visit;
 use std::alloc::Global;
@@ -63,40 +63,27 @@ pub(crate) fn write_visit<W: Sink>(
 fn write_node<W: Sink>(front: &str, command: &Command, sink: &mut W) -> Result<(), Error>
     ensures { Writes W.taken W.failed result sink.old sink.new (node_text front.now command.now) }
 {
-    write_arguments(front, true, command.get_arguments(), sink)?;
-    write_arguments(front, false, command.get_arguments(), sink)?;
+    write_arguments(front, true, command.get_opts(), sink)?;
+    write_arguments(front, false, command.get_flags(), sink)?;
     as_error(write_below(front, command, sink))
 }
 
-// Those of the arguments that are options, or those that are flags.
+// Options take values, flags take none.
 fn write_arguments<W: Sink>(
     front: &str,
     takes: bool,
-    arguments: &[Arg],
+    arguments: Arguments<'_>,
     sink: &mut W,
 ) -> Result<(), Error>
     ensures { Writes W.taken W.failed result sink.old sink.new
-        (flat_map (argument_text front.now takes) (filter (is_of_kind takes) arguments.now)) }
+        (flat_map (argument_text front.now takes) (arguments_left arguments.entry)) }
 {
     for argument in arguments {
-        if !is_of_kind(takes, argument) {
-            continue;
-        }
         write_argument(front, takes, argument, sink)?;
     }
     Ok(())
 }
 
-fn is_of_kind(takes: bool, argument: &Arg) -> bool
-    ensures { result ≡ is_of_kind takes argument.now }
-{
-    if takes {
-        return !argument.is_positional() && argument.takes_values();
-    }
-    !argument.is_positional() && !argument.takes_values()
-}
-
-// An option takes values, a flag takes none.
 #[tactic(auto, unfolding(crate::specs::Script::argument_text))]
 fn write_argument<W: Sink>(
     front: &str,

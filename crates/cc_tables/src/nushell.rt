@@ -9,7 +9,7 @@ ghost use Rattle.cc_tables.specs.NushellScript.{nushell_frame, offer_text, type_
 ghost use Rattle.cc_command.specs.ArgumentLists.{flags, options};
 ghost use Rattle.cc_tables.specs.Offers.{argument_offers, dashes};
 
-use crate::offers::{Kind, Offer, Rows, write_flags, write_options};
+use crate::offers::{Kind, Offer, Rows, write_arguments};
 use crate::tables::{Frame, TableRows, write_tables};
 use cc_base::{Error, Sink, TextRef, put_around, put_piece};
 use cc_command::Command;
@@ -113,8 +113,8 @@ fn write_lines<W: Sink>(command: &Command, sink: &mut W) -> Result<(), ErrorKind
         (flat_map (offer_text true) (flat_map argument_offers (options command.now.node))
         ++ flat_map (offer_text false) (flat_map argument_offers (flags command.now.node))) }
 {
-    write_options(&Lines { takes_value: true }, command, sink)?;
-    write_flags(&Lines { takes_value: false }, command, sink)
+    write_arguments(&Lines { takes_value: true }, command.get_opts(), sink)?;
+    write_arguments(&Lines { takes_value: false }, command.get_flags(), sink)
 }
 
 // The lines of options, which take a value, or of flags.

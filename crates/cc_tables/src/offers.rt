@@ -5,14 +5,14 @@ ghost use Rattle.std.specs.Option.{option_copied};
 ghost use Rattle.cc_base.specs.Writes.{Writes, as_write};
 ghost use Rattle.cc_tables.specs.Offers.{argument_offer, argument_offers, child_offer};
 ghost use Rattle.cc_tables.specs.Offers.{child_offers, children_offers, short_offer};
-ghost use Rattle.cc_command.specs.ArgumentLists.{flags, options};
+ghost use Rattle.cc_command.specs.Iterators.{arguments_left};
 ghost use Rattle.cc_command.specs.Names.{visible_names};
 ghost use Rattle.cc_command.specs.Tree.{forest_of};
 
 use crate::tables::TableRows;
 use cc_arg::{Arg, ShownName, shown_names};
 use cc_base::{Sink, TextRef};
-use cc_command::Command;
+use cc_command::{Arguments, Command};
 use std::io::ErrorKind;
 
 /// What kind of name is offered.
@@ -69,38 +69,24 @@ impl<R: Rows> TableRows for R {
 
     #[tactic(auto, unfolding(crate::specs::Offers::node_offers))]
     fn write_rows<W: Sink>(&self, command: &Command, sink: &mut W) -> Result<(), ErrorKind> {
-        write_options(self, command, sink)?;
-        write_flags(self, command, sink)?;
+        write_arguments(self, command.get_opts(), sink)?;
+        write_arguments(self, command.get_flags(), sink)?;
         write_children(self, command.get_subcommands(), sink)
     }
 }
 
-/// Writes the rows of the options.
-pub fn write_options<R: Rows, W: Sink>(
+/// Writes the rows of arguments.
+pub fn write_arguments<R: Rows, W: Sink>(
     rows: &R,
-    command: &Command,
+    arguments: Arguments<'_>,
     sink: &mut W,
 ) -> Result<(), ErrorKind>
     ensures { Writes W.taken W.failed (as_write result) sink.old sink.new
-        (flat_map (R.row_text rows.now) (flat_map argument_offers (options command.now.node))) }
+        (flat_map (R.row_text rows.now)
+        (flat_map argument_offers (arguments_left arguments.entry))) }
 {
-    for option in command.get_opts() {
-        write_argument(rows, option, sink)?;
-    }
-    Ok(())
-}
-
-/// Writes the rows of the flags.
-pub fn write_flags<R: Rows, W: Sink>(
-    rows: &R,
-    command: &Command,
-    sink: &mut W,
-) -> Result<(), ErrorKind>
-    ensures { Writes W.taken W.failed (as_write result) sink.old sink.new
-        (flat_map (R.row_text rows.now) (flat_map argument_offers (flags command.now.node))) }
-{
-    for flag in command.get_flags() {
-        write_argument(rows, flag, sink)?;
+    for argument in arguments {
+        write_argument(rows, argument, sink)?;
     }
     Ok(())
 }

@@ -12,7 +12,7 @@ ghost use Rattle.cc_zsh.specs.Steps.{enter_text, leave_text, step_text};
 
 use crate::keys::LastNames;
 use crate::names::{write_dashed, write_label};
-use crate::options::{write_flags, write_options};
+use crate::options::write_arguments;
 use crate::positionals::write_positionals;
 use crate::texts::{
     arm_ends, block_begins, block_ends, case_line, case_line_in, case_state, command_begins,
@@ -105,14 +105,14 @@ fn write_leave<W: Sink>(command: &Command, sink: &mut W) -> Result<(), ErrorKind
     put_piece(sink, arm_ends().as_bytes())
 }
 
-#[tactic(auto, unfolding(crate::specs::Nested::block_text))]
+#[tactic(auto, unfolding(crate::specs::Nested::block_text, crate::specs::Options::options_text, crate::specs::Options::flags_text))]
 fn write_block<W: Sink>(above: &Command, command: &Command, sink: &mut W) -> Result<(), ErrorKind>
     ensures { Writes W.taken W.failed (as_write result) sink.old sink.new
         (block_text above.now.node command.now) }
 {
     put_piece(sink, block_begins().as_bytes())?;
-    write_options(above, command, sink)?;
-    write_flags(above, command, sink)?;
+    write_arguments(above, command, command.get_opts(), sink)?;
+    write_arguments(above, command, command.get_flags(), sink)?;
     write_positionals(command, sink)?;
     write_below(command, sink)?;
     put_piece(sink, block_ends().as_bytes())

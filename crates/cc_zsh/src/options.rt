@@ -1,8 +1,9 @@
 //! The lines of a command's options and flags.
 
-ghost use Rattle.std.specs.Prelude.{◌≡◌, ◌++◌, unwrap_or};
+ghost use Rattle.std.specs.Prelude.{◌≡◌, ◌++◌, flat_map, unwrap_or};
 ghost use Rattle.cc_base.specs.Writes.{Writes, as_write};
-ghost use Rattle.cc_zsh.specs.Options.{argument_line, argument_text, flags_text, help_text, name_word, options_text, repeated_text, value_sign};
+ghost use Rattle.cc_command.specs.Iterators.{arguments_left};
+ghost use Rattle.cc_zsh.specs.Options.{argument_line, argument_text, help_text, name_word, repeated_text, value_sign};
 ghost use Rattle.cc_zsh.specs.Values.{values_text};
 
 use crate::conflicts::write_conflicts;
@@ -11,36 +12,22 @@ use crate::texts::line_end;
 use crate::values::write_values;
 use cc_arg::{Arg, ArgAction, ShownName, shown_names};
 use cc_base::{Sink, put_piece};
-use cc_command::Command;
+use cc_command::{Arguments, Command};
 use cc_quote::{ZshHelpEscape, put_escaped_piece};
 use std::io::ErrorKind;
 
-#[tactic(auto, unfolding(crate::specs::Options::options_text))]
-pub(crate) fn write_options<W: Sink>(
+pub(crate) fn write_arguments<W: Sink>(
     above: &Command,
     command: &Command,
+    arguments: Arguments<'_>,
     sink: &mut W,
 ) -> Result<(), ErrorKind>
     ensures { Writes W.taken W.failed (as_write result) sink.old sink.new
-        (options_text above.now.node command.now.node) }
+        (flat_map (argument_text above.now.node command.now.node)
+        (arguments_left arguments.entry)) }
 {
-    for option in command.get_opts() {
-        write_argument(above, command, option, sink)?;
-    }
-    Ok(())
-}
-
-#[tactic(auto, unfolding(crate::specs::Options::flags_text))]
-pub(crate) fn write_flags<W: Sink>(
-    above: &Command,
-    command: &Command,
-    sink: &mut W,
-) -> Result<(), ErrorKind>
-    ensures { Writes W.taken W.failed (as_write result) sink.old sink.new
-        (flags_text above.now.node command.now.node) }
-{
-    for flag in command.get_flags() {
-        write_argument(above, command, flag, sink)?;
+    for argument in arguments {
+        write_argument(above, command, argument, sink)?;
     }
     Ok(())
 }
