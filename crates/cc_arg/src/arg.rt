@@ -16,7 +16,7 @@ use crate::range::ValueRange;
 use crate::value_hint::ValueHint;
 use cc_base::{Error, Items, Text};
 use cc_candidates::{ArgValueCandidates, ArgValueCompleter};
-use std::alloc::Global;
+use std::alloc::{AllocError, Global};
 use std::marker::Model;
 
 /// An argument of a command. It is a positional where it has neither a short nor a long, and else
@@ -491,9 +491,7 @@ impl Arg {
         ensures equal { IfOk result (λ copy. copy ≡ self.now) }
         ensures memory { IfErr result (λ error. error ≡ Error.Memory) }
     {
-        Ok(Arg {
-            parts: self.parts.try_clone(alloc)?,
-        })
+        Ok(copy_of(alloc, self)?)
     }
 
     // The range that counts: the given one, or the one that the action and the value names imply.
@@ -550,7 +548,16 @@ pub fn conflicting_ids(argument: &Arg) -> &[Text]
     argument.parts.conflicts.as_slice()
 }
 
-// Filling in is done by free functions, so that `clap_complete` need not re-export them.
+// A build copies and fills in by free functions, so that `clap_complete` need not re-export them.
+
+/// An equal argument, for callers whose own error is that of the allocation.
+pub fn copy_of(alloc: Global, argument: &Arg) -> Result<Arg, AllocError>
+    ensures ok { IfOk result (λ copy. copy ≡ argument.now) }
+{
+    Ok(Arg {
+        parts: argument.parts.try_clone(alloc)?,
+    })
+}
 
 /// Fills in the range and the action where none was given, as building a command does.
 pub fn fill_range_and_action(argument: &mut Arg)

@@ -11,7 +11,7 @@ ghost use Rattle.cc_command.specs.Additions.{HasRoom};
 
 use crate::command::build::texts::{help_help, help_name, version_help, version_name};
 use crate::node::Node;
-use cc_arg::{Arg, ArgAction, fill_display_order, fill_index, fill_range_and_action};
+use cc_arg::{Arg, ArgAction, copy_of, fill_display_order, fill_index, fill_range_and_action};
 use std::alloc::{AllocError, Global};
 
 // Copies of the arguments that a node lacks: those of `inherited`, then `help` and `version`. The
@@ -106,16 +106,6 @@ fn push_version(
         return Ok(());
     }
     push_if_missing(missing, own, version_argument(alloc)?)
-}
-
-// A copy fails where an allocation fails, and nowhere else.
-fn copy_of(alloc: Global, argument: &Arg) -> Result<Arg, AllocError>
-    ensures ok { IfOk result (λ copy. copy ≡ argument.now) }
-{
-    match argument.try_clone(alloc) {
-        Ok(copy) => Ok(copy),
-        Err(_) => Err(AllocError),
-    }
 }
 
 fn push_if_missing(missing: &mut Vec<Arg>, own: &[Arg], argument: Arg) -> Result<(), AllocError>
