@@ -14,8 +14,8 @@ use Rattle.cc_values.specs.Values.{Lent}
 use Rattle.cc_walk.specs.declared.state.State.{State}
 use Rattle.cc_walk.specs.Line.{IsLine, IsOnlyLine}
 
--- Over the words the cases of the root's script lead to the label of the position at which the walk by
--- visible names ends. This node is at that position, and the arm at that label is its arm.
+-- Over the words the cases of the root's script lead to the label of the position at which the walk
+-- by visible names ends. This node is at that position, and the arm at that label is its arm.
 pub record BashLeadsTo (root : Tree) (words : List (List ℕ)) (tree : Tree) : Type 0 where
   pub label : run_end (tree_cases root) (root_label root) words
       ≡ position_label root (walk (root_position root) words)

@@ -60,8 +60,8 @@ head_text label = (((function_begins ++ label) ++ function_head) ++ label) ++ ca
 -- what is after the arms, for the function of this label and the program bin
 unfoldable pub tail_text : List ℕ → List ℕ → List ℕ
 tail_text label bin =
-    (((((((arms_end ++ label) ++ unsorted_options) ++ bin) ++ otherwise) ++ label) ++ sorted_options) ++ bin)
-    ++ script_ends
+    (((((((arms_end ++ label) ++ unsorted_options) ++ bin) ++ otherwise) ++ label)
+    ++ sorted_options) ++ bin) ++ script_ends
 
 -- a script with these cases and arms
 unfoldable pub bash_script : List ℕ → List ℕ → List Case → List Arm → List ℕ

@@ -35,7 +35,10 @@ abbrev pub positions_below : List (List ℕ) → Forest → List Position
 positions_below path none = []
 positions_below path (more node below rest) =
     let own : List (List ℕ) = path ++ node.name ∷ [] in
-    let position : Position = record { path = own; tree = record { node = node; children = below } } in
+    let position : Position = record {
+      path = own;
+      tree = record { node = node; children = below };
+    } in
     position ∷ (positions_below own below ++ positions_below path rest)
 
 -- the positions of all nodes of a tree, the root's first

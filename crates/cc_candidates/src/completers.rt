@@ -59,7 +59,8 @@ impl Completers {
         text: &str,
     ) -> Result<Vec<CompletionCandidate>, AllocError>
         ensures { IfOk result (λ found. AnswersAt (λ item.
-            (⟦<dyn ValueCompleter as ValueCompleter>⟧ item.vtable).answers item.value number text.now)
+            (⟦<dyn ValueCompleter as ValueCompleter>⟧ item.vtable).answers item.value number
+            text.now)
             self.now.completers.items
             (λ closure. ⟦<FnCompleter as ValueCompleter>⟧.answers closure number text.now)
             self.now.completer_closures.items completer found.items) }

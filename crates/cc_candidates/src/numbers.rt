@@ -49,7 +49,8 @@ impl ArgValueCompleter {
         text: &str,
     ) -> Result<Vec<CompletionCandidate>, AllocError>
         ensures { IfOk result (λ found. AnswersAt (λ item.
-            (⟦<dyn ValueCompleter as ValueCompleter>⟧ item.vtable).answers item.value number text.now)
+            (⟦<dyn ValueCompleter as ValueCompleter>⟧ item.vtable).answers item.value number
+            text.now)
             completers.now.completers.items
             (λ closure. ⟦<FnCompleter as ValueCompleter>⟧.answers closure number text.now)
             completers.now.completer_closures.items self.now.number found.items) }

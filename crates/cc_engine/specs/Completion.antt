@@ -203,7 +203,8 @@ told _ found = []
 abbrev pub told_by_offer : Tree → ℕ → Offer → Pending → List ℕ → Given → List CompletionCandidate
 told_by_offer tree position offer pending word given =
     told (positional_question (positional_at tree.node.arguments position) offer.value word)
-    (positional_values (positional_at tree.node.arguments position) offer.value word given.positional)
+    (positional_values (positional_at tree.node.arguments position) offer.value word
+    given.positional)
     ++ (told (row_question (offered_row offer.options tree.node.arguments word))
     (row_candidates (offered_row offer.options tree.node.arguments word) given.within)
     ++ told (open_question pending word) (opened_values pending word given.opened))
@@ -212,7 +213,8 @@ told_by_offer tree position offer pending word given =
 abbrev pub told_candidates : Tree → State → List ℕ → Given → List CompletionCandidate
 told_candidates tree state word given =
     told_by_offer tree state.position
-    (offer_by tree.node.arguments state.position state.escaped state.pending) state.pending word given
+    (offer_by tree.node.arguments state.position state.escaped state.pending)
+    state.pending word given
 
 -- each candidate of the result begins with the word, or is made of the answer of a completer or of
 -- the folder

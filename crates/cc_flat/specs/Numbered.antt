@@ -5,7 +5,8 @@ use Rattle.cc_flat.specs.Flat.{Entry, entry_at}
 
 -- a node whose children have no numbers yet
 abbrev pub without_numbers : Option ℕ → Tree → Entry
-without_numbers parent tree = record { tree = tree; parent = parent; first_child = 0; child_count = 0 }
+without_numbers parent tree =
+    record { tree = tree; parent = parent; first_child = 0; child_count = 0 }
 
 -- the node with this number has so many children, listed after all other nodes
 abbrev pub with_count : List Entry → ℕ → ℕ → List Entry

@@ -1,5 +1,5 @@
--- The way that the code goes over a text to tell whether it is a number. The definition of a number is in
--- `Numbers`; that this way tells it is proved.
+-- The way that the code goes over a text to tell whether it is a number. The definition of a number
+-- is in `Numbers`; that this way tells it is proved.
 use Rattle.std.specs.Prelude.{ℕ, List, [], ◌∷◌, ◌==◌, Bool, true, false, if◌then◌else◌}
 use Rattle.cc_gather.specs.Numbers.{is_digit}
 use Rattle.cc_gather.specs.declared.numbers.Part.{Part}

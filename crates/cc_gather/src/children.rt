@@ -79,7 +79,8 @@ fn push_children(
     word: &str,
 ) -> Result<(), AllocError>
     ensures { OnOk result (found.new.items ≡ found.old.items
-        ++ filter (begins word.now) (children_candidates parent.now.node (forest_of siblings.now))) }
+        ++ filter (begins word.now)
+        (children_candidates parent.now.node (forest_of siblings.now))) }
 {
     for child in siblings {
         push_child(found, alloc, parent, child, word)?;
@@ -126,7 +127,8 @@ fn push_names(
     word: &str,
 ) -> Result<(), AllocError>
     ensures { OnOk result (found.new.items ≡ found.old.items
-        ++ filter (begins word.now) (map (child_candidate parent.now.node child.now.node hidden) names.now)) }
+        ++ filter (begins word.now)
+        (map (child_candidate parent.now.node child.now.node hidden) names.now)) }
 {
     for name in names {
         push_name(found, alloc, parent, child, name.as_str(), hidden, word)?;
@@ -145,7 +147,8 @@ fn push_name(
     word: &str,
 ) -> Result<(), AllocError>
     ensures { OnOk result (found.new.items ≡ found.old.items
-        ++ filter (begins word.now) (child_candidate parent.now.node child.now.node hidden name.now ∷ [])) }
+        ++ filter (begins word.now)
+        (child_candidate parent.now.node child.now.node hidden name.now ∷ [])) }
 {
     if !begins_with(name, word) {
         return Ok(());

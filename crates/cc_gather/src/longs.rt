@@ -103,7 +103,8 @@ fn push_names(
     long: &str,
 ) -> Result<(), AllocError>
     ensures { OnOk result (found.new.items ≡ found.old.items
-        ++ filter (begins (codes "--" ++ long.now)) (map (long_candidate argument.now hidden) names.now)) }
+        ++ filter (begins (codes "--" ++ long.now))
+        (map (long_candidate argument.now hidden) names.now)) }
 {
     for name in names {
         push_name(found, alloc, argument, name.as_str(), hidden, long)?;
@@ -121,7 +122,8 @@ fn push_name(
     long: &str,
 ) -> Result<(), AllocError>
     ensures { OnOk result (found.new.items ≡ found.old.items
-        ++ filter (begins (codes "--" ++ long.now)) (long_candidate argument.now hidden name.now ∷ [])) }
+        ++ filter (begins (codes "--" ++ long.now))
+        (long_candidate argument.now hidden name.now ∷ [])) }
 {
     if !begins_with(name, long) {
         return Ok(());

@@ -18,8 +18,8 @@ unfoldable pub with_front : List ℕ → Option (List ℕ × List ℕ) → Optio
 with_front front None = None
 with_front front (Some (before, rest)) = Some (front ++ before, rest)
 
--- the text before the first occurrence where a mark is, and the text after the mark; none where it
--- occurs nowhere
+-- the text before the first occurrence of a mark, and the text after the mark; none where there is
+-- no occurrence
 unfoldable pub cut_at : List ℕ → List ℕ → Option (List ℕ × List ℕ)
 cut_at mark [] = None
 cut_at mark (byte ∷ text) = elim (after mark (byte ∷ text)) [
@@ -27,7 +27,7 @@ cut_at mark (byte ∷ text) = elim (after mark (byte ∷ text)) [
   | None ↦ with_front (byte ∷ []) (cut_at mark text)
 ]
 
--- the text before the first occurrence where a mark is
+-- the text before the first occurrence of a mark
 unfoldable pub up_to : List ℕ → List ℕ → Option (List ℕ)
 up_to mark text = option_map (λ cut. cut.0) (cut_at mark text)
 

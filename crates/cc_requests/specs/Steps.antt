@@ -118,7 +118,8 @@ pub data Ends {S : Type 0} (taken : S → List ℕ) (failed : S → Failures)
       → Ends taken failed Makes old new (Err error)
   -- a write failed, which is counted with its kind; how much was written is left open
   write_failed : (text : List ℕ) (kind : ErrorKind) → Makes (Ok text)
-      → failed new ≡ add_failure kind (failed old) → Ends taken failed Makes old new (Err (Write kind))
+      → failed new ≡ add_failure kind (failed old)
+      → Ends taken failed Makes old new (Err (Write kind))
   -- the text is written
   text_written : (text : List ℕ) → Makes (Ok text) → taken new ≡ taken old ++ text
       → failed new ≡ failed old → Ends taken failed Makes old new (Ok true)

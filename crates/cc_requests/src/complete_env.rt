@@ -102,8 +102,8 @@ impl<'s, F: Fn(Global) -> Result<Command, Error> + Drop, E: EnvCompleter> Comple
     /// Writes a registration or a reply, where the environment asks for one, and returns whether it
     /// does.
     ///
-    /// 1. Where the variable is not set, empty or `0`, nothing is asked for: nothing is written, and
-    ///    `false` returned.
+    /// 1. Where the variable is not set, empty or `0`, nothing is asked for: nothing is written,
+    ///    and `false` returned.
     /// 2. The last piece of its value, as of a path and without its extension, names the shell.
     /// 3. The factory makes the command, which is built.
     /// 4. Where words follow the first `--` after the first argument, the reply to these words is

@@ -33,8 +33,8 @@ script : script_text elvish_frame row_text (codes "app") []
 unfolding elvish_named elvish_frame named_text head_text script_text
 script = refl
 
--- a node with a flag, a positional, an option whose help is empty, and a child, each with an alias, and
--- some with a hidden alias
+-- a node with a flag, a positional, an option whose help is empty, and a child, each with an alias,
+-- and some with a hidden alias
 abbrev app : Tree
 app = record {
   node = record (new_node (codes "app")) {

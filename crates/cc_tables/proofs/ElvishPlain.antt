@@ -38,7 +38,11 @@ no_quote_byte byte h = let bare = bare_byte byte h in grind (arith, nat_tests)
 
 -- the word of a plain offer is bare
 word_bare : (offer : Offer) → IsPlainOffer offer → IsBareWord (word offer)
-word_bare offer h = (h.is_some, AllByRecursion-weaker (λ byte. name_byte byte ≢ foreign) (λ byte. IsTrue (is_bare byte)) bare_byte (word offer) h.bytes)
+word_bare offer h = (
+  h.is_some,
+  AllByRecursion-weaker (λ byte. name_byte byte ≢ foreign)
+      (λ byte. IsTrue (is_bare byte)) bare_byte (word offer) h.bytes,
+)
 
 -- the script of a plain tree reads to its tables
 pub elvish_plain_reads : (tree : Tree) → IsTrue (is_plain_tree tree) → ElvishReads tree

@@ -1,4 +1,5 @@
--- Items that are one after another are read one after another, and each is added to those read before.
+-- Items that are one after another are read one after another, and each is added to those read
+-- before.
 use Rattle.std.proofs.Common.{◌≡◌, ℕ, List, [], ◌∷◌, ◌++◌, map, flat_map, sym, ap, ◌∙◌}
 use Rattle.std.proofs.Common.{append_assoc, append-nil}
 use Rattle.std.specs.List.{AllByRecursion}
@@ -13,8 +14,8 @@ pub items_begin : {Item : Type 0} (IsRest : List ℕ → Type 0) (text : Item �
 items_begin IsRest text begins [] rest h = h
 items_begin IsRest text begins (item ∷ items) rest h = rw (append_assoc (text item) (flat_map text items) rest) (begins item (flat_map text items ++ rest))
 
--- `reading` is the reader, with what it has read before, over a text; an item of this text is read as
--- this, where what follows can follow it
+-- `reading` is the reader, with what it has read before, over a text; an item of this text is read
+-- as this, where what follows can follow it
 module _ {Value Item Read : Type 0} (IsRest : List ℕ → Type 0) (reading : List Read → List ℕ → Value) (text : Item → List ℕ) (as_read : Item → Read) (IsReadable : Item → Type 0)
     (begins : (item : Item) (rest : List ℕ) → IsRest (text item ++ rest))
     (one : (done : List Read) (item : Item) (rest : List ℕ) → IsReadable item → IsRest rest → reading done (text item ++ rest) ≡ reading (done ++ as_read item ∷ []) rest) where

@@ -255,8 +255,8 @@ parts = record {
   tail_reads = tail_reads;
 }
 
--- a script reads back to its blocks, with a space for each line feed of a help, where the keys are on
--- one line and the lines can be read
+-- a script reads back to its blocks, with a space for each line feed of a help, where the keys are
+-- on one line and the lines can be read
 pub nushell_reads_back : (bin : List ℕ) (blocks : List (Table Line))
     → AllByRecursion (IsReadable (λ byte. (byte == line_feed) ≡ false) IsReadableLine) blocks
     → nushell_blocks (script_text nushell_frame line_text bin blocks) ≡ Some (map (table_read line_read) blocks)

@@ -1,4 +1,5 @@
--- The tables of a plain tree can be read, by a reader to which the bytes of plain names mean nothing else.
+-- The tables of a plain tree can be read, by a reader to which the bytes of plain names mean
+-- nothing else.
 use Rattle.std.proofs.Common.{◌≡◌, ◌≢◌, ℕ, IsTrue, List, [], ◌∷◌, ◌++◌, map, flat_map, Option, Some}
 use Rattle.std.proofs.Common.{codes, refl, ap, ap₂, ◌∙◌}
 use Rattle.std.specs.List.{AllByRecursion}

@@ -83,7 +83,8 @@ two_tables : powershell_tables (script_text powershell_frame row_text (codes "ap
 unfolding encode_utf8 is_word strip_words after_words sign sign_before powershell_signs cut powershell_tokens if_quoted part kind_of step spelling after_step next tables_of read tables_begin powershell_tables kind_text row_begin list_begin kind_begin text_begin row_end words_text details_text row_text table_text powershell_named powershell_frame named_text head_text script_text
 two_tables = refl
 
--- tables that are not closed, an unknown kind, a group without `break`, a key between other quotes, and no tables at all
+-- tables that are not closed, an unknown kind, a group without `break`, a key between other quotes,
+-- and no tables at all
 malformed : (powershell_tables (codes "@(switch ($command) { 'app' { break } ") ≡ None)
     × (powershell_tables (codes "@(switch ($command) { 'app' { [CompletionResult]::new('a', 'a', [CompletionResultType]::Text, 'a') break } })") ≡ None)
     × (powershell_tables (codes "@(switch ($command) { 'app' { } })") ≡ None)

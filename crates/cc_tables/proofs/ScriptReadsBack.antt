@@ -16,9 +16,9 @@ pub named_head : (frame : Frame) (named : Named) (bin rest : List ℕ) → frame
 unfolding head_text named_text
 named_head frame named bin rest e = ap (λ given. frame.head ++ named_text given bin ++ rest) e ∙ simp append_assoc
 
--- How a script of this frame is read, from its tables on. `in_tables` is the reader between two tables,
--- with those before; `in_rows` within a table, with its key and the rows before. What follows a part is
--- such a rest.
+-- How a script of this frame is read, from its tables on. `in_tables` is the reader between two
+-- tables, with those before; `in_rows` within a table, with its key and the rows before. What
+-- follows a part is such a rest.
 pub record ReadsParts {Item Row : Type 0} (frame : Frame) (row_text : Item → List ℕ) (as_read : Item → Row)
     (IsKey : List ℕ → Type 0) (IsRow : Item → Type 0) (IsRest : List ℕ → Type 0)
     (in_tables : List (Table Row) → List ℕ → Option (List (Table Row)))

@@ -50,8 +50,8 @@ after_step between_rows tables table ends_table = between_tables (tables ++ tabl
 after_step between_rows tables table fails = malformed
 
 -- the state after a part; what does not belong there is malformed
-unfoldable pub next : {Argument RowState Row : Type 0} → Spelling Argument RowState Row → State RowState Row
-    → Part Argument → State RowState Row
+unfoldable pub next : {Argument RowState Row : Type 0} → Spelling Argument RowState Row
+    → State RowState Row → Part Argument → State RowState Row
 next spelling (between_tables tables) (key name) = after_key tables name
 next spelling (between_tables tables) (word run) =
     if bytes_eq run spelling.last_word then finished tables else malformed
@@ -69,8 +69,8 @@ tables_of (finished tables) = Some tables
 tables_of _ = None
 
 -- the tables that are read from a state on
-unfoldable pub read : {Argument RowState Row : Type 0} → Spelling Argument RowState Row → State RowState Row
-    → List Token → Option (List (Table Row))
+unfoldable pub read : {Argument RowState Row : Type 0} → Spelling Argument RowState Row
+    → State RowState Row → List Token → Option (List (Table Row))
 read spelling state [] = tables_of state
 read spelling state (token ∷ tokens) =
     read spelling (next spelling state (spelling.part token)) tokens

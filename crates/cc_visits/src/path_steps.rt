@@ -68,8 +68,8 @@ impl<'f, 'a, K: Keys> PathSteps<'f, 'a, K> {
     ghost use Rattle.cc_visits.specs.Visits.{path_steps, steps_below};
     ghost use Rattle.cc_visits.specs.Meaning.{step_of};
 
-    #[tactic(auto, using(crate::proofs::FromStack::from_stack_one, crate::proofs::StepStack::AreListed_one))]
     /// All steps, from entering the root under the key to leaving it. Fails where memory runs out.
+    #[tactic(auto, using(crate::proofs::FromStack::from_stack_one, crate::proofs::StepStack::AreListed_one))]
     pub fn new(
         alloc: Global,
         flat: &'f Flat<'a>,
@@ -91,9 +91,9 @@ impl<'f, 'a, K: Keys> PathSteps<'f, 'a, K> {
         Ok(PathSteps { flat, keys, stack })
     }
 
-    #[tactic(auto, using(crate::proofs::StepStack::steps_begin, crate::proofs::StepStack::begin_listed))]
     /// The steps below the root, which has the key and is itself neither entered nor left. Fails
     /// where memory runs out.
+    #[tactic(auto, using(crate::proofs::StepStack::steps_begin, crate::proofs::StepStack::begin_listed))]
     pub fn below(
         alloc: Global,
         flat: &'f Flat<'a>,
@@ -109,9 +109,9 @@ impl<'f, 'a, K: Keys> PathSteps<'f, 'a, K> {
         Ok(PathSteps { flat, keys, stack })
     }
 
-    #[tactic(auto, using(crate::proofs::StepStack::step_enter, crate::proofs::StepStack::step_leave, crate::proofs::StepStack::steps_listed, crate::proofs::StepStack::AreListed_rest, crate::proofs::StepStack::AreListed_push, crate::proofs::StepStack::AreListed_top, crate::proofs::StepStack::AreListed_above, crate::proofs::FromStack::from_stack_none))]
     /// The next step; `None` where none is left. Fails where memory runs out. What later calls
     /// return is then open: steps may be missing, or leave a node that was not entered.
+    #[tactic(auto, using(crate::proofs::StepStack::step_enter, crate::proofs::StepStack::step_leave, crate::proofs::StepStack::steps_listed, crate::proofs::StepStack::AreListed_rest, crate::proofs::StepStack::AreListed_push, crate::proofs::StepStack::AreListed_top, crate::proofs::StepStack::AreListed_above, crate::proofs::FromStack::from_stack_none))]
     pub fn next(&mut self, alloc: Global) -> Result<Option<PathStep<'a>>, AllocError>
         ensures first { IfOk result
             (λ found. self.old ≡ option_to_list (option_map step_of found) ++ self.new) }

@@ -69,8 +69,8 @@ impl<'f, 'a, K: Keys> TableVisits<'f, 'a, K> {
     ghost use Rattle.cc_visits.specs.Visits.{table_visits};
     ghost use Rattle.cc_visits.specs.Meaning.{visit_of};
 
-    #[tactic(auto, using(crate::proofs::TableStack::tables_begin, crate::proofs::TableStack::tables_listed))]
     /// All visits: the root under the key, then all below it. Fails where memory runs out.
+    #[tactic(auto, using(crate::proofs::TableStack::tables_begin, crate::proofs::TableStack::tables_listed))]
     pub fn new(
         alloc: Global,
         flat: &'f Flat<'a>,
@@ -95,9 +95,9 @@ impl<'f, 'a, K: Keys> TableVisits<'f, 'a, K> {
         })
     }
 
-    #[tactic(auto, using(crate::proofs::TableStack::table_later, crate::proofs::TableStack::some_key, crate::proofs::TableStack::tables_end, crate::proofs::TableStack::table_listed, crate::proofs::TableStack::AreListed_rest, crate::proofs::TableStack::AreListed_top, crate::proofs::TableStack::AreListed_above))]
     /// The next visit; `None` where none is left. Fails where memory runs out. What later calls
     /// return is then open: visits may be missing, or be of a node with a key of another.
+    #[tactic(auto, using(crate::proofs::TableStack::table_later, crate::proofs::TableStack::some_key, crate::proofs::TableStack::tables_end, crate::proofs::TableStack::table_listed, crate::proofs::TableStack::AreListed_rest, crate::proofs::TableStack::AreListed_top, crate::proofs::TableStack::AreListed_above))]
     pub fn next(&mut self, alloc: Global) -> Result<Option<Visit<'a>>, AllocError>
         ensures first { IfOk result
             (λ found. self.old ≡ option_to_list (option_map visit_of found) ++ self.new) }

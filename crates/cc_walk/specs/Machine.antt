@@ -65,7 +65,8 @@ step arguments position true pending sign = value_state arguments position true 
 step arguments position false (OptionOpen option values) sign =
     open_step arguments position option values sign
 step arguments position false Nothing sign = closed_step arguments position 0 sign
-step arguments position false (PositionalRun values) sign = closed_step arguments position values sign
+step arguments position false (PositionalRun values) sign =
+    closed_step arguments position values sign
 step arguments position false PositionMoved sign = closed_step arguments position 0 sign
 
 abbrev pub run : List Arg → State → List (List ℕ) → State
@@ -84,7 +85,9 @@ entered stand word (Some child) = record { tree = child; state = start stand.sta
 entered stand word None =
     record {
       tree = stand.tree;
-      state = step stand.tree.node.arguments stand.state.position stand.state.escaped stand.state.pending (sign_of stand.tree.node.arguments word);
+      state =
+          step stand.tree.node.arguments stand.state.position stand.state.escaped
+          stand.state.pending (sign_of stand.tree.node.arguments word);
     }
 
 -- a word that names a child leads down, whatever is pending

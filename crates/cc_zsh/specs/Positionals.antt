@@ -24,7 +24,7 @@ abbrev pub rest_text : Option (List ℕ) → List ℕ
 rest_text None = codes "*:"
 rest_text (Some terminator) = (codes "*" ++ zsh_escaped_value terminator) ++ codes ":"
 
--- how many words a positional takes: the rest, or one, which need not be there where there is a colon
+-- how many words a positional takes: the rest, or one, which need not be there after a colon
 unfoldable pub count_text : Bool → Arg → List ℕ
 count_text has_children argument =
     if takes_rest has_children argument then rest_text argument.value_terminator

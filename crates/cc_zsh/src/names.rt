@@ -26,7 +26,7 @@ pub(crate) fn write_name<W: Sink>(name: &ShownName<'_>, sink: &mut W) -> Result<
     }
 }
 
-/// The name of the function begins with a `_`, which is in the text before each occurrence of it.
+/// The name of the function begins with a `_`, which the text before each occurrence of it ends in.
 pub(crate) fn write_label<W: Sink>(name: &str, sink: &mut W) -> Result<(), ErrorKind>
     ensures { Writes W.taken W.failed (as_write result) sink.old sink.new
         (function_label name.now) }
