@@ -94,7 +94,14 @@ impl EnvCompleter for Builtin {
         completer: &str,
         sink: &mut W,
     ) -> Result<(), Error> {
-        each_builtin!(adapter! self, write_registration(alloc, variable, name, bin, completer, sink))
+        each_builtin!(adapter! self, write_registration(
+            alloc,
+            variable,
+            name,
+            bin,
+            completer,
+            sink
+        ))
     }
 
     fn write_complete<D: Folder, W: Sink>(

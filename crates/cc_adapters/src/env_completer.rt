@@ -18,7 +18,7 @@ use cc_paths::Folder;
 use std::alloc::Global;
 
 /// An adapter for a shell: what the shell is told to run for the words of a program, and how it is
-/// replied.
+/// replied to.
 pub trait EnvCompleter {
     // the name of the shell
     ghost own_name: { Self → List ℕ };
@@ -73,10 +73,10 @@ pub trait EnvCompleter {
     /// Writes the reply for the words of a command line: the candidates for the word that the shell
     /// asks for, of the command, which is built first.
     ///
-    /// Fails with `NoCompletion` where no word is at the index that is asked for, or the
-    /// program's name does; the command is built all the same. Fails with `Memory`, and the command
-    /// is then as it was or built. Nothing is written in both cases. Fails with `Write` where the
-    /// sink fails; how much it took before is left open.
+    /// Fails with `NoCompletion` where no word, or the program's name, is at the index that is asked
+    /// for; the command is built all the same. Fails with `Memory`, and the command is then as it
+    /// was or built. In either case nothing is written. Fails with `Write` where the sink fails; how
+    /// much it took before is left open.
     fn write_complete<D: Folder, W: Sink>(
         &self,
         alloc: Global,
@@ -90,9 +90,9 @@ pub trait EnvCompleter {
     ) -> Result<(), Error>
         ensures reply { Replies W.taken W.failed result sink.old sink.new command.old command.new
             (Asks self.now env.now (map string_bytes words.items)) (Completes (lent_by
-            (λ item. (⟦<dyn ValueCompleter as ValueCompleter>⟧ item.vtable).answers item.value)
+            (λ item. (⟦<dyn ValueCompleter as ValueCompleter>⟧ item.vtable).completes item.value)
             completers.now.completers.items
-            ⟦<FnCompleter as ValueCompleter>⟧.answers completers.now.completer_closures.items
+            ⟦<FnCompleter as ValueCompleter>⟧.completes completers.now.completer_closures.items
             (λ item. (⟦<dyn ValueCandidates as ValueCandidates>⟧ item.vtable).lists item.value)
             completers.now.lists.items
             ⟦<FnCandidates as ValueCandidates>⟧.lists completers.now.list_closures.items

@@ -32,7 +32,9 @@ use std::alloc::Global;
 /// of the very command whose candidates are returned, and the arm at that label is that command's.
 /// `Command::is_plain`, `is_plain_name` and `has_no_hidden_alias` test this before the call.
 ///
-/// Fails as `generate` and `complete` do; where `generate` fails, no candidates are looked for.
+/// Fails with `Write` where the sink failed; with `LabelClash` where two commands share a label;
+/// with `NoCompletion` where no word, or the program's name, is at the index; and with `Memory`.
+/// Where the script fails, no candidates are looked for.
 pub fn bash_script_and_candidates<W: Sink, D: Folder>(
     alloc: Global,
     command: &mut Command,
@@ -53,9 +55,9 @@ pub fn bash_script_and_candidates<W: Sink, D: Folder>(
         HasNoHiddenAlias command.old
         (words_before command.old.node (map string_bytes words.items) index) →
         AgreesWithBash (lent_by
-        (λ item. (⟦<dyn ValueCompleter as ValueCompleter>⟧ item.vtable).answers item.value)
+        (λ item. (⟦<dyn ValueCompleter as ValueCompleter>⟧ item.vtable).completes item.value)
         completers.now.completers.items
-        ⟦<FnCompleter as ValueCompleter>⟧.answers completers.now.completer_closures.items
+        ⟦<FnCompleter as ValueCompleter>⟧.completes completers.now.completer_closures.items
         (λ item. (⟦<dyn ValueCandidates as ValueCandidates>⟧ item.vtable).lists item.value)
         completers.now.lists.items
         ⟦<FnCandidates as ValueCandidates>⟧.lists completers.now.list_closures.items

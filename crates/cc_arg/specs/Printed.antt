@@ -65,8 +65,8 @@ printed_name None (Some short) = codes "-" ++ encode_utf8 short
 printed_name None None = []
 
 -- what follows the name of an option or a flag
-unfoldable pub printed_behind : Arg → List ℕ
-printed_behind arg =
+unfoldable pub printed_after_name : Arg → List ℕ
+printed_after_name arg =
     if takes_values arg then codes " " ++
     (if (range_of arg).least == 0 then in_brackets (printed_values arg) else printed_values arg)
     else dots_where (is_count arg.action)
@@ -74,4 +74,4 @@ printed_behind arg =
 -- the printed form of an argument: its values where it is positional, else its name and its values
 unfoldable pub printed : Arg → List ℕ
 printed arg = if is_positional arg then printed_values arg else printed_name arg.long arg.short
-    ++ printed_behind arg
+    ++ printed_after_name arg

@@ -550,7 +550,8 @@ pub fn conflicting_ids(argument: &Arg) -> &[Text]
 
 // A build copies and fills in by free functions, so that `clap_complete` need not re-export them.
 
-/// An equal argument, for callers whose own error is that of the allocation.
+/// An equal argument, for callers whose own error is that of the allocation. Fails where memory
+/// runs out.
 pub fn copy_of(alloc: Global, argument: &Arg) -> Result<Arg, AllocError>
     ensures ok { IfOk result (λ copy. copy ≡ argument.now) }
 {

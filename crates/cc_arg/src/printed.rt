@@ -2,7 +2,7 @@
 
 ghost use Rattle.std.specs.Prelude.{◌≡◌, ◌++◌, replicate, Some, flat_map};
 ghost use Rattle.std.specs.Fmt.{DisplaysOnOk};
-ghost use Rattle.cc_arg.specs.Printed.{dots_where, further, is_count, is_optional, placeholder, printed, printed_behind, printed_name, printed_names, printed_values, takes_more};
+ghost use Rattle.cc_arg.specs.Printed.{dots_where, further, is_count, is_optional, placeholder, printed, printed_after_name, printed_name, printed_names, printed_values, takes_more};
 
 use crate::action::ArgAction;
 use crate::arg::Arg;
@@ -18,7 +18,7 @@ impl fmt::Display for Arg {
             return write_values(self, f);
         }
         write_name(self, f)?;
-        write_behind(self, f)
+        write_after_name(self, f)
     }
 }
 
@@ -39,10 +39,10 @@ fn write_name<W: fmt::Write>(argument: &Arg, f: &mut fmt::Formatter<W>) -> fmt::
 }
 
 // What follows the name of an option or a flag.
-#[tactic(auto, unfolding(crate::specs::Printed::printed_behind))]
-fn write_behind<W: fmt::Write>(argument: &Arg, f: &mut fmt::Formatter<W>) -> fmt::Result
+#[tactic(auto, unfolding(crate::specs::Printed::printed_after_name))]
+fn write_after_name<W: fmt::Write>(argument: &Arg, f: &mut fmt::Formatter<W>) -> fmt::Result
     ensures { DisplaysOnOk W.write_str_gives f.old result
-        (Some (printed_behind argument.now)) f.new }
+        (Some (printed_after_name argument.now)) f.new }
 {
     if !argument.takes_values() {
         return write_dots(counts(argument), f);
@@ -56,7 +56,6 @@ fn write_behind<W: fmt::Write>(argument: &Arg, f: &mut fmt::Formatter<W>) -> fmt
     f.write_str("]")
 }
 
-// The values.
 #[tactic(auto, unfolding(crate::specs::Printed::printed_values))]
 fn write_values<W: fmt::Write>(argument: &Arg, f: &mut fmt::Formatter<W>) -> fmt::Result
     ensures { DisplaysOnOk W.write_str_gives f.old result

@@ -8,7 +8,9 @@ use crate::error::Error;
 use crate::sink::Sink;
 use std::io::ErrorKind;
 
-/// Puts until all is taken or a put fails, as `put_all` does. An empty piece is not put.
+/// Puts until all is taken or a put fails. An empty piece is not put.
+///
+/// Fails with the kind of the put that failed, which is `WriteZero` where it took nothing.
 #[inline(always)]
 pub fn put_piece<S: Sink>(sink: &mut S, bytes: &[u8]) -> Result<(), ErrorKind>
     ensures written { Writes S.taken S.failed (as_write result) sink.old sink.new bytes.now }
@@ -42,7 +44,7 @@ fn put_rest<S: Sink>(sink: &mut S, bytes: &[u8]) -> Result<(), ErrorKind>
     Ok(())
 }
 
-/// Puts each piece in turn.
+/// Puts each piece in turn. Fails with the kind of the put that failed.
 #[inline(always)]
 pub fn put_pieces<S: Sink>(sink: &mut S, pieces: &[&[u8]]) -> Result<(), ErrorKind>
     ensures { Writes S.taken S.failed (as_write result) sink.old sink.new
@@ -54,7 +56,7 @@ pub fn put_pieces<S: Sink>(sink: &mut S, pieces: &[&[u8]]) -> Result<(), ErrorKi
     Ok(())
 }
 
-/// Puts a text between two others.
+/// Puts a text between two others. Fails with the kind of the put that failed.
 #[inline(always)]
 pub fn put_around<'a, S: Sink>(
     before: &'a str,
@@ -71,7 +73,7 @@ pub fn put_around<'a, S: Sink>(
     )
 }
 
-/// The result of puts, with the library's error.
+/// The result of puts, with the kind of its failure as `Write`.
 pub fn as_error(put: Result<(), ErrorKind>) -> Result<(), Error>
     ensures { result ≡ as_write put }
 {

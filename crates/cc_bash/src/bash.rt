@@ -41,9 +41,7 @@ impl Generator for Bash {
     ghost file = { λ _ name. name ++ codes ".bash" };
 
     fn file_name(&self, alloc: Global, name: &str) -> Result<String, Error> {
-        let mut file = String::from_str(alloc, name)?;
-        file.push_str(".bash")?;
-        Ok(file)
+        Ok([name, ".bash"].concat(alloc)?)
     }
 
     #[tactic(auto, using(crate::proofs::WholeScript::generates_memory))]

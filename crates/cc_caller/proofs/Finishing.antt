@@ -5,15 +5,15 @@ use Rattle.std.specs.List.{list_any}
 use Rattle.std.proofs.lemmas.Cmp.{nat_cmp_total, tied_itself}
 use Rattle.clap_complete.specs.Sorting.{in_order, insert}
 use Rattle.clap_complete.specs.CompletionCandidate.{CompletionCandidate}
-use Rattle.clap_complete.specs.Finished.{comes_before, finish, first_of_ids, group, is_shown, rank_of, share, shown}
+use Rattle.clap_complete.specs.Finished.{comes_before, finish, first_of_ids, group, is_shown, rank_of, share, shown_or_all}
 use Rattle.cc_caller.specs.KnownNames.{tool_candidate}
 
 all_shown : (names : List (List ℕ)) → filter is_shown (map tool_candidate names) ≡ map tool_candidate names
 all_shown [] = refl
 all_shown (name ∷ names) = ap (λ cs. tool_candidate name ∷ cs) (all_shown names)
 
-shown_same : (names : List (List ℕ)) → shown (map tool_candidate names) ≡ map tool_candidate names
-unfolding shown
+shown_same : (names : List (List ℕ)) → shown_or_all (map tool_candidate names) ≡ map tool_candidate names
+unfolding shown_or_all
 shown_same names = elim (cases_Bool (list_any is_shown (map tool_candidate names))) [ inl t ↦ rw t (all_shown names) | inr f ↦ rw f refl ]
 
 none_shared : (cs : List CompletionCandidate) → filter (λ d. not (share None d.id)) cs ≡ cs

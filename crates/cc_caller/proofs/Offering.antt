@@ -67,7 +67,7 @@ as_tools : (names : List (List ℕ)) → map (as_value [] (codes "[tool]")) (map
 as_tools [] = refl
 as_tools (name ∷ names) = ap (λ cs. tool_candidate name ∷ cs) (as_tools names)
 
--- what is offered for the word at the root, where the completer answers these names
+-- what is offered for the word at the root, where the completer returns these names
 at_root : (lent : Lent) (names : List (List ℕ)) (word : List ℕ) (found : List CompletionCandidate)
     → ((list : List CompletionCandidate) → lent.completes 0 0 word list → list ≡ map new_candidate names)
     → Offers lent (built_tree runner) (start false) word found → is_bare word ≡ true → found ≡ map tool_candidate names

@@ -19,7 +19,7 @@ pub struct KnownNames {
 }
 
 impl ValueCompleter for KnownNames {
-    ghost answers = { λ known _ text found.
+    ghost completes = { λ known _ text found.
         found ≡ map new_candidate (names_beginning (map string_bytes known.names.items) text) };
 
     fn complete_at(

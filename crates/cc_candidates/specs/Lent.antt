@@ -2,12 +2,12 @@
 use Rattle.std.specs.Prelude.{◌≡◌, ℕ, ◌-◌, List, [], length, MatchOption, slice_get}
 use Rattle.cc_candidates.specs.declared.candidate.CompletionCandidate.{CompletionCandidate}
 
--- what the item of a number may answer, where the numbers of a second list follow those of the
+-- what the item of a number may return, where the numbers of a second list follow those of the
 -- first; no candidates where there is no such item
-abbrev pub AnswersAt : {One Other : Type 0} → (One → List CompletionCandidate → Type 0) → List One
+abbrev pub ReturnsAt : {One Other : Type 0} → (One → List CompletionCandidate → Type 0) → List One
     → (Other → List CompletionCandidate → Type 0) → List Other → ℕ → List CompletionCandidate
     → Type 0
-AnswersAt Ones ones Others others number list =
+ReturnsAt Ones ones Others others number list =
     MatchOption (slice_get ones number)
     (MatchOption (slice_get others (number - length ones)) (list ≡ []) (λ item. Others item list))
     (λ item. Ones item list)

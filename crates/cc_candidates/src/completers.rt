@@ -1,7 +1,7 @@
 //! What a caller lends, by number.
 
 ghost use Rattle.std.specs.Prelude.{◌≡◌, [], IfOk};
-ghost use Rattle.cc_candidates.specs.Lent.{AnswersAt};
+ghost use Rattle.cc_candidates.specs.Lent.{ReturnsAt};
 
 use crate::candidate::CompletionCandidate;
 use crate::closures::{FnCandidates, FnCompleter};
@@ -37,7 +37,7 @@ impl Completers {
         }
     }
 
-    /// Lends closures too, whose numbers follow the others'.
+    /// Lends these closures too, in place of those lent before. Their numbers follow the others'.
     pub fn with_closures(
         mut self,
         completers: Vec<FnCompleter>,
@@ -50,7 +50,7 @@ impl Completers {
         self
     }
 
-    // The answer of the completer of this number.
+    // What the completer of this number returns.
     pub(crate) fn complete_at(
         &self,
         alloc: Global,
@@ -58,11 +58,11 @@ impl Completers {
         number: usize,
         text: &str,
     ) -> Result<Vec<CompletionCandidate>, AllocError>
-        ensures { IfOk result (λ found. AnswersAt (λ item.
-            (⟦<dyn ValueCompleter as ValueCompleter>⟧ item.vtable).answers item.value number
+        ensures { IfOk result (λ found. ReturnsAt (λ item.
+            (⟦<dyn ValueCompleter as ValueCompleter>⟧ item.vtable).completes item.value number
             text.now)
             self.now.completers.items
-            (λ closure. ⟦<FnCompleter as ValueCompleter>⟧.answers closure number text.now)
+            (λ closure. ⟦<FnCompleter as ValueCompleter>⟧.completes closure number text.now)
             self.now.completer_closures.items completer found.items) }
     {
         if let Some(completer) = self.completers.get(completer) {
@@ -83,7 +83,7 @@ impl Completers {
         alloc: Global,
         number: usize,
     ) -> Result<Vec<CompletionCandidate>, AllocError>
-        ensures { IfOk result (λ found. AnswersAt (λ item.
+        ensures { IfOk result (λ found. ReturnsAt (λ item.
             (⟦<dyn ValueCandidates as ValueCandidates>⟧ item.vtable).lists item.value)
             self.now.lists.items ⟦<FnCandidates as ValueCandidates>⟧.lists
             self.now.list_closures.items number found.items) }
@@ -104,7 +104,7 @@ fn ask(
     number: usize,
     text: &str,
 ) -> Result<Vec<CompletionCandidate>, AllocError>
-    ensures { IfOk result (λ found. answers completer.now number text.now found.items) }
+    ensures { IfOk result (λ found. completes completer.now number text.now found.items) }
 {
     completer.complete_at(alloc, number, text)
 }

@@ -1,7 +1,7 @@
 //! Numbers of what a caller lends, as an argument or a command holds them.
 
 ghost use Rattle.std.specs.Prelude.{◌≡◌, IfOk};
-ghost use Rattle.cc_candidates.specs.Lent.{AnswersAt};
+ghost use Rattle.cc_candidates.specs.Lent.{ReturnsAt};
 
 use crate::candidate::CompletionCandidate;
 use crate::closures::{FnCandidates, FnCompleter};
@@ -23,24 +23,25 @@ impl ArgValueCompleter {
         ArgValueCompleter { number }
     }
 
-    /// The candidates for a text that is the first value; none where no such completer is lent.
+    /// The candidates for a text that is the first value; none where no such completer is lent. Fails
+    /// where memory runs out.
     pub fn complete(
         &self,
         alloc: Global,
         completers: &Completers,
         text: &str,
     ) -> Result<Vec<CompletionCandidate>, AllocError>
-        ensures { IfOk result (λ found. AnswersAt (λ item.
-            (⟦<dyn ValueCompleter as ValueCompleter>⟧ item.vtable).answers item.value 0 text.now)
+        ensures { IfOk result (λ found. ReturnsAt (λ item.
+            (⟦<dyn ValueCompleter as ValueCompleter>⟧ item.vtable).completes item.value 0 text.now)
             completers.now.completers.items
-            (λ closure. ⟦<FnCompleter as ValueCompleter>⟧.answers closure 0 text.now)
+            (λ closure. ⟦<FnCompleter as ValueCompleter>⟧.completes closure 0 text.now)
             completers.now.completer_closures.items self.now.number found.items) }
     {
         completers.complete_at(alloc, self.number, 0, text)
     }
 
     /// The candidates for a text that is the value of this number, counted from 0; none where no
-    /// such completer is lent.
+    /// such completer is lent. Fails where memory runs out.
     pub fn complete_at(
         &self,
         alloc: Global,
@@ -48,11 +49,11 @@ impl ArgValueCompleter {
         number: usize,
         text: &str,
     ) -> Result<Vec<CompletionCandidate>, AllocError>
-        ensures { IfOk result (λ found. AnswersAt (λ item.
-            (⟦<dyn ValueCompleter as ValueCompleter>⟧ item.vtable).answers item.value number
+        ensures { IfOk result (λ found. ReturnsAt (λ item.
+            (⟦<dyn ValueCompleter as ValueCompleter>⟧ item.vtable).completes item.value number
             text.now)
             completers.now.completers.items
-            (λ closure. ⟦<FnCompleter as ValueCompleter>⟧.answers closure number text.now)
+            (λ closure. ⟦<FnCompleter as ValueCompleter>⟧.completes closure number text.now)
             completers.now.completer_closures.items self.now.number found.items) }
     {
         completers.complete_at(alloc, self.number, number, text)
@@ -73,13 +74,13 @@ impl ArgValueCandidates {
         ArgValueCandidates { number }
     }
 
-    /// The candidates; none where no such list is lent.
+    /// The candidates; none where no such list is lent. Fails where memory runs out.
     pub fn candidates(
         &self,
         alloc: Global,
         completers: &Completers,
     ) -> Result<Vec<CompletionCandidate>, AllocError>
-        ensures { IfOk result (λ found. AnswersAt (λ item.
+        ensures { IfOk result (λ found. ReturnsAt (λ item.
             (⟦<dyn ValueCandidates as ValueCandidates>⟧ item.vtable).lists item.value)
             completers.now.lists.items ⟦<FnCandidates as ValueCandidates>⟧.lists
             completers.now.list_closures.items self.now.number found.items) }
@@ -102,13 +103,13 @@ impl SubcommandCandidates {
         SubcommandCandidates { number }
     }
 
-    /// The candidates; none where no such list is lent.
+    /// The candidates; none where no such list is lent. Fails where memory runs out.
     pub fn candidates(
         &self,
         alloc: Global,
         completers: &Completers,
     ) -> Result<Vec<CompletionCandidate>, AllocError>
-        ensures { IfOk result (λ found. AnswersAt (λ item.
+        ensures { IfOk result (λ found. ReturnsAt (λ item.
             (⟦<dyn ValueCandidates as ValueCandidates>⟧ item.vtable).lists item.value)
             completers.now.lists.items ⟦<FnCandidates as ValueCandidates>⟧.lists
             completers.now.list_closures.items self.now.number found.items) }

@@ -54,22 +54,22 @@ unfolding name_byte
 plain_after_more follows byte bytes = joined_after-kind follows (is_ascii_alphanumeric byte) (byte == dash || byte == underscore) (map name_byte bytes)
 
 -- the byte may be in a name, after a letter or after none
-abbrev pub may_stand : ℕ → Bool → Bool
-may_stand byte after_letter = is_ascii_alphanumeric byte || (after_letter && (byte == dash || byte == underscore))
+abbrev pub may_follow : ℕ → Bool → Bool
+may_follow byte after_letter = is_ascii_alphanumeric byte || (after_letter && (byte == dash || byte == underscore))
 
 plain_after-at : (follows : Bool) (bytes : List ℕ) (i : ℕ) → i < length bytes →
-    plain_after follows (drop i bytes) ≡ (may_stand (get_or bytes i 0) follows && plain_after (is_ascii_alphanumeric (get_or bytes i 0)) (drop (i + 1) bytes))
+    plain_after follows (drop i bytes) ≡ (may_follow (get_or bytes i 0) follows && plain_after (is_ascii_alphanumeric (get_or bytes i 0)) (drop (i + 1) bytes))
 plain_after-at follows bytes i below = at_drop_more (plain_after follows) bytes i 0 below ∙ plain_after_more follows (get_or bytes i 0) (drop (i + 1) bytes)
 
 -- a byte that may not be there
 pub plain_after-failed : (follows : Bool) (bytes : List ℕ) (i : ℕ) (whole : Bool) → i < length bytes →
-    plain_after follows (drop i bytes) ≡ whole → may_stand (get_or bytes i 0) follows ≡ false → false ≡ whole
+    plain_after follows (drop i bytes) ≡ whole → may_follow (get_or bytes i 0) follows ≡ false → false ≡ whole
 plain_after-failed follows bytes i whole below is failed =
     sym (ap (λ b. b && plain_after (is_ascii_alphanumeric (get_or bytes i 0)) (drop (i + 1) bytes)) failed) ∙ sym (plain_after-at follows bytes i below) ∙ is
 
 -- a byte that may
 pub plain_after-passed : (follows : Bool) (bytes : List ℕ) (i : ℕ) (whole : Bool) → i < length bytes →
-    plain_after follows (drop i bytes) ≡ whole → may_stand (get_or bytes i 0) follows ≡ true →
+    plain_after follows (drop i bytes) ≡ whole → may_follow (get_or bytes i 0) follows ≡ true →
     plain_after (is_ascii_alphanumeric (get_or bytes i 0)) (drop (i + 1) bytes) ≡ whole
 plain_after-passed follows bytes i whole below is passed =
     sym (ap (λ b. b && plain_after (is_ascii_alphanumeric (get_or bytes i 0)) (drop (i + 1) bytes)) passed) ∙ sym (plain_after-at follows bytes i below) ∙ is

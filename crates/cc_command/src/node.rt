@@ -26,7 +26,7 @@ pub struct Node {
     pub subcommand_help_heading: Option<Text>,
     /// Its display order among its siblings, given or taken when it was added.
     pub display_order: Option<usize>,
-    /// The display order of the next argument or child that is added without one.
+    /// The display order of the next child, or argument that is no positional, added without one.
     pub next_order: usize,
     /// Its arguments, in the order in which they were added.
     pub arguments: Items<Arg>,

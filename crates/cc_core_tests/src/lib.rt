@@ -1,6 +1,6 @@
 //! Tests of the crates below `clap_complete` that know no shell: sinks, texts, arguments, trees,
-//! tree files, lists, visits and quoted words. They need few crates, so that the merge gate can
-//! prove them early.
+//! tree files, lists, visits and quoted words. They need few crates, so that they can be proved
+//! early.
 #![tactic(auto)]
 
 #[cfg(test)]

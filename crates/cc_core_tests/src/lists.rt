@@ -75,7 +75,7 @@ fn longs_of_flags_of(alloc: Global, command: &Command, word: &str) -> Result<Str
 }
 
 #[test]
-fn visible_aliases_stand_before_the_name(rt: HostRuntime) {
+fn visible_aliases_come_before_the_name(rt: HostRuntime) {
     let command = built_tree(&rt, rt.alloc(), MY_APP);
     is(
         &rt,
@@ -86,7 +86,7 @@ fn visible_aliases_stand_before_the_name(rt: HostRuntime) {
 }
 
 #[test]
-fn generated_flags_stand_behind(rt: HostRuntime) {
+fn generated_flags_come_last(rt: HostRuntime) {
     let command = built_tree(&rt, rt.alloc(), MY_APP);
     is(
         &rt,
@@ -133,7 +133,7 @@ fn all_lines(alloc: Global, command: &Command) -> Result<String, Error> {
 }
 
 #[test]
-fn children_stand_before_what_is_below_them(rt: HostRuntime) {
+fn children_come_before_what_is_below_them(rt: HostRuntime) {
     let command = built_tree(&rt, rt.alloc(), MY_APP);
     is(&rt, all_lines(rt.alloc(), &command), ALL);
     drop(command);

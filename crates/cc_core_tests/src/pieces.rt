@@ -23,7 +23,7 @@ fn with_separators(alloc: Global) -> Result<String, Error> {
     let mut sink = Collected::new(alloc);
     let mut begun = false;
     for name in ["ls", "rm"] {
-        put_separator(", ", &mut begun, &mut sink)?;
+        as_error(put_separator(", ", &mut begun, &mut sink))?;
         put_all(&mut sink, name.as_bytes())?;
     }
     Ok(String::from_utf8_lossy(alloc, sink.as_slice())?)

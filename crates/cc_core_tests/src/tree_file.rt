@@ -230,14 +230,18 @@ fn has_the_possible_values(rt: &impl Abort, values: Option<&[PossibleValue]>) {
 // A command under so many others, each the child of the one before.
 fn nest(alloc: Global, parents: u8) -> Result<String, AllocError> {
     let mut text = String::new(alloc);
-    for _ in 0..parents {
-        text.push_str("{\"name\":\"a\",\"subcommands\":[")?;
-    }
+    push_times(&mut text, "{\"name\":\"a\",\"subcommands\":[", parents)?;
     text.push_str("{\"name\":\"a\"}")?;
-    for _ in 0..parents {
-        text.push_str("]}")?;
-    }
+    push_times(&mut text, "]}", parents)?;
     Ok(text)
+}
+
+// Adds a text so many times.
+fn push_times(text: &mut String, part: &str, times: u8) -> Result<(), AllocError> {
+    for _ in 0..times {
+        text.push_str(part)?;
+    }
+    Ok(())
 }
 
 // Why a text describes no tree; `None` where it does.

@@ -1,4 +1,4 @@
-//! Trees, as their getters answer them.
+//! Trees, as their getters return them.
 
 use crate::checks::{is, same};
 use crate::fixtures::{EXCLUDING, MY_APP, build, built_tree, tree};

@@ -1,5 +1,5 @@
-//! The visits of a small tree in both orders: each key with the node above and the node visited; and
-//! its nodes in preorder.
+//! The visits of a small tree in both orders: each key with the node above and the node visited;
+//! and its nodes in preorder.
 
 use crate::checks::is;
 use crate::fixtures::{NESTED_AND_LIST, tree};

@@ -24,7 +24,7 @@ use Rattle.cc_candidates.specs.declared.numbers.ArgValueCandidates.{ArgValueCand
 use Rattle.cc_candidates.specs.declared.numbers.ArgValueCompleter.{ArgValueCompleter}
 use Rattle.cc_command.specs.Tree.{Tree}
 use Rattle.cc_gather.specs.Children.{children_candidates, external, in_candidates_order, subcommand_candidates}
-use Rattle.cc_gather.specs.Finished.{comes_before, finish, first_of_ids, group, shown}
+use Rattle.cc_gather.specs.Finished.{comes_before, finish, first_of_ids, group, shown_or_all}
 use Rattle.cc_gather.specs.Lookup.{has_own_long}
 use Rattle.cc_gather.specs.Numbers.{is_number}
 use Rattle.cc_gather.specs.Options.{hidden_candidates, long_candidate, long_candidates, longs, short_candidate, short_candidates, shorts}
@@ -42,7 +42,7 @@ use Rattle.cc_walk.specs.Lookup.{positional_at}
 use Rattle.cc_walk.specs.Signs.{character_value, value_argument, value_character}
 use Rattle.cc_walk.specs.Words.{EndsWith, before_equals}
 use Rattle.cc_engine.specs.declared.offer.Offer.{Offer}
-use Rattle.cc_engine.specs.Completion.{AreAllowed, BeginsOrIsTold, Given, answer, finished_with, offer_questions, offered, offered_children, offered_row, open_question, opened_values, positional_question, positional_values, questions, row_candidates, row_question, told}
+use Rattle.cc_engine.specs.Completion.{AreAllowed, BeginsOrIsTold, Given, candidates_for, finished_with, offer_questions, offered, offered_children, offered_row, open_question, opened_values, positional_question, positional_values, questions, row_candidates, row_question, told}
 use Rattle.cc_engine.specs.Offer.{least, offer_by}
 
 abbrev Candidates : Type 0
@@ -310,7 +310,7 @@ offered_fits P false arguments word valid ok = tt
 all_finished : (P : CompletionCandidate → Type 0) (cs : Candidates) → AllByRecursion P cs → AllByRecursion P (finish cs)
 unfolding finish group
 all_finished P cs h =
-    AllByRecursion-in_order (comes_before (first_of_ids (shown cs))) P (first_of_ids (shown cs)) (all-first_of_ids P (shown cs) (all-shown P cs h))
+    AllByRecursion-in_order (comes_before (first_of_ids (shown_or_all cs))) P (first_of_ids (shown_or_all cs)) (all-first_of_ids P (shown_or_all cs) (all-shown P cs h))
 
 all_finished_with : (P : CompletionCandidate → Type 0) (pending : Pending) (word : List ℕ) (given others : Candidates)
     → AllByRecursion P (opened_values pending word given) → AllByRecursion P others → AllByRecursion P (finished_with pending word given others)
@@ -343,7 +343,7 @@ all_offered lent P word valid ok tree position offer pending given allowed value
     (all_row lent P word ok (offered_row offer.options tree.node.arguments word) (offered_fits P offer.options tree.node.arguments word valid ok) given.within allowed.within within)
 
 pub begins_or_is_told : (lent : Lent) (tree : Tree) (state : State) (word : List ℕ) (given : Given) (found : Candidates) → IsUtf8 word
-    → AreAllowed lent (questions tree state word) given → found ≡ answer tree state word given
+    → AreAllowed lent (questions tree state word) given → found ≡ candidates_for tree state word given
     → BeginsOrIsTold tree state word given found
 begins_or_is_told lent tree state word given found valid allowed is =
     let offer = offer_by tree.node.arguments state.position state.escaped state.pending in

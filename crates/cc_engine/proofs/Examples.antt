@@ -8,7 +8,7 @@ use Rattle.cc_arg.specs.declared.value_hint.ValueHint.{ValueHint}
 use Rattle.cc_arg.specs.declared.value_hint.ValueHint.TheVariants.{FilePath}
 use Rattle.cc_arg.specs.Arguments.{exactly, new_arg}
 use Rattle.cc_arg.specs.PossibleValues.{new_possible_value}
-use Rattle.cc_arg.specs.Printed.{printed, printed_behind, printed_names, printed_values}
+use Rattle.cc_arg.specs.Printed.{printed, printed_after_name, printed_names, printed_values}
 use Rattle.cc_base.specs.Sorting.{in_order, insert}
 use Rattle.cc_candidates.specs.declared.candidate.CompletionCandidate.{CompletionCandidate}
 use Rattle.cc_candidates.specs.declared.numbers.ArgValueCompleter.{ArgValueCompleter}
@@ -19,7 +19,7 @@ use Rattle.cc_command.specs.Made.{new_tree, with_argument, with_child}
 use Rattle.cc_command.specs.Texts.{help_about, help_help, help_name}
 use Rattle.cc_command.specs.Tree.{Tree}
 use Rattle.cc_gather.specs.Children.{in_candidates_order, subcommand_candidates}
-use Rattle.cc_gather.specs.Finished.{finish, group, shown}
+use Rattle.cc_gather.specs.Finished.{finish, group, shown_or_all}
 use Rattle.cc_gather.specs.Numbers.{is_number}
 use Rattle.cc_gather.specs.Options.{longs, shorts}
 use Rattle.cc_gather.specs.Rows.{row_of}
@@ -29,23 +29,23 @@ use Rattle.cc_values.specs.Parts.{front_length}
 use Rattle.cc_values.specs.Values.{Allows, completer, gather, lent_by, nothing, paths, question, sorted, values}
 use Rattle.cc_walk.specs.Blocks.{start}
 use Rattle.cc_walk.specs.Lookup.{allows_hyphens_at, limit, positional_at}
-use Rattle.cc_walk.specs.Machine.{Stand, walk}
+use Rattle.cc_walk.specs.Machine.{NodeState, walk}
 use Rattle.cc_walk.specs.Signs.{sign_of}
-use Rattle.cc_engine.specs.Completion.{Given, Questions, answer, is_in_range, questions, words_before}
+use Rattle.cc_engine.specs.Completion.{Given, Questions, candidates_for, is_in_range, questions, words_before}
 
 -- where these words lead from the root
-abbrev stand_after : Tree → List (List ℕ) → Stand
-stand_after root words = walk (record { tree = root; state = start false }) words
+abbrev node_state_after : Tree → List (List ℕ) → NodeState
+node_state_after root words = walk (record { tree = root; state = start false }) words
 
 -- what the word after these words asks
 abbrev value_asked_after : Tree → List (List ℕ) → List ℕ → Questions
 value_asked_after root words word =
-    questions (stand_after root words).tree (stand_after root words).state word
+    questions (node_state_after root words).tree (node_state_after root words).state word
 
 -- the values of the candidates for the word after these words, where these lists are given
 abbrev offered_after : Tree → List (List ℕ) → List ℕ → Given → List (List ℕ)
 offered_after root words word given =
-    map (λ c. c.value) (answer (stand_after root words).tree (stand_after root words).state word given)
+    map (λ c. c.value) (candidates_for (node_state_after root words).tree (node_state_after root words).state word given)
 
 abbrev no_lists : Given
 no_lists = record { children = []; positional = []; within = []; opened = [] }
@@ -105,19 +105,19 @@ all_words = refl
 -- the first name of each child by the candidates' order, then the help flag
 empty_word : offered_after app [] [] no_lists ≡ codes "t" ∷ codes "help" ∷ codes "--help" ∷ []
 unfolding help_argument help_name help_about help_help subcommand_candidates in_candidates_order
-    in_order insert finish shown group positional_at row_of longs shorts lib.Utf8.encode
+    in_order insert finish shown_or_all group positional_at row_of longs shorts lib.Utf8.encode
 empty_word = refl
 
 -- after `--` no option
 after_dashes : offered_after app (codes "--" ∷ []) [] no_lists ≡ codes "t" ∷ codes "help" ∷ []
 unfolding help_argument help_name help_about help_help subcommand_candidates in_candidates_order
-    in_order insert finish shown group positional_at sign_of
+    in_order insert finish shown_or_all group positional_at sign_of
 after_dashes = refl
 
 -- at a child without children that `--` precedes, nothing
 at_a_child : offered_after app (codes "--" ∷ codes "test" ∷ []) [] no_lists ≡ []
 unfolding help_argument help_name help_about help_help subcommand_candidates in_candidates_order
-    in_order insert finish shown group positional_at sign_of
+    in_order insert finish shown_or_all group positional_at sign_of
 at_a_child = refl
 
 -- A POSITIONAL
@@ -135,9 +135,9 @@ hyphens = built_tree (with (with (with (new_tree (codes "app")) (option (codes "
 second_positional : offered_after hyphens (codes "--opt" ∷ codes "-z" ∷ []) [] no_lists
     ≡ codes "x" ∷ codes "y" ∷ codes "--opt" ∷ codes "--help" ∷ []
 unfolding help_argument help_name help_about help_help subcommand_candidates in_candidates_order
-    in_order insert finish shown group positional_at row_of longs shorts sign_of limit
+    in_order insert finish shown_or_all group positional_at row_of longs shorts sign_of limit
     allows_hyphens_at chars values gather front_length printed printed_names printed_values
-    printed_behind lib.Utf8.encode
+    printed_after_name lib.Utf8.encode
 second_positional = refl
 
 -- `app` with a positional of the completer 0 and no flag
@@ -165,7 +165,7 @@ last_part = refl
 -- and is after the parts before it
 after_parts : map (λ c. c.value) (values kinds (codes "a,b,c") (new_candidate (codes "cc") ∷ []))
     ≡ codes "a,b,cc" ∷ []
-unfolding values gather front_length printed printed_names printed_values printed_behind
+unfolding values gather front_length printed printed_names printed_values printed_after_name
     lib.Utf8.encode
 after_parts = refl
 
@@ -198,8 +198,8 @@ visible_paths : offered_after files [] [] (record no_lists { positional = folder
     ≡ codes "a.txt" ∷ codes "src/" ∷ []
 unfolding groups path_join path_file_name split_last_component trim_trailing word_prefix row_of
     positional_at subcommand_candidates in_candidates_order in_order insert
-    finish shown group longs shorts values gather sorted front_length printed printed_names
-    printed_values printed_behind
+    finish shown_or_all group longs shorts values gather sorted front_length printed printed_names
+    printed_values printed_after_name
 visible_paths = refl
 
 -- AN OPEN OPTION
@@ -228,8 +228,8 @@ first_value = refl
 finished_twice : offered_after options (codes "--col" ∷ []) [] (record no_lists { opened = auto ∷ [] })
     ≡ codes "auto" ∷ codes "--help" ∷ codes "--port" ∷ []
 unfolding help_argument help_name help_about help_help subcommand_candidates in_candidates_order
-    in_order insert finish shown group positional_at row_of longs shorts sign_of values gather
-    front_length printed printed_names printed_values printed_behind auto lib.Utf8.encode
+    in_order insert finish shown_or_all group positional_at row_of longs shorts sign_of values gather
+    front_length printed printed_names printed_values printed_after_name auto lib.Utf8.encode
 finished_twice = refl
 
 -- WITHIN A WORD
@@ -251,7 +251,7 @@ after_the_long : offered_after colors [] (codes "--color=a")
     (record no_lists { within = new_candidate (codes "auto") ∷ [] })
     ≡ codes "--color=auto" ∷ []
 unfolding row_of positional_at subcommand_candidates in_candidates_order in_order insert finish
-    shown group longs values gather front_length printed printed_names printed_values printed_behind
+    shown_or_all group longs values gather front_length printed printed_names printed_values printed_after_name
 after_the_long = refl
 
 -- a number asks nothing of the options, also where its first digit is a short that takes values
@@ -287,69 +287,69 @@ colored = built_tree (with (with (new_tree (codes "app"))
 first_names : offered_after colored [] [] no_lists
     ≡ codes "--color" ∷ codes "--verbose" ∷ codes "--help" ∷ []
 unfolding help_argument help_name help_about help_help subcommand_candidates in_candidates_order
-    in_order insert finish shown group positional_at row_of longs shorts lib.Utf8.encode
+    in_order insert finish shown_or_all group positional_at row_of longs shorts lib.Utf8.encode
 first_names = refl
 
 -- the shorts come first after a dash
 after_a_dash : offered_after colored [] (codes "-") no_lists
     ≡ codes "-c" ∷ codes "-v" ∷ codes "-h" ∷ []
 unfolding help_argument help_name help_about help_help subcommand_candidates in_candidates_order
-    in_order insert finish shown group positional_at row_of longs shorts lib.Utf8.encode
+    in_order insert finish shown_or_all group positional_at row_of longs shorts lib.Utf8.encode
 after_a_dash = refl
 
 -- a hidden alias where nothing else begins so
 hidden_alias : offered_after colored [] (codes "--no") no_lists ≡ codes "--noisy" ∷ []
 unfolding help_argument help_name help_about help_help subcommand_candidates in_candidates_order
-    in_order insert finish shown group positional_at row_of longs lib.Utf8.encode
+    in_order insert finish shown_or_all group positional_at row_of longs lib.Utf8.encode
 hidden_alias = refl
 
 -- of the values of a long the visible one
 values_of_a_long : offered_after colored [] (codes "--color=") no_lists
     ≡ codes "--color=auto" ∷ []
 unfolding help_argument help_name help_about help_help subcommand_candidates in_candidates_order
-    in_order insert finish shown group positional_at row_of longs values gather front_length
-    printed printed_names printed_values printed_behind lib.Utf8.encode
+    in_order insert finish shown_or_all group positional_at row_of longs values gather front_length
+    printed printed_names printed_values printed_after_name lib.Utf8.encode
 values_of_a_long = refl
 
 -- the hidden one where no visible one begins so
 hidden_value : offered_after colored [] (codes "--color=n") no_lists ≡ codes "--color=never" ∷ []
 unfolding help_argument help_name help_about help_help subcommand_candidates in_candidates_order
-    in_order insert finish shown group positional_at row_of longs values gather front_length
-    printed printed_names printed_values printed_behind lib.Utf8.encode
+    in_order insert finish shown_or_all group positional_at row_of longs values gather front_length
+    printed printed_names printed_values printed_after_name lib.Utf8.encode
 hidden_value = refl
 
 -- the values of a short after another
 values_of_a_short : offered_after colored [] (codes "-vc=a") no_lists ≡ codes "-vc=auto" ∷ []
 unfolding help_argument help_name help_about help_help subcommand_candidates in_candidates_order
-    in_order insert finish shown group positional_at row_of shorts is_number chars values
-    gather front_length printed printed_names printed_values printed_behind lib.Utf8.encode
+    in_order insert finish shown_or_all group positional_at row_of shorts is_number chars values
+    gather front_length printed printed_names printed_values printed_after_name lib.Utf8.encode
 values_of_a_short = refl
 
 -- an option that needs a value leaves nothing but its values
 values_alone : offered_after colored (codes "--color" ∷ []) [] no_lists ≡ codes "auto" ∷ []
 unfolding help_argument help_name help_about help_help subcommand_candidates in_candidates_order
-    in_order insert finish shown group positional_at row_of sign_of chars values gather
-    front_length printed printed_names printed_values printed_behind lib.Utf8.encode
+    in_order insert finish shown_or_all group positional_at row_of sign_of chars values gather
+    front_length printed printed_names printed_values printed_after_name lib.Utf8.encode
 values_alone = refl
 
 -- a `=` closes the option
 closed_option : offered_after colored (codes "-c=" ∷ []) [] no_lists
     ≡ codes "--color" ∷ codes "--verbose" ∷ codes "--help" ∷ []
 unfolding help_argument help_name help_about help_help subcommand_candidates in_candidates_order
-    in_order insert finish shown group positional_at row_of longs shorts sign_of chars
+    in_order insert finish shown_or_all group positional_at row_of longs shorts sign_of chars
     lib.Utf8.encode
 closed_option = refl
 
 -- nothing begins with a number
 negative_number : offered_after colored [] (codes "-1") no_lists ≡ []
 unfolding help_argument help_name help_about help_help subcommand_candidates in_candidates_order
-    in_order insert finish shown group positional_at row_of shorts is_number chars
+    in_order insert finish shown_or_all group positional_at row_of shorts is_number chars
     lib.Utf8.encode
 negative_number = refl
 
 with_exponent : offered_after colored [] (codes "-5e3") no_lists ≡ []
 unfolding help_argument help_name help_about help_help subcommand_candidates in_candidates_order
-    in_order insert finish shown group positional_at row_of shorts is_number chars
+    in_order insert finish shown_or_all group positional_at row_of shorts is_number chars
     lib.Utf8.encode
 with_exponent = refl
 
@@ -366,32 +366,32 @@ deep =
 below_a_hidden_alias : offered_after deep (codes "tst" ∷ []) [] no_lists
     ≡ codes "--deep" ∷ codes "--help" ∷ []
 unfolding help_argument help_name help_about help_help subcommand_candidates in_candidates_order
-    in_order insert finish shown group positional_at row_of longs shorts lib.Utf8.encode
+    in_order insert finish shown_or_all group positional_at row_of longs shorts lib.Utf8.encode
 below_a_hidden_alias = refl
 
 -- so does a name after `--`, where no option is left
 below_a_name : offered_after deep (codes "--" ∷ codes "test" ∷ []) [] no_lists ≡ []
 unfolding help_argument help_name help_about help_help subcommand_candidates in_candidates_order
-    in_order insert finish shown group positional_at sign_of
+    in_order insert finish shown_or_all group positional_at sign_of
 below_a_name = refl
 
 -- `-` is the option's value, so the first positional is next, which has no values to offer
 dash_as_a_value : offered_after hyphens (codes "--opt" ∷ codes "-" ∷ []) [] no_lists
     ≡ codes "--opt" ∷ codes "--help" ∷ []
 unfolding help_argument help_name help_about help_help subcommand_candidates in_candidates_order
-    in_order insert finish shown group positional_at row_of longs shorts sign_of limit
+    in_order insert finish shown_or_all group positional_at row_of longs shorts sign_of limit
     allows_hyphens_at chars values gather sorted front_length printed printed_names printed_values
-    printed_behind lib.Utf8.encode
+    printed_after_name lib.Utf8.encode
 dash_as_a_value = refl
 
 -- WHAT IS LENT
 
 -- a completer past the list gives no candidates
 past_the_list : {C F L G : Type 0} (Completes : C → ℕ → List ℕ → List CompletionCandidate → Type 0)
-    (one other : C) (Answers : F → ℕ → List ℕ → List CompletionCandidate → Type 0)
-    (Lists : L → List CompletionCandidate → Type 0) (Gives : G → List CompletionCandidate → Type 0)
+    (one other : C) (ClosureCompletes : F → ℕ → List ℕ → List CompletionCandidate → Type 0)
+    (Lists : L → List CompletionCandidate → Type 0) (ClosureLists : G → List CompletionCandidate → Type 0)
     (Finds : ValueHint → List ℕ → List CompletionCandidate → Type 0)
     (found : List CompletionCandidate)
-    → Allows (lent_by Completes (one ∷ other ∷ []) Answers [] Lists [] Gives [] Finds)
+    → Allows (lent_by Completes (one ∷ other ∷ []) ClosureCompletes [] Lists [] ClosureLists [] Finds)
     (completer 7 0 []) found → found ≡ []
-past_the_list Completes one other Answers Lists Gives Finds found allowed = allowed
+past_the_list Completes one other ClosureCompletes Lists ClosureLists Finds found allowed = allowed

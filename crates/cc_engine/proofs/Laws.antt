@@ -1,4 +1,4 @@
--- What is so of every answer.
+-- What is so of every result.
 use Rattle.std.proofs.Common.{◌≡◌, ◌∙◌, ap, inl, inr, refl, subst, sym, ℕ, List, [], ◌∷◌, ◌++◌}
 use Rattle.std.specs.Prelude.{Bool, true, false, ◌||◌, filter, get_or, nat_le, if◌then◌else◌}
 use Rattle.std.specs.List.{list_any}
@@ -8,13 +8,13 @@ use Rattle.std.proofs.lemmas.List.Folds.{list_any-append}
 use Rattle.cc_base.specs.Sorting.{in_order, insert}
 use Rattle.cc_candidates.specs.declared.candidate.CompletionCandidate.{CompletionCandidate}
 use Rattle.cc_command.specs.Tree.{Tree}
-use Rattle.cc_gather.specs.Finished.{AreShown, Differ, comes_before, finish, first_of_ids, group, is_shown, shown}
+use Rattle.cc_gather.specs.Finished.{AreShown, Differ, comes_before, finish, first_of_ids, group, is_shown, shown_or_all}
 use Rattle.cc_gather.proofs.Law.{differ, visible}
 use Rattle.cc_values.specs.Values.{Lent, values}
 use Rattle.cc_walk.specs.declared.state.Pending.{Pending}
 use Rattle.cc_walk.specs.declared.state.Pending.TheVariants.{Nothing, OptionOpen, PositionalRun, PositionMoved}
 use Rattle.cc_walk.specs.declared.state.State.{State}
-use Rattle.cc_engine.specs.Completion.{Completes, Given, ShowsVisible, answer, besides, finished_with, offered, opened_values}
+use Rattle.cc_engine.specs.Completion.{Completes, Given, ShowsVisible, candidates_for, besides, finished_with, offered, opened_values}
 use Rattle.cc_engine.specs.Offer.{full_offer, least, no_offer, offer_by}
 use Rattle.cc_engine.proofs.OneFinishing.{nothing_offered}
 
@@ -34,9 +34,9 @@ with_differ word (OptionOpen option count) given others = by (nat_le (least opti
     by false = differ (values option word given)
 
 -- what is offered for a word
-pub answers_differ : (lent : Lent) (root : Tree) (words : List (List ℕ)) (index : ℕ) (found : Candidates)
+pub candidates_differ : (lent : Lent) (root : Tree) (words : List (List ℕ)) (index : ℕ) (found : Candidates)
     → Completes lent root words index found → Differ found
-answers_differ lent root words index found completes =
+candidates_differ lent root words index found completes =
     subst Differ (sym completes.offers.2) (with_differ (get_or words index []) completes.state.pending completes.offers.0.opened
     (besides completes.tree completes.state (get_or words index []) completes.offers.0))
 
@@ -68,14 +68,14 @@ some_filter p (c ∷ cs) e = by (p c) e (some_filter p cs)
     by true e more = tt
     by false e more = more e
 
-some_shown : (cs : Candidates) → list_any is_shown cs ≡ true → IsSome (shown cs)
-unfolding shown
+some_shown : (cs : Candidates) → list_any is_shown cs ≡ true → IsSome (shown_or_all cs)
+unfolding shown_or_all
 some_shown cs e = rw e (some_filter is_shown cs e)
 
 some_finished : (cs : Candidates) → list_any is_shown cs ≡ true → IsSome (finish cs)
 unfolding finish group
 some_finished cs e =
-    some_in_order (comes_before (first_of_ids (shown cs))) (first_of_ids (shown cs)) (some_first (shown cs) (some_shown cs e))
+    some_in_order (comes_before (first_of_ids (shown_or_all cs))) (first_of_ids (shown_or_all cs)) (some_first (shown_or_all cs) (some_shown cs e))
 
 any_of_all : (cs : Candidates) → IsSome cs → AreShown cs → list_any is_shown cs ≡ true
 any_of_all [] h all = absurd h
@@ -115,5 +115,5 @@ by_pending tree state word given (OptionOpen option count) e =
     beside_option tree state.position state.escaped word given (values option word given.opened) (nat_le (least option) count) e
 
 pub shows_visible : (tree : Tree) (state : State) (word : List ℕ) (given : Given) (found : Candidates)
-    → found ≡ answer tree state word given → ShowsVisible tree state word given found
+    → found ≡ candidates_for tree state word given → ShowsVisible tree state word given found
 shows_visible tree state word given found is any = subst AreShown (sym is) (by_pending tree state word given state.pending any)

@@ -11,7 +11,7 @@ use Rattle.cc_walk.specs.declared.state.Pending.{Pending}
 use Rattle.cc_walk.specs.declared.state.Pending.TheVariants.{Nothing, OptionOpen, PositionalRun, PositionMoved}
 use Rattle.cc_walk.specs.declared.state.State.{State}
 use Rattle.cc_walk.specs.Lookup.{positional_at}
-use Rattle.cc_engine.specs.Completion.{FinishesOnce, Given, answer, finished_with, offered, opened_values, positional_values}
+use Rattle.cc_engine.specs.Completion.{FinishesOnce, Given, candidates_for, finished_with, offered, opened_values, positional_values}
 use Rattle.cc_engine.specs.Offer.{full_offer, least, no_offer, offer_by}
 use Rattle.cc_values.specs.Values.{values}
 
@@ -47,5 +47,5 @@ by_pending tree state word given (OptionOpen option count) apart =
     beside_option tree state.position state.escaped word given (values option word given.opened) (nat_le (least option) count) apart
 
 pub finishes_once : (tree : Tree) (state : State) (word : List ℕ) (given : Given) (found : List CompletionCandidate)
-    → found ≡ answer tree state word given → FinishesOnce tree state word given found
+    → found ≡ candidates_for tree state word given → FinishesOnce tree state word given found
 finishes_once tree state word given found is apart = is ∙ by_pending tree state word given state.pending apart

@@ -1,5 +1,5 @@
 -- What is offered for the word at an index: what it asks of those who lend candidates, and the list
--- that is made of their answers.
+-- that is made of what they return.
 use Rattle.std.specs.Prelude.{ℕ, List, [], ◌++◌, map, take, drop, get_or, ◌≡◌, ◌⊎◌, ◌&&◌, nat_le, nat_lt, Bool, false, true, Contains, Option, Some, None, if◌then◌else◌}
 use Rattle.std.specs.List.{list_any, AllByRecursion}
 use Rattle.cc_arg.specs.declared.parts.ArgParts.{ArgParts as Arg}
@@ -99,7 +99,7 @@ pub record Given : Type 0 where
   pub within : List CompletionCandidate
   pub opened : List CompletionCandidate
 
--- each list may be answered to its question
+-- each list may be returned for its question
 pub record AreAllowed (lent : Lent) (asked : Questions) (given : Given) : Type 0 where
   pub children : Allows lent asked.children given.children
   pub positional : Allows lent asked.positional given.positional
@@ -145,15 +145,15 @@ besides tree state word given =
     (offer_by tree.node.arguments state.position state.escaped state.pending) word given
 
 -- what is offered for the word, where these lists are given
-abbrev pub answer : Tree → State → List ℕ → Given → List CompletionCandidate
-answer tree state word given =
+abbrev pub candidates_for : Tree → State → List ℕ → Given → List CompletionCandidate
+candidates_for tree state word given =
     finished_with state.pending word given.opened (besides tree state word given)
 
 -- the lists that may be offered for the word at a node
 abbrev pub Offers : Lent → Tree → State → List ℕ → List CompletionCandidate → Type 0
 Offers lent tree state word result =
     (given : Given) × AreAllowed lent (questions tree state word) given
-    × (result ≡ answer tree state word given)
+    × (result ≡ candidates_for tree state word given)
 
 -- the lists that may be offered for the word, the values of an open option aside
 pub record AreOffered (lent : Lent) (tree : Tree) (position : ℕ) (offer : Offer) (word : List ℕ)
@@ -170,7 +170,7 @@ pub record AreOffered (lent : Lent) (tree : Tree) (position : ℕ) (offer : Offe
       ++ positional_values (positional_at tree.node.arguments position) offer.value word positional)
       ++ row_candidates (offered_row offer.options tree.node.arguments word) within
 
--- WHAT IS SO OF AN ANSWER
+-- WHAT IS SO OF THE RESULT
 
 -- the values of an open option; none where no option is open
 abbrev pub opened_values : Pending → List ℕ → List CompletionCandidate → List CompletionCandidate
@@ -193,13 +193,13 @@ abbrev pub ShowsVisible : Tree → State → List ℕ → Given → List Complet
 ShowsVisible tree state word given result =
     list_any is_shown (all_gathered tree state word given) ≡ true → AreShown result
 
--- what is made of the answer of a completer or a folder; nothing of any other answer
+-- what is made of the list of a completer or a folder; nothing of any other list
 abbrev pub told : Question → List CompletionCandidate → List CompletionCandidate
 told (completer which number text) found = found
 told (paths hint text) found = found
 told _ found = []
 
--- all that is made of the answers of completers and of the folder, where these lists are offered
+-- all that is made of the lists of completers and of the folder, where these lists are offered
 abbrev pub told_by_offer : Tree → ℕ → Offer → Pending → List ℕ → Given → List CompletionCandidate
 told_by_offer tree position offer pending word given =
     told (positional_question (positional_at tree.node.arguments position) offer.value word)
@@ -216,7 +216,7 @@ told_candidates tree state word given =
     (offer_by tree.node.arguments state.position state.escaped state.pending)
     state.pending word given
 
--- each candidate of the result begins with the word, or is made of the answer of a completer or of
+-- each candidate of the result begins with the word, or is made of the list of a completer or of
 -- the folder
 abbrev pub BeginsOrIsTold : Tree → State → List ℕ → Given → List CompletionCandidate → Type 0
 BeginsOrIsTold tree state word given result =

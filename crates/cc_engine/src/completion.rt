@@ -8,7 +8,7 @@ ghost use Rattle.cc_engine.specs.Paths.{PathsOf};
 ghost use Rattle.cc_gather.specs.Finished.{Differ};
 ghost use Rattle.cc_values.specs.Values.{lent_by};
 
-use crate::answering::offer_candidates;
+use crate::candidates::offer_candidates;
 use crate::folder_paths::FolderPaths;
 use cc_base::Error;
 use cc_candidates::{
@@ -31,8 +31,8 @@ use std::alloc::{AllocError, Global};
 /// Where a candidate is visible, hidden ones are left out; of several with one id the first stays;
 /// they are in the order of the first of their tag, and by display order within a tag.
 ///
-/// Fails with `NoCompletion` where no word is at the index, or the program's name does; the
-/// command is built all the same. Fails with `Memory`, and the command is then as it was or built.
+/// Fails with `NoCompletion` where no word, or the program's name, is at the index; the command is
+/// built all the same. Fails with `Memory`, and the command is then as it was or built.
 pub fn complete<D: Folder>(
     alloc: Global,
     command: &mut Command,
@@ -43,9 +43,9 @@ pub fn complete<D: Folder>(
     completers: &Completers,
 ) -> Result<Vec<CompletionCandidate>, Error>
     ensures candidates { IfOk result (λ found. Completes (lent_by
-        (λ item. (⟦<dyn ValueCompleter as ValueCompleter>⟧ item.vtable).answers item.value)
+        (λ item. (⟦<dyn ValueCompleter as ValueCompleter>⟧ item.vtable).completes item.value)
         completers.now.completers.items
-        ⟦<FnCompleter as ValueCompleter>⟧.answers completers.now.completer_closures.items
+        ⟦<FnCompleter as ValueCompleter>⟧.completes completers.now.completer_closures.items
         (λ item. (⟦<dyn ValueCandidates as ValueCandidates>⟧ item.vtable).lists item.value)
         completers.now.lists.items
         ⟦<FnCandidates as ValueCandidates>⟧.lists completers.now.list_closures.items
@@ -54,7 +54,7 @@ pub fn complete<D: Folder>(
         (option_copied current_dir.entry)))
         command.new (map string_bytes words.items) index found.items) }
 
-    // Two candidates that are answered never share an id.
+    // Two candidates that are returned never share an id.
     ensures differ { IfOk result (λ found. Differ found.items) }
     ensures built { OnOk result (command.new ≡ built_tree command.old) }
     ensures in_range { OnOk result
@@ -100,9 +100,9 @@ fn complete_in_range<P: PathSource>(
 ) -> Result<Vec<CompletionCandidate>, AllocError>
     requires { is_in_range command.now.node (length words.now) index ≡ true }
     ensures { IfOk result (λ found. Completes (lent_by
-        (λ item. (⟦<dyn ValueCompleter as ValueCompleter>⟧ item.vtable).answers item.value)
+        (λ item. (⟦<dyn ValueCompleter as ValueCompleter>⟧ item.vtable).completes item.value)
         completers.now.completers.items
-        ⟦<FnCompleter as ValueCompleter>⟧.answers completers.now.completer_closures.items
+        ⟦<FnCompleter as ValueCompleter>⟧.completes completers.now.completer_closures.items
         (λ item. (⟦<dyn ValueCandidates as ValueCandidates>⟧ item.vtable).lists item.value)
         completers.now.lists.items
         ⟦<FnCandidates as ValueCandidates>⟧.lists completers.now.list_closures.items

@@ -1,8 +1,8 @@
 //! The candidates for a word of a command line.
 #![tactic(auto)]
 
-mod answering;
 mod asking;
+mod candidates;
 mod completion;
 mod folder_paths;
 mod offer;

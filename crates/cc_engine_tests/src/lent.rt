@@ -16,7 +16,7 @@ use std::alloc::{AllocError, Global};
 struct Auto;
 
 impl ValueCompleter for Auto {
-    ghost answers = { λ _ _ _ _. ⊤ };
+    ghost completes = { λ _ _ _ _. ⊤ };
 
     fn complete_at(
         &self,
@@ -38,7 +38,7 @@ impl ValueCompleter for Auto {
 struct Asked;
 
 impl ValueCompleter for Asked {
-    ghost answers = { λ _ _ _ _. ⊤ };
+    ghost completes = { λ _ _ _ _. ⊤ };
 
     fn complete_at(
         &self,
@@ -70,7 +70,7 @@ impl ValueCandidates for Programs {
 struct OutOfMemory;
 
 impl ValueCompleter for OutOfMemory {
-    ghost answers = { λ _ _ _ _. ⊤ };
+    ghost completes = { λ _ _ _ _. ⊤ };
 
     fn complete_at(
         &self,
@@ -101,8 +101,8 @@ pub(crate) fn two_completers(alloc: Global) -> Result<Completers, AllocError> {
 }
 
 /// What the command offers for the last of the words, with the completers `Auto` and `Asked` and a
-/// closure that completes with the text twice, and with the list `Programs` and a closure that lists
-/// `left` and `right`.
+/// closure that completes with the text twice, and with the list `Programs` and a closure that
+/// lists `left` and `right`.
 pub(crate) fn find_with_lent(
     alloc: Global,
     command: &mut Command,

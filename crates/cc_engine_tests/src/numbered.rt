@@ -1,4 +1,5 @@
-//! Commands whose arguments hold numbers of completers and lists, for which a tree file has no keys.
+//! Commands whose arguments hold numbers of completers and lists, for which a tree file has no
+//! keys.
 
 use cc_arg::{Arg, ValueRange};
 use cc_base::Error;

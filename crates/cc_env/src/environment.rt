@@ -1,4 +1,4 @@
-//! Values of environment variables, handed in.
+//! Values of environment variables, given by the caller.
 
 ghost use Rattle.std.specs.Prelude.{◌≡◌, unwrap_or};
 ghost use Rattle.std.specs.Option.{option_copied};

@@ -12,7 +12,7 @@ use Rattle.cc_quote.specs.FishQuote.FishState.{bare}
 use Rattle.cc_quote.specs.FishTokens.{in_word, commands_from, fish_commands}
 use Rattle.cc_quote.proofs.FishWords.{IsSafe}
 use Rattle.cc_quote.proofs.FishCutting.{Adds, adds_word, adds_flat_map, safe_goes_on, word_ends}
-use Rattle.cc_fish.specs.Script.{slash_text, first_short, first_long, spec_word, spec_text, specs_text, optspecs_begin, optspecs_join, needs_command_begin, needs_command_parse, needs_command_answer, using_subcommand_call, using_subcommand_answer, head_text}
+use Rattle.cc_fish.specs.Script.{slash_text, first_short, first_long, spec_word, spec_text, specs_text, optspecs_begin, optspecs_join, needs_command_begin, needs_command_parse, needs_command_end, using_subcommand_call, using_subcommand_end, head_text}
 use Rattle.cc_fish.specs.Table.{function_name}
 use Rattle.cc_fish.specs.Reader.{records_of, records}
 use Rattle.cc_fish.specs.Records.{Record}
@@ -24,10 +24,10 @@ use Rattle.cc_fish.proofs.RecordsRead.{Yields, yields_none, unchanged}
 
 abbrev head_around : List ℕ → List ℕ → List ℕ
 head_around function specs =
-    optspecs_begin ++ function ++ optspecs_join ++ specs ++ needs_command_begin ++ function ++ needs_command_parse ++ function ++ needs_command_answer ++ function ++ using_subcommand_call ++ function ++ using_subcommand_answer
+    optspecs_begin ++ function ++ optspecs_join ++ specs ++ needs_command_begin ++ function ++ needs_command_parse ++ function ++ needs_command_end ++ function ++ using_subcommand_call ++ function ++ using_subcommand_end
 
 head_then : (function specs rest : List ℕ) → head_around function specs ++ rest
-    ≡ optspecs_begin ++ (function ++ (optspecs_join ++ (specs ++ (needs_command_begin ++ (function ++ (needs_command_parse ++ (function ++ (needs_command_answer ++ (function ++ (using_subcommand_call ++ (function ++ (using_subcommand_answer ++ rest))))))))))))
+    ≡ optspecs_begin ++ (function ++ (optspecs_join ++ (specs ++ (needs_command_begin ++ (function ++ (needs_command_parse ++ (function ++ (needs_command_end ++ (function ++ (using_subcommand_call ++ (function ++ (using_subcommand_end ++ rest))))))))))))
 head_then function specs rest = simp append_assoc
 
 -- what is read in the word after these, which begins so
@@ -59,29 +59,29 @@ needs_command_parsed : (word function text : List ℕ) → IsSafe function → a
 unfolding fish_sign needs_command_parse
 needs_command_parsed word function text h = ap records_of (safe_goes_on function (codes "argparse" ∷ codes "-s" ∷ []) (codes "(__fish_") text h)
 
-needs_command_read : (word function text : List ℕ) → IsSafe function → after_argparse word (needs_command_answer ++ (function ++ text)) ≡ after_function (codes "__fish_" ++ function) text
-unfolding fish_sign needs_command_answer
+needs_command_read : (word function text : List ℕ) → IsSafe function → after_argparse word (needs_command_end ++ (function ++ text)) ≡ after_function (codes "__fish_" ++ function) text
+unfolding fish_sign needs_command_end
 needs_command_read word function text h = ap records_of (safe_goes_on function (codes "function" ∷ []) (codes "__fish_") text h)
 
 using_subcommand_called : (word function text : List ℕ) → IsSafe function → after_function word (using_subcommand_call ++ (function ++ text)) ≡ after_set (codes "(__fish_" ++ function) text
 unfolding fish_sign using_subcommand_call
 using_subcommand_called word function text h = ap records_of (safe_goes_on function (codes "set" ∷ codes "-l" ∷ codes "cmd" ∷ []) (codes "(__fish_") text h)
 
-using_subcommand_read : (word text : List ℕ) → after_set word (using_subcommand_answer ++ text) ≡ records text
-unfolding fish_sign fish_commands using_subcommand_answer
+using_subcommand_read : (word text : List ℕ) → after_set word (using_subcommand_end ++ text) ≡ records text
+unfolding fish_sign fish_commands using_subcommand_end
 using_subcommand_read word text = refl
 
 head_read : (function specs : List ℕ) (words : List (List ℕ)) (rest : List ℕ) → IsSafe function → Adds specs words → records (head_around function specs ++ rest) ≡ records rest
 head_read function specs words rest h adds =
-    let using_subcommand : List ℕ = using_subcommand_call ++ (function ++ (using_subcommand_answer ++ rest)) in
-    let answer : List ℕ = needs_command_answer ++ (function ++ using_subcommand) in
-    let parse : List ℕ = needs_command_parse ++ (function ++ answer) in
+    let using_subcommand : List ℕ = using_subcommand_call ++ (function ++ (using_subcommand_end ++ rest)) in
+    let ending : List ℕ = needs_command_end ++ (function ++ using_subcommand) in
+    let parse : List ℕ = needs_command_parse ++ (function ++ ending) in
     ap records (head_then function specs rest)
     ∙ optspecs_named function (optspecs_join ++ (specs ++ (needs_command_begin ++ (function ++ parse)))) h
     ∙ optspecs_read (codes "__fish_" ++ function) specs words function parse adds h
-    ∙ needs_command_parsed (codes "__fish_" ++ function) function answer h
+    ∙ needs_command_parsed (codes "__fish_" ++ function) function ending h
     ∙ needs_command_read (codes "(__fish_" ++ function) function using_subcommand h
-    ∙ using_subcommand_called (codes "__fish_" ++ function) function (using_subcommand_answer ++ rest) h
+    ∙ using_subcommand_called (codes "__fish_" ++ function) function (using_subcommand_end ++ rest) h
     ∙ using_subcommand_read (codes "(__fish_" ++ function) rest
 
 -- ---- what `argparse` is told of an argument is one word

@@ -194,16 +194,16 @@ unfoldable pub needs_command_parse : List ℕ
 needs_command_parse = codes "_needs_command\n    # Figure out if the current invocation already has a command.\n    set -l cmd (commandline -opc)\n    set -e cmd[1]\n    argparse -s (__fish_"
 
 -- from there up to the program in the name of the function that tells which command was given
-unfoldable pub needs_command_answer : List ℕ
-needs_command_answer = codes "_global_optspecs) -- $cmd 2>/dev/null\n    or return\n    if set -q argv[1]\n        # Also print the command, so this can be used to figure out what it is.\n        echo $argv[1]\n        return 1\n    end\n    return 0\nend\n\nfunction __fish_"
+unfoldable pub needs_command_end : List ℕ
+needs_command_end = codes "_global_optspecs) -- $cmd 2>/dev/null\n    or return\n    if set -q argv[1]\n        # Also print the command, so this can be used to figure out what it is.\n        echo $argv[1]\n        return 1\n    end\n    return 0\nend\n\nfunction __fish_"
 
 -- from there up to the program in its call of the second function
 unfoldable pub using_subcommand_call : List ℕ
 using_subcommand_call = codes "_using_subcommand\n    set -l cmd (__fish_"
 
 -- from there on
-unfoldable pub using_subcommand_answer : List ℕ
-using_subcommand_answer =
+unfoldable pub using_subcommand_end : List ℕ
+using_subcommand_end =
     codes "_needs_command)\n    test -z \"$cmd\"\n    and return 1\n    contains -- $cmd[1] $argv\nend\n\n"
 
 -- what `argparse` is told of the arguments that are no positionals
@@ -216,9 +216,9 @@ unfoldable pub head_text : List ℕ → Tree → List ℕ
 head_text function root =
     if has_nodes root.children then
     optspecs_begin ++ function ++ optspecs_join ++ specs_text root.node.arguments
-    ++ needs_command_begin ++ function ++ needs_command_parse ++ function ++ needs_command_answer
+    ++ needs_command_begin ++ function ++ needs_command_parse ++ function ++ needs_command_end
     ++ function
-    ++ using_subcommand_call ++ function ++ using_subcommand_answer
+    ++ using_subcommand_call ++ function ++ using_subcommand_end
     else []
 
 -- ---- the whole

@@ -19,7 +19,7 @@ use cc_generator::Generator;
 use cc_visits::{PathStep, PathSteps};
 use std::alloc::Global;
 
-/// Writes fish scripts.
+/// Writes fish scripts. The file of a program `N` is `N.fish`.
 #[derive(Clone, Copy, PartialEq, Eq, Debug)]
 pub struct Fish;
 
@@ -35,9 +35,7 @@ impl Generator for Fish {
     ghost file = { λ _ name. name ++ codes ".fish" };
 
     fn file_name(&self, alloc: Global, name: &str) -> Result<String, Error> {
-        let mut text = String::from_str(alloc, name)?;
-        text.push_str(".fish")?;
-        Ok(text)
+        Ok([name, ".fish"].concat(alloc)?)
     }
 
     fn generate<W: Sink>(

@@ -13,8 +13,8 @@ ghost use Rattle.cc_fish.specs.Script.{
 };
 
 use crate::texts::{
-    needs_command_answer, needs_command_begin, needs_command_parse, optspecs_begin, optspecs_join,
-    using_subcommand_answer, using_subcommand_call,
+    needs_command_begin, needs_command_end, needs_command_parse, optspecs_begin, optspecs_join,
+    using_subcommand_call, using_subcommand_end,
 };
 use cc_arg::Arg;
 use cc_base::{Sink, put_around, put_piece};
@@ -37,11 +37,11 @@ pub(crate) fn write_head<W: Sink>(
     put_around(optspecs_begin(), function, optspecs_join(), sink)?;
     write_specs(command.get_arguments(), sink)?;
     put_around(needs_command_begin(), function, needs_command_parse(), sink)?;
-    put_around(function, needs_command_answer(), function, sink)?;
+    put_around(function, needs_command_end(), function, sink)?;
     put_around(
         using_subcommand_call(),
         function,
-        using_subcommand_answer(),
+        using_subcommand_end(),
         sink,
     )
 }

@@ -36,7 +36,7 @@ ghost use Rattle.cc_fish.specs.Table.{has_positionals};
 use crate::front::front;
 use crate::values::write_values;
 use cc_arg::{Arg, shown_longs, shown_shorts};
-use cc_base::{Error, Sink, as_error, put_all, put_around, put_piece, put_pieces};
+use cc_base::{Error, Sink, as_error, put_around, put_piece, put_pieces};
 use cc_command::{Arguments, Command};
 use cc_quote::{FishEscape, put_escaped_piece};
 use cc_visits::Visit;
@@ -55,17 +55,18 @@ pub(crate) fn write_visit<W: Sink>(
         (visit_text bin_name.now function.now (visit_of visit.now)) }
 {
     let front = front(alloc, bin_name, function, visit.key.as_str(), visit.command)?;
-    write_node(front.as_str(), visit.command, sink)
+    as_error(write_node(front.as_str(), visit.command, sink))
 }
 
 // Each record begins with the front.
 #[tactic(auto, unfolding(crate::specs::Script::node_text, crate::specs::Script::options_text, crate::specs::Script::flags_text))]
-fn write_node<W: Sink>(front: &str, command: &Command, sink: &mut W) -> Result<(), Error>
-    ensures { Writes W.taken W.failed result sink.old sink.new (node_text front.now command.now) }
+fn write_node<W: Sink>(front: &str, command: &Command, sink: &mut W) -> Result<(), ErrorKind>
+    ensures { Writes W.taken W.failed (as_write result) sink.old sink.new
+        (node_text front.now command.now) }
 {
     write_arguments(front, true, command.get_opts(), sink)?;
     write_arguments(front, false, command.get_flags(), sink)?;
-    as_error(write_below(front, command, sink))
+    write_below(front, command, sink)
 }
 
 // Options take values, flags take none.
@@ -74,8 +75,8 @@ fn write_arguments<W: Sink>(
     takes: bool,
     arguments: Arguments<'_>,
     sink: &mut W,
-) -> Result<(), Error>
-    ensures { Writes W.taken W.failed result sink.old sink.new
+) -> Result<(), ErrorKind>
+    ensures { Writes W.taken W.failed (as_write result) sink.old sink.new
         (flat_map (argument_text front.now takes) (arguments_left arguments.entry)) }
 {
     for argument in arguments {
@@ -90,14 +91,14 @@ fn write_argument<W: Sink>(
     takes: bool,
     argument: &Arg,
     sink: &mut W,
-) -> Result<(), Error>
-    ensures { Writes W.taken W.failed result sink.old sink.new
+) -> Result<(), ErrorKind>
+    ensures { Writes W.taken W.failed (as_write result) sink.old sink.new
         (argument_text front.now takes argument.now) }
 {
-    put_all(sink, front.as_bytes())?;
-    as_error(write_names(argument, sink))?;
+    put_piece(sink, front.as_bytes())?;
+    write_names(argument, sink)?;
     write_values(takes, argument, sink)?;
-    put_all(sink, "\n".as_bytes())
+    put_piece(sink, "\n".as_bytes())
 }
 
 #[tactic(auto, unfolding(crate::specs::Script::names_text))]

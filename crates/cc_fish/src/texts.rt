@@ -6,9 +6,9 @@ ghost use Rattle.cc_fish.specs.Script.{
   optspecs_join,
   needs_command_begin,
   needs_command_parse,
-  needs_command_answer,
+  needs_command_end,
   using_subcommand_call,
-  using_subcommand_answer,
+  using_subcommand_end,
   list_begin,
   not_seen,
 };
@@ -50,9 +50,9 @@ pub(crate) fn needs_command_parse() -> &'static str
     argparse -s (__fish_"
 }
 
-#[tactic(auto, unfolding(crate::specs::Script::needs_command_answer))]
-pub(crate) fn needs_command_answer() -> &'static str
-    ensures { result.now ≡ needs_command_answer }
+#[tactic(auto, unfolding(crate::specs::Script::needs_command_end))]
+pub(crate) fn needs_command_end() -> &'static str
+    ensures { result.now ≡ needs_command_end }
 {
     "_global_optspecs) -- $cmd 2>/dev/null
     or return
@@ -75,9 +75,9 @@ pub(crate) fn using_subcommand_call() -> &'static str
     set -l cmd (__fish_"
 }
 
-#[tactic(auto, unfolding(crate::specs::Script::using_subcommand_answer))]
-pub(crate) fn using_subcommand_answer() -> &'static str
-    ensures { result.now ≡ using_subcommand_answer }
+#[tactic(auto, unfolding(crate::specs::Script::using_subcommand_end))]
+pub(crate) fn using_subcommand_end() -> &'static str
+    ensures { result.now ≡ using_subcommand_end }
 {
     "_needs_command)
     test -z \"$cmd\"

@@ -4,7 +4,7 @@ ghost use Rattle.std.specs.Prelude.{◌≡◌, ◌++◌, ◌∷◌, [], not, tru
 ghost use Rattle.std.specs.Option.{option_copied};
 ghost use Rattle.cc_base.specs.Bytes.{line_feed};
 ghost use Rattle.cc_base.specs.Joined.{separator};
-ghost use Rattle.cc_base.specs.Writes.{Writes};
+ghost use Rattle.cc_base.specs.Writes.{Writes, as_write};
 ghost use Rattle.cc_fish.specs.Script.{
   hint_text,
   listed_text,
@@ -15,36 +15,43 @@ ghost use Rattle.cc_fish.specs.Script.{
 
 use crate::texts::list_begin;
 use cc_arg::{Arg, PossibleValue, ValueHint, possible_values};
-use cc_base::{Error, Sink, put_all, put_separator};
+use cc_base::{Sink, put_piece, put_separator};
 use cc_quote::{put_fish_help_for_eval, put_fish_quoted_for_eval};
+use std::io::ErrorKind;
 
 /// Nothing, where the argument takes no values.
 #[tactic(auto, unfolding(crate::specs::Script::values_text))]
-pub(crate) fn write_values<W: Sink>(takes: bool, argument: &Arg, sink: &mut W) -> Result<(), Error>
-    ensures { Writes W.taken W.failed result sink.old sink.new (values_text takes argument.now) }
+pub(crate) fn write_values<W: Sink>(
+    takes: bool,
+    argument: &Arg,
+    sink: &mut W,
+) -> Result<(), ErrorKind>
+    ensures { Writes W.taken W.failed (as_write result) sink.old sink.new
+        (values_text takes argument.now) }
 {
     if !takes {
         return Ok(());
     }
     match possible_values(argument) {
         Some(values) => write_listed(values, sink),
-        None => put_all(sink, hint_marks(argument.get_value_hint()).as_bytes()),
+        None => put_piece(sink, hint_marks(argument.get_value_hint()).as_bytes()),
     }
 }
 
 #[tactic(auto, unfolding(crate::specs::Script::listed_text))]
-fn write_listed<W: Sink>(values: &[PossibleValue], sink: &mut W) -> Result<(), Error>
-    ensures { Writes W.taken W.failed result sink.old sink.new
+fn write_listed<W: Sink>(values: &[PossibleValue], sink: &mut W) -> Result<(), ErrorKind>
+    ensures { Writes W.taken W.failed (as_write result) sink.old sink.new
         (listed_text values.now) }
 {
-    put_all(sink, list_begin().as_bytes())?;
+    put_piece(sink, list_begin().as_bytes())?;
     write_lines(values, sink)?;
-    put_all(sink, "\"".as_bytes())
+    put_piece(sink, "\"".as_bytes())
 }
 
 #[tactic(auto, unfolding(crate::specs::Script::value_lines))]
-fn write_lines<W: Sink>(values: &[PossibleValue], sink: &mut W) -> Result<(), Error>
-    ensures { Writes W.taken W.failed result sink.old sink.new (value_lines values.now) }
+fn write_lines<W: Sink>(values: &[PossibleValue], sink: &mut W) -> Result<(), ErrorKind>
+    ensures { Writes W.taken W.failed (as_write result) sink.old sink.new
+        (value_lines values.now) }
 {
     let mut begun = false;
     for value in values {
@@ -63,14 +70,18 @@ fn is_shown(value: &PossibleValue) -> bool
 }
 
 #[tactic(auto, unfolding(crate::specs::Script::value_text))]
-fn write_value<W: Sink>(begun: &mut bool, value: &PossibleValue, sink: &mut W) -> Result<(), Error>
-    ensures written { Writes W.taken W.failed result sink.old sink.new
+fn write_value<W: Sink>(
+    begun: &mut bool,
+    value: &PossibleValue,
+    sink: &mut W,
+) -> Result<(), ErrorKind>
+    ensures written { Writes W.taken W.failed (as_write result) sink.old sink.new
         (separator (line_feed ∷ []) begun.old ++ value_text value.now) }
     ensures begun { OnOk result (begun.new ≡ true) }
 {
     put_separator("\n", begun, sink)?;
     put_fish_quoted_for_eval(value.get_name(), sink)?;
-    put_all(sink, "\\t".as_bytes())?;
+    put_piece(sink, "\\t".as_bytes())?;
     put_fish_help_for_eval(value.get_help().unwrap_or(""), sink)
 }
 

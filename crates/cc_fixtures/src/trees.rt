@@ -63,7 +63,7 @@ pub const FILE: &str = r#"{"name": "app", "disable_help_flag": true, "args": [
 pub const ANY: &str = r#"{"name": "app", "disable_help_flag": true, "args": [
     {"id": "path", "value_hint": "AnyPath"}]}"#;
 
-/// The command of a tree file that describes one.
+/// The command of a tree file that describes one. Fails with `Memory`, whatever failed.
 pub fn read(alloc: Global, text: &str) -> Result<Command, Error> {
     match read_tree(alloc, text.as_bytes()) {
         Ok(command) => Ok(command),
@@ -77,7 +77,7 @@ const LAST: &str = r#"{"name": "n199", "disable_help_flag": true,
         {"id": "end", "long": "end", "action": "SetTrue"}]}"#;
 
 /// The chain `app`, `n1` to `n199`, each the only child of the one before, and the last with a flag
-/// `--end`; nothing is generated. A tree file nests less deep.
+/// `--end`; nothing is generated. A tree file nests less deep. Fails with `Memory`.
 pub fn chain(alloc: Global) -> Result<Command, Error> {
     let mut chain = read(alloc, LAST);
     for number in (1..199).rev() {

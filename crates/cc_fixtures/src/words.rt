@@ -5,7 +5,7 @@ ghost use Rattle.std.specs.Prelude.{◌≡◌, IfOk, map, string_bytes};
 use std::alloc::{AllocError, Global};
 use std::fmt::Debug;
 
-/// Copies of the words.
+/// Copies of the words. Fails where memory runs out.
 pub fn to_strings(alloc: Global, words: &[&str]) -> Result<Vec<String>, AllocError>
     ensures { IfOk result (λ copies.
         map string_bytes copies.items ≡ map (λ word. word.now) words.now) }
@@ -31,7 +31,7 @@ pub fn word(read: Option<(String, &str)>) -> Option<String> {
     Some(word)
 }
 
-/// What `Debug` shows of a value.
+/// What `Debug` shows of a value. Fails where memory runs out.
 pub fn debug_text<T: Debug + Drop>(alloc: Global, value: T) -> Result<String, AllocError> {
     format!(in alloc; "{value:?}")
 }

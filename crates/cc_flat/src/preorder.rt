@@ -25,7 +25,7 @@ pub(crate) struct Position {
 }
 
 /// The nodes below the root that are still to come: a node, then all below each of its children in
-/// turn. The walk goes by numbers alone, takes no memory and stays at its end.
+/// turn. The walk goes by numbers alone, allocates nothing and stays at its end.
 #[derive(Drop)]
 pub struct Preorder<'f, 'a> {
     flat: &'f Flat<'a>,

@@ -6,7 +6,7 @@ use Rattle.cc_candidates.specs.declared.candidate.CompletionCandidate.{Completio
 use Rattle.cc_candidates.specs.Candidate.{new_candidate}
 use Rattle.cc_base.specs.Sorting.{insert, in_order}
 use Rattle.std.specs.Str.{chars}
-use Rattle.cc_gather.specs.Finished.{finish, group, shown}
+use Rattle.cc_gather.specs.Finished.{finish, group, shown_or_all}
 use Rattle.cc_gather.specs.Numbers.{is_number}
 use Rattle.cc_gather.specs.Rows.{Row, Listed, ValuesOf, row_of}
 use Rattle.cc_gather.specs.Options.{longs, shorts}
@@ -28,11 +28,11 @@ help = candidate (codes "--help") (codes "arg::help") (codes "Options") 999
 
 -- after an open option that shares an id with what follows: twice finished, and once
 twice : map (λ c. c.value) (finish (auto ∷ finish (col ∷ port ∷ help ∷ []))) ≡ codes "auto" ∷ codes "--help" ∷ codes "--port" ∷ []
-unfolding finish group shown in_order insert candidate auto col port help
+unfolding finish group shown_or_all in_order insert candidate auto col port help
 twice = refl
 
 once : map (λ c. c.value) (finish (auto ∷ col ∷ port ∷ help ∷ [])) ≡ codes "auto" ∷ codes "--port" ∷ codes "--help" ∷ []
-unfolding finish group shown in_order insert candidate auto col port help
+unfolding finish group shown_or_all in_order insert candidate auto col port help
 once = refl
 
 color : Arg

@@ -147,7 +147,7 @@ module _ {X : Type 0} (lt : X → X → Bool) (o : IsStrictWeakOrder lt) where
   pub in_order-again : (xs : List X) → in_order lt (in_order lt xs) ≡ in_order lt xs
   in_order-again xs = up_stays (in_order lt xs) (up-in_order xs)
 
--- two tests that answer alike on the members give one order
+-- two tests that finished alike on the members give one order
 module _ {X : Type 0} (P : X → Type 0) (lt by : X → X → Bool) (alike : (x y : X) → P x → P y → lt x y ≡ by x y) where
   pub insert-members : (x : X) (ys : List X) → P x → AllByRecursion P ys → AllByRecursion P (insert lt x ys)
   unfolding insert

@@ -11,7 +11,7 @@ use Rattle.cc_base.specs.Sorting.{in_order}
 use Rattle.cc_base.proofs.Members.{AllByRecursion-IsIn, AllByRecursion-from_IsIn}
 use Rattle.cc_base.proofs.Sorted.{AllByRecursion-in_order, in_order-IsIn}
 use Rattle.cc_candidates.specs.declared.candidate.CompletionCandidate.{CompletionCandidate}
-use Rattle.cc_gather.specs.Finished.{is_shown, shown, share, has_tag, rank_of, first_of_ids, comes_before, group, finish, SharesNone, ShareNone, Differ, AreShown}
+use Rattle.cc_gather.specs.Finished.{is_shown, shown_or_all, share, has_tag, rank_of, first_of_ids, comes_before, group, finish, SharesNone, ShareNone, Differ, AreShown}
 use Rattle.cc_gather.proofs.InOrder.{up-in_order, apart, in_order-alike, filter-in_order, sorted_after}
 use Rattle.cc_gather.proofs.Ranks.{Tag, Has, tag_itself, rank_front, rank_back, rank_below, rank_tag, ranks_rise, below, cmp_less, cmp_equal, cmp_greater}
 use Rattle.cc_gather.proofs.FirstOfIds.{first_of_ids-append, first_of_ids-differ, first_of_ids-stays, differ-in_order, all_kept, all-first_of_ids}
@@ -166,12 +166,12 @@ module _ (a v : Candidates) where
 
 -- VISIBLE ONES
 
-shown_true : (cs : Candidates) → list_any is_shown cs ≡ true → shown cs ≡ filter is_shown cs
-unfolding shown
+shown_true : (cs : Candidates) → list_any is_shown cs ≡ true → shown_or_all cs ≡ filter is_shown cs
+unfolding shown_or_all
 shown_true cs e = rw e refl
 
-shown_false : (cs : Candidates) → list_any is_shown cs ≡ false → shown cs ≡ cs
-unfolding shown
+shown_false : (cs : Candidates) → list_any is_shown cs ≡ false → shown_or_all cs ≡ cs
+unfolding shown_or_all
 shown_false cs e = rw e refl
 
 kept : {X : Type 0} (p : X → Bool) (xs : List X) → AllByRecursion (λ x. p x ≡ true) xs → filter p xs ≡ xs
@@ -205,16 +205,16 @@ any_filter (c ∷ cs) e = by (is_shown c) refl e (any_filter cs)
     by false f e more = more e
 
 -- what is finished of a list with a visible one
-pub all-shown : (P : CompletionCandidate → Type 0) (cs : Candidates) → AllByRecursion P cs → AllByRecursion P (shown cs)
+pub all-shown : (P : CompletionCandidate → Type 0) (cs : Candidates) → AllByRecursion P cs → AllByRecursion P (shown_or_all cs)
 all-shown P cs h = elim (cases_Bool (list_any is_shown cs)) [
   | inl t ↦ subst (AllByRecursion P) (sym (shown_true cs t)) (all_kept P is_shown cs h)
   | inr f ↦ subst (AllByRecursion P) (sym (shown_false cs f)) h
 ]
 
-all-finish : (P : CompletionCandidate → Type 0) (cs : Candidates) → AllByRecursion P (shown cs) → AllByRecursion P (finish cs)
+all-finish : (P : CompletionCandidate → Type 0) (cs : Candidates) → AllByRecursion P (shown_or_all cs) → AllByRecursion P (finish cs)
 unfolding finish group
 all-finish P cs h =
-    AllByRecursion-in_order (comes_before (first_of_ids (shown cs))) P (first_of_ids (shown cs)) (all-first_of_ids P (shown cs) h)
+    AllByRecursion-in_order (comes_before (first_of_ids (shown_or_all cs))) P (first_of_ids (shown_or_all cs)) (all-first_of_ids P (shown_or_all cs) h)
 
 -- WHERE A VISIBLE CANDIDATE WAS GATHERED NO HIDDEN ONE IS IN THE ANSWER
 pub visible : (cs : Candidates) → list_any is_shown cs ≡ true → AreShown (finish cs)
@@ -223,7 +223,7 @@ visible cs e = all-finish (λ c. is_shown c ≡ true) cs (subst AreShown (sym (s
 -- TWO CANDIDATES OF AN ANSWER NEVER SHARE AN ID
 pub differ : (cs : Candidates) → Differ (finish cs)
 unfolding finish group
-differ cs = differ-in_order (comes_before (first_of_ids (shown cs))) (first_of_ids (shown cs)) (first_of_ids-differ (shown cs))
+differ cs = differ-in_order (comes_before (first_of_ids (shown_or_all cs))) (first_of_ids (shown_or_all cs)) (first_of_ids-differ (shown_or_all cs))
 
 -- THE LAW
 
@@ -248,15 +248,15 @@ module _ (a b : Candidates) (apart : ShareNone a b) where
   stays : first_of_ids (finish b) ≡ finish b
   stays = first_of_ids-stays (finish b) (differ b)
 
-  from : (f : Candidates) → first_of_ids (shown (a ++ finish b)) ≡ f ++ finish b → first_of_ids (shown (a ++ b)) ≡ f ++ first_of_ids (shown b) →
+  from : (f : Candidates) → first_of_ids (shown_or_all (a ++ finish b)) ≡ f ++ finish b → first_of_ids (shown_or_all (a ++ b)) ≡ f ++ first_of_ids (shown_or_all b) →
       finish (a ++ finish b) ≡ finish (a ++ b)
   unfolding finish
-  from f twice once = ap group twice ∙ grouped_twice f (first_of_ids (shown b)) ∙ ap group (sym once)
+  from f twice once = ap group twice ∙ grouped_twice f (first_of_ids (shown_or_all b)) ∙ ap group (sym once)
 
   some_visible : list_any is_shown b ≡ true → list_any is_shown (finish b) ≡ true
   unfolding finish group
-  some_visible e = any-in_order is_shown (comes_before (first_of_ids (shown b))) (first_of_ids (shown b))
-      (first_shown (shown b) (subst AreShown (sym (shown_true b e)) (passing is_shown b))
+  some_visible e = any-in_order is_shown (comes_before (first_of_ids (shown_or_all b))) (first_of_ids (shown_or_all b))
+      (first_shown (shown_or_all b) (subst AreShown (sym (shown_true b e)) (passing is_shown b))
       (ap (list_any is_shown) (shown_true b e) ∙ any_filter b e))
 
   -- b has a visible one

@@ -1,4 +1,4 @@
--- What is answered of the candidates that were gathered.
+-- What is returned of the candidates that were gathered.
 use Rattle.std.specs.Prelude.{◌≡◌, ℕ, suc, List, [], ◌∷◌, Bool, true, false, not, Option, Some, None, filter, bytes_eq, if◌then◌else◌}
 use Rattle.std.specs.List.{list_any, AllByRecursion}
 use Rattle.std.specs.Option.{option_eq, option_cmp}
@@ -11,8 +11,8 @@ abbrev pub is_shown : CompletionCandidate → Bool
 is_shown c = not c.hidden
 
 -- the visible ones, or all where none is
-unfoldable pub shown : List CompletionCandidate → List CompletionCandidate
-shown cs = if list_any is_shown cs then filter is_shown cs else cs
+unfoldable pub shown_or_all : List CompletionCandidate → List CompletionCandidate
+shown_or_all cs = if list_any is_shown cs then filter is_shown cs else cs
 
 -- both are there and the same
 abbrev pub share : Option (List ℕ) → Option (List ℕ) → Bool
@@ -48,7 +48,7 @@ group cs = in_order (comes_before cs) cs
 
 -- the visible ones if any is, of each id the first, grouped
 unfoldable pub finish : List CompletionCandidate → List CompletionCandidate
-finish cs = group (first_of_ids (shown cs))
+finish cs = group (first_of_ids (shown_or_all cs))
 
 -- the candidate shares its id with none of these
 abbrev pub SharesNone : CompletionCandidate → List CompletionCandidate → Type 0

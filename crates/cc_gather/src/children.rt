@@ -16,7 +16,7 @@ use std::alloc::{AllocError, Global};
 
 /// The candidates that are children: names, visible and hidden aliases, and where the command takes
 /// names of other programs those of a lent list; those that begin with the word, in the order of
-/// candidates, equal ones once.
+/// candidates, equal ones once. Fails where memory runs out.
 #[tactic(auto, unfolding(crate::specs::Children::subcommand_candidates))]
 pub fn subcommand_candidates(
     alloc: Global,
@@ -24,7 +24,7 @@ pub fn subcommand_candidates(
     lent: Vec<CompletionCandidate>,
     word: &str,
 ) -> Result<Vec<CompletionCandidate>, AllocError>
-    ensures { IfOk result (λ answer. answer.items
+    ensures { IfOk result (λ finished. finished.items
         ≡ subcommand_candidates command.now lent.items word.now) }
 {
     let mut found = children_beginning(alloc, command, word)?;

@@ -8,7 +8,7 @@ ghost use Rattle.std.specs.Option.{option_copied, option_eq, option_or, unwrap_o
 ghost use Rattle.std.specs.Ordering.{as_partial_cmp, eq_by_cmp};
 ghost use Rattle.std.specs.Str.{bytes_eq};
 ghost use Rattle.cc_candidates.specs.Candidate.{texts_cmp};
-ghost use Rattle.cc_gather.specs.Finished.{finish, first_of_ids, group, is_shown, rank_of, shown, share, AreShown, Differ, ShareNone};
+ghost use Rattle.cc_gather.specs.Finished.{finish, first_of_ids, group, is_shown, rank_of, shown_or_all, share, AreShown, Differ, ShareNone};
 ghost use Rattle.cc_gather.specs.Ranked.{with_ranks, ranked_cmp, ranked_cmp_total};
 ghost use Rattle.cc_gather.specs.Seen.{ascend_from, is_seen, select};
 
@@ -18,24 +18,24 @@ use std::alloc::{AllocError, Global};
 use std::cmp::Ordering;
 use std::collections::{BTreeMap, BTreeSet};
 
-/// The list as it is returned: hidden candidates go where one is visible; the first of each id
-/// stays; then by the rank of the tag's first member and the display order. To have no tag counts
-/// as a tag.
+/// The list as it is returned: hidden candidates are left out where one is visible; the first of
+/// each id stays; then by the rank of the tag's first member and the display order. To have no tag
+/// counts as a tag. Fails where memory runs out.
 pub fn finish(
     alloc: Global,
     candidates: Vec<CompletionCandidate>,
 ) -> Result<Vec<CompletionCandidate>, AllocError>
-    ensures value { IfOk result (λ answer. answer.items ≡ finish candidates.items) }
+    ensures value { IfOk result (λ finished. finished.items ≡ finish candidates.items) }
 
     // Where a visible candidate was gathered, no hidden one is returned.
     ensures visible { IfOk result
-        (λ answer. list_any is_shown candidates.items ≡ true → AreShown answer.items) }
+        (λ finished. list_any is_shown candidates.items ≡ true → AreShown finished.items) }
 
     // Two candidates that are returned never share an id.
-    ensures differ { IfOk result (λ answer. Differ answer.items) }
+    ensures differ { IfOk result (λ finished. Differ finished.items) }
 {
-    let answer = group_first_of_ids(alloc, candidates)?;
-    Ok(answer)
+    let finished = group_first_of_ids(alloc, candidates)?;
+    Ok(finished)
 }
 
 #[tactic(auto, unfolding(crate::specs::Finished::finish))]
@@ -43,36 +43,37 @@ fn group_first_of_ids(
     alloc: Global,
     candidates: Vec<CompletionCandidate>,
 ) -> Result<Vec<CompletionCandidate>, AllocError>
-    ensures { IfOk result (λ answer. answer.items ≡ finish candidates.items) }
+    ensures { IfOk result (λ finished. finished.items ≡ finish candidates.items) }
 {
-    let candidates = first_of_ids(alloc, shown(candidates))?;
+    let candidates = first_of_ids(alloc, shown_or_all(candidates))?;
     group(alloc, candidates)
 }
 
-/// The finished list of some candidates and, after them, the finished list of others.
+/// The finished list of some candidates and, after them, the finished list of others. Fails where
+/// memory runs out.
 pub fn finish_after(
     alloc: Global,
     first: Vec<CompletionCandidate>,
     rest: Vec<CompletionCandidate>,
 ) -> Result<Vec<CompletionCandidate>, AllocError>
     ensures value { IfOk result
-        (λ answer. answer.items ≡ finish (first.items ++ finish rest.items)) }
+        (λ finished. finished.items ≡ finish (first.items ++ finish rest.items)) }
 
     // Where the two share no id, that is one finishing of the whole.
-    ensures once { IfOk result (λ answer. ShareNone first.items rest.items →
-        answer.items ≡ finish (first.items ++ rest.items)) }
+    ensures once { IfOk result (λ finished. ShareNone first.items rest.items →
+        finished.items ≡ finish (first.items ++ rest.items)) }
 {
     let mut all = first;
     let mut rest = finish(alloc, rest)?;
     all.append(&mut rest)?;
-    let answer = finish(alloc, all)?;
-    Ok(answer)
+    let finished = finish(alloc, all)?;
+    Ok(finished)
 }
 
 // The visible ones, or all where none is.
-#[tactic(auto, unfolding(crate::specs::Finished::shown))]
-fn shown(candidates: Vec<CompletionCandidate>) -> Vec<CompletionCandidate>
-    ensures { result.items ≡ shown candidates.items }
+#[tactic(auto, unfolding(crate::specs::Finished::shown_or_all))]
+fn shown_or_all(candidates: Vec<CompletionCandidate>) -> Vec<CompletionCandidate>
+    ensures { result.items ≡ shown_or_all candidates.items }
 {
     if has_shown(candidates.as_slice()) {
         return only_shown(candidates);
@@ -235,13 +236,13 @@ fn group(
     alloc: Global,
     candidates: Vec<CompletionCandidate>,
 ) -> Result<Vec<CompletionCandidate>, AllocError>
-    ensures { IfOk result (λ answer. answer.items ≡ group candidates.items) }
+    ensures { IfOk result (λ finished. finished.items ≡ group candidates.items) }
 {
     let ranks = ranks(alloc, candidates.as_slice())?;
     let mut all = with_ranks(alloc, candidates, ranks)?;
     all.sort()?;
-    let answer = candidates_of(alloc, all)?;
-    Ok(answer)
+    let finished = candidates_of(alloc, all)?;
+    Ok(finished)
 }
 
 // For each candidate the rank of its tag's first member.
@@ -303,7 +304,7 @@ fn with_ranks(
 }
 
 fn candidates_of(alloc: Global, all: Vec<Ranked>) -> Result<Vec<CompletionCandidate>, AllocError>
-    ensures { IfOk result (λ answer. answer.items ≡ map (λ one. one.candidate) all.items) }
+    ensures { IfOk result (λ finished. finished.items ≡ map (λ one. one.candidate) all.items) }
 {
     let mut candidates = Vec::with_capacity(alloc, all.len())?;
     for one in all {

@@ -20,21 +20,21 @@ pub fn is_null(value: &Value<'_>) -> bool
     value.is_null()
 }
 
-/// A text.
+/// The text that the value is; `None` where it is none.
 pub fn text<'t>(value: &Value<'t>) -> Option<&'t str>
     ensures { option_map (λ text. text.now) result ≡ as_str (view value.now) }
 {
     value.as_str()
 }
 
-/// `true` or `false`.
+/// The `true` or `false` that the value is; `None` where it is neither.
 pub fn boolean(value: &Value<'_>) -> Option<bool>
     ensures { result ≡ as_bool (view value.now) }
 {
     value.as_bool()
 }
 
-/// A whole number that fits 64 bits.
+/// The whole number of at most 64 bits that the value is; `None` where it is none.
 #[tactic(auto, using(crate::proofs::Found::whole_seen))]
 pub fn whole_number(value: &Value<'_>) -> Option<u64>
     ensures { result ≡ option_and_then as_u64 (as_number (view value.now)) }
@@ -42,7 +42,7 @@ pub fn whole_number(value: &Value<'_>) -> Option<u64>
     whole(value.as_number()?)
 }
 
-/// The items of a list.
+/// The items of the list that the value is; `None` where it is none.
 pub fn items<'v, 't>(value: &'v Value<'t>) -> Option<&'v Vec<Value<'t>>>
     ensures { option_map (λ items. items_view items.now.items) result
         ≡ as_array (view value.now) }
@@ -53,7 +53,8 @@ pub fn items<'v, 't>(value: &'v Value<'t>) -> Option<&'v Vec<Value<'t>>>
     }
 }
 
-/// The value at a key of an object.
+/// The value at a key of an object, the last one of several. `None` where it has no such key, or the
+/// value is no object.
 pub fn member<'v, 't>(value: &'v Value<'t>, key: &str) -> Option<&'v Value<'t>>
     ensures { option_map (λ found. view found.now) result ≡ get key.now (view value.now) }
 {

@@ -9,7 +9,7 @@ use std::alloc::Global;
 /// Why no value was read.
 #[derive(Debug, Drop)]
 pub enum JsonError {
-    /// The text is no JSON.
+    /// The text is no JSON, is nested too deep, or has a number out of range.
     NotJson,
     /// Out of memory.
     Memory,
@@ -17,7 +17,8 @@ pub enum JsonError {
 
 const MAX_DEPTH: usize = 127;
 
-/// Returns the value that a text spells. Fails with `NotJson` where it spells none.
+/// Returns the value that a text spells. Fails with `NotJson` where it spells none, and with
+/// `Memory`.
 pub fn read_value<'t>(
     alloc: Global,
     text: &'t str,

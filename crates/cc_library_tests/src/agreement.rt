@@ -27,7 +27,7 @@ const CALLED: &str = r#"{"name": "app", "aliases": ["a"], "disable_help_flag": t
                     "aliases": ["j"],
                     "args": [{"id": "deep", "long": "deep", "action": "SetTrue"}]}]}]}"#;
 
-// Fails unless the call answers so for these words and the command of a tree file.
+// Fails unless the call returns this for these words and the command of a tree file.
 fn has_none<R: Abort + AllocGlobal>(rt: &R, text: &str, words: &[&str], wanted: bool) {
     let words = to_strings(rt.alloc(), words).expect(rt, "no words");
     let command = tree(rt, text);
@@ -187,8 +187,8 @@ fn a_shared_label_fails_before_the_index_is_looked_at(rt: HostRuntime) {
     same(&rt, written, 0);
 }
 
-// How the call for an empty word ends over a writer that takes `room` bytes of this kind: whether it
-// succeeds, the kind of the write that failed, and the state of the writer.
+// How the call for an empty word ends over a writer that takes `room` bytes of this kind: whether
+// it succeeds, the kind of the write that failed, and the state of the writer.
 fn end_of(
     alloc: Global,
     command: &mut Command,

@@ -21,7 +21,7 @@ pub(crate) fn has<E: Debug + Drop>(rt: &impl Abort, text: Result<String, E>, par
     assert!(rt; text.as_str().contains(part), "{part:?} is not in {text}");
 }
 
-/// Fails unless the call ended and its answer is yes.
-pub(crate) fn holds<E: Debug + Drop>(rt: &impl Abort, answer: Result<bool, E>) {
-    assert!(rt; answer.expect(rt, "no answer"));
+/// Fails unless the call returned `Ok(true)`.
+pub(crate) fn holds<E: Debug + Drop>(rt: &impl Abort, call: Result<bool, E>) {
+    assert!(rt; call.expect(rt, "the call failed"));
 }

@@ -1,5 +1,5 @@
-//! Small trees, as tree files. What holds a command ends with a call of `drop`: to prove a drop that
-//! no call is takes seconds in each function.
+//! Small trees, as tree files. What holds a command ends with a call of `drop`: to prove a drop
+//! that no call is takes seconds in each function.
 
 use cc_fixtures::trees::read;
 use clap_complete::command::Command;

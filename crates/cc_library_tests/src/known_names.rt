@@ -2,6 +2,7 @@
 
 use crate::checks::is;
 use cc_caller::tools;
+use cc_fixtures::words::to_strings;
 use clap_complete::Error;
 use clap_complete::engine::MemoryFolder;
 use std::alloc::Global;
@@ -9,10 +10,7 @@ use std::alloc::Global;
 // The values that are offered for the word where a program knows these names, each with a space
 // after it.
 fn candidates_for(alloc: Global, known: &[&str], word: &str) -> Result<String, Error> {
-    let mut names = Vec::new(alloc);
-    for name in known {
-        names.push(String::from_str(alloc, name)?)?;
-    }
+    let names = to_strings(alloc, known)?;
     let word = String::from_str(alloc, word)?;
     let folder = MemoryFolder::new(&[], &[]);
     let mut text = String::new(alloc);

@@ -61,12 +61,12 @@ fn no_other_text_is_a_shell(rt: HostRuntime) {
     for text in ["", "Bash", "bash ", "tcsh", "pwsh", "nu"] {
         same(&rt, text.parse::<Shell>(), Err(InvalidShell));
     }
-    assert!(rt; is_refused(rt.alloc(), "Bash", "invalid variant: Bash"));
-    assert!(rt; is_refused(rt.alloc(), "nu", "invalid variant: nu"));
+    assert!(rt; fails_with(rt.alloc(), "Bash", "invalid variant: Bash"));
+    assert!(rt; fails_with(rt.alloc(), "nu", "invalid variant: nu"));
 }
 
-// Whether a text is refused as no shell with this message.
-fn is_refused(alloc: Global, text: &str, message: &str) -> bool {
+// Whether `Shell::parse` fails for a text, with this message.
+fn fails_with(alloc: Global, text: &str, message: &str) -> bool {
     match Shell::parse(alloc, text) {
         Err(Error::InvalidVariant(shown)) => shown.as_str() == message,
         _ => false,

@@ -35,15 +35,15 @@ abbrev pub is_unwanted_folder : Entry → Bool
 is_unwanted_folder entry = not entry.passes && entry.is_folder
 
 -- one candidate belongs before another
-abbrev pub stands_before : CompletionCandidate → CompletionCandidate → Bool
-stands_before one other = is_lt (candidate_cmp one other)
+abbrev pub comes_before : CompletionCandidate → CompletionCandidate → Bool
+comes_before one other = is_lt (candidate_cmp one other)
 
 -- these wanted candidates and those of the wanted entries in order, then the unwanted folders in
 -- order
 unfoldable pub groups : List CompletionCandidate → List ℕ → List Entry → List CompletionCandidate
 groups wanted prefix entries =
-    in_order stands_before (wanted ++ map (path_candidate prefix) (filter is_wanted entries))
-    ++ in_order stands_before (map (path_candidate prefix) (filter is_unwanted_folder entries))
+    in_order comes_before (wanted ++ map (path_candidate prefix) (filter is_wanted entries))
+    ++ in_order comes_before (map (path_candidate prefix) (filter is_unwanted_folder entries))
 
 -- the candidates for a word, of these entries
 abbrev pub grouped_candidates : List ℕ → Bool → List Entry → List CompletionCandidate

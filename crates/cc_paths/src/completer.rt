@@ -121,7 +121,7 @@ impl<D: Drop, T: Drop> PathCompleter<D, T> {
 }
 
 impl<D: Folder + Drop, T: PathTest<D> + Drop> ValueCompleter for PathCompleter<D, T> {
-    ghost answers = { λ completer _ word found. WithStdio
+    ghost completes = { λ completer _ word found. WithStdio
         (ArePathCandidates (D.lists completer.folder) (D.tells_dir completer.folder)
         (T.tells completer.test completer.folder) (D.home_path completer.folder)
         completer.current_dir word)

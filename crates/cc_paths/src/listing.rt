@@ -7,7 +7,7 @@ ghost use Rattle.std.specs.Path.{dot};
 ghost use Rattle.cc_base.specs.Sorting.{in_order};
 ghost use Rattle.cc_paths.specs.PathCandidates.{ArePathCandidates, AreCandidatesAt, IsTold, MayList, begins};
 ghost use Rattle.cc_paths.specs.PathCandidates.{dot_candidate, entry_name, folder_mark, groups, is_unwanted_folder, is_wanted};
-ghost use Rattle.cc_paths.specs.PathCandidates.{path_candidate, stands_before};
+ghost use Rattle.cc_paths.specs.PathCandidates.{path_candidate, comes_before};
 
 use crate::entry::Entry;
 use crate::folder::{Folder, FolderError};
@@ -122,7 +122,6 @@ fn ask<D: Folder, T: PathTest<D>>(
     })
 }
 
-// Whether the text begins with the start.
 fn begins_with(text: &str, start: &str) -> bool
     ensures { result ≡ starts_with nat_eq text.now start.now }
 {
@@ -222,7 +221,6 @@ fn path_candidate(
     Ok(CompletionCandidate::new(value).hide(hidden))
 }
 
-// Whether the name begins with a dot.
 fn begins_with_dot(name: &str) -> bool
     ensures { result ≡ (slice_index name.now 0 == dot) }
 {
@@ -241,9 +239,8 @@ fn mark_folder(mut path: String, is_folder: bool) -> Result<String, AllocError>
     Ok(path)
 }
 
-// Sorts the candidates.
 fn sort(candidates: &mut Vec<CompletionCandidate>) -> Result<(), AllocError>
-    ensures { OnOk result (candidates.new.items ≡ in_order stands_before candidates.old.items) }
+    ensures { OnOk result (candidates.new.items ≡ in_order comes_before candidates.old.items) }
 {
     candidates.sort()?;
     Ok(())

@@ -8,7 +8,8 @@ use crate::folder::{Folder, FolderError};
 use crate::path_texts::ends_in_slash;
 use std::alloc::{AllocError, Global};
 
-/// Files and folders in memory, for tests. One slash at the end of a path makes no difference.
+/// Files and folders in memory, for tests. Every file counts as executable. One slash at the end of
+/// a path makes no difference.
 #[derive(Drop)]
 pub struct MemoryFolder {
     folders: &'static [(&'static str, &'static [&'static str])],
@@ -137,7 +138,6 @@ fn has_file(files: &[&str], path: &str) -> bool
     false
 }
 
-// Copies of the names.
 fn copies(alloc: Global, names: &[&str]) -> Result<Vec<String>, AllocError>
     ensures { IfOk result (λ copies. map string_bytes copies.items ≡ texts_of names.now) }
 {

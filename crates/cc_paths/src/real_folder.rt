@@ -13,8 +13,8 @@ use std::{fs, io};
 
 /// The files and folders of the operating system. Every file counts as executable. An entry that
 /// can't be read is left out of the names; a path that can't be asked about is neither a folder nor
-/// a file. What the system says is not known beforehand, so the contracts of `Folder` say nothing
-/// here.
+/// a file. What the system says is not known beforehand, so of it the contracts of `Folder` say
+/// nothing here.
 #[derive(Drop)]
 pub struct RealFolder<R> {
     files: R,

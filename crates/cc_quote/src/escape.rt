@@ -17,27 +17,27 @@ pub trait Escape {
     // the escaped text
     ghost escaped: { Self → List ℕ → List ℕ };
 
-    /// The run before the first character that is escaped, what stands for that character, and the
-    /// text after it. `None` where no character is escaped.
+    /// The run before the first character that is escaped, the replacement of that character, and
+    /// the text after it. `None` where no character is escaped.
     fn split<'a>(&self, text: &'a str) -> Option<(&'a str, &'static str, &'a str)>
         ensures { MatchOption result (escaped self.now text.now ≡ text.now)
             (λ cut. IsFirstEscape (escaped self.now) text.now cut.0.now cut.1.now cut.2.now) };
 }
 
-/// An escape that puts a text in place of each byte of a set of ASCII bytes.
+/// An escape that replaces each byte of a set of ASCII bytes by a text.
 pub trait ByteEscape {
-    // whether a byte is escaped, and what stands for one that is
+    // whether a byte is escaped, and the replacement of one that is
     ghost escapes: { Self → ℕ → Bool };
 
     ghost replacement: { Self → ℕ → List ℕ };
 
-    /// What stands for the byte; `None` where it is not escaped.
+    /// The replacement of the byte; `None` where it is not escaped.
     fn replacement(&self, byte: u8) -> Option<&'static str>
         ensures text { option_copied result
             ≡ replacement_by (escapes self.now) (replacement self.now) byte }
         ensures ascii { IsSome result → byte < 128 };
 
-    /// The index of the first byte that is escaped.
+    /// The index of the first byte that is escaped; `None` where none is.
     fn find(&self, bytes: &[u8]) -> Option<usize>
         ensures { IsFirstByte (escapes self.now) bytes.now result }
     {
@@ -62,10 +62,12 @@ impl<E: ByteEscape> Escape for E {
     }
 }
 
-/// The escape that puts a text in place of one ASCII byte.
+/// The escape that replaces one ASCII byte by a text.
 #[derive(Clone, Copy)]
 pub struct Replace {
+    /// The byte.
     pub byte: u8,
+    /// Its replacement.
     pub by: &'static str,
     ghost ascii: { byte < 128 },
 }

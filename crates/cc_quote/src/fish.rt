@@ -3,7 +3,7 @@
 ghost use Rattle.std.specs.Prelude.{◌≡◌, [], ◌++◌, codes, IfOk, IfErr, Some};
 ghost use Rattle.std.specs.List.{list_all};
 ghost use Rattle.std.specs.String.{string_bytes};
-ghost use Rattle.cc_base.specs.Writes.{Writes};
+ghost use Rattle.cc_base.specs.Writes.{Writes, as_write};
 ghost use Rattle.cc_base.specs.Bytes.{backslash, line_feed, single_quote};
 ghost use Rattle.memchr.specs.Find.{is_byte3};
 ghost use Rattle.cc_quote.specs.Escapes.{backslashed};
@@ -22,10 +22,11 @@ ghost use Rattle.cc_quote.specs.FishQuote.{
 };
 ghost use Rattle.cc_quote.specs.QuotedWord.{line_feeds_as_spaces};
 
-use crate::escape::{ByteEscape, Escape, escape_text, push_escaped, put_escaped};
-use cc_base::{Error, Sink, put_all};
+use crate::escape::{ByteEscape, Escape, escape_text, push_escaped, put_escaped_piece};
+use cc_base::{Error, Sink, put_piece};
 use memchr::{memchr2, memchr3};
 use std::alloc::{AllocError, Global};
+use std::io::ErrorKind;
 
 /// fish's escape of a description between two `'`: `\` as `\\`, `'` as `\'`, and each line feed as
 /// a space.
@@ -232,31 +233,33 @@ pub fn fish_escape(alloc: Global, text: &str) -> Result<String, Error>
     Ok(escape_text(alloc, &FishEscape, text)?)
 }
 
-/// Writes what `fish_quote_for_eval` makes of the text.
+/// Writes what `fish_quote_for_eval` makes of the text. Fails with the kind of the put that failed.
 #[tactic(auto, using(crate::proofs::FishEscaped::eval_safe, crate::proofs::FishEscaped::eval_unsafe_text))]
-pub fn put_fish_quoted_for_eval<W: Sink>(text: &str, sink: &mut W) -> Result<(), Error>
-    ensures { Writes W.taken W.failed result sink.old sink.new (fish_quoted_for_eval text.now) }
+pub fn put_fish_quoted_for_eval<W: Sink>(text: &str, sink: &mut W) -> Result<(), ErrorKind>
+    ensures { Writes W.taken W.failed (as_write result) sink.old sink.new
+        (fish_quoted_for_eval text.now) }
 {
     if is_safe_word(text) {
-        return put_all(sink, text.as_bytes());
+        return put_piece(sink, text.as_bytes());
     }
     put_in_quotes(&EvalEscape, text, sink)
 }
 
-/// Writes what `fish_help_for_eval` makes of the help.
+/// Writes what `fish_help_for_eval` makes of the help. Fails with the kind of the put that failed.
 #[tactic(auto, using(crate::proofs::FishEscaped::help_text))]
-pub fn put_fish_help_for_eval<W: Sink>(help: &str, sink: &mut W) -> Result<(), Error>
-    ensures { Writes W.taken W.failed result sink.old sink.new (fish_help_for_eval_of help.now) }
+pub fn put_fish_help_for_eval<W: Sink>(help: &str, sink: &mut W) -> Result<(), ErrorKind>
+    ensures { Writes W.taken W.failed (as_write result) sink.old sink.new
+        (fish_help_for_eval_of help.now) }
 {
     put_in_quotes(&HelpEscape, help, sink)
 }
 
 // Writes an escaped text between two `'`.
-fn put_in_quotes<E: Escape, W: Sink>(escape: &E, text: &str, sink: &mut W) -> Result<(), Error>
-    ensures { Writes W.taken W.failed result sink.old sink.new
+fn put_in_quotes<E: Escape, W: Sink>(escape: &E, text: &str, sink: &mut W) -> Result<(), ErrorKind>
+    ensures { Writes W.taken W.failed (as_write result) sink.old sink.new
         (codes "'" ++ E.escaped escape.now text.now ++ codes "'") }
 {
-    put_all(sink, "'".as_bytes())?;
-    put_escaped(escape, text, sink)?;
-    put_all(sink, "'".as_bytes())
+    put_piece(sink, "'".as_bytes())?;
+    put_escaped_piece(escape, text, sink)?;
+    put_piece(sink, "'".as_bytes())
 }

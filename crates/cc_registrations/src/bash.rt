@@ -29,7 +29,6 @@ pub fn write_bash<W: Sink>(
     write_text(variable, name, bin, completer, sink)
 }
 
-// Writes its whole text.
 #[tactic(auto, unfolding(crate::specs::BashRegistration::bash_registration))]
 fn write_text<W: Sink>(
     variable: &str,

@@ -27,7 +27,6 @@ pub fn write_elvish<W: Sink>(
     write_text(alloc, variable, bin, completer, sink)
 }
 
-// Writes its whole text.
 #[tactic(auto, unfolding(crate::specs::ElvishRegistration::elvish_registration))]
 fn write_text<W: Sink>(
     alloc: Global,

@@ -7,7 +7,7 @@ ghost use Rattle.cc_registrations.specs.FishRegistration.{FishReads};
 ghost use Rattle.cc_registrations.specs.FishRegistration.{arguments_begin, fish_registration};
 ghost use Rattle.cc_registrations.specs.FishRegistration.{registration_begins, registration_ends, shell_set};
 
-use cc_base::{Error, Sink, put_all};
+use cc_base::{Error, Sink, as_error, put_all};
 use cc_quote::{fish_quote, put_fish_quoted_for_eval};
 use std::alloc::Global;
 
@@ -27,7 +27,6 @@ pub fn write_fish<W: Sink>(
     write_text(alloc, variable, bin, completer, sink)
 }
 
-// Writes its whole text.
 #[tactic(auto, unfolding(crate::specs::FishRegistration::fish_registration))]
 fn write_text<W: Sink>(
     alloc: Global,
@@ -43,7 +42,7 @@ fn write_text<W: Sink>(
     put_all(sink, arguments_begin().as_bytes())?;
     put_all(sink, variable.as_bytes())?;
     put_all(sink, shell_set().as_bytes())?;
-    put_fish_quoted_for_eval(completer, sink)?;
+    as_error(put_fish_quoted_for_eval(completer, sink))?;
     put_all(sink, registration_ends().as_bytes())
 }
 

@@ -39,7 +39,6 @@ pub fn write_powershell<W: Sink>(
     write_text(alloc, variable, bin, completer, sink)
 }
 
-// Writes its whole text.
 #[tactic(auto, unfolding(crate::specs::PowershellRegistration::powershell_registration))]
 fn write_text<W: Sink>(
     alloc: Global,

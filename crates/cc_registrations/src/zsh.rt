@@ -31,7 +31,6 @@ pub fn write_zsh<W: Sink>(
     write_text(alloc, variable, name, bin, completer, sink)
 }
 
-// Writes its whole text.
 #[tactic(auto, unfolding(crate::specs::ZshRegistration::zsh_registration))]
 fn write_text<W: Sink>(
     alloc: Global,

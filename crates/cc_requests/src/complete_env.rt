@@ -140,9 +140,9 @@ impl<'s, F: Fn(Global) -> Result<Command, Error> + Drop, E: EnvCompleter> Comple
             (names_of self.entry.variable.now self.entry.bin self.entry.completer
             (option_copied current_dir.entry) program tree))
             (λ words tree. RepliesAs (E.Asks shell env.now words) (Completes (lent_by
-            (λ item. (⟦<dyn ValueCompleter as ValueCompleter>⟧ item.vtable).answers item.value)
+            (λ item. (⟦<dyn ValueCompleter as ValueCompleter>⟧ item.vtable).completes item.value)
             completers.now.completers.items
-            ⟦<FnCompleter as ValueCompleter>⟧.answers completers.now.completer_closures.items
+            ⟦<FnCompleter as ValueCompleter>⟧.completes completers.now.completer_closures.items
             (λ item. (⟦<dyn ValueCandidates as ValueCandidates>⟧ item.vtable).lists item.value)
             completers.now.lists.items
             ⟦<FnCandidates as ValueCandidates>⟧.lists completers.now.list_closures.items

@@ -40,9 +40,9 @@ impl<'s, F: Fn(Global) -> Result<Command, Error>, E: EnvCompleter> CompleteEnv<'
             (names_of self.now.variable.now self.now.bin self.now.completer
             (option_copied current_dir.entry) program tree))
             (λ words tree. RepliesAs (E.Asks shell.now env.now words) (Completes (lent_by
-            (λ item. (⟦<dyn ValueCompleter as ValueCompleter>⟧ item.vtable).answers item.value)
+            (λ item. (⟦<dyn ValueCompleter as ValueCompleter>⟧ item.vtable).completes item.value)
             completers.now.completers.items
-            ⟦<FnCompleter as ValueCompleter>⟧.answers completers.now.completer_closures.items
+            ⟦<FnCompleter as ValueCompleter>⟧.completes completers.now.completer_closures.items
             (λ item. (⟦<dyn ValueCandidates as ValueCandidates>⟧ item.vtable).lists item.value)
             completers.now.lists.items
             ⟦<FnCandidates as ValueCandidates>⟧.lists completers.now.list_closures.items
@@ -148,9 +148,9 @@ fn reply<E: EnvCompleter, D: Folder>(
 ) -> Result<Collected, Error>
     ensures replied { RepliesAs (E.Asks shell.now env.now (map string_bytes words.items))
         (Completes (lent_by
-        (λ item. (⟦<dyn ValueCompleter as ValueCompleter>⟧ item.vtable).answers item.value)
+        (λ item. (⟦<dyn ValueCompleter as ValueCompleter>⟧ item.vtable).completes item.value)
         completers.now.completers.items
-        ⟦<FnCompleter as ValueCompleter>⟧.answers completers.now.completer_closures.items
+        ⟦<FnCompleter as ValueCompleter>⟧.completes completers.now.completer_closures.items
         (λ item. (⟦<dyn ValueCandidates as ValueCandidates>⟧ item.vtable).lists item.value)
         completers.now.lists.items
         ⟦<FnCandidates as ValueCandidates>⟧.lists completers.now.list_closures.items

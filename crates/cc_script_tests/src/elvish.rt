@@ -140,7 +140,7 @@ fn a_command_without_arguments_has_an_empty_table(rt: HostRuntime) {
 }
 
 #[test]
-fn options_stand_before_flags(rt: HostRuntime) {
+fn options_come_before_flags(rt: HostRuntime) {
     has_tables(&rt, trees::APP, APP);
 }
 

@@ -1,5 +1,5 @@
-//! Small trees, as tree files. What holds a command ends with a call of `drop`: to prove a drop that
-//! no call is takes seconds in each function.
+//! Small trees, as tree files. What holds a command ends with a call of `drop`: to prove a drop
+//! that no call is takes seconds in each function.
 
 use cc_command::Command;
 use cc_fixtures::trees::{self, read};
@@ -42,8 +42,8 @@ pub(crate) const COUNTED: &str = r#"{"name": "app", "disable_help_flag": true, "
         "conflicts_with": ["quiet"]},
     {"id": "quiet", "short": "q", "action": "SetTrue"}]}"#;
 
-/// `app` with a global flag `--json`, a child `run`, shown as `r` too, that has a child `job` with a
-/// flag `-v`, `--verbose`, and the generated child `help`; no other is generated, and no flag.
+/// `app` with a global flag `--json`, a child `run`, shown as `r` too, that has a child `job` with
+/// a flag `-v`, `--verbose`, and the generated child `help`; no other is generated, and no flag.
 pub(crate) const INHERITED: &str = r#"{"name": "app", "disable_help_flag": true, "args": [
     {"id": "json", "long": "json", "action": "SetTrue", "global": true,
         "conflicts_with": ["yaml"]}],

@@ -1,5 +1,5 @@
-//! Tests of what the script of each shell holds. They need no crate above the shells, so that the
-//! merge gate can prove them early.
+//! Tests of what the script of each shell holds. They need no crate above the shells, so that they
+//! can be proved early.
 #![tactic(auto)]
 
 #[cfg(test)]

@@ -32,7 +32,7 @@ fn is_whole_or_empty<R: Abort + AllocGlobal>(rt: &R, command: &Command) {
     }
 }
 
-// In the gate there is memory enough. With `rt try --test --fail-alloc 1` the first allocation of
+// As a rule there is memory enough. With `rt try --test --fail-alloc 1` the first allocation of
 // `generate` fails, in making the list of nodes.
 #[test]
 fn writes_nothing_where_the_first_allocation_fails(rt: HostRuntime) {

@@ -105,7 +105,7 @@ fn has_tables<R: Abort + AllocGlobal>(rt: &R, text: &str, wanted: &str) {
 }
 
 #[test]
-fn options_stand_before_flags(rt: HostRuntime) {
+fn options_come_before_flags(rt: HostRuntime) {
     has_tables(&rt, trees::APP, APP);
 }
 

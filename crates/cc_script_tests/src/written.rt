@@ -42,8 +42,8 @@ pub(crate) fn script_of<R: Abort + AllocGlobal, G: Generator + Drop>(
     String::from_utf8_lossy(rt.alloc(), sink.as_slice())
 }
 
-/// What both methods of a generator write of the command of a tree file, built for a program of this
-/// name.
+/// What both methods of a generator write of the command of a tree file, built for a program of
+/// this name.
 pub(crate) fn twice<R: Abort + AllocGlobal, G: Generator>(
     rt: &R,
     generator: &G,

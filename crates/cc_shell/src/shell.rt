@@ -109,7 +109,7 @@ impl Shell {
     /// The shell of this text, in this very case.
     ///
     /// Fails with `InvalidVariant` and the message `invalid variant: TEXT` where no shell has the
-    /// text, and with `Memory` where there is no memory for the message.
+    /// text, and with `Memory` where memory runs out for the message.
     pub fn parse(alloc: Global, text: &str) -> Result<Shell, Error>
         ensures ok { (shell : Shell) → text.now ≡ shell_text shell → result ≡ Ok shell }
         ensures only { IfOk result (λ shell. text.now ≡ shell_text shell) }
@@ -139,8 +139,8 @@ impl Shell {
         Shell::from_shell_path(value?)
     }
 
-    /// The shell as a possible value of an argument, which has its text as name. Fails with
-    /// `Memory` alone.
+    /// The shell as a possible value of an argument, which has its text as name; never `None`.
+    /// Fails with `Memory` alone.
     pub fn to_possible_value(&self, alloc: Global) -> Result<Option<PossibleValue>, Error>
         ensures ok { IfOk result
             (λ value. value ≡ Some (new_possible_value (shell_text self.now))) }
@@ -201,7 +201,7 @@ impl FromStr for Shell {
 
     ghost from_str_gives = { ReadsShell };
 
-    /// The shell of this text, in this very case. Fails where no shell has the text.
+    /// The shell of this text, in this very case. Fails with `InvalidShell` where no shell has it.
     fn from_str(text: &str) -> Result<Shell, InvalidShell> {
         with_text(ALL, text).copied().ok_or(InvalidShell)
     }

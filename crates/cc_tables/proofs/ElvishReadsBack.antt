@@ -26,7 +26,7 @@ use Rattle.cc_tables.specs.TableReader.{next, tables_of, read}
 use Rattle.cc_tables.specs.Tables.{Table}
 use Rattle.cc_tables.specs.declared.offers.Offer.{Offer}
 use Rattle.cc_tables.proofs.PlainTables.{IsReadable, table_read}
-use Rattle.cc_tables.proofs.ScriptReadsBack.{ReadsParts, named_head, script_reads}
+use Rattle.cc_tables.proofs.ScriptReadsBack.{named_head, script_reads}
 
 -- what the reader gives from a state on, where the script is cut from a state of quotes on
 abbrev reading : State RowState Row → QuoteState → List ℕ → Option (List (Table Row))
@@ -71,19 +71,6 @@ tail_reads : (tables : List (Table Row)) → in_tables tables elvish_frame.tail 
 unfolding elvish_frame sign cut part spelling next tables_of read
 tail_reads tables = refl
 
-parts : ReadsParts elvish_frame offer_text offer_read HasNoQuote (λ offer. IsBareWord (word offer)) IsLine in_tables in_rows
-unfolding elvish_frame offer_text
-parts = record {
-  key_begins = λ rest. line _;
-  row_begins = λ offer rest. row_line (offer_row offer) rest;
-  end_begins = λ rest. line _;
-  tail_begins = line _;
-  key_reads = key_reads;
-  row_reads = λ tables key rows offer rest h l. row_reads tables key rows (offer_row offer) rest h l;
-  end_reads = end_reads;
-  tail_reads = tail_reads;
-}
-
 -- up to its tables a script holds the three words once, at the end
 head_reads : (bin rest : List ℕ) → IsBare bin → IsLine rest → after_words tables_begin (elvish_tokens (head_text elvish_frame bin ++ rest)) ≡ cut between (map sign rest)
 unfolding elvish_frame elvish_named is_word strip_words after_words sign cut elvish_tokens tables_begin
@@ -98,7 +85,9 @@ head_reads bin rest h (line tail) =
 pub elvish_reads_back : (bin : List ℕ) (tables : List (Table Offer)) → IsBare bin
     → AllByRecursion (IsReadable (λ byte. IsTrue (not (byte == single_quote))) (λ offer. IsBareWord (word offer))) tables
     → elvish_tables (script_text elvish_frame offer_text bin tables) ≡ Some (map (table_read offer_read) tables)
-unfolding elvish_tables
+unfolding elvish_tables elvish_frame offer_text
 elvish_reads_back bin tables h k =
-    script_reads elvish_frame offer_text offer_read (λ byte. IsTrue (not (byte == single_quote))) (λ offer. IsBareWord (word offer)) IsLine in_tables in_rows parts
+    script_reads elvish_frame offer_text offer_read (λ byte. IsTrue (not (byte == single_quote))) (λ offer. IsBareWord (word offer)) IsLine in_tables in_rows
+    (λ rest. line _) (λ offer. row_line (offer_row offer)) (λ rest. line _) (line _)
+    key_reads (λ tables key rows offer rest. row_reads tables key rows (offer_row offer) rest) end_reads tail_reads
     elvish_tables bin tables (λ rest l. ap (read spelling (between_tables [])) (head_reads bin rest h l)) k

@@ -18,7 +18,7 @@ use Rattle.cc_tables.specs.NushellScript.{line_text, nushell_frame, type_text, v
 use Rattle.cc_tables.specs.Script.{head_text, named_text, script_text}
 use Rattle.cc_tables.specs.Tables.{Table}
 use Rattle.cc_tables.proofs.PlainTables.{IsReadable, table_read}
-use Rattle.cc_tables.proofs.ScriptReadsBack.{ReadsParts, script_reads}
+use Rattle.cc_tables.proofs.ScriptReadsBack.{script_reads}
 
 -- ---- a text by its lines
 
@@ -242,19 +242,6 @@ tail_reads : (blocks : List (Table Line)) → in_blocks blocks nushell_frame.tai
 unfolding nushell_frame lines_from after before sign key_sign in_block_sign next closed read
 tail_reads blocks = refl
 
--- each part is read whatever follows it
-parts : ReadsParts nushell_frame line_text line_read IsOneLine IsReadableLine (λ rest. ⊤) in_blocks in_lines
-parts = record {
-  key_begins = λ rest. tt;
-  row_begins = λ line rest. tt;
-  end_begins = λ rest. tt;
-  tail_begins = tt;
-  key_reads = λ blocks key rest h _. key_reads blocks key rest h;
-  row_reads = λ blocks key lines line rest h _. line_reads blocks key lines line rest h;
-  end_reads = λ blocks key lines rest _. end_reads blocks key lines rest;
-  tail_reads = tail_reads;
-}
-
 -- a script reads back to its blocks, with a space for each line feed of a help, where the keys are
 -- on one line and the lines can be read
 pub nushell_reads_back : (bin : List ℕ) (blocks : List (Table Line))
@@ -263,4 +250,8 @@ pub nushell_reads_back : (bin : List ℕ) (blocks : List (Table Line))
 unfolding nushell_blocks
 nushell_reads_back bin blocks h =
     script_reads nushell_frame line_text line_read (λ byte. (byte == line_feed) ≡ false) IsReadableLine
-    (λ rest. ⊤) in_blocks in_lines parts nushell_blocks bin blocks (λ rest _. head_reads bin rest) h
+    (λ rest. ⊤) in_blocks in_lines (λ rest. tt) (λ line rest. tt) (λ rest. tt) tt
+    (λ blocks key rest h _. key_reads blocks key rest h)
+    (λ blocks key lines line rest h _. line_reads blocks key lines line rest h)
+    (λ blocks key lines rest _. end_reads blocks key lines rest) tail_reads
+    nushell_blocks bin blocks (λ rest _. head_reads bin rest) h

@@ -28,7 +28,7 @@ use Rattle.cc_tables.specs.Tables.{Table}
 use Rattle.cc_tables.specs.declared.offers.Offer.{Offer}
 use Rattle.cc_tables.proofs.PlainTables.{IsReadable, table_read}
 use Rattle.cc_tables.proofs.ItemsRead.{regroup_five}
-use Rattle.cc_tables.proofs.ScriptReadsBack.{ReadsParts, named_head, script_reads}
+use Rattle.cc_tables.proofs.ScriptReadsBack.{named_head, script_reads}
 
 -- a row as it is read: with a space for each line feed of its text
 abbrev spaced_row : Row → Row
@@ -112,19 +112,6 @@ tail_reads : (tables : List (Table Row)) → in_tables tables powershell_frame.t
 unfolding powershell_frame sign sign_before powershell_signs cut if_quoted part spelling next tables_of read
 tail_reads tables = refl
 
-parts : ReadsParts powershell_frame offer_text offer_read IsUnquoted (λ offer. IsPowershellRow (offer_row offer)) IsLine in_tables in_rows
-unfolding powershell_frame offer_text
-parts = record {
-  key_begins = λ rest. line _;
-  row_begins = λ offer rest. row_line (offer_row offer) rest;
-  end_begins = λ rest. line _;
-  tail_begins = line _;
-  key_reads = key_reads;
-  row_reads = λ tables key rows offer rest h l. row_reads tables key rows (offer_row offer) rest h l;
-  end_reads = end_reads;
-  tail_reads = tail_reads;
-}
-
 -- up to its tables a script holds the three words once, at the end
 head_reads : (bin rest : List ℕ) → IsUnquoted bin → IsLine rest → after_words tables_begin (powershell_tokens (head_text powershell_frame bin ++ rest)) ≡ cut between (powershell_signs rest)
 unfolding powershell_frame powershell_named is_word strip_words after_words sign sign_before powershell_signs cut powershell_tokens tables_begin
@@ -139,7 +126,9 @@ head_reads bin rest h (line tail) =
 pub powershell_reads_back : (bin : List ℕ) (tables : List (Table Offer)) → IsUnquoted bin
     → AllByRecursion (IsReadable (λ byte. IsTrue (not (is_quote_first byte))) (λ offer. IsPowershellRow (offer_row offer))) tables
     → powershell_tables (script_text powershell_frame offer_text bin tables) ≡ Some (map (table_read offer_read) tables)
-unfolding powershell_tables
+unfolding powershell_tables powershell_frame offer_text
 powershell_reads_back bin tables h k =
-    script_reads powershell_frame offer_text offer_read (λ byte. IsTrue (not (is_quote_first byte))) (λ offer. IsPowershellRow (offer_row offer)) IsLine in_tables in_rows parts
+    script_reads powershell_frame offer_text offer_read (λ byte. IsTrue (not (is_quote_first byte))) (λ offer. IsPowershellRow (offer_row offer)) IsLine in_tables in_rows
+    (λ rest. line _) (λ offer. row_line (offer_row offer)) (λ rest. line _) (line _)
+    key_reads (λ tables key rows offer rest. row_reads tables key rows (offer_row offer) rest) end_reads tail_reads
     powershell_tables bin tables (λ rest l. ap (read spelling (between_tables [])) (head_reads bin rest h l)) k

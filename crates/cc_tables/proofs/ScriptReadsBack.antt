@@ -16,47 +16,41 @@ pub named_head : (frame : Frame) (named : Named) (bin rest : List ℕ) → frame
 unfolding head_text named_text
 named_head frame named bin rest e = ap (λ given. frame.head ++ named_text given bin ++ rest) e ∙ simp append_assoc
 
--- How a script of this frame is read, from its tables on. `in_tables` is the reader between two
--- tables, with those before; `in_rows` within a table, with its key and the rows before. What
--- follows a part is such a rest.
-pub record ReadsParts {Item Row : Type 0} (frame : Frame) (row_text : Item → List ℕ) (as_read : Item → Row)
-    (IsKey : List ℕ → Type 0) (IsRow : Item → Type 0) (IsRest : List ℕ → Type 0)
-    (in_tables : List (Table Row) → List ℕ → Option (List (Table Row)))
-    (in_rows : List (Table Row) → List ℕ → List Row → List ℕ → Option (List (Table Row))) : Type 0 where
-  pub key_begins : (rest : List ℕ) → IsRest (frame.key_begin ++ rest)
-  pub row_begins : (row : Item) (rest : List ℕ) → IsRest (row_text row ++ rest)
-  pub end_begins : (rest : List ℕ) → IsRest (frame.table_end ++ rest)
-  pub tail_begins : IsRest frame.tail
-  pub key_reads : (tables : List (Table Row)) (key rest : List ℕ) → IsKey key → IsRest rest
-      → in_tables tables (frame.key_begin ++ (key ++ (frame.key_end ++ rest))) ≡ in_rows tables key [] rest
-  pub row_reads : (tables : List (Table Row)) (key : List ℕ) (rows : List Row) (row : Item) (rest : List ℕ) → IsRow row → IsRest rest
-      → in_rows tables key rows (row_text row ++ rest) ≡ in_rows tables key (rows ++ as_read row ∷ []) rest
-  pub end_reads : (tables : List (Table Row)) (key : List ℕ) (rows : List Row) (rest : List ℕ) → IsRest rest
-      → in_rows tables key rows (frame.table_end ++ rest) ≡ in_tables (tables ++ record { key = key; rows = rows } ∷ []) rest
-  pub tail_reads : (tables : List (Table Row)) → in_tables tables frame.tail ≡ Some tables
-
+-- How a script of this frame is read, from its tables on: `in_tables` is the reader between two
+-- tables, with those before; `in_rows` within a table, with its key and the rows before. A text that
+-- follows a part is a rest, as each part with what follows it is.
 module _ {Item Row : Type 0} (frame : Frame) (row_text : Item → List ℕ) (as_read : Item → Row)
     (IsKeyByte : ℕ → Type 0) (IsRow : Item → Type 0) (IsRest : List ℕ → Type 0)
     (in_tables : List (Table Row) → List ℕ → Option (List (Table Row)))
     (in_rows : List (Table Row) → List ℕ → List Row → List ℕ → Option (List (Table Row)))
-    (parts : ReadsParts frame row_text as_read (AllByRecursion IsKeyByte) IsRow IsRest in_tables in_rows) where
+    (key_begins : (rest : List ℕ) → IsRest (frame.key_begin ++ rest))
+    (row_begins : (row : Item) (rest : List ℕ) → IsRest (row_text row ++ rest))
+    (end_begins : (rest : List ℕ) → IsRest (frame.table_end ++ rest))
+    (tail_begins : IsRest frame.tail)
+    (key_reads : (tables : List (Table Row)) (key rest : List ℕ) → AllByRecursion IsKeyByte key → IsRest rest
+    → in_tables tables (frame.key_begin ++ (key ++ (frame.key_end ++ rest))) ≡ in_rows tables key [] rest)
+    (row_reads : (tables : List (Table Row)) (key : List ℕ) (rows : List Row) (row : Item) (rest : List ℕ) → IsRow row → IsRest rest
+    → in_rows tables key rows (row_text row ++ rest) ≡ in_rows tables key (rows ++ as_read row ∷ []) rest)
+    (end_reads : (tables : List (Table Row)) (key : List ℕ) (rows : List Row) (rest : List ℕ) → IsRest rest
+    → in_rows tables key rows (frame.table_end ++ rest) ≡ in_tables (tables ++ record { key = key; rows = rows } ∷ []) rest)
+    (tail_reads : (tables : List (Table Row)) → in_tables tables frame.tail ≡ Some tables) where
   -- a table is read, its key first, then its rows
   table_reads : (tables : List (Table Row)) (table : Table Item) (rest : List ℕ) → IsReadable IsKeyByte IsRow table → IsRest rest
       → in_tables tables (table_text frame row_text table ++ rest) ≡ in_tables (tables ++ table_read as_read table ∷ []) rest
   unfolding table_text
   table_reads tables table rest h l =
       let closed : List ℕ = frame.table_end ++ rest in
-      let closes : IsRest closed = parts.end_begins rest in
+      let closes : IsRest closed = end_begins rest in
       ap (in_tables tables) (regroup_six frame.key_begin table.key frame.key_end (flat_map row_text table.rows) frame.table_end rest)
-      ∙ parts.key_reads tables table.key (flat_map row_text table.rows ++ closed) h.key (items_begin IsRest row_text parts.row_begins table.rows closed closes)
-      ∙ items_read IsRest (in_rows tables table.key) row_text as_read IsRow parts.row_begins (parts.row_reads tables table.key) [] table.rows closed h.rows closes
-      ∙ parts.end_reads tables table.key (map as_read table.rows) rest l
+      ∙ key_reads tables table.key (flat_map row_text table.rows ++ closed) h.key (items_begin IsRest row_text row_begins table.rows closed closes)
+      ∙ items_read IsRest (in_rows tables table.key) row_text as_read IsRow row_begins (row_reads tables table.key) [] table.rows closed h.rows closes
+      ∙ end_reads tables table.key (map as_read table.rows) rest l
 
   table_begins : (table : Table Item) (rest : List ℕ) → IsRest (table_text frame row_text table ++ rest)
   unfolding table_text
   table_begins table rest =
       rw (regroup_six frame.key_begin table.key frame.key_end (flat_map row_text table.rows) frame.table_end rest)
-      (parts.key_begins (table.key ++ (frame.key_end ++ (flat_map row_text table.rows ++ (frame.table_end ++ rest)))))
+      (key_begins (table.key ++ (frame.key_end ++ (flat_map row_text table.rows ++ (frame.table_end ++ rest)))))
 
   -- the script is read back by a reader that passes over its head
   pub script_reads : (tables_of : List ℕ → Option (List (Table Row))) (bin : List ℕ) (tables : List (Table Item))
@@ -67,6 +61,6 @@ module _ {Item Row : Type 0} (frame : Frame) (row_text : Item → List ℕ) (as_
   script_reads tables_of bin tables head_reads h =
       let text : Table Item → List ℕ = table_text frame row_text in
       ap tables_of (append_assoc (head_text frame bin) (flat_map text tables) frame.tail)
-      ∙ head_reads (flat_map text tables ++ frame.tail) (items_begin IsRest text table_begins tables frame.tail parts.tail_begins)
-      ∙ items_read IsRest in_tables text (table_read as_read) (IsReadable IsKeyByte IsRow) table_begins table_reads [] tables frame.tail h parts.tail_begins
-      ∙ parts.tail_reads (map (table_read as_read) tables)
+      ∙ head_reads (flat_map text tables ++ frame.tail) (items_begin IsRest text table_begins tables frame.tail tail_begins)
+      ∙ items_read IsRest in_tables text (table_read as_read) (IsReadable IsKeyByte IsRow) table_begins table_reads [] tables frame.tail h tail_begins
+      ∙ tail_reads (map (table_read as_read) tables)

@@ -10,7 +10,6 @@ use crate::offers::{Kind, Offer, Rows};
 use crate::tables::{Frame, Named, write_tables};
 use cc_base::{Error, Sink, TextRef, put_around, put_piece};
 use cc_command::Command;
-use cc_flat::Flat;
 use cc_generator::Generator;
 use cc_quote::{ElvishEscape, put_escaped_piece};
 use std::alloc::Global;
@@ -75,7 +74,7 @@ fn row_begin(kind: Kind) -> &'static str
     }
 }
 
-/// Writes Elvish scripts.
+/// Writes Elvish scripts. The file of a program `N` is `N.elv`.
 #[derive(Clone, Copy, PartialEq, Eq, Debug)]
 pub struct Elvish;
 
@@ -93,9 +92,7 @@ impl Generator for Elvish {
     ghost file = { λ _ name. name ++ codes ".elv" };
 
     fn file_name(&self, alloc: Global, name: &str) -> Result<String, Error> {
-        let mut file = String::from_str(alloc, name)?;
-        file.push_str(".elv")?;
-        Ok(file)
+        Ok([name, ".elv"].concat(alloc)?)
     }
 
     #[tactic(auto, using(crate::proofs::ElvishPlain::elvish_plain_reads))]
@@ -105,8 +102,7 @@ impl Generator for Elvish {
         command: &Command,
         sink: &mut W,
     ) -> Result<(), Error> {
-        let flat = Flat::new(alloc, command)?;
-        write_tables(alloc, &flat, &frame(), self, sink)
+        write_tables(alloc, command, &frame(), self, sink)
     }
 }
 
@@ -125,7 +121,7 @@ impl Rows for Elvish {
     }
 }
 
-// The help or the about where there is one.
+// The help or the about where there is one, else the fallback.
 fn shown_text<'a>(offer: &'a Offer<'_>) -> &'a str
     ensures { result.now ≡ (offer_row offer.now).text }
 {

@@ -13,7 +13,6 @@ use crate::offers::{Kind, Offer, Rows, write_arguments};
 use crate::tables::{Frame, TableRows, write_tables};
 use cc_base::{Error, Sink, TextRef, put_around, put_piece};
 use cc_command::Command;
-use cc_flat::Flat;
 use cc_generator::Generator;
 use cc_quote::{Replace, put_escaped_piece};
 use std::alloc::Global;
@@ -57,7 +56,7 @@ fn type_text(takes_value: bool) -> &'static str
     if takes_value { ": string" } else { "" }
 }
 
-/// Writes Nushell scripts.
+/// Writes Nushell scripts. The file of a program `N` is `N.nu`.
 #[derive(Clone, Copy, PartialEq, Eq, Debug)]
 pub struct Nushell;
 
@@ -75,9 +74,7 @@ impl Generator for Nushell {
     ghost file = { λ _ name. name ++ codes ".nu" };
 
     fn file_name(&self, alloc: Global, name: &str) -> Result<String, Error> {
-        let mut file = String::from_str(alloc, name)?;
-        file.push_str(".nu")?;
-        Ok(file)
+        Ok([name, ".nu"].concat(alloc)?)
     }
 
     #[tactic(auto, using(crate::proofs::NushellPlain::nushell_plain_reads))]
@@ -87,8 +84,7 @@ impl Generator for Nushell {
         command: &Command,
         sink: &mut W,
     ) -> Result<(), Error> {
-        let flat = Flat::new(alloc, command)?;
-        write_tables(alloc, &flat, &frame(), self, sink)
+        write_tables(alloc, command, &frame(), self, sink)
     }
 }
 

@@ -49,8 +49,10 @@ pub trait Rows {
     // the text of the row of an offer
     ghost row_text: { Self → Offer → List ℕ };
 
-    /// Writes the row of an offer. An impl inlines it where the offer is made: its kind is known
-    /// there, and with it the fixed texts.
+    /// Writes the row of an offer. Fails with the kind of the put that failed.
+    ///
+    /// An impl inlines it where the offer is made: its kind is known there, and with it the fixed
+    /// texts.
     fn write_row<W: Sink>(&self, offer: &Offer<'_>, sink: &mut W) -> Result<(), ErrorKind>
         ensures { Writes W.taken W.failed (as_write result) sink.old sink.new
             (row_text self.now offer.now) };
@@ -75,7 +77,7 @@ impl<R: Rows> TableRows for R {
     }
 }
 
-/// Writes the rows of arguments.
+/// Writes a row for each shown name of the arguments. Fails with the kind of the put that failed.
 pub fn write_arguments<R: Rows, W: Sink>(
     rows: &R,
     arguments: Arguments<'_>,

@@ -12,7 +12,6 @@ use crate::offers::{Kind, Offer, Rows};
 use crate::tables::{Frame, Named, write_tables};
 use cc_base::{Error, Sink, TextRef, put_around, put_piece};
 use cc_command::Command;
-use cc_flat::Flat;
 use cc_generator::Generator;
 use cc_quote::{PowershellEscape, put_escaped_piece};
 use std::alloc::Global;
@@ -110,7 +109,7 @@ fn details_begin(kind: Kind, name: &str) -> &'static str
     }
 }
 
-/// Writes PowerShell scripts.
+/// Writes PowerShell scripts. The file of a program `N` is `_N.ps1`.
 #[derive(Clone, Copy, PartialEq, Eq, Debug)]
 pub struct PowerShell;
 
@@ -128,10 +127,7 @@ impl Generator for PowerShell {
     ghost file = { λ _ name. codes "_" ++ name ++ codes ".ps1" };
 
     fn file_name(&self, alloc: Global, name: &str) -> Result<String, Error> {
-        let mut file = String::from_str(alloc, "_")?;
-        file.push_str(name)?;
-        file.push_str(".ps1")?;
-        Ok(file)
+        Ok(["_", name, ".ps1"].concat(alloc)?)
     }
 
     #[tactic(auto, using(crate::proofs::PowershellPlain::powershell_plain_reads))]
@@ -141,8 +137,7 @@ impl Generator for PowerShell {
         command: &Command,
         sink: &mut W,
     ) -> Result<(), Error> {
-        let flat = Flat::new(alloc, command)?;
-        write_tables(alloc, &flat, &frame(), self, sink)
+        write_tables(alloc, command, &frame(), self, sink)
     }
 }
 
@@ -174,7 +169,7 @@ fn write_words<W: Sink>(offer: &Offer<'_>, sink: &mut W) -> Result<(), ErrorKind
     put_piece(sink, details_begin(offer.kind, name).as_bytes())
 }
 
-// The help or the about where there is one and it is not empty.
+// The help or the about where there is one and it is not empty, else the fallback.
 fn shown_text<'a>(offer: &'a Offer<'_>) -> &'a str
     ensures { result.now ≡ (offer_row offer.now).text }
 {

@@ -1,8 +1,7 @@
 //! A script that is tables: a frame, and in it a table for each visible path.
 
-ghost use Rattle.std.specs.Prelude.{◌≡◌, ◌++◌, ◌<◌, flat_map, length};
+ghost use Rattle.std.specs.Prelude.{◌≡◌, ◌++◌, flat_map};
 ghost use Rattle.cc_base.specs.Writes.{Writes, as_write};
-ghost use Rattle.cc_flat.specs.Flat.{tree_at};
 ghost use Rattle.cc_tables.specs.Script.{head_text, named_text, node_text, tree_script};
 
 use cc_base::{Error, Sink, Text, TextRef, as_error, put_all, put_around, put_piece};
@@ -66,26 +65,27 @@ pub trait TableRows {
     // the text of a row
     ghost text: { Self → Self.Row → List ℕ };
 
-    /// Writes the rows at a node.
+    /// Writes the rows at a node. Fails with the kind of the put that failed.
     fn write_rows<W: Sink>(&self, command: &Command, sink: &mut W) -> Result<(), ErrorKind>
         ensures { Writes W.taken W.failed (as_write result) sink.old sink.new
             (flat_map (text self.now) (rows self.now command.now)) };
 }
 
-/// Writes the script of the tree that the list holds.
+/// Writes the script of a command's tree. Fails with `Write` where the sink failed, and with
+/// `Memory`.
 pub fn write_tables<R: TableRows, W: Sink>(
     alloc: Global,
-    flat: &Flat<'_>,
+    command: &Command,
     frame: &Frame<'_>,
     rows: &R,
     sink: &mut W,
 ) -> Result<(), Error>
-    requires { 0 < length flat.now }
     ensures { Writes W.taken W.failed result sink.old sink.new
-        (tree_script frame.now (R.text rows.now) (R.rows rows.now) (tree_at flat.now 0)) }
+        (tree_script frame.now (R.text rows.now) (R.rows rows.now) command.now) }
 {
-    let bin_name = full_name(flat.command(0));
-    let visits = TableVisits::new(alloc, flat, bin_name, frame)?;
+    let flat = Flat::new(alloc, command)?;
+    let bin_name = full_name(command);
+    let visits = TableVisits::new(alloc, &flat, bin_name, frame)?;
     write_frame(alloc, bin_name, visits, frame, rows, sink)
 }
 

@@ -9,13 +9,18 @@ use Rattle.cc_tree_file.specs.PossibleValueForm.{possible_value_of}
 use Rattle.cc_tree_file.specs.TreeForm.{◌>>=◌, Setting, action_of, character_of, given, hint_of}
 use Rattle.cc_tree_file.specs.TreeForm.{keys_of, list_of, number_of, range_of, set_all, setting}
 
--- the names, the help and its heading
+-- the names
 abbrev pub names : List (Setting Arg)
 names =
     setting (codes "short") (given character_of)
     (λ arg. arg.short) (λ arg it. record arg { short = it })
     ∷ setting (codes "long") (given as_str) (λ arg. arg.long) (λ arg it. record arg { long = it })
-    ∷ setting (codes "help") (given as_str) (λ arg. arg.help) (λ arg it. record arg { help = it })
+    ∷ []
+
+-- the help and its heading
+abbrev pub texts : List (Setting Arg)
+texts =
+    setting (codes "help") (given as_str) (λ arg. arg.help) (λ arg it. record arg { help = it })
     ∷ setting (codes "help_heading") (given as_str)
     (λ arg. arg.help_heading) (λ arg it. record arg { help_heading = it }) ∷ []
 
@@ -59,22 +64,26 @@ flags =
     ∷ setting (codes "allow_hyphen_values") as_bool
     (λ arg. arg.allow_hyphen_values) (λ arg it. record arg { allow_hyphen_values = it }) ∷ []
 
--- aliases of the short and of the long, hidden and shown
-abbrev pub aliases : List (Setting Arg)
-aliases =
+-- hidden aliases of the short and of the long
+abbrev pub hidden_aliases : List (Setting Arg)
+hidden_aliases =
     setting (codes "short_aliases") (list_of character_of)
     (λ arg. arg.short_aliases) (λ arg it. record arg { short_aliases = it })
-    ∷ setting (codes "visible_short_aliases") (list_of character_of)
-    (λ arg. arg.visible_short_aliases) (λ arg it. record arg { visible_short_aliases = it })
     ∷ setting (codes "aliases") (list_of as_str)
-    (λ arg. arg.aliases) (λ arg it. record arg { aliases = it })
+    (λ arg. arg.aliases) (λ arg it. record arg { aliases = it }) ∷ []
+
+-- the aliases that are shown
+abbrev pub shown_aliases : List (Setting Arg)
+shown_aliases =
+    setting (codes "visible_short_aliases") (list_of character_of)
+    (λ arg. arg.visible_short_aliases) (λ arg it. record arg { visible_short_aliases = it })
     ∷ setting (codes "visible_aliases") (list_of as_str)
     (λ arg. arg.visible_aliases) (λ arg it. record arg { visible_aliases = it }) ∷ []
 
 -- the keys that an argument may have
 unfoldable pub argument_keys : List (List ℕ)
-argument_keys = codes "id" ∷ (((keys_of names ++ keys_of values) ++ keys_of surroundings)
-    ++ keys_of flags) ++ keys_of aliases
+argument_keys = codes "id" ∷ (((((keys_of names ++ keys_of texts) ++ keys_of values)
+    ++ keys_of surroundings) ++ keys_of flags) ++ keys_of hidden_aliases) ++ keys_of shown_aliases
 
 -- the id, of an object with no other keys than an argument's
 abbrev pub id_of : Data → Option (List ℕ)
@@ -82,8 +91,9 @@ id_of d = if has_only argument_keys d then get (codes "id") d >>= as_str else No
 
 -- what the keys besides the id set
 abbrev pub with_rest : Data → Arg → Option Arg
-with_rest d argument = set_all names d argument >>= set_all values d >>= set_all surroundings d
-    >>= set_all flags d >>= set_all aliases d
+with_rest d argument = set_all names d argument >>= set_all texts d >>= set_all values d
+    >>= set_all surroundings d >>= set_all flags d >>= set_all hidden_aliases d
+    >>= set_all shown_aliases d
 
 -- the argument that an object describes
 unfoldable pub argument_of : Data → Option Arg

@@ -14,31 +14,34 @@ use Rattle.cc_tree_file.specs.ArgumentForm.{argument_of}
 use Rattle.cc_tree_file.specs.TreeForm.{◌>>=◌, Setting, given, keys_of, list_of, number_of, set_all}
 use Rattle.cc_tree_file.specs.TreeForm.{setting, with_key}
 
--- its texts besides the name
+-- the texts that helps show of it
 abbrev pub texts : List (Setting Node)
 texts =
-    setting (codes "bin_name") (given as_str)
-    (λ node. node.bin_name) (λ node it. record node { bin_name = it })
-    ∷ setting (codes "about") (given as_str)
+    setting (codes "about") (given as_str)
     (λ node. node.about) (λ node it. record node { about = it })
     ∷ setting (codes "version") (given as_str)
-    (λ node. node.version) (λ node it. record node { version = it })
-    ∷ setting (codes "subcommand_help_heading") (given as_str)
-    (λ node. node.subcommand_help_heading)
-    (λ node it. record node { subcommand_help_heading = it }) ∷ []
+    (λ node. node.version) (λ node it. record node { version = it }) ∷ []
 
--- its aliases, hidden and shown, and its display order
+-- its bin name, and its aliases, hidden and shown
 abbrev pub names : List (Setting Node)
 names =
-    setting (codes "aliases") (list_of as_str)
+    setting (codes "bin_name") (given as_str)
+    (λ node. node.bin_name) (λ node it. record node { bin_name = it })
+    ∷ setting (codes "aliases") (list_of as_str)
     (λ node. node.aliases) (λ node it. record node { aliases = it })
     ∷ setting (codes "visible_aliases") (list_of as_str)
-    (λ node. node.visible_aliases) (λ node it. record node { visible_aliases = it })
+    (λ node. node.visible_aliases) (λ node it. record node { visible_aliases = it }) ∷ []
+
+-- the heading over its children, and its display order
+abbrev pub surroundings : List (Setting Node)
+surroundings =
+    setting (codes "subcommand_help_heading") (given as_str)
+    (λ node. node.subcommand_help_heading)
+    (λ node it. record node { subcommand_help_heading = it })
     ∷ setting (codes "display_order") (given number_of)
     (λ node. node.display_order) (λ node it. record node { display_order = it }) ∷ []
 
--- what is left out, whether other programs may be named, and whether the program's name is
--- no word of a command line
+-- what is left out
 abbrev pub flags : List (Setting Node)
 flags =
     setting (codes "hide") as_bool (λ node. node.hide) (λ node it. record node { hide = it })
@@ -48,7 +51,12 @@ flags =
     (λ node. node.disable_version_flag) (λ node it. record node { disable_version_flag = it })
     ∷ setting (codes "disable_help_subcommand") as_bool
     (λ node. node.disable_help_subcommand) (λ node it. record node { disable_help_subcommand = it })
-    ∷ setting (codes "allow_external_subcommands") as_bool
+    ∷ []
+
+-- whether other programs may be named, and whether the program's name is no word of a command line
+abbrev pub rules : List (Setting Node)
+rules =
+    setting (codes "allow_external_subcommands") as_bool
     (λ node. node.allow_external_subcommands)
     (λ node it. record node { allow_external_subcommands = it })
     ∷ setting (codes "no_binary_name") as_bool
@@ -56,8 +64,8 @@ flags =
 
 -- the keys that a command may have
 unfoldable pub command_keys : List (List ℕ)
-command_keys = codes "name" ∷ ((keys_of texts ++ keys_of names) ++ keys_of flags)
-    ++ codes "args" ∷ codes "subcommands" ∷ []
+command_keys = codes "name" ∷ ((((keys_of texts ++ keys_of names) ++ keys_of surroundings)
+    ++ keys_of flags) ++ keys_of rules) ++ codes "args" ∷ codes "subcommands" ∷ []
 
 -- a list of arguments
 abbrev pub arguments_of : Data → Option (List Arg)
@@ -73,7 +81,8 @@ name_of d = if has_only command_keys d then get (codes "name") d >>= as_str else
 
 -- what the keys besides the name and the children set
 abbrev pub with_rest : Data → Node → Option Node
-with_rest d node = set_all texts d node >>= set_all names d >>= set_all flags d >>= with_args d
+with_rest d node = set_all texts d node >>= set_all names d >>= set_all surroundings d
+    >>= set_all flags d >>= set_all rules d >>= with_args d
 
 -- the node of the command that an object describes
 abbrev pub own_of : Data → Option Node

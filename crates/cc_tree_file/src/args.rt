@@ -22,8 +22,8 @@ macro_rules! each_key {
             "id" id id,
             "short" names short,
             "long" names long,
-            "help" names help,
-            "help_heading" names help_heading,
+            "help" texts help,
+            "help_heading" texts help_heading,
             "action" values action,
             "num_args" values num_args,
             "value_names" values value_names,
@@ -39,17 +39,18 @@ macro_rules! each_key {
             "global" flags global,
             "hide" flags hide,
             "allow_hyphen_values" flags allow_hyphen_values,
-            "short_aliases" aliases short_aliases,
-            "visible_short_aliases" aliases visible_short_aliases,
-            "aliases" aliases aliases,
-            "visible_aliases" aliases visible_aliases,
+            "short_aliases" hidden_aliases short_aliases,
+            "aliases" hidden_aliases aliases,
+            "visible_short_aliases" shown_aliases visible_short_aliases,
+            "visible_aliases" shown_aliases visible_aliases,
         }
     };
 }
 
 const KEYS: &[&str] = each_key!(all_keys!);
 
-/// The argument that an object describes.
+/// The argument that an object describes. Fails with `BadForm` where it describes none, and with
+/// `Memory`.
 #[tactic(auto, unfolding(crate::specs::ArgumentForm::argument_of))]
 pub fn arg(alloc: Global, tree: &Value<'_>) -> Result<Arg, TreeError>
     ensures { GivesSame result (form.argument_of (view tree.now)) }
@@ -81,16 +82,25 @@ fn set_rest(parts: &mut ArgParts, alloc: Global, tree: &Value<'_>) -> Result<(),
     ensures { Sets result (form.with_rest (view tree.now)) parts.old parts.new }
 {
     set_names(parts, alloc, tree)?;
+    set_texts(parts, alloc, tree)?;
     set_values(parts, alloc, tree)?;
     set_surroundings(parts, alloc, tree)?;
     set_flags(parts, alloc, tree)?;
-    set_aliases(parts, alloc, tree)
+    set_hidden_aliases(parts, alloc, tree)?;
+    set_shown_aliases(parts, alloc, tree)
 }
 
 fn set_names(parts: &mut ArgParts, alloc: Global, tree: &Value<'_>) -> Result<(), TreeError>
     ensures { Sets result (set_all form.names (view tree.now)) parts.old parts.new }
 {
     each_key!(set_group! names, parts, alloc, tree);
+    Ok(())
+}
+
+fn set_texts(parts: &mut ArgParts, alloc: Global, tree: &Value<'_>) -> Result<(), TreeError>
+    ensures { Sets result (set_all form.texts (view tree.now)) parts.old parts.new }
+{
+    each_key!(set_group! texts, parts, alloc, tree);
     Ok(())
 }
 
@@ -115,9 +125,20 @@ fn set_flags(parts: &mut ArgParts, alloc: Global, tree: &Value<'_>) -> Result<()
     Ok(())
 }
 
-fn set_aliases(parts: &mut ArgParts, alloc: Global, tree: &Value<'_>) -> Result<(), TreeError>
-    ensures { Sets result (set_all form.aliases (view tree.now)) parts.old parts.new }
+fn set_hidden_aliases(
+    parts: &mut ArgParts,
+    alloc: Global,
+    tree: &Value<'_>,
+) -> Result<(), TreeError>
+    ensures { Sets result (set_all form.hidden_aliases (view tree.now)) parts.old parts.new }
 {
-    each_key!(set_group! aliases, parts, alloc, tree);
+    each_key!(set_group! hidden_aliases, parts, alloc, tree);
+    Ok(())
+}
+
+fn set_shown_aliases(parts: &mut ArgParts, alloc: Global, tree: &Value<'_>) -> Result<(), TreeError>
+    ensures { Sets result (set_all form.shown_aliases (view tree.now)) parts.old parts.new }
+{
+    each_key!(set_group! shown_aliases, parts, alloc, tree);
     Ok(())
 }

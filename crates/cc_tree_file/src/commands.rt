@@ -23,19 +23,19 @@ macro_rules! each_key {
         $all! {
             [$($asked)*]
             "name" name name,
-            "bin_name" texts bin_name,
             "about" texts about,
             "version" texts version,
-            "subcommand_help_heading" texts subcommand_help_heading,
+            "bin_name" names bin_name,
             "aliases" names aliases,
             "visible_aliases" names visible_aliases,
-            "display_order" names display_order,
+            "subcommand_help_heading" surroundings subcommand_help_heading,
+            "display_order" surroundings display_order,
             "hide" flags hide,
             "disable_help_flag" flags disable_help_flag,
             "disable_version_flag" flags disable_version_flag,
             "disable_help_subcommand" flags disable_help_subcommand,
-            "allow_external_subcommands" flags allow_external_subcommands,
-            "no_binary_name" flags no_binary_name,
+            "allow_external_subcommands" rules allow_external_subcommands,
+            "no_binary_name" rules no_binary_name,
             "args" lists arguments,
             "subcommands" lists children,
         }
@@ -44,7 +44,8 @@ macro_rules! each_key {
 
 const KEYS: &[&str] = each_key!(all_keys!);
 
-/// The command that an object describes, with its children.
+/// The command that an object describes, with its children. Fails with `BadForm` where it describes
+/// none, and with `Memory`.
 #[cycle(commands)]
 pub fn command(alloc: Global, tree: &Value<'_>) -> Result<Command, TreeError>
     ensures { GivesSame result (form.command_of (view tree.now)) }
@@ -102,7 +103,9 @@ fn set_rest(node: &mut Node, alloc: Global, tree: &Value<'_>) -> Result<(), Tree
 {
     set_texts(node, alloc, tree)?;
     set_names(node, alloc, tree)?;
+    set_surroundings(node, alloc, tree)?;
     set_flags(node, alloc, tree)?;
+    set_rules(node, alloc, tree)?;
     add_args(node, alloc, tree)
 }
 
@@ -120,10 +123,24 @@ fn set_names(node: &mut Node, alloc: Global, tree: &Value<'_>) -> Result<(), Tre
     Ok(())
 }
 
+fn set_surroundings(node: &mut Node, alloc: Global, tree: &Value<'_>) -> Result<(), TreeError>
+    ensures { Sets result (set_all form.surroundings (view tree.now)) node.old node.new }
+{
+    each_key!(set_group! surroundings, node, alloc, tree);
+    Ok(())
+}
+
 fn set_flags(node: &mut Node, alloc: Global, tree: &Value<'_>) -> Result<(), TreeError>
     ensures { Sets result (set_all form.flags (view tree.now)) node.old node.new }
 {
     each_key!(set_group! flags, node, alloc, tree);
+    Ok(())
+}
+
+fn set_rules(node: &mut Node, alloc: Global, tree: &Value<'_>) -> Result<(), TreeError>
+    ensures { Sets result (set_all form.rules (view tree.now)) node.old node.new }
+{
+    each_key!(set_group! rules, node, alloc, tree);
     Ok(())
 }
 

@@ -9,7 +9,7 @@ use thiserror::Error as ThisError;
 /// Why the bytes of a file describe no command.
 #[derive(Debug, Drop, ThisError)]
 pub enum TreeError {
-    /// The bytes are no JSON.
+    /// The bytes are no UTF-8 or no JSON, are nested too deep, or have a number out of range.
     #[error("tree: not JSON")]
     NotJson,
     /// The JSON has another key, kind or range than the tree of a command.

@@ -18,9 +18,11 @@ macro_rules! set_group {
 
 // What is done for a key, where it is of the group that is asked for.
 macro_rules! only_in {
-    (aliases aliases $done:expr) => { $done };
     (flags flags $done:expr) => { $done };
+    (hidden_aliases hidden_aliases $done:expr) => { $done };
     (names names $done:expr) => { $done };
+    (rules rules $done:expr) => { $done };
+    (shown_aliases shown_aliases $done:expr) => { $done };
     (surroundings surroundings $done:expr) => { $done };
     (texts texts $done:expr) => { $done };
     (values values $done:expr) => { $done };

@@ -16,7 +16,8 @@ use cc_json::{JsonError, Scratch, Value, read_value};
 use std::alloc::Global;
 
 /// Returns the command that the bytes of a tree file describe. Fails with `NotJson` where the bytes
-/// are no JSON, with `BadForm` where the JSON describes no command, and with `Memory`.
+/// are no UTF-8 or no JSON, are nested too deep or have a number out of range; with `BadForm` where
+/// the JSON describes no command; and with `Memory`.
 pub fn read_tree(alloc: Global, bytes: &[u8]) -> Result<Command, TreeError>
     ensures { ReadsTree bytes.now result }
 {

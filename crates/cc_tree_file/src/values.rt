@@ -28,7 +28,8 @@ pub trait FromValue: Drop {
         ensures { GivesSame result (form (view value.now)) };
 }
 
-/// Sets a field to what the value at a key says; it stays where the object lacks the key.
+/// Sets a field to what the value at a key says; it stays where the object lacks the key. Fails as
+/// `FromValue::from_value` does.
 #[tactic(auto, unfolding(crate::specs::TreeForm::field_from))]
 pub fn set<T: FromValue>(
     field: &mut T,
@@ -45,7 +46,7 @@ pub fn set<T: FromValue>(
     Ok(())
 }
 
-/// A text.
+/// The text that a value is. Fails with `BadForm` where it is none, and with `Memory`.
 pub fn text(alloc: Global, value: &Value<'_>) -> Result<String, TreeError>
     ensures { Gives string_bytes result (as_str (view value.now)) }
 {

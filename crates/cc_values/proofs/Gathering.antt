@@ -1,4 +1,4 @@
--- What is made of an answer, by what the argument has.
+-- What is made of the list that was returned, by what the argument has.
 use Rattle.std.proofs.Common.{◌≡◌, ◌∙◌, ap, sym, refl, subst, ℕ, List, [], map, Bool, true, false, Option, Some, None}
 use Rattle.std.specs.Prelude.{filter}
 use Rattle.cc_base.specs.Sorting.{in_order}
@@ -20,29 +20,29 @@ sorted_none = refl
 
 module _ (lent : Lent) (arg : Arg) (number : ℕ) (text : List ℕ) where
   by_parts : (completer : Option ArgValueCompleter) (list : Option ArgValueCandidates) (values : Option (List PossibleValue)) → arg.completer ≡ completer → arg.candidates ≡ list → possible_values arg ≡ values
-      → (answer : List CompletionCandidate) → Allows lent (question_by completer list values arg.value_hint number text) answer → Gathers lent arg number text (gathered_by completer list values text answer)
+      → (returned : List CompletionCandidate) → Allows lent (question_by completer list values arg.value_hint number text) returned → Gathers lent arg number text (gathered_by completer list values text returned)
   unfolding question gather
-  by_parts completer list values is_completer is_list is_values answer allowed = (
-    answer,
-    subst (λ (x : Option ArgValueCompleter × Option ArgValueCandidates × Option (List PossibleValue)). Allows lent (question_by x.0 x.1 x.2 arg.value_hint number text) answer) (λ k. (sym is_completer k, sym is_list k, sym is_values k)) allowed,
-    λ k. gathered_by (sym is_completer k) (sym is_list k) (sym is_values k) text answer,
+  by_parts completer list values is_completer is_list is_values returned allowed = (
+    returned,
+    subst (λ (x : Option ArgValueCompleter × Option ArgValueCandidates × Option (List PossibleValue)). Allows lent (question_by x.0 x.1 x.2 arg.value_hint number text) returned) (λ k. (sym is_completer k, sym is_list k, sym is_values k)) allowed,
+    λ k. gathered_by (sym is_completer k) (sym is_list k) (sym is_values k) text returned,
   )
 
-  pub of_completer : (which : ArgValueCompleter) (answer : List CompletionCandidate) → arg.completer ≡ Some which → lent.completes which.number number text answer → Gathers lent arg number text answer
-  of_completer which answer is allowed = by_parts (Some which) arg.candidates (possible_values arg) is refl refl answer allowed
+  pub of_completer : (which : ArgValueCompleter) (returned : List CompletionCandidate) → arg.completer ≡ Some which → lent.completes which.number number text returned → Gathers lent arg number text returned
+  of_completer which returned is allowed = by_parts (Some which) arg.candidates (possible_values arg) is refl refl returned allowed
 
-  pub of_list : (which : ArgValueCandidates) (answer kept : List CompletionCandidate) → arg.completer ≡ None → arg.candidates ≡ Some which → lent.lists which.number answer → kept ≡ filter (begins text) answer → Gathers lent arg number text kept
-  of_list which answer kept none is allowed keeps = subst (Gathers lent arg number text) (sym keeps) (by_parts None (Some which) (possible_values arg) none is refl answer allowed)
+  pub of_list : (which : ArgValueCandidates) (returned kept : List CompletionCandidate) → arg.completer ≡ None → arg.candidates ≡ Some which → lent.lists which.number returned → kept ≡ filter (begins text) returned → Gathers lent arg number text kept
+  of_list which returned kept none is allowed keeps = subst (Gathers lent arg number text) (sym keeps) (by_parts None (Some which) (possible_values arg) none is refl returned allowed)
 
   pub of_values : (values : List PossibleValue) (kept : List CompletionCandidate) → arg.completer ≡ None → arg.candidates ≡ None → possible_values arg ≡ Some values → kept ≡ filter (begins text) (map value_candidate values) → Gathers lent arg number text kept
   of_values values kept none none_too is keeps = subst (Gathers lent arg number text) (sym keeps) (by_parts None None (Some values) none none_too is [] refl)
 
-  pub of_paths : (answer found : List CompletionCandidate) (hint : ValueHint) (path : Bool) → arg.completer ≡ None → arg.candidates ≡ None → possible_values arg ≡ None → hint ≡ arg.value_hint → path ≡ is_path hint → path ≡ true → lent.finds hint text answer → found ≡ sorted answer → Gathers lent arg number text found
-  of_paths answer found hint path none none_too no_values own is so allowed sorts =
+  pub of_paths : (returned found : List CompletionCandidate) (hint : ValueHint) (path : Bool) → arg.completer ≡ None → arg.candidates ≡ None → possible_values arg ≡ None → hint ≡ arg.value_hint → path ≡ is_path hint → path ≡ true → lent.finds hint text returned → found ≡ sorted returned → Gathers lent arg number text found
+  of_paths returned found hint path none none_too no_values own is so allowed sorts =
       subst (Gathers lent arg number text) (sym sorts)
-      (by_parts None None None none none_too no_values answer
-      (subst (λ h. Allows lent (question_of_hint (is_path h) h text) answer) own
-      (subst (λ b. Allows lent (question_of_hint b hint text) answer) (sym so ∙ is) allowed)))
+      (by_parts None None None none none_too no_values returned
+      (subst (λ h. Allows lent (question_of_hint (is_path h) h text) returned) own
+      (subst (λ b. Allows lent (question_of_hint b hint text) returned) (sym so ∙ is) allowed)))
 
   pub of_nothing : (found : List CompletionCandidate) (hint : ValueHint) (path : Bool) → arg.completer ≡ None → arg.candidates ≡ None → possible_values arg ≡ None → hint ≡ arg.value_hint → path ≡ is_path hint → path ≡ false → found ≡ [] → Gathers lent arg number text found
   of_nothing found hint path none none_too no_values own is not_so empty =

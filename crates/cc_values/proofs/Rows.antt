@@ -3,7 +3,7 @@ use Rattle.std.specs.Prelude.{◌≡◌, [], ◌∷◌, true, false, Some, None,
 use Rattle.std.specs.Char.{encode_utf8}
 use Rattle.cc_arg.specs.declared.parts.ArgParts.{ArgParts as Arg}
 use Rattle.cc_arg.specs.Arguments.{new_arg}
-use Rattle.cc_arg.specs.Printed.{printed, printed_behind, printed_names, printed_values}
+use Rattle.cc_arg.specs.Printed.{printed, printed_after_name, printed_names, printed_values}
 use Rattle.cc_candidates.specs.Candidate.{new_candidate}
 use Rattle.cc_values.specs.Parts.{front, front_length, part}
 use Rattle.cc_values.specs.Values.{gather, question, nothing, values}
@@ -33,5 +33,5 @@ unfolding question
 color_asks_nothing = refl
 
 values_of_color : values color (codes "a") [] ≡ record (new_candidate (codes "auto")) { tag = Some (codes "--color <color>") } ∷ []
-unfolding values gather front_length printed printed_behind printed_names printed_values
+unfolding values gather front_length printed printed_after_name printed_names printed_values
 values_of_color = refl

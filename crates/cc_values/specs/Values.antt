@@ -1,4 +1,4 @@
--- The values of an argument for a word: what is asked, what may be answered, and what is made of
+-- The values of an argument for a word: what is asked, what may be returned, and what is made of
 -- it.
 use Rattle.std.specs.Prelude.{◌≡◌, ℕ, List, [], ◌++◌, map, filter, Bool, true, false, Option, Some, None, unwrap_or}
 use Rattle.std.specs.Ordering.{is_lt}
@@ -12,7 +12,7 @@ use Rattle.cc_arg.specs.Printed.{printed}
 use Rattle.cc_candidates.specs.Beginning.{begins}
 use Rattle.cc_candidates.specs.declared.candidate.CompletionCandidate.{CompletionCandidate}
 use Rattle.cc_candidates.specs.Candidate.{candidate_cmp, new_candidate}
-use Rattle.cc_candidates.specs.Lent.{AnswersAt}
+use Rattle.cc_candidates.specs.Lent.{ReturnsAt}
 use Rattle.cc_candidates.specs.declared.numbers.ArgValueCandidates.{ArgValueCandidates}
 use Rattle.cc_candidates.specs.declared.numbers.ArgValueCompleter.{ArgValueCompleter}
 use Rattle.cc_values.specs.Parts.{front, part}
@@ -25,7 +25,7 @@ pub data Question : Type 0 where
   candidates : ℕ → Question
   paths : ValueHint → List ℕ → Question
 
--- what each may answer
+-- what each may return
 pub record Lent : Type 1 where
   pub completes : ℕ → ℕ → List ℕ → List CompletionCandidate → Type 0
   pub lists : ℕ → List CompletionCandidate → Type 0
@@ -39,14 +39,14 @@ abbrev pub lent_by : {C F L G : Type 0}
     → (L → List CompletionCandidate → Type 0) → List L → (G → List CompletionCandidate → Type 0)
     → List G
     → (ValueHint → List ℕ → List CompletionCandidate → Type 0) → Lent
-lent_by Completes completers Answers closures Lists lists Gives list_closures Finds = record {
-  completes = λ which number text. AnswersAt (λ item. Completes item number text) completers
-      (λ closure. Answers closure number text) closures which;
-  lists = λ which. AnswersAt Lists lists Gives list_closures which;
+lent_by Completes completers ClosureCompletes closures Lists lists ClosureLists list_closures Finds = record {
+  completes = λ which number text. ReturnsAt (λ item. Completes item number text) completers
+      (λ closure. ClosureCompletes closure number text) closures which;
+  lists = λ which. ReturnsAt Lists lists ClosureLists list_closures which;
   finds = Finds;
 }
 
--- a list that may be answered to a question; to none, no candidates
+-- a list that may be returned for a question; for none, no candidates
 abbrev pub Allows : Lent → Question → List CompletionCandidate → Type 0
 Allows lent nothing list = list ≡ []
 Allows lent (completer which number text) list = lent.completes which number text list
@@ -87,7 +87,7 @@ value_candidate value = record (new_candidate value.name) { help = value.help; h
 unfoldable pub sorted : List CompletionCandidate → List CompletionCandidate
 sorted list = in_order (λ one other. is_lt (candidate_cmp one other)) list
 
--- what is made of the answer: a completer's stays, of a list and of the possible values those stay
+-- what is made of what was returned: a completer's stays, of a list and of the possible values those stay
 -- that begin with the text, and paths are sorted as one list
 abbrev pub gathered_by : Option ArgValueCompleter → Option ArgValueCandidates
     → Option (List PossibleValue) → List ℕ → List CompletionCandidate → List CompletionCandidate
@@ -102,8 +102,8 @@ gather arg text lent = gathered_by arg.completer arg.candidates (possible_values
 -- what an argument offers for a text that holds no delimiter
 abbrev pub Gathers : Lent → Arg → ℕ → List ℕ → List CompletionCandidate → Type 0
 Gathers lent arg number text result =
-    (answer : List CompletionCandidate) × Allows lent (question arg number text) answer
-    × (result ≡ gather arg text answer)
+    (returned : List CompletionCandidate) × Allows lent (question arg number text) returned
+    × (result ≡ gather arg text returned)
 
 -- a candidate after the earlier values of its word; a missing tag is the printed form
 abbrev pub as_value : List ℕ → List ℕ → CompletionCandidate → CompletionCandidate
@@ -114,7 +114,7 @@ as_value before form candidate =
           (unwrap_or candidate.tag form);
     }
 
--- the values of an argument for a word, where the question is answered by this list
+-- the values of an argument for a word, where this list was returned for the question
 unfoldable pub values : Arg → List ℕ → List CompletionCandidate → List CompletionCandidate
 values arg word lent = map (as_value (front arg.value_delimiter word) (printed arg))
     (gather arg (part arg.value_delimiter word) lent)
@@ -122,6 +122,6 @@ values arg word lent = map (as_value (front arg.value_delimiter word) (printed a
 -- the values of an argument for a word, as the value of this number
 abbrev pub ArgumentValues : Lent → Arg → List ℕ → ℕ → List CompletionCandidate → Type 0
 ArgumentValues lent arg word number result =
-    (answer : List CompletionCandidate) × Allows lent
-    (question arg number (part arg.value_delimiter word)) answer
-    × (result ≡ values arg word answer)
+    (returned : List CompletionCandidate) × Allows lent
+    (question arg number (part arg.value_delimiter word)) returned
+    × (result ≡ values arg word returned)

@@ -18,7 +18,7 @@ use std::alloc::{AllocError, Global};
 /// A source of paths: a folder, read from where a program runs. It fails only where an allocation
 /// fails.
 pub trait PathSource {
-    // the lists that it may answer, for a kind of paths and the text to complete
+    // the lists that it may return, for a kind of paths and the text to complete
     ghost finds: { Self → ValueHint → List ℕ → List CompletionCandidate → Type 0 };
 
     /// The paths of the kind that the hint names which complete the text, in any order.
@@ -43,9 +43,9 @@ pub fn arg_values<P: PathSource>(
     paths: &P,
 ) -> Result<Vec<CompletionCandidate>, AllocError>
     ensures { IfOk result (λ found. ArgumentValues (lent_by
-        (λ item. (⟦<dyn ValueCompleter as ValueCompleter>⟧ item.vtable).answers item.value)
+        (λ item. (⟦<dyn ValueCompleter as ValueCompleter>⟧ item.vtable).completes item.value)
         completers.now.completers.items
-        ⟦<FnCompleter as ValueCompleter>⟧.answers completers.now.completer_closures.items
+        ⟦<FnCompleter as ValueCompleter>⟧.completes completers.now.completer_closures.items
         (λ item. (⟦<dyn ValueCandidates as ValueCandidates>⟧ item.vtable).lists item.value)
         completers.now.lists.items
         ⟦<FnCandidates as ValueCandidates>⟧.lists completers.now.list_closures.items
@@ -67,9 +67,9 @@ fn gather<P: PathSource>(
     paths: &P,
 ) -> Result<Vec<CompletionCandidate>, AllocError>
     ensures { IfOk result (λ found. Gathers (lent_by
-        (λ item. (⟦<dyn ValueCompleter as ValueCompleter>⟧ item.vtable).answers item.value)
+        (λ item. (⟦<dyn ValueCompleter as ValueCompleter>⟧ item.vtable).completes item.value)
         completers.now.completers.items
-        ⟦<FnCompleter as ValueCompleter>⟧.answers completers.now.completer_closures.items
+        ⟦<FnCompleter as ValueCompleter>⟧.completes completers.now.completer_closures.items
         (λ item. (⟦<dyn ValueCandidates as ValueCandidates>⟧ item.vtable).lists item.value)
         completers.now.lists.items
         ⟦<FnCandidates as ValueCandidates>⟧.lists completers.now.list_closures.items
@@ -110,8 +110,8 @@ fn sorted_paths<P: PathSource>(
     hint: ValueHint,
     part: &str,
 ) -> Result<Vec<CompletionCandidate>, AllocError>
-    ensures { IfOk result (λ found. (answer : List CompletionCandidate)
-        × P.finds paths.now hint part.now answer × (found.items ≡ sorted answer)) }
+    ensures { IfOk result (λ found. (returned : List CompletionCandidate)
+        × P.finds paths.now hint part.now returned × (found.items ≡ sorted returned)) }
 {
     let mut found = paths.find(alloc, hint, part)?;
     sort(&mut found)?;

@@ -4,7 +4,7 @@ use Rattle.std.proofs.lemmas.Bool.{cases_Bool}
 use Rattle.cc_arg.specs.declared.parts.ArgParts.{ArgParts as Arg}
 use Rattle.cc_walk.specs.Blocks.{follows}
 use Rattle.cc_walk.specs.Lookup.{allows_hyphens_at, limit}
-use Rattle.cc_walk.specs.Machine.{Stand, closed_step, entered, open_step, run_length, stand_step, step, value_state}
+use Rattle.cc_walk.specs.Machine.{NodeState, closed_step, entered, open_step, run_length, node_state_step, step, value_state}
 use Rattle.cc_walk.specs.Signs.{sign_of}
 use Rattle.cc_command.specs.Tree.{Tree}
 use Rattle.cc_command.specs.Names.{find_child}
@@ -33,11 +33,11 @@ step_position arguments position false Nothing sign = closed_position arguments 
 step_position arguments position false (PositionalRun values) sign = closed_position arguments position values sign
 step_position arguments position false PositionMoved sign = closed_position arguments position 0 sign
 
-entered_position : (stand : Stand) (word : List ℕ) (child : Option Tree) (bound : ℕ) → stand.state.position ≤ bound + 1 → (entered stand word child).state.position ≤ bound + 1 + 1
-entered_position stand word (Some child) bound within = omega arith
-entered_position stand word None bound within =
-    let more = step_position stand.tree.node.arguments stand.state.position stand.state.escaped stand.state.pending (sign_of stand.tree.node.arguments word) in omega (arith, within, more)
+entered_position : (here : NodeState) (word : List ℕ) (child : Option Tree) (bound : ℕ) → here.state.position ≤ bound + 1 → (entered here word child).state.position ≤ bound + 1 + 1
+entered_position here word (Some child) bound within = omega arith
+entered_position here word None bound within =
+    let more = step_position here.tree.node.arguments here.state.position here.state.escaped here.state.pending (sign_of here.tree.node.arguments word) in omega (arith, within, more)
 
 -- after so many words the position is at most one more
-pub stand_position : (stand : Stand) (word : List ℕ) (bound : ℕ) → stand.state.position ≤ bound + 1 → (stand_step stand word).state.position ≤ bound + 1 + 1
-stand_position stand word bound within = entered_position stand word (find_child stand.tree.children word) bound within
+pub node_state_position : (here : NodeState) (word : List ℕ) (bound : ℕ) → here.state.position ≤ bound + 1 → (node_state_step here word).state.position ≤ bound + 1 + 1
+node_state_position here word bound within = entered_position here word (find_child here.tree.children word) bound within

@@ -6,7 +6,7 @@ use Rattle.std.proofs.lemmas.Bool.{cases_Bool, or_parts}
 use Rattle.std.proofs.Math.Bool.{or-false}
 use Rattle.cc_command.specs.Tree.{Forest, none, more, Tree}
 use Rattle.cc_command.specs.Names.{contains_name, find_child, has_name, visible_child, visible_names}
-use Rattle.cc_walk.specs.Machine.{Stand, entered, walk}
+use Rattle.cc_walk.specs.Machine.{NodeState, entered, walk}
 use Rattle.cc_walk.specs.Visible.{HasNoHiddenAlias, is_hidden_alias, visible_end}
 
 or_neither : (a b : Bool) → a ≡ false → b ≡ false → (a || b) ≡ false
@@ -44,20 +44,20 @@ all_hide tree child word (other ∷ others) is e =
     (child_hides tree.children word other child is parts.0) (all_hide tree child word others is parts.1)
 
 -- BOTH WALKS END AT ONE NODE
-pub walk_visible : (words : List (List ℕ)) (stand : Stand) → HasNoHiddenAlias stand.tree words → (walk stand words).tree ≡ visible_end stand.tree words
-walk_visible [] stand e = refl
-walk_visible (word ∷ words) stand e =
-    let parts = or_parts (is_hidden_alias stand.tree.children word) (list_any (is_hidden_alias stand.tree.children) words) e in
-    by_child (find_child stand.tree.children word) refl (child_same stand.tree.children word parts.0) parts.1 (walk_visible words)
+pub walk_visible : (words : List (List ℕ)) (node_state : NodeState) → HasNoHiddenAlias node_state.tree words → (walk node_state words).tree ≡ visible_end node_state.tree words
+walk_visible [] node_state e = refl
+walk_visible (word ∷ words) node_state e =
+    let parts = or_parts (is_hidden_alias node_state.tree.children word) (list_any (is_hidden_alias node_state.tree.children) words) e in
+    by_child (find_child node_state.tree.children word) refl (child_same node_state.tree.children word parts.0) parts.1 (walk_visible words)
   where
-    by_child : (o : Option Tree) → find_child stand.tree.children word ≡ o → find_child stand.tree.children word ≡ visible_child stand.tree.children word → HasNoHiddenAlias stand.tree words
-        → ((later : Stand) → HasNoHiddenAlias later.tree words → (walk later words).tree ≡ visible_end later.tree words)
-        → (walk stand (word ∷ words)).tree ≡ visible_end stand.tree (word ∷ words)
+    by_child : (o : Option Tree) → find_child node_state.tree.children word ≡ o → find_child node_state.tree.children word ≡ visible_child node_state.tree.children word → HasNoHiddenAlias node_state.tree words
+        → ((later : NodeState) → HasNoHiddenAlias later.tree words → (walk later words).tree ≡ visible_end later.tree words)
+        → (walk node_state (word ∷ words)).tree ≡ visible_end node_state.tree (word ∷ words)
     by_child None is same hidden later =
-        ap (λ o. (walk (entered stand word o) words).tree) is
-        ∙ later (entered stand word None) hidden
-        ∙ ap (λ o. visible_end (unwrap_or o stand.tree) words) (sym is ∙ same)
+        ap (λ o. (walk (entered node_state word o) words).tree) is
+        ∙ later (entered node_state word None) hidden
+        ∙ ap (λ o. visible_end (unwrap_or o node_state.tree) words) (sym is ∙ same)
     by_child (Some child) is same hidden later =
-        ap (λ o. (walk (entered stand word o) words).tree) is
-        ∙ later (entered stand word (Some child)) (all_hide stand.tree child word words is hidden)
-        ∙ ap (λ o. visible_end (unwrap_or o stand.tree) words) (sym is ∙ same)
+        ap (λ o. (walk (entered node_state word o) words).tree) is
+        ∙ later (entered node_state word (Some child)) (all_hide node_state.tree child word words is hidden)
+        ∙ ap (λ o. visible_end (unwrap_or o node_state.tree) words) (sym is ∙ same)

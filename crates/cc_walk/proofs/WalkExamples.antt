@@ -8,7 +8,7 @@ use Rattle.cc_command.specs.Made.{new_tree, with_argument, with_child}
 use Rattle.cc_walk.specs.declared.state.Pending.{Pending}
 use Rattle.cc_walk.specs.declared.state.Pending.TheVariants.{OptionOpen, PositionMoved, Nothing, PositionalRun}
 use Rattle.cc_walk.specs.Lookup.{allows_hyphens_at, limit, positional_at}
-use Rattle.cc_walk.specs.Machine.{Stand}
+use Rattle.cc_walk.specs.Machine.{NodeState}
 use Rattle.cc_walk.specs.Signs.{sign_of}
 use Rattle.cc_walk.proofs.Whole.{walked}
 
@@ -21,11 +21,11 @@ option name = record (new_arg name) { long = Some name; display_order = Some 0 }
 abbrev positional : ℕ → Arg
 positional position = record (new_arg (codes "values")) { index = Some position }
 
-abbrev stand : Tree → ℕ → Pending → Stand
-stand tree position pending = record { tree = tree; state = record { position = position; escaped = false; pending = pending } }
+abbrev node_state : Tree → ℕ → Pending → NodeState
+node_state tree position pending = record { tree = tree; state = record { position = position; escaped = false; pending = pending } }
 
-abbrev escaped_stand : Tree → ℕ → Pending → Stand
-escaped_stand tree position pending = record { tree = tree; state = record { position = position; escaped = true; pending = pending } }
+abbrev escaped_node_state : Tree → ℕ → Pending → NodeState
+escaped_node_state tree position pending = record { tree = tree; state = record { position = position; escaped = true; pending = pending } }
 
 -- `test`, with a visible and a hidden alias
 abbrev test : Tree
@@ -35,21 +35,21 @@ abbrev app : Tree
 app = with_child (new_tree (codes "app")) test
 
 -- no words, and `--` alone
-no_words : walked app [] ≡ stand app 1 Nothing
+no_words : walked app [] ≡ node_state app 1 Nothing
 no_words = refl
 
-dashes : walked app (codes "--" ∷ []) ≡ escaped_stand app 1 Nothing
+dashes : walked app (codes "--" ∷ []) ≡ escaped_node_state app 1 Nothing
 unfolding sign_of
 dashes = refl
 
 -- a child is found by each of its names, also after `--`
-by_visible_alias : walked app (codes "t" ∷ []) ≡ stand test 1 Nothing
+by_visible_alias : walked app (codes "t" ∷ []) ≡ node_state test 1 Nothing
 by_visible_alias = refl
 
-by_hidden_alias : walked app (codes "tst" ∷ []) ≡ stand test 1 Nothing
+by_hidden_alias : walked app (codes "tst" ∷ []) ≡ node_state test 1 Nothing
 by_hidden_alias = refl
 
-child_after_dashes : walked app (codes "--" ∷ codes "test" ∷ []) ≡ escaped_stand test 1 Nothing
+child_after_dashes : walked app (codes "--" ∷ codes "test" ∷ []) ≡ escaped_node_state test 1 Nothing
 unfolding sign_of
 child_after_dashes = refl
 
@@ -60,19 +60,19 @@ opt = option (codes "opt")
 abbrev hyphens : Tree
 hyphens = with (with (with (new_tree (codes "app")) opt) (record (positional 1) { allow_hyphen_values = true })) (positional 2)
 
-opened : walked hyphens (codes "--opt" ∷ []) ≡ stand hyphens 1 (OptionOpen opt 0)
+opened : walked hyphens (codes "--opt" ∷ []) ≡ node_state hyphens 1 (OptionOpen opt 0)
 unfolding sign_of
 opened = refl
 
-left_by_hyphen : walked hyphens (codes "--opt" ∷ codes "-z" ∷ []) ≡ stand hyphens 2 Nothing
+left_by_hyphen : walked hyphens (codes "--opt" ∷ codes "-z" ∷ []) ≡ node_state hyphens 2 Nothing
 unfolding sign_of chars limit allows_hyphens_at positional_at
 left_by_hyphen = refl
 
-hyphen_is_value : walked hyphens (codes "--opt" ∷ codes "-" ∷ []) ≡ stand hyphens 1 Nothing
+hyphen_is_value : walked hyphens (codes "--opt" ∷ codes "-" ∷ []) ≡ node_state hyphens 1 Nothing
 unfolding sign_of
 hyphen_is_value = refl
 
-unknown_long_is_value : walked hyphens (codes "--other" ∷ []) ≡ stand hyphens 2 Nothing
+unknown_long_is_value : walked hyphens (codes "--other" ∷ []) ≡ node_state hyphens 2 Nothing
 unfolding sign_of limit allows_hyphens_at positional_at
 unknown_long_is_value = refl
 
@@ -86,28 +86,28 @@ verbose = record (option (codes "verbose")) { short = Some 118; visible_aliases 
 abbrev colors : Tree
 colors = with (with (new_tree (codes "app")) color) verbose
 
-by_long : walked colors (codes "--color" ∷ []) ≡ stand colors 1 (OptionOpen color 0)
+by_long : walked colors (codes "--color" ∷ []) ≡ node_state colors 1 (OptionOpen color 0)
 unfolding sign_of
 by_long = refl
 
-with_equals : walked colors (codes "--color=auto" ∷ []) ≡ stand colors 1 Nothing
+with_equals : walked colors (codes "--color=auto" ∷ []) ≡ node_state colors 1 Nothing
 unfolding sign_of
 with_equals = refl
 
-value_in_cluster : walked colors (codes "-c=" ∷ []) ≡ stand colors 1 Nothing
+value_in_cluster : walked colors (codes "-c=" ∷ []) ≡ node_state colors 1 Nothing
 unfolding sign_of chars lib.Utf8.encode
 value_in_cluster = refl
 
-last_in_cluster : walked colors (codes "-vc" ∷ []) ≡ stand colors 1 (OptionOpen color 0)
+last_in_cluster : walked colors (codes "-vc" ∷ []) ≡ node_state colors 1 (OptionOpen color 0)
 unfolding sign_of chars
 last_in_cluster = refl
 
 -- the second `c` is the value of the first
-twice_in_cluster : walked colors (codes "-cc" ∷ []) ≡ stand colors 1 Nothing
+twice_in_cluster : walked colors (codes "-cc" ∷ []) ≡ node_state colors 1 Nothing
 unfolding sign_of chars lib.Utf8.encode
 twice_in_cluster = refl
 
-taken : walked colors (codes "-c" ∷ codes "auto" ∷ []) ≡ stand colors 1 Nothing
+taken : walked colors (codes "-c" ∷ codes "auto" ∷ []) ≡ node_state colors 1 Nothing
 unfolding sign_of chars
 taken = refl
 
@@ -115,23 +115,23 @@ taken = refl
 abbrev two : Tree
 two = with (with (new_tree (codes "app")) (record (positional 1) { num_args = Some (exactly 2) })) (record (positional 2) { num_args = Some (exactly 0) })
 
-in_a_run : walked two (codes "a" ∷ []) ≡ stand two 1 (PositionalRun 1)
+in_a_run : walked two (codes "a" ∷ []) ≡ node_state two 1 (PositionalRun 1)
 unfolding sign_of limit positional_at
 in_a_run = refl
 
-run_ends : walked two (codes "a" ∷ codes "b" ∷ []) ≡ stand two 2 Nothing
+run_ends : walked two (codes "a" ∷ codes "b" ∷ []) ≡ node_state two 2 Nothing
 unfolding sign_of limit positional_at
 run_ends = refl
 
-run_is_left : walked two (codes "a" ∷ codes "--" ∷ []) ≡ escaped_stand two 1 Nothing
+run_is_left : walked two (codes "a" ∷ codes "--" ∷ []) ≡ escaped_node_state two 1 Nothing
 unfolding sign_of limit positional_at
 run_is_left = refl
 
-moved : walked two (codes "--" ∷ codes "a" ∷ codes "b" ∷ []) ≡ escaped_stand two 2 PositionMoved
+moved : walked two (codes "--" ∷ codes "a" ∷ codes "b" ∷ []) ≡ escaped_node_state two 2 PositionMoved
 unfolding sign_of limit positional_at
 moved = refl
 
-position_without_values : walked two (codes "a" ∷ codes "b" ∷ codes "c" ∷ []) ≡ stand two 3 Nothing
+position_without_values : walked two (codes "a" ∷ codes "b" ∷ codes "c" ∷ []) ≡ node_state two 3 Nothing
 unfolding sign_of limit positional_at
 position_without_values = refl
 
@@ -139,10 +139,10 @@ position_without_values = refl
 abbrev greedy : Tree
 greedy = with (new_tree (codes "app")) (record (option (codes "o")) { allow_hyphen_values = true })
 
-greedy_takes : walked greedy (codes "--o" ∷ codes "--o" ∷ []) ≡ stand greedy 1 Nothing
+greedy_takes : walked greedy (codes "--o" ∷ codes "--o" ∷ []) ≡ node_state greedy 1 Nothing
 unfolding sign_of
 greedy_takes = refl
 
-greedy_leaves : walked greedy (codes "--o" ∷ codes "--" ∷ []) ≡ escaped_stand greedy 1 Nothing
+greedy_leaves : walked greedy (codes "--o" ∷ codes "--" ∷ []) ≡ escaped_node_state greedy 1 Nothing
 unfolding sign_of
 greedy_leaves = refl

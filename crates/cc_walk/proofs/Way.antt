@@ -10,7 +10,7 @@ use Rattle.cc_command.specs.Names.{find_child}
 use Rattle.cc_command.specs.Tree.{Tree}
 use Rattle.cc_walk.specs.Blocks.{follows, AreBlocks, Block, state_after, join, start}
 use Rattle.cc_walk.specs.Lookup.{allows_hyphens_at, limit}
-use Rattle.cc_walk.specs.Machine.{closed_step, entered, open_step, run, run_length, stand_step, step, value_state, walk}
+use Rattle.cc_walk.specs.Machine.{closed_step, entered, open_step, run, run_length, node_state_step, step, value_state, walk}
 use Rattle.cc_walk.specs.Reach.{Descend, NamesNoChild, Reach, Stay}
 use Rattle.cc_walk.proofs.Dashes.{is_escape_sign, sign_escapes}
 use Rattle.cc_command.specs.Names.{contains_name}
@@ -62,16 +62,16 @@ run_escaped arguments (word ∷ words) state =
     ∙ ap (λ b. b || contains_name words (codes "--")) (escaped_more arguments state word)
     ∙ or_assoc state.escaped (bytes_eq word (codes "--")) (contains_name words (codes "--"))
 
-stands : (tree : Tree) (state : State) (word : List ℕ) → find_child tree.children word ≡ None → stand_step (record { tree = tree; state = state }) word ≡ record { tree = tree; state = step tree.node.arguments state.position state.escaped state.pending (sign_of tree.node.arguments word) }
-stands tree state word e = ap (entered (record { tree = tree; state = state }) word) e
+stays : (tree : Tree) (state : State) (word : List ℕ) → find_child tree.children word ≡ None → node_state_step (record { tree = tree; state = state }) word ≡ record { tree = tree; state = step tree.node.arguments state.position state.escaped state.pending (sign_of tree.node.arguments word) }
+stays tree state word e = ap (entered (record { tree = tree; state = state }) word) e
 
-descends : (tree child : Tree) (state : State) (word : List ℕ) → find_child tree.children word ≡ Some child → stand_step (record { tree = tree; state = state }) word ≡ record { tree = child; state = start state.escaped }
+descends : (tree child : Tree) (state : State) (word : List ℕ) → find_child tree.children word ≡ Some child → node_state_step (record { tree = tree; state = state }) word ≡ record { tree = child; state = start state.escaped }
 descends tree child state word e = ap (entered (record { tree = tree; state = state }) word) e
 
 walk_skipped : (tree : Tree) (words rest : List (List ℕ)) (state : State) → All (NamesNoChild tree) words → walk (record { tree = tree; state = state }) (words ++ rest) ≡ walk (record { tree = tree; state = run tree.node.arguments state words }) rest
 walk_skipped tree [] rest state all = refl
 walk_skipped tree (word ∷ words) rest state all =
-    ap (λ s. walk s (words ++ rest)) (stands tree state word (All-head (NamesNoChild tree) word words all))
+    ap (λ s. walk s (words ++ rest)) (stays tree state word (All-head (NamesNoChild tree) word words all))
     ∙ walk_skipped tree words rest (step tree.node.arguments state.position state.escaped state.pending (sign_of tree.node.arguments word)) (All-tail (NamesNoChild tree) word words all)
 
 -- the walk is at the last node, in the state after the tail

@@ -76,24 +76,24 @@ run arguments state (word ∷ words) =
     (sign_of arguments word)) words
 
 -- a node and the state there
-pub record Stand : Type 0 where
+pub record NodeState : Type 0 where
   pub tree : Tree
   pub state : State
 
-abbrev pub entered : Stand → List ℕ → Option Tree → Stand
-entered stand word (Some child) = record { tree = child; state = start stand.state.escaped }
-entered stand word None =
+abbrev pub entered : NodeState → List ℕ → Option Tree → NodeState
+entered here word (Some child) = record { tree = child; state = start here.state.escaped }
+entered here word None =
     record {
-      tree = stand.tree;
+      tree = here.tree;
       state =
-          step stand.tree.node.arguments stand.state.position stand.state.escaped
-          stand.state.pending (sign_of stand.tree.node.arguments word);
+          step here.tree.node.arguments here.state.position here.state.escaped
+          here.state.pending (sign_of here.tree.node.arguments word);
     }
 
 -- a word that names a child leads down, whatever is pending
-abbrev pub stand_step : Stand → List ℕ → Stand
-stand_step stand word = entered stand word (find_child stand.tree.children word)
+abbrev pub node_state_step : NodeState → List ℕ → NodeState
+node_state_step here word = entered here word (find_child here.tree.children word)
 
-abbrev pub walk : Stand → List (List ℕ) → Stand
-walk stand [] = stand
-walk stand (word ∷ words) = walk (stand_step stand word) words
+abbrev pub walk : NodeState → List (List ℕ) → NodeState
+walk here [] = here
+walk here (word ∷ words) = walk (node_state_step here word) words

@@ -3,8 +3,8 @@
 ghost use Rattle.std.specs.Prelude.{◌≡◌, ◌<◌, length, map, string_bytes};
 ghost use Rattle.cc_flat.specs.Flat.{IsFlat, tree_at};
 ghost use Rattle.cc_walk.specs.Line.{IsLine, IsOnlyLine};
-ghost use Rattle.cc_walk.specs.Machine.{stand_step};
-ghost use Rattle.cc_walk.specs.Stands.{stand_of};
+ghost use Rattle.cc_walk.specs.Machine.{node_state_step};
+ghost use Rattle.cc_walk.specs.NodeStates.{node_state_of};
 ghost use Rattle.cc_walk.specs.Visible.{HasNoHiddenAlias, visible_end};
 
 use crate::state::State;
@@ -56,8 +56,8 @@ impl<'a> Line<'a> {
         requires node { self.node < length flat.now }
         requires position { self.state.position < usize.MAX }
         ensures within { result.node < length flat.now }
-        ensures stands { stand_of flat.now result
-            ≡ stand_step (stand_of flat.now self.entry) word.now }
+        ensures node_state { node_state_of flat.now result
+            ≡ node_state_step (node_state_of flat.now self.entry) word.now }
     {
         if let Some(child) = flat.find_child(self.node, word) {
             return Line {

@@ -28,8 +28,8 @@ data IsTail : List ℕ → Type 0 where
   tail_none : IsTail []
   tail_more : (text : List ℕ) → IsTail (95 ∷ 95 ∷ text)
 
-may_stand : Bool → ℕ → Bool
-may_stand follows byte = is_ascii_alphanumeric byte || (follows && (byte == 45 || byte == 95))
+may_follow : Bool → ℕ → Bool
+may_follow follows byte = is_ascii_alphanumeric byte || (follows && (byte == 45 || byte == 95))
 
 plain_step : (follows : Bool) (byte : ℕ) (name : List ℕ) → IsTrue (plain_after follows (byte ∷ name)) →
     IsTrue ((is_ascii_alphanumeric byte || (follows && (byte == 45 || byte == 95)))

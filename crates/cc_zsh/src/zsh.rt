@@ -33,9 +33,7 @@ impl Generator for Zsh {
     ghost file = { λ _ name. codes "_" ++ name };
 
     fn file_name(&self, alloc: Global, name: &str) -> Result<String, Error> {
-        let mut file = String::from_str(alloc, "_")?;
-        file.push_str(name)?;
-        Ok(file)
+        Ok(["_", name].concat(alloc)?)
     }
 
     fn generate<W: Sink>(

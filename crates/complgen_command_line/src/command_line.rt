@@ -137,7 +137,7 @@ fn top<'a>(alloc: Global) -> Result<Command<'a>, AllocError>
     )
 }
 
-/// The whole command line.
+/// The whole command line. Fails where memory runs out.
 pub fn command_line<'a>(alloc: Global) -> Result<Command<'a>, AllocError>
     ensures { IfOk result (λ command. app_of command ≡ program_line) }
 {

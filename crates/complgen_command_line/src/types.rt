@@ -31,11 +31,11 @@ impl Plan {
     }
 }
 
-/// What the program prints in place of its output: why it fails, or a help text.
+/// What the program prints in place of its output: why it fails, or a help text or the version.
 #[derive(Debug, Drop)]
 pub struct Refusal {
-    /// The exit status: 0 for a help text that was asked for, 1 for a failure and 2 for words that
-    /// the command line doesn't take.
+    /// The exit status: 0 for a help text or the version, 1 for a failure and 2 for words that the
+    /// command line doesn't take.
     pub status: u8,
     /// Exactly what is printed: on the standard output at status 0, and else on the standard error.
     pub text: CowStr<'static, Global>,

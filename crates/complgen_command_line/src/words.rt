@@ -20,8 +20,8 @@ const BAD_INDEX: &str = "index: bad number\n";
 
 /// Returns what the words ask for; the first is the program's name. Fails with status 2 where the
 /// command line doesn't take the words, or the index among them is no number that fits a `usize`;
-/// with status 0 and the help text where they ask for help; and with status 1 where it is out of
-/// memory.
+/// with status 0 and the text that they ask for, a help or the version; and with status 1 where
+/// memory runs out.
 pub fn plan(alloc: Global, words: &[String]) -> Result<Plan, Refusal>
     ensures ok { IfOk result (AsksFor (subcommand_of program_line (map string_bytes words.now))) }
     ensures fits { IfOk result (λ _. fault_of program_line (map string_bytes words.now) ≡ []) }

@@ -16,6 +16,8 @@ use std::alloc::Global;
 /// Carries out the plan, over the bytes of its tree file, or `None` where that file can't be read.
 /// What is written goes to `out`. A shell is looked up before the tree is read. Paths of value
 /// hints are completed from the folder, where the current folder is `.`.
+///
+/// Fails with status 1 and the text of the error.
 pub fn run<D: Folder, W: Sink>(
     alloc: Global,
     plan: &Plan,

@@ -45,7 +45,6 @@ pub(crate) fn reply<D: Folder, W: Sink>(
     }
 }
 
-// Copies of the words.
 fn copies(alloc: Global, words: &[String]) -> Result<Vec<String>, AllocError>
     ensures { IfOk result (λ copies. map string_bytes copies.items ≡ map string_bytes words.now) }
 {

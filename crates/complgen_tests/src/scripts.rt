@@ -29,7 +29,7 @@ fn script_of(alloc: Global, shell: &str, file: &[u8]) -> Result<String, Refusal>
     output_of(alloc, &script(alloc, shell)?, file)
 }
 
-// In the gate there is memory enough. With `rt try --test --fail-alloc 4` the first allocation of
+// As a rule there is memory enough. With `rt try --test --fail-alloc 4` the first allocation of
 // `run` fails, which is in reading the tree; nothing is written.
 #[test]
 fn writes_nothing_without_memory(rt: HostRuntime) {

@@ -1,6 +1,6 @@
 //! The tree of the commands. Each function fails when memory runs out.
 //!
-//! What may have failed is handed on, and looked at in `with_arg`, `with_child` and `with_alias`
+//! What may have failed is passed on, and looked at in `with_arg`, `with_child` and `with_alias`
 //! alone: a command or an argument that is dropped where a function returns early takes seconds to
 //! prove, at each such call.
 

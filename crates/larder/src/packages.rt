@@ -25,7 +25,7 @@ impl<R> Installed<R> {
 }
 
 impl<R: Files + Drop> ValueCompleter for Installed<R> {
-    ghost answers = { λ _ _ _ _. ⊤ };
+    ghost completes = { λ _ _ _ _. ⊤ };
 
     fn complete_at(
         &self,

@@ -50,7 +50,7 @@ impl Command {
         self
     }
 
-    /// Adds a name that works and is not shown.
+    /// Adds a name that works and is not shown. Fails with `Memory` alone.
     pub fn alias(mut self, alias: String) -> Result<Command, Error>
         ensures ok { IfOk result (λ command. command ≡ with_root
             (λ node. record node { aliases = node.aliases ++ string_bytes alias ∷ [] }) self) }
@@ -61,7 +61,7 @@ impl Command {
         Ok(added.map(|()| self)?)
     }
 
-    /// Adds a name that is shown.
+    /// Adds a name that is shown. Fails with `Memory` alone.
     pub fn visible_alias(mut self, alias: String) -> Result<Command, Error>
         ensures ok { IfOk result (λ command. command ≡ with_root (λ node. record node {
           visible_aliases = node.visible_aliases ++ string_bytes alias ∷ [];
@@ -102,7 +102,7 @@ impl Command {
     }
 
     /// Adds an argument. One that is no positional takes the command's next display order, unless
-    /// it has its own; the order is used up all the same.
+    /// it has its own; the order is used up all the same. Fails with `Memory` alone.
     pub fn arg(mut self, argument: Arg) -> Result<Command, Error>
         ensures ok { IfOk result (λ command.
             command ≡ record self { node = with_argument self.node argument }) }
@@ -113,7 +113,7 @@ impl Command {
     }
 
     /// Adds a child. It takes the command's next display order, unless it has its own; the order
-    /// is used up all the same.
+    /// is used up all the same. Fails with `Memory` alone.
     pub fn subcommand(mut self, child: Command) -> Result<Command, Error>
         ensures ok { IfOk result (λ command. command ≡ with_child self child) }
         ensures memory { IfErr result (λ error. error ≡ Error.Memory) }

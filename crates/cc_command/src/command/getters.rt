@@ -147,7 +147,7 @@ impl Command {
         self.node.built
     }
 
-    /// Whether the command is built and has a bin name, as generators ask for.
+    /// Whether the command is built and has a bin name, as generators require.
     pub fn is_ready(&self) -> bool
         ensures { result ≡ (self.now.node.built && is_some self.now.node.bin_name) }
     {

@@ -200,7 +200,7 @@ pub fn is_plain_name(name: &str) -> bool
 {
     let mut after_letter = false;
     for byte in name.as_bytes() {
-        if !may_stand(*byte, after_letter) {
+        if !may_follow(*byte, after_letter) {
             return false;
         }
         after_letter = byte.is_ascii_alphanumeric();
@@ -209,7 +209,7 @@ pub fn is_plain_name(name: &str) -> bool
 }
 
 // A letter or digit may always be in a name, a `-` or a `_` after one of those.
-fn may_stand(byte: u8, after_letter: bool) -> bool
+fn may_follow(byte: u8, after_letter: bool) -> bool
     ensures { result ≡ (is_ascii_alphanumeric byte
         || (after_letter && (byte == dash || byte == underscore))) }
 {

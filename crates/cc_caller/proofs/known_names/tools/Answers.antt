@@ -13,7 +13,7 @@ returns-clause-ok g c =
     (map string_bytes c.push-3.new.self.items) c.in_ok-command.command c.complete.new.command c.complete.result c.into_dyn_box.result
     (search rules) c.in_ok-command.ensures.ok (search rules) c.complete.ensures.built c.complete.ensures.candidates
     (λ list allowed.
-    let e = read_made own-1 (own-1.entry at-1-1) at-1-1 refl (Type 0) (λ j v. j.1.answers v 0 (string_bytes c.args.word) list)
+    let e = read_made own-1 (own-1.entry at-1-1) at-1-1 refl (Type 0) (λ j v. j.1.completes v 0 (string_bytes c.args.word) list)
     c.into_dyn_box.result.vtable c.into_dyn_box.result.value c.in_ok-new.field-0.value c.into_dyn_box.ensures.1 in
     let is : list ≡ map new_candidate (names_beginning (map string_bytes c.in_ok-new.field-0.value.names.items) (string_bytes c.args.word)) =
     subst (λ (P : Type 0). P) e allowed in

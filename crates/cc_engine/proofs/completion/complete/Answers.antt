@@ -1,6 +1,6 @@
 use Rattle.std.proofs.Common.{ap}
 use Rattle.std.specs.Prelude.{map, string_bytes}
-use Rattle.cc_engine.proofs.Laws.{answers_differ}
+use Rattle.cc_engine.proofs.Laws.{candidates_differ}
 use Rattle.cc_engine.proofs.Lines.{completes_words}
 use Rattle.cc_engine.proofs.completion.complete.Goals as goal
 
@@ -9,4 +9,4 @@ returns-clause-candidates g c =
     completes_words _ _ _ _ c.args.index c.in_ok-found.found.items (ap (map string_bytes) c.as_slice.ensures.value) c.in_ok-found.ensures
 
 pub returns-clause-differ : goal.returns-clause-differ
-returns-clause-differ g c = answers_differ _ _ _ _ c.in_ok-found.found.items c.in_ok-found.ensures
+returns-clause-differ g c = candidates_differ _ _ _ _ c.in_ok-found.found.items c.in_ok-found.ensures

@@ -5,5 +5,5 @@ use Rattle.cc_gather.proofs.finishing.finish_after.Goals as goal
 
 pub returns-clause-once : goal.returns-clause-once
 returns-clause-once c = λ apart.
-    c.in_ok-answer.ensures.value ∙ ap finish (c.in_ok-append.ensures.items ∙ ap (λ r. c.args.first.items ++ r) c.in_ok-rest.ensures.value)
+    c.in_ok-finished.ensures.value ∙ ap finish (c.in_ok-append.ensures.items ∙ ap (λ r. c.args.first.items ++ r) c.in_ok-rest.ensures.value)
     ∙ finish_after c.args.first.items c.args.rest.items apart

@@ -1,9 +1,8 @@
 use Rattle.std.proofs.Common.{◌++◌, flat_map, ap, subst, ◌∙◌}
 use Rattle.cc_base.specs.Writes.{Writes}
-use Rattle.cc_command.specs.Names.{full_name}
-use Rattle.cc_flat.specs.Flat.{tree_at}
 use Rattle.cc_tables.specs.Script.{head_text, node_text}
 use Rattle.cc_tables.proofs.VisitedTables.{script_of_visits}
+use Rattle.cc_visits.specs.Visits.{joined, table_visits}
 use Rattle.cc_tables.proofs.tables.write_tables.Goals as goal
 
 pub returns : goal.returns
@@ -13,7 +12,7 @@ returns g c =
     let rows = g.R.TableRows.rows c.args.rows.now in
     let bin = c.full_name-bin_name.result.now in
     subst (λ written. Writes {S = g.row.W.Denot} g.W.Sink.taken g.W.Sink.failed c.write_frame.result c.args.sink.now c.write_frame.new.sink written)
-    (ap (λ visits. head_text frame bin ++ flat_map (λ visit. node_text frame text rows visit.key visit.tree) visits ++ frame.tail) c.in_ok-visits.ensures
-    ∙ script_of_visits frame text rows (tree_at c.args.flat.now 0) bin
-    (c.full_name-bin_name.ensures ∙ ap (λ tree. full_name tree.node) c.command.ensures))
+    (ap (λ visits. head_text frame bin ++ flat_map (λ visit. node_text frame text rows visit.key visit.tree) visits ++ frame.tail)
+    (c.in_ok-visits.ensures ∙ ap (table_visits (joined frame.separator) bin) c.in_ok-flat.ensures.root)
+    ∙ script_of_visits frame text rows c.args.command.now bin c.full_name-bin_name.ensures)
     c.write_frame.ensures

@@ -1,7 +1,7 @@
 use Rattle.std.proofs.Common.{map, string_bytes, ◌≡◌, ◌<◌, ◌≤◌, ◌+◌, length, drop}
 use Rattle.cc_flat.specs.Flat.{tree_at}
 use Rattle.cc_walk.specs.Machine.{walk}
-use Rattle.cc_walk.specs.Stands.{stand_of}
+use Rattle.cc_walk.specs.NodeStates.{node_state_of}
 use Rattle.cc_walk.proofs.Whole.{walked}
 use Rattle.cc_walk.proofs.line.line_of.Given as goal
 
@@ -9,5 +9,5 @@ abbrev pub invariant-loop-word : goal.invariant-loop-word
 invariant-loop-word l = record {
   within : l.line.node < length l.flat;
   position : l.line.state.position ≤ l.word-index + 1;
-  rest : walk (stand_of l.flat l.line) (map string_bytes (drop l.word-index l.words)) ≡ walked (tree_at l.flat 0) (map string_bytes l.words);
+  rest : walk (node_state_of l.flat l.line) (map string_bytes (drop l.word-index l.words)) ≡ walked (tree_at l.flat 0) (map string_bytes l.words);
 }

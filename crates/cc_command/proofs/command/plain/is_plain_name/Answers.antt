@@ -2,8 +2,8 @@ use Rattle.std.proofs.Common.{rules}
 use Rattle.cc_command.proofs.PlainNames.{plain_after-failed, plain_after-passed, plain_after-done}
 use Rattle.cc_command.proofs.command.plain.is_plain_name.Goals as goal
 
-pub returns-then-not-may_stand : goal.returns-then-not-may_stand
-returns-then-not-may_stand c =
+pub returns-then-not-may_follow : goal.returns-then-not-may_follow
+returns-then-not-may_follow c =
     plain_after-failed c.loop-byte.after_letter c.as_bytes-byte-items.result.now c.loop-byte.byte-index _
     c.loop-byte-test.true c.loop-byte.invariant (search rules)
 

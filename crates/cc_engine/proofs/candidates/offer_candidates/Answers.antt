@@ -1,7 +1,7 @@
 use Rattle.std.proofs.Common.{◌∙◌, ap}
 use Rattle.cc_engine.specs.Offer.{offer_by}
 use Rattle.cc_engine.proofs.Offering.{with_option, without_option}
-use Rattle.cc_engine.proofs.answering.offer_candidates.Goals as goal
+use Rattle.cc_engine.proofs.candidates.offer_candidates.Goals as goal
 
 pub returns-in_default : goal.returns-in_default
 returns-in_default g c =

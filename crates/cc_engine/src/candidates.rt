@@ -28,9 +28,9 @@ pub(crate) fn offer_candidates<P: PathSource>(
     paths: &P,
 ) -> Result<Vec<CompletionCandidate>, AllocError>
     ensures { IfOk result (λ found. Offers (lent_by
-        (λ item. (⟦<dyn ValueCompleter as ValueCompleter>⟧ item.vtable).answers item.value)
+        (λ item. (⟦<dyn ValueCompleter as ValueCompleter>⟧ item.vtable).completes item.value)
         completers.now.completers.items
-        ⟦<FnCompleter as ValueCompleter>⟧.answers completers.now.completer_closures.items
+        ⟦<FnCompleter as ValueCompleter>⟧.completes completers.now.completer_closures.items
         (λ item. (⟦<dyn ValueCandidates as ValueCandidates>⟧ item.vtable).lists item.value)
         completers.now.lists.items
         ⟦<FnCandidates as ValueCandidates>⟧.lists completers.now.list_closures.items
@@ -86,9 +86,9 @@ fn others<P: PathSource>(
     paths: &P,
 ) -> Result<Vec<CompletionCandidate>, AllocError>
     ensures { IfOk result (λ found. AreOffered (lent_by
-        (λ item. (⟦<dyn ValueCompleter as ValueCompleter>⟧ item.vtable).answers item.value)
+        (λ item. (⟦<dyn ValueCompleter as ValueCompleter>⟧ item.vtable).completes item.value)
         completers.now.completers.items
-        ⟦<FnCompleter as ValueCompleter>⟧.answers completers.now.completer_closures.items
+        ⟦<FnCompleter as ValueCompleter>⟧.completes completers.now.completer_closures.items
         (λ item. (⟦<dyn ValueCandidates as ValueCandidates>⟧ item.vtable).lists item.value)
         completers.now.lists.items
         ⟦<FnCandidates as ValueCandidates>⟧.lists completers.now.list_closures.items
