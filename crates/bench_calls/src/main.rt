@@ -12,14 +12,14 @@
 mod calls;
 mod chain;
 mod fixtures;
-mod shown;
 mod sinks;
+mod state;
 
 use crate::calls::{CALLS, call};
 use crate::chain::attempt_chain;
 use crate::fixtures::command;
-use crate::shown::shown;
 use crate::sinks::Narrow;
+use crate::state::state_text;
 use clap_complete::Error;
 use clap_complete::aot::Counted;
 use clap_complete::command::Command;
@@ -105,7 +105,7 @@ fn attempt_first<R: Files + Print + AllocGlobal>(
     let count = sink.get_ref().bytes().len();
     let taken = format!(in rt.alloc(); "{count}")?;
     print(rt, taken.as_str())?;
-    let state = shown(rt.alloc(), command)?;
+    let state = state_text(rt.alloc(), command)?;
     print(rt, state.as_str())
 }
 

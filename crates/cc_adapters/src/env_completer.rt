@@ -73,10 +73,10 @@ pub trait EnvCompleter {
     /// Writes the reply for the words of a command line: the candidates for the word that the shell
     /// asks for, of the command, which is built first.
     ///
-    /// Fails with `NoCompletion` where no word, or the program's name, is at the index that is asked
-    /// for; the command is built all the same. Fails with `Memory`, and the command is then as it
-    /// was or built. In either case nothing is written. Fails with `Write` where the sink fails; how
-    /// much it took before is left open.
+    /// Fails with `NoCompletion` where no word, or the program's name, is at the index that is
+    /// asked for; the command is built all the same. Fails with `Memory`, and the command is then
+    /// as it was or built. In either case nothing is written. Fails with `Write` where the sink
+    /// fails; how much it took before is left open.
     fn write_complete<D: Folder, W: Sink>(
         &self,
         alloc: Global,

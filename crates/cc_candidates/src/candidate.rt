@@ -94,7 +94,8 @@ impl CompletionCandidate {
         Ok(self.with_prefix(alloc, prefix)?)
     }
 
-    /// The same, for callers whose own error is that of the allocation. Fails where memory runs out.
+    /// The same, for callers whose own error is that of the allocation. Fails where memory runs
+    /// out.
     pub fn with_prefix(
         mut self,
         alloc: Global,

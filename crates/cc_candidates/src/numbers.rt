@@ -23,8 +23,8 @@ impl ArgValueCompleter {
         ArgValueCompleter { number }
     }
 
-    /// The candidates for a text that is the first value; none where no such completer is lent. Fails
-    /// where memory runs out.
+    /// The candidates for a text that is the first value; none where no such completer is lent.
+    /// Fails where memory runs out.
     pub fn complete(
         &self,
         alloc: Global,

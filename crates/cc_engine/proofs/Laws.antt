@@ -91,7 +91,7 @@ any_after opened others e =
     by true y is e = refl
     by false y is e = any_of_all (finish others) (some_finished others (is ∙ e)) (visible others (is ∙ e))
 
--- WHERE A VISIBLE CANDIDATE IS GATHERED NO HIDDEN ONE IS IN THE ANSWER
+-- where a visible candidate is gathered, no hidden one is among those returned
 
 beside_option : (tree : Tree) (position : ℕ) (escaped : Bool) (word : List ℕ) (given : Given) (opened : Candidates) (enough : Bool)
     → list_any is_shown (opened ++ offered tree position (if enough then full_offer escaped else no_offer) word given) ≡ true

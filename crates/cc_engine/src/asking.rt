@@ -24,7 +24,7 @@ pub(crate) fn children<P: PathSource>(
     command: &Command,
     word: &str,
     completers: &Completers,
-    _paths: &P,
+    paths: &P,
 ) -> Result<Vec<CompletionCandidate>, AllocError>
     ensures { IfOk result (λ found. (given : List CompletionCandidate)
         × Allows (lent_by
@@ -34,14 +34,14 @@ pub(crate) fn children<P: PathSource>(
         (λ item. (⟦<dyn ValueCandidates as ValueCandidates>⟧ item.vtable).lists item.value)
         completers.now.lists.items
         ⟦<FnCandidates as ValueCandidates>⟧.lists completers.now.list_closures.items
-        (P.finds _paths.now))
+        (P.finds paths.now))
         (children_question offered command.now.node) given
         × (found.items ≡ offered_children offered command.now word.now given)) }
 {
     if !offered {
         return Ok(Vec::new(alloc));
     }
-    let lent = other_programs(alloc, command, completers, _paths)?;
+    let lent = other_programs(alloc, command, completers, paths)?;
     let found = subcommand_candidates(alloc, command, lent, word)?;
     Ok(found)
 }

@@ -216,11 +216,11 @@ unfolding finish group
 all-finish P cs h =
     AllByRecursion-in_order (comes_before (first_of_ids (shown_or_all cs))) P (first_of_ids (shown_or_all cs)) (all-first_of_ids P (shown_or_all cs) h)
 
--- WHERE A VISIBLE CANDIDATE WAS GATHERED NO HIDDEN ONE IS IN THE ANSWER
+-- where a visible candidate was gathered, no hidden one is left
 pub visible : (cs : Candidates) → list_any is_shown cs ≡ true → AreShown (finish cs)
 visible cs e = all-finish (λ c. is_shown c ≡ true) cs (subst AreShown (sym (shown_true cs e)) (passing is_shown cs))
 
--- TWO CANDIDATES OF AN ANSWER NEVER SHARE AN ID
+-- no two of the candidates that are left share an id
 pub differ : (cs : Candidates) → Differ (finish cs)
 unfolding finish group
 differ cs = differ-in_order (comes_before (first_of_ids (shown_or_all cs))) (first_of_ids (shown_or_all cs)) (first_of_ids-differ (shown_or_all cs))

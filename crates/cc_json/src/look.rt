@@ -53,8 +53,8 @@ pub fn items<'v, 't>(value: &'v Value<'t>) -> Option<&'v Vec<Value<'t>>>
     }
 }
 
-/// The value at a key of an object, the last one of several. `None` where it has no such key, or the
-/// value is no object.
+/// The value at a key of an object, the last one of several. `None` where it has no such key, or
+/// the value is no object.
 pub fn member<'v, 't>(value: &'v Value<'t>, key: &str) -> Option<&'v Value<'t>>
     ensures { option_map (λ found. view found.now) result ≡ get key.now (view value.now) }
 {

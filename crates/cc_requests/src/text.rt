@@ -86,7 +86,6 @@ impl<'s, F: Fn(Global) -> Result<Command, Error>, E: EnvCompleter> CompleteEnv<'
         Ok(command)
     }
 
-    // The registration of the program.
     fn registration(
         &self,
         alloc: Global,
@@ -118,7 +117,6 @@ impl<'s, F: Fn(Global) -> Result<Command, Error>, E: EnvCompleter> CompleteEnv<'
         Ok(text)
     }
 
-    // The path of the completer.
     fn completer_path(
         &self,
         alloc: Global,
@@ -135,7 +133,6 @@ impl<'s, F: Fn(Global) -> Result<Command, Error>, E: EnvCompleter> CompleteEnv<'
     }
 }
 
-// The reply to the words of a command line.
 fn reply<E: EnvCompleter, D: Folder>(
     alloc: Global,
     shell: &E,

@@ -148,7 +148,6 @@ fn write_visits<R: TableRows, W: Sink>(
     Ok(())
 }
 
-// Writes the table of a node.
 #[tactic(auto, unfolding(crate::specs::Script::node_text, crate::specs::Script::table_text))]
 fn write_table<R: TableRows, W: Sink>(
     key: &str,

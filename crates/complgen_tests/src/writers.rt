@@ -40,17 +40,21 @@ fn text_of(alloc: Global, refusal: &Refusal) -> Result<String, AllocError> {
     format!(in alloc; "{} {}", refusal.status, refusal.text.as_str())
 }
 
-// Fails unless the plan ends with `write failed` wherever the writer fails, and all before that
-// position is written.
+// Fails unless the plan ends with `write failed`, and what there is room for is written.
+fn fails_in(rt: &impl Abort, alloc: Global, plan: &Plan, room: usize, whole: &str) {
+    for kind in [Some(ErrorKind::BrokenPipe), None] {
+        let (ended, held) = end_of(alloc, plan, room, kind).expect(rt, "out of memory");
+        same(rt, ended.as_str(), "1 write failed\n");
+        same(rt, whole.get(..room), Some(held.as_str()));
+    }
+}
+
+// The same wherever the writer may fail; where it does not, the plan is carried out.
 fn fails_to_write(rt: &impl Abort, alloc: Global, plan: Result<Plan, AllocError>) {
     let plan = plan.expect(rt, "no plan");
     let whole = output_of(alloc, &plan, TREE).expect(rt, "no text");
     for room in 0..whole.len() {
-        for kind in [Some(ErrorKind::BrokenPipe), None] {
-            let (ended, held) = end_of(alloc, &plan, room, kind).expect(rt, "out of memory");
-            same(rt, ended.as_str(), "1 write failed\n");
-            same(rt, whole.as_str().get(..room), Some(held.as_str()));
-        }
+        fails_in(rt, alloc, &plan, room, whole.as_str());
     }
     let (ended, held) = end_of(alloc, &plan, whole.len(), None).expect(rt, "out of memory");
     same(

@@ -6,7 +6,7 @@ use std::alloc::{AllocError, Global};
 
 /// A line for each command and each argument, those of a command after it. A built `app` has
 /// children and grandchildren, and none of these has a child.
-pub(crate) fn shown(alloc: Global, command: &Command) -> Result<String, AllocError> {
+pub(crate) fn state_text(alloc: Global, command: &Command) -> Result<String, AllocError> {
     let mut text = String::new(alloc);
     push_command(alloc, &mut text, command)?;
     for child in command.get_subcommands() {
