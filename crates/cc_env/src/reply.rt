@@ -1,15 +1,13 @@
 //! Replies: candidates as the shells read them.
 
-ghost use Rattle.std.specs.Prelude.{◌≡◌, IfErr};
+ghost use Rattle.std.specs.Prelude.{◌≡◌, IfErr, option_map};
 ghost use Rattle.std.specs.Option.{option_copied};
-ghost use Rattle.std.specs.Prelude.{◌++◌, option_map};
-ghost use Rattle.cc_base.specs.Joined.{separator};
 ghost use Rattle.cc_base.specs.Writes.{IsWrite, Writes, as_write};
 ghost use Rattle.cc_env.specs.Reply.{LinesRead, ValuesRead, ZshReplyRead};
 ghost use Rattle.cc_env.specs.Reply.{candidate_line, colon_help, first_line, lines_reply, shown};
 ghost use Rattle.cc_env.specs.Reply.{tab_help, values_reply, without_return, zsh_item, zsh_reply};
 
-use cc_base::{Error, Sink, as_error, put_piece};
+use cc_base::{Error, Sink, as_error, put_piece, put_separator};
 use cc_candidates::CompletionCandidate;
 use cc_quote::{ZshReplyHelp, ZshReplyValue, put_escaped_piece};
 use std::io::ErrorKind;
@@ -55,7 +53,6 @@ pub fn write_lines<W: Sink>(candidates: &[CompletionCandidate], sink: &mut W) ->
     as_error(put_lines(candidates, sink))
 }
 
-// Puts the values one by one.
 fn put_values<W: Sink>(
     between: &str,
     candidates: &[CompletionCandidate],
@@ -66,32 +63,12 @@ fn put_values<W: Sink>(
 {
     let mut begun = false;
     for candidate in candidates {
-        put_value(separator(between, begun), candidate, sink)?;
-        begun = true;
+        put_separator(between, &mut begun, sink)?;
+        put_piece(sink, candidate.get_value().as_bytes())?;
     }
     Ok(())
 }
 
-// The separator, where a text comes before.
-fn separator(between: &str, begun: bool) -> &str
-    ensures { result.now ≡ separator between.now begun }
-{
-    if begun { between } else { "" }
-}
-
-fn put_value<W: Sink>(
-    separator: &str,
-    candidate: &CompletionCandidate,
-    sink: &mut W,
-) -> Result<(), ErrorKind>
-    ensures { Writes W.taken W.failed (as_write result) sink.old sink.new
-        (separator.now ++ candidate.now.value) }
-{
-    put_piece(sink, separator.as_bytes())?;
-    put_piece(sink, candidate.get_value().as_bytes())
-}
-
-// Puts the values and helps one by one.
 fn put_zsh_items<W: Sink>(
     between: &str,
     candidates: &[CompletionCandidate],
@@ -102,22 +79,17 @@ fn put_zsh_items<W: Sink>(
 {
     let mut begun = false;
     for candidate in candidates {
-        put_zsh_item(separator(between, begun), candidate, sink)?;
-        begun = true;
+        put_separator(between, &mut begun, sink)?;
+        put_zsh_item(candidate, sink)?;
     }
     Ok(())
 }
 
 #[tactic(auto, unfolding(crate::specs::Reply::zsh_item))]
-fn put_zsh_item<W: Sink>(
-    separator: &str,
-    candidate: &CompletionCandidate,
-    sink: &mut W,
-) -> Result<(), ErrorKind>
+fn put_zsh_item<W: Sink>(candidate: &CompletionCandidate, sink: &mut W) -> Result<(), ErrorKind>
     ensures { Writes W.taken W.failed (as_write result) sink.old sink.new
-        (separator.now ++ zsh_item (shown candidate.now)) }
+        (zsh_item (shown candidate.now)) }
 {
-    put_piece(sink, separator.as_bytes())?;
     put_escaped_piece(&ZshReplyValue, candidate.get_value(), sink)?;
     put_colon_help(candidate.get_help(), sink)
 }
@@ -134,7 +106,6 @@ fn put_colon_help<W: Sink>(help: Option<&str>, sink: &mut W) -> Result<(), Error
     put_escaped_piece(&ZshReplyHelp, first_line(help), sink)
 }
 
-// Puts the lines one by one.
 fn put_lines<W: Sink>(candidates: &[CompletionCandidate], sink: &mut W) -> Result<(), ErrorKind>
     ensures { Writes W.taken W.failed (as_write result) sink.old sink.new
         (lines_reply candidates.now) }

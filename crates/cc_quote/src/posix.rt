@@ -80,12 +80,7 @@ fn is_safe_word(text: &str) -> bool
 fn are_safe(bytes: &[u8]) -> bool
     ensures { result ≡ list_all is_posix_safe bytes.now }
 {
-    for byte in bytes {
-        if !is_safe(*byte) {
-            return false;
-        }
-    }
-    true
+    bytes.iter().all(|byte| is_safe(*byte))
 }
 
 // Whether a byte needs no quotes.

@@ -7,7 +7,7 @@ ghost use Rattle.cc_base.specs.Writes.{Writes, as_write};
 ghost use Rattle.cc_zsh.specs.Values.{first_name, hint_text, is_described, item_help, item_separator, item_text, items_text, list_text, one_value, range, times, value_text, values_text};
 
 use cc_arg::{Arg, PossibleValue, ValueHint, ValueRange, possible_values};
-use cc_base::{Sink, Text, put_around, put_piece};
+use cc_base::{Sink, Text, put_around, put_piece, put_separator};
 use cc_quote::{ZshHelpEscape, ZshValueEscape, put_escaped_piece};
 use std::io::ErrorKind;
 
@@ -102,12 +102,9 @@ fn write_list<W: Sink>(values: &[PossibleValue], sink: &mut W) -> Result<(), Err
 fn is_any_described(values: &[PossibleValue]) -> bool
     ensures { result ≡ list_any is_described values.now }
 {
-    for value in values {
-        if !value.is_hide_set() && value.get_help().is_some() {
-            return true;
-        }
-    }
-    false
+    values
+        .iter()
+        .any(|value| !value.is_hide_set() && value.get_help().is_some())
 }
 
 fn write_items<W: Sink>(form: Form, values: &[PossibleValue], sink: &mut W) -> Result<(), ErrorKind>
@@ -136,10 +133,7 @@ fn write_item<W: Sink>(
         (separator (item_separator form) begun.old ++ item_text form value.now) }
     ensures begun { OnOk result (begun.new ≡ true) }
 {
-    if *begun {
-        put_piece(sink, item_separator(form).as_bytes())?;
-    }
-    *begun = true;
+    put_separator(item_separator(form), begun, sink)?;
     put_escaped_piece(&ZshValueEscape, value.get_name(), sink)?;
     match form {
         Form::Names => Ok(()),
