@@ -7,7 +7,7 @@ use Rattle.cc_agreement.specs.Agreement.{AgreesWithBash, FailsBefore}
 use Rattle.cc_agreement.proofs.BashEnd.{leads}
 use Rattle.cc_agreement.proofs.HiddenBuilt.{none_when_built}
 use Rattle.cc_bash.specs.Reads.{BashReads}
-use Rattle.cc_bash.specs.Script.{tree_script}
+use Rattle.cc_bash.specs.Script.{bash_script}
 use Rattle.cc_candidates.specs.declared.candidate.CompletionCandidate.{CompletionCandidate}
 use Rattle.cc_command.specs.Built.{built_tree, built_under}
 use Rattle.cc_command.specs.Plain.{is_plain_tree}
@@ -50,11 +50,11 @@ all_built bin_name old mid new (Err e) made again = tt
 pub all_written : {A : Type 0} (bin_name taken_old taken_new : List ℕ) (old mid new : Tree)
     (result : Result A Error) → mid ≡ built_under (Some bin_name) old
     → OnOk result (new ≡ built_tree mid)
-    → taken_new ≡ taken_old ++ tree_script (built_under (Some bin_name) old)
-    → OnOk result (taken_new ≡ taken_old ++ tree_script new)
+    → taken_new ≡ taken_old ++ bash_script (built_under (Some bin_name) old)
+    → OnOk result (taken_new ≡ taken_old ++ bash_script new)
 all_written bin_name taken_old taken_new old mid new (Ok found) made again written =
     written
-    ∙ ap (λ tree. taken_old ++ tree_script tree) (sym (stays_built bin_name old mid new made again))
+    ∙ ap (λ tree. taken_old ++ bash_script tree) (sym (stays_built bin_name old mid new made again))
 all_written bin_name taken_old taken_new old mid new (Err e) made again written = tt
 
 pub all_agree : {A : Type 0} (items : A → List CompletionCandidate) (lent : Lent) (bin_name : List ℕ)

@@ -4,7 +4,7 @@ ghost use Rattle.std.specs.Prelude.{◌≡◌, ◌++◌, Some, length, map, stri
 ghost use Rattle.std.specs.Prelude.{IfErr, IfOk, IsTrue, OnOk};
 ghost use Rattle.std.specs.Option.{option_copied};
 ghost use Rattle.cc_agreement.specs.Agreement.{AgreesWithBash, FailsBefore};
-ghost use Rattle.cc_bash.specs.Script.{tree_script};
+ghost use Rattle.cc_bash.specs.Script.{bash_script};
 ghost use Rattle.cc_command.specs.Built.{built_under};
 ghost use Rattle.cc_command.specs.Plain.{is_plain_tree};
 ghost use Rattle.cc_command.specs.PlainName.{is_plain_name};
@@ -49,7 +49,7 @@ pub fn bash_script_and_candidates<W: Sink, D: Folder>(
     ensures built { OnOk result
         (command.new ≡ built_under (Some (string_bytes bin_name)) command.old) }
     ensures written { OnOk result
-        (W.taken sink.new ≡ W.taken sink.old ++ tree_script command.new) }
+        (W.taken sink.new ≡ W.taken sink.old ++ bash_script command.new) }
     ensures agree { IfOk result (λ found. IsTrue (is_plain_tree command.old) →
         IsTrue (is_plain_name (string_bytes bin_name)) →
         HasNoHiddenAlias command.old

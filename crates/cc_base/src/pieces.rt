@@ -46,12 +46,12 @@ fn put_rest<S: Sink>(sink: &mut S, bytes: &[u8]) -> Result<(), ErrorKind>
 
 /// Puts each piece in turn. Fails with the kind of the put that failed.
 #[inline(always)]
-pub fn put_pieces<S: Sink>(sink: &mut S, pieces: &[&[u8]]) -> Result<(), ErrorKind>
+pub fn put_pieces<S: Sink>(sink: &mut S, pieces: &[&str]) -> Result<(), ErrorKind>
     ensures { Writes S.taken S.failed (as_write result) sink.old sink.new
         (flat_map (λ piece. piece.now) pieces.now) }
 {
     for piece in pieces {
-        put_piece(sink, piece)?;
+        put_piece(sink, piece.as_bytes())?;
     }
     Ok(())
 }
@@ -67,10 +67,7 @@ pub fn put_around<'a, S: Sink>(
     ensures { Writes S.taken S.failed (as_write result) sink.old sink.new
         (before.now ++ text.now ++ after.now) }
 {
-    put_pieces(
-        sink,
-        &[before.as_bytes(), text.as_bytes(), after.as_bytes()],
-    )
+    put_pieces(sink, &[before, text, after])
 }
 
 /// The result of puts, with the kind of its failure as `Write`.

@@ -1,22 +1,23 @@
 -- The parts of an arm, and of the details of an option, as they are written.
-use Rattle.std.proofs.Common.{◌≡◌, ℕ, List, ◌++◌, map, filter, flat_map, sym, ap, ◌∙◌, append_assoc}
+use Rattle.std.proofs.Common.{◌≡◌, ℕ, List, ◌++◌, map, flat_map, sym, ap, ◌∙◌, append_assoc}
 use Rattle.std.proofs.lemmas.List.{map-append}
 use Rattle.std.proofs.lemmas.List.Concat.{flat_map-append}
 use Rattle.cc_arg.specs.declared.parts.ArgParts.{ArgParts as Arg}
 use Rattle.cc_arg.specs.ShownNames.{shown_longs, shown_shorts}
-use Rattle.cc_command.specs.ArgumentLists.{is_option}
+use Rattle.cc_command.specs.ArgumentLists.{options}
 use Rattle.cc_command.specs.Tree.{Tree}
-use Rattle.cc_bash.specs.Arms.{Arm, detail_of, details_at, long_word, option_details, short_word, words_at}
+use Rattle.cc_generator.specs.ArgumentNames.{long_word, short_word}
+use Rattle.cc_bash.specs.Arms.{Arm, detail_of, details_at, option_details, words_at}
 use Rattle.cc_bash.specs.Script.{arm_text, detail_text}
 use Rattle.cc_bash.specs.Words.{words_text}
 use Rattle.cc_bash.specs.Texts.{arm_begins, arm_words, arm_level, arm_details, arm_ends}
 
-pub arm_parts : (label level : List ℕ) (tree : Tree) (arguments : List Arg)
-    (begins words before after ends : List ℕ) → arguments ≡ tree.node.arguments →
+pub arm_parts : (label level : List ℕ) (tree : Tree) (written : List Arg)
+    (begins words before after ends : List ℕ) → written ≡ options tree.node →
     begins ≡ arm_begins → words ≡ arm_words → before ≡ arm_level → after ≡ arm_details →
     ends ≡ arm_ends →
     (((((begins ++ label) ++ words) ++ words_text (words_at tree)) ++ ((before ++ level) ++ after))
-    ++ flat_map detail_text (flat_map option_details (filter is_option arguments))) ++ ends
+    ++ flat_map detail_text (flat_map option_details written)) ++ ends
     ≡ (let arm : Arm = record {
       label = label;
       level = level;
@@ -24,10 +25,10 @@ pub arm_parts : (label level : List ℕ) (tree : Tree) (arguments : List Arg)
       details = details_at tree.node;
     } in arm_text arm)
 unfolding arm_text details_at
-arm_parts label level tree arguments begins words before after ends same b w f a e =
+arm_parts label level tree written begins words before after ends same b w f a e =
     rw (same, b, w, f, a, e) (regroup arm_begins label arm_words (words_text (words_at tree))
     arm_level level arm_details
-    (flat_map detail_text (flat_map option_details (filter is_option tree.node.arguments)))
+    (flat_map detail_text (flat_map option_details (options tree.node)))
     arm_ends)
   where
     regroup : (a b c d e f g h i : List ℕ) →

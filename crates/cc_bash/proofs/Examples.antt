@@ -22,7 +22,7 @@ use Rattle.cc_command.specs.Quiet.{is_quiet_value}
 use Rattle.cc_bash.specs.Reads.{arm_after, position_label}
 use Rattle.cc_bash.specs.Walk.{all_positions}
 use Rattle.cc_bash.specs.Reader.{pattern_of, assigned, bare_text, double_text, is_root, is_empty_reply, is_typed_reply, is_compgen_reply, mode_named, case_by, next, closed_table, read, bash_table}
-use Rattle.cc_bash.specs.Script.{case_text, offered_text, reply_text, mode_word, mode_text, moded_text, detail_text, arm_text, head_text, tail_text, bash_script}
+use Rattle.cc_bash.specs.Script.{case_text, offered_text, reply_text, mode_word, mode_text, moded_text, detail_text, arm_text, head_text, tail_text, script_text}
 use Rattle.cc_bash.specs.Texts.{function_begins, function_head, cases_begin, arms_begin, arms_end, unsorted_options, otherwise, sorted_options, script_ends, case_begins, case_comma, case_sets, case_ends, arm_begins, arm_words, arm_level, arm_details, arm_ends, detail_begins, detail_word_ends, keep_separator, separator_back, reply_begins, reply_ends, values_begin, values_end, offer_files, offer_word, mode_begins, mode_ends, detail_ends}
 
 -- `my-app` with the child `test`, and all that building adds
@@ -191,7 +191,7 @@ given_arms =
     }
     ∷ record { label = codes "app__subcmd__run"; level = codes "2"; words = []; details = [] } ∷ []
 
-script_reads : bash_table (bash_script (codes "app") (codes "app") given_cases given_arms)
+script_reads : bash_table (script_text (codes "app") (codes "app") given_cases given_arms)
     ≡ Some (record { root = codes "app"; cases = given_cases; arms = given_arms })
-unfolding sign byte_of cut posix_tokens is_word pattern_of assigned bare_text double_text is_root is_empty_reply is_typed_reply is_compgen_reply mode_named case_by next closed_table read bash_table case_text offered_text reply_text mode_word mode_text moded_text detail_text arm_text head_text tail_text bash_script function_begins function_head cases_begin arms_begin arms_end unsorted_options otherwise sorted_options script_ends case_begins case_comma case_sets case_ends arm_begins arm_words arm_level arm_details arm_ends detail_begins detail_word_ends keep_separator separator_back reply_begins reply_ends values_begin values_end offer_files offer_word mode_begins mode_ends detail_ends
+unfolding sign byte_of cut posix_tokens is_word pattern_of assigned bare_text double_text is_root is_empty_reply is_typed_reply is_compgen_reply mode_named case_by next closed_table read bash_table case_text offered_text reply_text mode_word mode_text moded_text detail_text arm_text head_text tail_text script_text function_begins function_head cases_begin arms_begin arms_end unsorted_options otherwise sorted_options script_ends case_begins case_comma case_sets case_ends arm_begins arm_words arm_level arm_details arm_ends detail_begins detail_word_ends keep_separator separator_back reply_begins reply_ends values_begin values_end offer_files offer_word mode_begins mode_ends detail_ends
 script_reads = refl

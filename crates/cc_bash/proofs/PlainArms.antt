@@ -20,9 +20,10 @@ use Rattle.cc_command.specs.Plain.{is_plain_forest, is_plain_node, passes_if_som
 use Rattle.cc_command.specs.PlainName.{is_plain_name}
 use Rattle.cc_command.specs.Tree.{Forest, none, more, Tree}
 use Rattle.cc_command.proofs.PlainParts.{IsPlainName, IsPlainShort, IsPlainArgument, IsPlainBelow, plain_node, plain_more}
-use Rattle.cc_generator.specs.ArgumentNames.{aliases_then}
+use Rattle.cc_generator.specs.ArgumentNames.{aliases_then, long_word, short_word}
 use Rattle.cc_quote.proofs.PosixCutting.{IsWord}
-use Rattle.cc_bash.specs.Arms.{arm_of, detail_of, details_at, long_word, long_words, names_of_shown, names_of_values, offered_by, offered_for, option_details, option_words, short_word, short_words, sibling_names, value_names, words_at}
+use Rattle.cc_generator.specs.Subcommands.{sibling_names}
+use Rattle.cc_bash.specs.Arms.{arm_of, detail_of, details_at, long_words, names_of_shown, names_of_values, offered_by, offered_for, option_details, option_words, short_words, value_names, words_at}
 use Rattle.cc_command.specs.Quiet.{are_quiet_values, is_quiet_argument, is_quiet_node, is_quiet_value}
 use Rattle.cc_bash.proofs.PlainBytes.{IsPlainText, alphanumeric_byte, bytes_of, decimal_word, joiner_byte, no_paren_of, plain_text, quiet_word, word_of}
 use Rattle.cc_bash.proofs.ReadsArms.{IsReadableArm}

@@ -16,7 +16,7 @@ use Rattle.cc_bash.specs.Labels.{Labelled, child_label, labelled_commands, label
 use Rattle.cc_command.specs.Quiet.{is_quiet_forest, is_quiet_node, is_quiet_tree}
 use Rattle.cc_bash.specs.Reader.{bash_cases, bash_table}
 use Rattle.cc_bash.specs.Reads.{BashReads, arm_after}
-use Rattle.cc_bash.specs.Script.{tree_script}
+use Rattle.cc_bash.specs.Script.{bash_script}
 use Rattle.cc_bash.proofs.CaseWalk.{arm_at_end, arm_stands, table_ends, table_walks}
 use Rattle.cc_bash.proofs.EachArm.{arms_of_positions}
 use Rattle.cc_bash.proofs.Clashes.{texts_differ}
@@ -124,18 +124,18 @@ arms_readable tree h quiet =
 -- ---- the script
 
 table_back : (tree : Tree) → IsTrue (is_plain_tree tree) → IsTrue (is_quiet_tree tree) →
-    bash_table (tree_script tree) ≡ Some
+    bash_table (bash_script tree) ≡ Some
     (record { root = root_label tree; cases = tree_cases tree; arms = tree_arms tree })
-unfolding tree_script
+unfolding bash_script
 table_back tree h quiet =
     bash_reads_back (root_label tree) (full_name tree.node) (tree_cases tree) (tree_arms tree)
     (other_of (root_label tree) (bytes_of (root_label tree) (root_plain tree h)))
     (cases_readable tree h) (arms_readable tree h quiet)
 
 cases_back : (tree : Tree) → IsTrue (is_plain_tree tree) →
-    bash_cases (tree_script tree) ≡ Some
+    bash_cases (bash_script tree) ≡ Some
     (record { root = root_label tree; cases = tree_cases tree; arms = [] })
-unfolding tree_script
+unfolding bash_script
 cases_back tree h =
     bash_cases_back (root_label tree) (full_name tree.node) (tree_cases tree) (tree_arms tree)
     (other_of (root_label tree) (bytes_of (root_label tree) (root_plain tree h)))

@@ -13,7 +13,7 @@ use Rattle.cc_bash.specs.Arms.{Arm}
 use Rattle.cc_bash.specs.CaseTable.{Case}
 use Rattle.cc_bash.specs.Reader.{Table, pattern_of, assigned, is_root, case_by, next, closed_table, read, bash_cases, bash_table}
 use Rattle.cc_bash.specs.Reader.State.{begins, at_root_label, after_root_label, between_cases, after_cases, between_arms, finished}
-use Rattle.cc_bash.specs.Script.{case_text, arm_text, head_text, tail_text, bash_script}
+use Rattle.cc_bash.specs.Script.{case_text, arm_text, head_text, tail_text, script_text}
 use Rattle.cc_bash.specs.Texts.{function_begins, function_head, cases_begin, arms_begin, arms_end, unsorted_options, otherwise, sorted_options, script_ends}
 use Rattle.cc_bash.proofs.ReadsArms.{IsReadableArm, arm_line, arms_read}
 use Rattle.cc_bash.proofs.ReadsCases.{reading, IsReadableCase, case_line, cases_read}
@@ -87,9 +87,9 @@ tail_reads table label bin =
 -- a script is read back to its table
 pub bash_reads_back : (label bin : List ℕ) (cases : List Case) (arms : List Arm) → IsOther label →
     AllByRecursion IsReadableCase cases → AllByRecursion IsReadableArm arms →
-    bash_table (bash_script label bin cases arms)
+    bash_table (script_text label bin cases arms)
     ≡ Some (record { root = label; cases = cases; arms = arms })
-unfolding bash_table bash_script posix_tokens
+unfolding bash_table script_text posix_tokens
 bash_reads_back label bin cases arms h k m =
     let tail : List ℕ = tail_text label bin in
     let armed : List ℕ = flat_map arm_text arms ++ tail in
@@ -119,9 +119,9 @@ cases_close table rest = read_cases_closed table (tokens_from between (drop 48 a
 
 pub bash_cases_back : (label bin : List ℕ) (cases : List Case) (arms : List Arm) → IsOther label →
     AllByRecursion IsReadableCase cases →
-    bash_cases (bash_script label bin cases arms)
+    bash_cases (script_text label bin cases arms)
     ≡ Some (record { root = label; cases = cases; arms = [] })
-unfolding bash_cases bash_script posix_tokens
+unfolding bash_cases script_text posix_tokens
 bash_cases_back label bin cases arms h k =
     let armed : List ℕ = flat_map arm_text arms ++ tail_text label bin in
     ap (reading false begins between) (in_parts (head_text label)

@@ -13,7 +13,7 @@ use Rattle.cc_bash.specs.CaseTable.{case_below, node_cases, tree_cases}
 use Rattle.cc_bash.specs.Labels.{Labelled, first_again, labelled_commands, labelled_under, root_label, shared_label}
 use Rattle.cc_bash.specs.Nodes.{labelled_of}
 use Rattle.cc_bash.specs.Reads.{BashReads}
-use Rattle.cc_bash.specs.Script.{arm_text, bash_script, case_text, head_text, tail_text, tree_script}
+use Rattle.cc_bash.specs.Script.{arm_text, script_text, case_text, head_text, tail_text, bash_script}
 use Rattle.cc_bash.specs.Texts.{arms_begin}
 use Rattle.cc_bash.specs.declared.nodes.LabelledNode.{LabelledNode}
 use Rattle.cc_bash.proofs.PlainTable.{bash_plain_reads}
@@ -21,7 +21,7 @@ use Rattle.cc_bash.proofs.PlainTable.{bash_plain_reads}
 -- the script of a root with this label and these nodes below it
 abbrev pub script_by : List ℕ → Tree → List Labelled → List ℕ
 script_by root tree nodes =
-    bash_script root (full_name tree.node) (in_order case_below (flat_map node_cases nodes))
+    script_text root (full_name tree.node) (in_order case_below (flat_map node_cases nodes))
     (arm_of root 1 tree ∷ map node_arm (in_order arm_below nodes))
 
 -- its pieces, in the order in which they are written
@@ -31,7 +31,7 @@ pub script_pieces : (root bin : List ℕ) (tree : Tree) (lent nodes : List Label
     ++ arms_begin) ++ arm_text (arm_of root 1 tree))
     ++ flat_map arm_text (map node_arm (in_order arm_below nodes))) ++ tail_text root bin
     ≡ script_by root tree nodes
-unfolding bash_script
+unfolding script_text
 script_pieces root bin tree lent nodes is same =
     let one : List ℕ = arm_text (arm_of root 1 tree) in
     let rest : List ℕ = flat_map arm_text (map node_arm (in_order arm_below nodes)) in
@@ -52,8 +52,8 @@ nodes_are tree at root nodes is label are = are ∙ ap (λ t. labelled_under roo
 
 script_is : (tree : Tree) (root : List ℕ) (nodes : List LabelledNode) → root ≡ root_label tree →
     map labelled_of nodes ≡ labelled_commands tree →
-    script_by root tree (map labelled_of nodes) ≡ tree_script tree
-unfolding tree_script tree_cases tree_arms
+    script_by root tree (map labelled_of nodes) ≡ bash_script tree
+unfolding bash_script tree_cases tree_arms
 script_is tree root nodes label are = ap (λ r. script_by r tree (map labelled_of nodes)) label
     ∙ ap (script_by (root_label tree) tree) are
 
@@ -75,7 +75,7 @@ clash_is tree root nodes label are =
 module _ {S : Type 0} {taken : S → List ℕ} {failed : S → Failures} where
   -- it is out of memory before anything is written
   pub generates_memory : (tree : Tree) (sink : S) →
-      Generates taken failed tree_script shared_label BashReads tree (Err Memory) sink sink
+      Generates taken failed bash_script shared_label BashReads tree (Err Memory) sink sink
   generates_memory tree sink = record {
     ok = tt;
     reads = tt;
@@ -90,7 +90,7 @@ module _ {S : Type 0} {taken : S → List ℕ} {failed : S → Failures} where
 
   -- two nodes share a label
   pub generates_clash : (tree : Tree) (label : List ℕ) (sink : S) → shared_label tree ≡ Some label →
-      Generates taken failed tree_script shared_label BashReads tree (Err (LabelClash label))
+      Generates taken failed bash_script shared_label BashReads tree (Err (LabelClash label))
       sink sink
   generates_clash tree label sink e =
       record { ok = tt; reads = tt; clashes = by (shared_label tree) e; failures = refl }
@@ -107,7 +107,7 @@ module _ {S : Type 0} {taken : S → List ℕ} {failed : S → Failures} where
       map labelled_of nodes ≡ labelled_commands tree →
       shared_label tree ≡ None → Writes taken failed result old new
       (script_by root tree (map labelled_of nodes)) →
-      Generates taken failed tree_script shared_label BashReads tree result old new
+      Generates taken failed bash_script shared_label BashReads tree result old new
   generates_script tree result old new root nodes label are clear w =
       let P : List ℕ → Type 0 = λ text. Writes taken failed result old new text in
       of result (subst P (script_is tree root nodes label are) w)
@@ -118,8 +118,8 @@ module _ {S : Type 0} {taken : S → List ℕ} {failed : S → Failures} where
       kinds None (Err error) is k = k
       kinds (Some _) r is k = cc
 
-      of : (r : Result (Unit {0}) Error) → Writes taken failed r old new (tree_script tree) →
-          Generates taken failed tree_script shared_label BashReads tree r old new
+      of : (r : Result (Unit {0}) Error) → Writes taken failed r old new (bash_script tree) →
+          Generates taken failed bash_script shared_label BashReads tree r old new
       of (Ok u) v = record {
         ok = v.ok;
         reads =

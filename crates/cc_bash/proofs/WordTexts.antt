@@ -6,7 +6,8 @@ use Rattle.cc_base.proofs.JoinedTexts.{has_texts_append, joined_append}
 use Rattle.cc_arg.specs.declared.parts.ArgParts.{ArgParts as Arg}
 use Rattle.cc_arg.specs.Arguments.{is_positional}
 use Rattle.cc_command.specs.Tree.{Forest, Tree}
-use Rattle.cc_bash.specs.Arms.{long_words, short_words, sibling_names, value_names, words_at}
+use Rattle.cc_generator.specs.Subcommands.{sibling_names}
+use Rattle.cc_bash.specs.Arms.{long_words, short_words, value_names, words_at}
 use Rattle.cc_bash.specs.Nodes.{part_words}
 use Rattle.cc_bash.specs.Words.{words_after, words_text}
 use Rattle.cc_bash.specs.declared.words.Part.TheVariants.{Values}

@@ -1,5 +1,5 @@
 -- What a bash script offers at each command: the options and names, and what comes after an option.
-use Rattle.std.specs.Prelude.{ℕ, List, [], ◌∷◌, ◌++◌, Bool, not, map, filter, flat_map, codes, decimal, encode_utf8, Option, Some, None, unwrap_or}
+use Rattle.std.specs.Prelude.{ℕ, List, [], ◌∷◌, ◌++◌, Bool, not, map, filter, flat_map, decimal, Option, Some, None, unwrap_or}
 use Rattle.std.specs.Ordering.{is_lt, nat_cmp}
 use Rattle.std.specs.Cmp.Lexicographic.{slice_cmp}
 use Rattle.cc_base.specs.Sorting.{in_order}
@@ -10,10 +10,10 @@ use Rattle.cc_arg.specs.declared.value_hint.ValueHint.TheVariants.{Other, FilePa
 use Rattle.cc_arg.specs.Arguments.{possible_values}
 use Rattle.cc_arg.specs.ShownNames.{shown_shorts, shown_longs}
 use Rattle.cc_command.specs.declared.node.Node.{Node}
-use Rattle.cc_command.specs.Tree.{Forest, none, more, Tree}
+use Rattle.cc_command.specs.Tree.{Tree}
 use Rattle.cc_command.specs.ArgumentLists.{options, positionals}
-use Rattle.cc_command.specs.Names.{visible_names}
-use Rattle.cc_generator.specs.ArgumentNames.{aliases_then}
+use Rattle.cc_generator.specs.ArgumentNames.{aliases_then, long_word, short_word}
+use Rattle.cc_generator.specs.Subcommands.{sibling_names}
 use Rattle.cc_bash.specs.Labels.{Labelled, labelled_commands, root_label}
 
 -- what is offered after an option: these values, files, the word as it is typed, or nothing
@@ -42,13 +42,6 @@ pub record Arm : Type 0 where
   pub level : List ℕ
   pub words : List (List ℕ)
   pub details : List Detail
-
--- a short and a long as they are typed
-abbrev pub short_word : ℕ → List ℕ
-short_word short = codes "-" ++ encode_utf8 short
-
-abbrev pub long_word : List ℕ → List ℕ
-long_word long = codes "--" ++ long
 
 -- the shorts of an argument as they are typed, and its longs: the visible aliases, then the name
 abbrev pub short_words : Arg → List (List ℕ)
@@ -88,11 +81,6 @@ offered_by argument = offered_for (possible_values argument) argument.value_hint
 
 abbrev pub mode_of : Arg → Option Mode
 mode_of argument = mode_for argument.value_hint
-
--- the visible names of some siblings, one sibling after another
-abbrev pub sibling_names : Forest → List (List ℕ)
-sibling_names none = []
-sibling_names (more node below rest) = visible_names node ++ sibling_names rest
 
 -- the words at a node: the shorts, the longs, the values of positionals, and the names of the
 -- children

@@ -9,7 +9,7 @@ use Rattle.cc_bash.specs.CaseTable.{tree_cases, run, run_end}
 use Rattle.cc_bash.specs.Arms.{Arm, arm_of, tree_arms}
 use Rattle.cc_command.specs.Quiet.{is_quiet_tree}
 use Rattle.cc_bash.specs.Reader.{Table, bash_cases, bash_table}
-use Rattle.cc_bash.specs.Script.{tree_script}
+use Rattle.cc_bash.specs.Script.{bash_script}
 use Rattle.cc_bash.specs.Walk.{Position, all_positions, label_at, level_of, positions, root_position, walk}
 
 -- the first arm with a label
@@ -36,9 +36,9 @@ arm_after (Some table) words = arm_at table.arms (run_end table.cases table.root
 -- besides; so at the label to which words lead, also as it is read from the script, is the arm
 -- of the node that the walk reaches. No two nodes have one label.
 pub record BashReads (tree : Tree) : Type 0 where
-  pub cases : bash_cases (tree_script tree)
+  pub cases : bash_cases (bash_script tree)
       ≡ Some (record { root = root_label tree; cases = tree_cases tree; arms = [] })
-  pub table : IsTrue (is_quiet_tree tree) → bash_table (tree_script tree)
+  pub table : IsTrue (is_quiet_tree tree) → bash_table (bash_script tree)
       ≡ Some (record { root = root_label tree; cases = tree_cases tree; arms = tree_arms tree })
   pub walks : (words : List (List ℕ)) →
       run (tree_cases tree) (root_label tree) words
@@ -51,6 +51,6 @@ pub record BashReads (tree : Tree) : Type 0 where
       arm_at (tree_arms tree) (position_label tree (walk (root_position tree) words))
       ≡ Some (position_arm tree (walk (root_position tree) words))
   pub reached : IsTrue (is_quiet_tree tree) → (words : List (List ℕ)) →
-      arm_after (bash_table (tree_script tree)) words
+      arm_after (bash_table (bash_script tree)) words
       ≡ Some (position_arm tree (walk (root_position tree) words))
   pub one_label : AllDifferBy (λ label. label) (labels tree)

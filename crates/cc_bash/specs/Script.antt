@@ -64,12 +64,12 @@ tail_text label bin =
     ++ sorted_options) ++ bin) ++ script_ends
 
 -- a script with these cases and arms
-unfoldable pub bash_script : List ℕ → List ℕ → List Case → List Arm → List ℕ
-bash_script label bin cases arms =
+unfoldable pub script_text : List ℕ → List ℕ → List Case → List Arm → List ℕ
+script_text label bin cases arms =
     (((head_text label ++ flat_map case_text cases) ++ arms_begin) ++ flat_map arm_text arms)
     ++ tail_text label bin
 
 -- the script of a tree
-unfoldable pub tree_script : Tree → List ℕ
-tree_script tree =
-    bash_script (root_label tree) (full_name tree.node) (tree_cases tree) (tree_arms tree)
+unfoldable pub bash_script : Tree → List ℕ
+bash_script tree =
+    script_text (root_label tree) (full_name tree.node) (tree_cases tree) (tree_arms tree)

@@ -80,6 +80,6 @@ fn write_levelled<'a, W: Sink>(
     put_around(arm_begins(), label, arm_words(), sink)?;
     write_words(command, sink)?;
     put_around(arm_level(), level, arm_details(), sink)?;
-    write_details(command.get_arguments(), sink)?;
+    write_details(command.get_opts(), sink)?;
     put_piece(sink, arm_ends().as_bytes())
 }

@@ -9,8 +9,8 @@ ghost use Rattle.cc_bash.specs.CaseTable.{case_below, node_cases};
 ghost use Rattle.cc_bash.specs.Labels.{shared_label};
 ghost use Rattle.cc_bash.specs.Nodes.{labelled_of};
 ghost use Rattle.cc_bash.specs.Reads.{BashReads};
-ghost use Rattle.cc_bash.specs.Script.{arm_text, bash_script, case_text, head_text, tail_text};
-ghost use Rattle.cc_bash.specs.Script.{tree_script};
+ghost use Rattle.cc_bash.specs.Script.{arm_text, script_text, case_text, head_text, tail_text};
+ghost use Rattle.cc_bash.specs.Script.{bash_script};
 
 use crate::arms::{sort_nodes, write_arm, write_arms};
 use crate::cases::{sorted_cases, write_cases};
@@ -32,7 +32,7 @@ use std::alloc::Global;
 pub struct Bash;
 
 impl Generator for Bash {
-    ghost script = { λ _ tree. tree_script tree };
+    ghost script = { λ _ tree. bash_script tree };
 
     ghost Reads = { λ _ tree. BashReads tree };
 
@@ -74,7 +74,7 @@ fn write_script<W: Sink>(
     sink: &mut W,
 ) -> Result<(), Error>
     ensures { Writes W.taken W.failed result sink.old sink.new
-        (bash_script root.now (full_name command.now.node)
+        (script_text root.now (full_name command.now.node)
         (in_order case_below (flat_map node_cases (map labelled_of nodes.entry.items)))
         (arm_of root.now 1 command.now
         ∷ map node_arm (in_order arm_below (map labelled_of nodes.entry.items)))) }
@@ -93,11 +93,11 @@ fn write_head<W: Sink>(label: &str, sink: &mut W) -> Result<(), Error>
     ensures { Writes W.taken W.failed result sink.old sink.new (head_text label.now) }
 {
     let pieces = [
-        function_begins().as_bytes(),
-        label.as_bytes(),
-        function_head().as_bytes(),
-        label.as_bytes(),
-        cases_begin().as_bytes(),
+        function_begins(),
+        label,
+        function_head(),
+        label,
+        cases_begin(),
     ];
     as_error(put_pieces(sink, &pieces))
 }
@@ -133,15 +133,15 @@ fn write_tail<'a, W: Sink>(label: &'a str, bin: &'a str, sink: &mut W) -> Result
     ensures { Writes W.taken W.failed result sink.old sink.new (tail_text label.now bin.now) }
 {
     let pieces = [
-        arms_end().as_bytes(),
-        label.as_bytes(),
-        unsorted_options().as_bytes(),
-        bin.as_bytes(),
-        otherwise().as_bytes(),
-        label.as_bytes(),
-        sorted_options().as_bytes(),
-        bin.as_bytes(),
-        script_ends().as_bytes(),
+        arms_end(),
+        label,
+        unsorted_options(),
+        bin,
+        otherwise(),
+        label,
+        sorted_options(),
+        bin,
+        script_ends(),
     ];
     as_error(put_pieces(sink, &pieces))
 }

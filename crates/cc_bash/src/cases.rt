@@ -82,13 +82,13 @@ fn write_case<W: Sink>(case: &Case<'_>, sink: &mut W) -> Result<(), ErrorKind>
         (case_text (case_of case.now)) }
 {
     let pieces = [
-        case_begins().as_bytes(),
-        case.from.as_bytes(),
-        case_comma().as_bytes(),
-        case.word.as_bytes(),
-        case_sets().as_bytes(),
-        case.to.as_bytes(),
-        case_ends().as_bytes(),
+        case_begins(),
+        case.from,
+        case_comma(),
+        case.word,
+        case_sets(),
+        case.to,
+        case_ends(),
     ];
     put_pieces(sink, &pieces)
 }

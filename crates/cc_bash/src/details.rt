@@ -1,11 +1,11 @@
 //! What is offered after each option.
 
-ghost use Rattle.std.specs.Prelude.{◌++◌, filter, map, flat_map};
+ghost use Rattle.std.specs.Prelude.{◌++◌, map, flat_map};
 ghost use Rattle.cc_arg.specs.ShownNames.{shown_longs, shown_shorts};
 ghost use Rattle.cc_base.specs.Writes.{Writes, as_write};
-ghost use Rattle.cc_command.specs.ArgumentLists.{is_option};
-ghost use Rattle.cc_bash.specs.Arms.{detail_of, long_word, mode_of, offered_by};
-ghost use Rattle.cc_bash.specs.Arms.{option_details, short_word};
+ghost use Rattle.cc_command.specs.Iterators.{arguments_left};
+ghost use Rattle.cc_generator.specs.ArgumentNames.{long_word, short_word};
+ghost use Rattle.cc_bash.specs.Arms.{detail_of, mode_of, offered_by, option_details};
 ghost use Rattle.cc_bash.specs.Script.{detail_text, moded_text, offered_text, reply_text};
 ghost use Rattle.cc_bash.specs.Texts.{mode_begins, mode_ends};
 
@@ -16,18 +16,16 @@ use crate::texts::{
 use crate::words::write_shown_values;
 use cc_arg::{Arg, ValueHint, possible_values, shown_longs, shown_shorts};
 use cc_base::{Sink, put_around, put_piece, put_pieces};
+use cc_command::Arguments;
 use std::io::ErrorKind;
 
 /// Flags and positionals have no details.
-pub(crate) fn write_details<W: Sink>(arguments: &[Arg], sink: &mut W) -> Result<(), ErrorKind>
+pub(crate) fn write_details<W: Sink>(options: Arguments<'_>, sink: &mut W) -> Result<(), ErrorKind>
     ensures { Writes W.taken W.failed (as_write result) sink.old sink.new
-        (flat_map detail_text (flat_map option_details (filter is_option arguments.now))) }
+        (flat_map detail_text (flat_map option_details (arguments_left options.entry))) }
 {
-    for argument in arguments {
-        if argument.is_positional() || !argument.takes_values() {
-            continue;
-        }
-        write_option(argument, sink)?;
+    for option in options {
+        write_option(option, sink)?;
     }
     Ok(())
 }
@@ -75,12 +73,7 @@ fn write_detail<'a, W: Sink>(
     ensures { Writes W.taken W.failed (as_write result) sink.old sink.new
         (detail_text (detail_of argument.now (dashes.now ++ name.now))) }
 {
-    let pieces = [
-        detail_begins().as_bytes(),
-        dashes.as_bytes(),
-        name.as_bytes(),
-        detail_word_ends().as_bytes(),
-    ];
+    let pieces = [detail_begins(), dashes, name, detail_word_ends()];
     put_pieces(sink, &pieces)?;
     write_moded(argument, sink)?;
     put_piece(sink, detail_ends().as_bytes())

@@ -15,6 +15,9 @@ use cc_quote::{Replace, escape_text, push_escaped};
 use cc_visits::SharedKey;
 use std::alloc::{AllocError, Global};
 
+// Comes before the name of a child in a label, and replaces a blank and a dash in it.
+const BEFORE_CHILD: &str = "__subcmd__";
+
 /// A node below the root, with its label.
 #[derive(Drop)]
 pub(crate) struct LabelledNode<'a> {
@@ -102,7 +105,7 @@ fn sort_text(alloc: Global, command: &Command) -> Result<String, AllocError>
 {
     let escape = Replace {
         byte: b' ',
-        by: "__subcmd__",
+        by: BEFORE_CHILD,
     };
     escape_text(alloc, &escape, full_name(command))
 }
@@ -110,13 +113,13 @@ fn sort_text(alloc: Global, command: &Command) -> Result<String, AllocError>
 fn child_label(alloc: Global, parent: &str, name: &str) -> Result<String, AllocError>
     ensures { IfOk result (λ text. string_bytes text ≡ child_label parent.now name.now) }
 {
-    let added = "__subcmd__".len().saturating_add(name.len());
+    let added = BEFORE_CHILD.len().saturating_add(name.len());
     let mut label = String::with_capacity(alloc, parent.len().saturating_add(added))?;
     label.push_str(parent)?;
-    label.push_str("__subcmd__")?;
+    label.push_str(BEFORE_CHILD)?;
     let escape = Replace {
         byte: b'-',
-        by: "__subcmd__",
+        by: BEFORE_CHILD,
     };
     push_escaped(&escape, name, &mut label)?;
     label.shrink_to_fit();

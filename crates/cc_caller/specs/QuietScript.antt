@@ -4,14 +4,14 @@ use Rattle.clap_complete.specs.BashArms.{tree_arms}
 use Rattle.clap_complete.specs.BashCaseTable.{tree_cases}
 use Rattle.clap_complete.specs.BashLabels.{root_label}
 use Rattle.clap_complete.specs.BashReader.{bash_table}
-use Rattle.clap_complete.specs.BashScript.{tree_script}
+use Rattle.clap_complete.specs.BashScript.{bash_script}
 use Rattle.clap_complete.specs.Error.{Error}
 use Rattle.clap_complete.specs.Tree.{Tree}
 
 -- the script of the tree is taken, and it reads to the tree's cases and arms
 pub record TakesTable (old new : List ℕ) (tree : Tree) : Type 0 where
-  pub taken : new ≡ old ++ tree_script tree
-  pub table : bash_table (tree_script tree)
+  pub taken : new ≡ old ++ bash_script tree
+  pub table : bash_table (bash_script tree)
       ≡ Some (record { root = root_label tree; cases = tree_cases tree; arms = tree_arms tree })
 
 -- On `Ok(true)` the script is taken and reads to the table; on `Ok(false)` nothing is taken.

@@ -8,7 +8,7 @@ use std::alloc::Global;
 
 fn put_in_turn(alloc: Global) -> Result<String, Error> {
     let mut sink = Collected::new(alloc);
-    as_error(put_pieces(&mut sink, &[b"ab", b"", b"c"]))?;
+    as_error(put_pieces(&mut sink, &["ab", "", "c"]))?;
     as_error(put_around("(", "d", ")", &mut sink))?;
     as_error(put_piece(&mut sink, b"e"))?;
     Ok(String::from_utf8_lossy(alloc, sink.as_slice())?)

@@ -10,7 +10,8 @@ use Rattle.cc_base.specs.Bytes as ascii
 use Rattle.cc_quote.specs.FishQuote.{is_fish_safe}
 use Rattle.cc_quote.proofs.FishWords.{IsSafe, safe_is_not, safe_bytes}
 use Rattle.cc_fish.specs.Script.{seen_text, spaced_name, not_seen, excluded_text}
-use Rattle.cc_fish.specs.Table.{child_names, function_name, function_begin, condition_at}
+use Rattle.cc_generator.specs.Subcommands.{sibling_names}
+use Rattle.cc_fish.specs.Table.{function_name, function_begin, condition_at}
 use Rattle.cc_fish.specs.Reader.{pieces_from, without_semicolon, after_beginning, seen_function, a_name, nothing, asked, condition_from, condition_of_pieces, condition_of}
 use Rattle.cc_fish.specs.Records.{Condition}
 use Rattle.cc_fish.proofs.RecordWords.{is_kept, IsKept}
@@ -70,17 +71,17 @@ seen_pieces (name ∷ names) (k, ks) =
 abbrev read_so : List ℕ → List (List ℕ) → List (List ℕ) → Condition
 read_so function path excluded = record { function = function; path = path; excluded = excluded }
 
-excluded_read : (function : List ℕ) (children : Forest) (path : List (List ℕ)) (name : List ℕ) → IsSafe name → AllByRecursion IsSafe (child_names children)
-    → condition_from a_name (read_so function path []) (cut_pieces name (excluded_text children)) ≡ Some (read_so function (path ++ name ∷ []) (child_names children))
+excluded_read : (function : List ℕ) (children : Forest) (path : List (List ℕ)) (name : List ℕ) → IsSafe name → AllByRecursion IsSafe (sibling_names children)
+    → condition_from a_name (read_so function path []) (cut_pieces name (excluded_text children)) ≡ Some (read_so function (path ++ name ∷ []) (sibling_names children))
 unfolding not_seen
 excluded_read function none path name h hs = ap (λ t. condition_from a_name (read_so function path []) (t ∷ [])) (safe_stays name h)
 excluded_read function (more node below rest) path name h hs =
-    let names : List (List ℕ) = child_names (more node below rest) in
+    let names : List (List ℕ) = sibling_names (more node below rest) in
     ap (λ t. condition_from a_name (read_so function path []) (t ∷ codes "and" ∷ codes "not" ∷ cut_pieces seen_function (flat_map spaced_name names))) (semicolon_off name)
     ∙ ap (λ pieces. condition_from a_name (read_so function path []) (name ∷ codes "and" ∷ codes "not" ∷ pieces)) (seen_pieces names hs)
 
-names_read : (function : List ℕ) (names : List (List ℕ)) (children : Forest) (path : List (List ℕ)) (name : List ℕ) → IsSafe name → AllByRecursion IsSafe names → AllByRecursion IsSafe (child_names children)
-    → condition_from a_name (read_so function path []) (cut_pieces name (flat_map seen_text names ++ excluded_text children)) ≡ Some (read_so function (path ++ name ∷ names) (child_names children))
+names_read : (function : List ℕ) (names : List (List ℕ)) (children : Forest) (path : List (List ℕ)) (name : List ℕ) → IsSafe name → AllByRecursion IsSafe names → AllByRecursion IsSafe (sibling_names children)
+    → condition_from a_name (read_so function path []) (cut_pieces name (flat_map seen_text names ++ excluded_text children)) ≡ Some (read_so function (path ++ name ∷ names) (sibling_names children))
 names_read function [] children path name h ks hs = excluded_read function children path name h hs
 names_read function (next ∷ names) children path name h (k, ks) hs =
     let tail : List ℕ = flat_map seen_text names ++ excluded_text children in
@@ -88,7 +89,7 @@ names_read function (next ∷ names) children path name h (k, ks) hs =
     ∙ ap (λ t. condition_from a_name (read_so function path []) (t ∷ codes "and" ∷ seen_function ∷ cut_pieces [] (next ++ tail))) (semicolon_off name)
     ∙ ap (λ pieces. condition_from a_name (read_so function (path ++ name ∷ []) []) (map without_semicolon pieces)) (pieces_safe next [] tail k)
     ∙ names_read function names children (path ++ name ∷ []) next k ks hs
-    ∙ ap (λ names. Some (read_so function names (child_names children))) (append_assoc path (name ∷ []) (next ∷ names))
+    ∙ ap (λ names. Some (read_so function names (sibling_names children))) (append_assoc path (name ∷ []) (next ∷ names))
 
 -- ---- the first piece
 
@@ -146,7 +147,7 @@ using_read bin_name pieces =
 -- ---- the whole
 
 -- the condition says the path and the names that are excluded
-pub condition_read : (bin_name : List ℕ) (path : List (List ℕ)) (children : Forest) (text : List ℕ) → IsSafe bin_name → AllByRecursion IsSafe path → AllByRecursion IsSafe (child_names children)
+pub condition_read : (bin_name : List ℕ) (path : List (List ℕ)) (children : Forest) (text : List ℕ) → IsSafe bin_name → AllByRecursion IsSafe path → AllByRecursion IsSafe (sibling_names children)
     → path_condition bin_name path children ≡ Some text → condition_of text ≡ condition_at bin_name path children
 unfolding is_fish_safe
 condition_read bin_name [] none text b p hs e = absurd (cc)
@@ -192,18 +193,18 @@ kept_flat_map : (text : List ℕ → List ℕ) → ((name : List ℕ) → IsSafe
 kept_flat_map text each [] h = refl
 kept_flat_map text each (name ∷ names) (h, hs) = kept_append (text name) (flat_map text names) (each name h) (kept_flat_map text each names hs)
 
-excluded_kept : (children : Forest) → AllByRecursion IsSafe (child_names children) → list_all is_kept (excluded_text children) ≡ true
+excluded_kept : (children : Forest) → AllByRecursion IsSafe (sibling_names children) → list_all is_kept (excluded_text children) ≡ true
 unfolding not_seen
 excluded_kept none h = refl
 excluded_kept (more node below rest) h =
-    let names : List (List ℕ) = child_names (more node below rest) in
+    let names : List (List ℕ) = sibling_names (more node below rest) in
     kept_append (codes "; and not __fish_seen_subcommand_from") (flat_map spaced_name names) refl (kept_flat_map spaced_name (λ name k. safe_kept name k) names h)
 
 function_kept : (bin_name rest : List ℕ) → IsSafe bin_name → list_all is_kept rest ≡ true → list_all is_kept (codes "__fish_" ++ (function_name bin_name ++ rest)) ≡ true
 function_kept bin_name rest b h =
     kept_append (codes "__fish_") (function_name bin_name ++ rest) refl (kept_append (function_name bin_name) rest (safe_kept (function_name bin_name) (function_safe bin_name b)) h)
 
-pub condition_kept : (bin_name : List ℕ) (path : List (List ℕ)) (children : Forest) → IsSafe bin_name → AllByRecursion IsSafe path → AllByRecursion IsSafe (child_names children)
+pub condition_kept : (bin_name : List ℕ) (path : List (List ℕ)) (children : Forest) → IsSafe bin_name → AllByRecursion IsSafe path → AllByRecursion IsSafe (sibling_names children)
     → IsKept (path_condition bin_name path children)
 condition_kept bin_name [] none b p hs = tt
 condition_kept bin_name [] (more node below rest) b p hs = function_kept bin_name (codes "_needs_command") b refl

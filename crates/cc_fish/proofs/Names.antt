@@ -17,7 +17,7 @@ use Rattle.cc_command.proofs.PlainParts.{IsPlainName, IsPlainShort, IsPlainArgum
 use Rattle.cc_quote.specs.FishQuote.{begins_word, is_fish_safe}
 use Rattle.cc_quote.proofs.FishWords.{IsSafe, safe_sign, safe_bare}
 use Rattle.cc_quote.proofs.FishCutting.{Spells}
-use Rattle.cc_fish.specs.Table.{child_names}
+use Rattle.cc_generator.specs.Subcommands.{sibling_names}
 
 -- bytes that need no quotes, one at least
 abbrev pub IsName : List ℕ → Type 0
@@ -95,8 +95,8 @@ all_append (x ∷ xs) ys h k = (h.0, all_append xs ys h.1 k)
 pub path_safe : (path : List (List ℕ)) → AllByRecursion IsPlainName path → AllByRecursion IsSafe path
 path_safe path h = safe_names path h
 
-pub children_safe : (children : Forest) → IsTrue (is_plain_forest children) → AllByRecursion IsSafe (child_names children)
+pub children_safe : (children : Forest) → IsTrue (is_plain_forest children) → AllByRecursion IsSafe (sibling_names children)
 children_safe none h = tt
 children_safe (more node below rest) h =
     let plain = plain_more node below rest h in
-    all_append (visible_names node) (child_names rest) (safe_names (visible_names node) (plain_node node plain.first.node).names) (children_safe rest plain.later)
+    all_append (visible_names node) (sibling_names rest) (safe_names (visible_names node) (plain_node node plain.first.node).names) (children_safe rest plain.later)

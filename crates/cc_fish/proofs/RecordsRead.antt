@@ -19,7 +19,8 @@ use Rattle.cc_quote.specs.FishTokens.{between, commands_from, fish_commands}
 use Rattle.cc_quote.proofs.FishWords.{IsSafe}
 use Rattle.cc_quote.proofs.FishCutting.{word_read, Adds, adds_append}
 use Rattle.cc_fish.specs.Script.{names_text, values_text, help_text, front_text, argument_text, child_text, children_text, node_text, options_text, flags_text, below_text}
-use Rattle.cc_fish.specs.Table.{condition_at, child_names, has_positionals, hint_marks, hint_offers, value_marks, value_offers, short_names, flag_record, option_record, child_record, child_records, node_records}
+use Rattle.cc_generator.specs.Subcommands.{sibling_names}
+use Rattle.cc_fish.specs.Table.{condition_at, has_positionals, hint_marks, hint_offers, value_marks, value_offers, short_names, flag_record, option_record, child_record, child_records, node_records}
 use Rattle.cc_fish.specs.Reader.{joined_words, offered_of, condition, condition_of, told_once, record_from, an_option, the_operand, no_record, records_of, records}
 use Rattle.cc_fish.specs.Records.{Condition, Record}
 use Rattle.cc_fish.proofs.Names.{IsName, name_safe, name_spelled, plain_name}
@@ -52,7 +53,7 @@ conditional bin_name [] none text e = absurd (cc)
 conditional bin_name [] (more node below rest) text e = refl
 conditional bin_name (name ∷ names) children text e = refl
 
-front_read : (bin_name : List ℕ) (path : List (List ℕ)) (children : Forest) (words : List (List ℕ)) → IsSafe bin_name → AllByRecursion IsSafe path → AllByRecursion IsSafe (child_names children)
+front_read : (bin_name : List ℕ) (path : List (List ℕ)) (children : Forest) (words : List (List ℕ)) → IsSafe bin_name → AllByRecursion IsSafe path → AllByRecursion IsSafe (sibling_names children)
     → record_from an_option no_record (front_words bin_name (path_condition bin_name path children) ++ words) ≡ record_from an_option (at bin_name (condition_at bin_name path children)) words
 front_read bin_name path children words b p hs = by (path_condition bin_name path children) refl
   where
@@ -189,7 +190,7 @@ yields_map P text read each (x ∷ xs) (h, hs) = yields_append (text x) (flat_ma
 pub record IsAt (bin_name : List ℕ) (path : List (List ℕ)) (children : Forest) : Type 0 where
   pub command : IsName bin_name
   pub names : AllByRecursion IsSafe path
-  pub excluded : AllByRecursion IsSafe (child_names children)
+  pub excluded : AllByRecursion IsSafe (sibling_names children)
 
 -- what each record of the node at a path begins with
 abbrev pub path_front : List ℕ → List (List ℕ) → Forest → List ℕ

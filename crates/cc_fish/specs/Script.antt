@@ -14,7 +14,8 @@ use Rattle.cc_base.specs.Bytes.{space, line_feed}
 use Rattle.cc_base.specs.Joined.{joined}
 use Rattle.cc_quote.specs.FishQuote.{fish_escaped, fish_quoted_for_eval, fish_help_for_eval_of}
 use Rattle.cc_visits.specs.Visits.{Keyed, path_visits}
-use Rattle.cc_fish.specs.Table.{child_names, function_name, has_positionals}
+use Rattle.cc_generator.specs.Subcommands.{sibling_names}
+use Rattle.cc_fish.specs.Table.{function_name, has_positionals}
 
 -- ---- when the records of a node hold
 
@@ -32,7 +33,7 @@ not_seen = codes "; and not __fish_seen_subcommand_from"
 -- that none of the children's names was seen, where there are children
 abbrev pub excluded_text : Forest → List ℕ
 excluded_text children =
-    if has_nodes children then not_seen ++ flat_map spaced_name (child_names children) else []
+    if has_nodes children then not_seen ++ flat_map spaced_name (sibling_names children) else []
 
 -- the key of a node: the part of a condition that tells its path; the root's is empty
 abbrev pub fish_key : List ℕ → List ℕ → List ℕ

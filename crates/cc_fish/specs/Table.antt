@@ -15,19 +15,15 @@ use Rattle.cc_base.specs.Bytes.{tab, dash}
 use Rattle.cc_quote.specs.Escapes.{replace_byte}
 use Rattle.cc_quote.specs.QuotedWord.{line_feeds_as_spaces}
 use Rattle.cc_visits.specs.Visits.{Keyed, path_visits, longer_path}
+use Rattle.cc_generator.specs.Subcommands.{sibling_names}
 use Rattle.cc_fish.specs.Records.{Condition, Marks, Record}
 
 -- ---- when the records of a node hold
 
--- the visible names of some siblings
-abbrev pub child_names : Forest → List (List ℕ)
-child_names none = []
-child_names (more node below rest) = visible_names node ++ child_names rest
-
 -- the names that are excluded: those of the children; at the root none
 abbrev pub excluded_names : List (List ℕ) → Forest → List (List ℕ)
 excluded_names [] children = []
-excluded_names (name ∷ names) children = child_names children
+excluded_names (name ∷ names) children = sibling_names children
 
 -- the bin name in names of functions: `-` as `_`
 abbrev pub function_name : List ℕ → List ℕ

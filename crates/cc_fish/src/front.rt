@@ -11,7 +11,7 @@ ghost use Rattle.cc_fish.specs.Script.{
   key_condition,
   spaced_name,
 };
-ghost use Rattle.cc_fish.specs.Table.{child_names};
+ghost use Rattle.cc_generator.specs.Subcommands.{sibling_names};
 
 use crate::texts::not_seen;
 use cc_command::Command;
@@ -83,7 +83,7 @@ fn push_excluded(front: &mut String, command: &Command) -> Result<(), AllocError
 
 fn push_children(front: &mut String, children: &[Command]) -> Result<(), AllocError>
     ensures { OnOk result (string_bytes front.new
-        ≡ string_bytes front.old ++ flat_map spaced_name (child_names (forest_of children.now))) }
+        ≡ string_bytes front.old ++ flat_map spaced_name (sibling_names (forest_of children.now))) }
 {
     for child in children {
         push_names(front, child)?;

@@ -142,7 +142,7 @@ fn write_longs<W: Sink>(argument: &Arg, sink: &mut W) -> Result<(), ErrorKind>
 fn write_long<W: Sink>(long: &str, sink: &mut W) -> Result<(), ErrorKind>
     ensures { Writes W.taken W.failed (as_write result) sink.old sink.new (long_text long.now) }
 {
-    put_pieces(sink, &[" -l ".as_bytes(), long.as_bytes()])
+    put_pieces(sink, &[" -l ", long])
 }
 
 // The help of an argument, or the about of a child.

@@ -1,5 +1,6 @@
 -- What a word asks of the options.
 use Rattle.std.specs.Prelude.{ℕ, List, [], ◌∷◌, ◌++◌, ◌-◌, ◌==◌, filter, find, length, take, Option, Some, None, codes, chars, if◌then◌else◌}
+use Rattle.cc_base.specs.Bytes.{dash, equals}
 use Rattle.cc_arg.specs.declared.parts.ArgParts.{ArgParts as Arg}
 use Rattle.cc_candidates.specs.declared.candidate.CompletionCandidate.{CompletionCandidate}
 use Rattle.cc_candidates.specs.Beginning.{begins}
@@ -26,7 +27,7 @@ pub data Row : Type 0 where
 -- what is after the first `=`, if there is one
 abbrev pub after_equals : List ℕ → Option (List ℕ)
 after_equals [] = None
-after_equals (c ∷ s) = if c == 61 then Some s else after_equals s
+after_equals (c ∷ s) = if c == equals then Some s else after_equals s
 
 -- values of the argument that the flag names
 abbrev pub flag_row : Option Arg → List ℕ → List ℕ → Row
@@ -46,7 +47,7 @@ long_row arguments long (Some text) =
 abbrev pub value_asked_after : Arg → List ℕ → List ℕ → Asked
 value_asked_after argument before [] = record { argument = argument; before = before; text = [] }
 value_asked_after argument before (c ∷ s) =
-    if c == 61 then record { argument = argument; before = before ++ codes "="; text = s }
+    if c == equals then record { argument = argument; before = before ++ codes "="; text = s }
     else record { argument = argument; before = before; text = c ∷ s }
 
 -- what is in a text before an end of it
@@ -75,11 +76,11 @@ after_two_dashes arguments (c ∷ s) = long_row arguments (c ∷ s) (after_equal
 abbrev pub after_one_dash : List Arg → List ℕ → Row
 after_one_dash arguments [] = Listed (shorts (codes "-") arguments ++ longs arguments)
 after_one_dash arguments (c ∷ s) =
-    if c == 45 then after_two_dashes arguments s else short_row arguments (c ∷ s)
+    if c == dash then after_two_dashes arguments s else short_row arguments (c ∷ s)
 
 unfoldable pub row_of : List Arg → List ℕ → Row
 row_of arguments [] = Listed (longs arguments ++ shorts (codes "-") arguments)
-row_of arguments (c ∷ s) = if c == 45 then after_one_dash arguments s else Listed []
+row_of arguments (c ∷ s) = if c == dash then after_one_dash arguments s else Listed []
 
 -- the candidate with a text before its value
 abbrev pub with_prefix : List ℕ → CompletionCandidate → CompletionCandidate

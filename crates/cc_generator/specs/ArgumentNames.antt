@@ -1,7 +1,14 @@
 -- The shorts and the longs of a command's arguments.
-use Rattle.std.specs.Prelude.{ℕ, List, [], ◌∷◌, ◌++◌, Option, Some, None}
+use Rattle.std.specs.Prelude.{ℕ, List, [], ◌∷◌, ◌++◌, Option, Some, None, codes, encode_utf8}
 use Rattle.std.specs.List.{flat_map}
 use Rattle.cc_arg.specs.declared.parts.ArgParts.{ArgParts as Arg}
+
+-- a short and a long as they are typed
+abbrev pub short_word : ℕ → List ℕ
+short_word short = codes "-" ++ encode_utf8 short
+
+abbrev pub long_word : List ℕ → List ℕ
+long_word long = codes "--" ++ long
 
 -- the aliases, then the name that was given first; nothing where there is no such name
 abbrev pub aliases_then : {A : Type 0} → List A → Option A → List A

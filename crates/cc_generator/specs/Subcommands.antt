@@ -11,6 +11,11 @@ use Rattle.cc_command.specs.declared.node.Node.{Node}
 abbrev pub texts_of : List (String Global × String Global) → List (List ℕ × List ℕ)
 texts_of pairs = map (λ pair. (string_bytes pair.0, string_bytes pair.1)) pairs
 
+-- the visible names of some siblings, one sibling after another
+abbrev pub sibling_names : Forest → List (List ℕ)
+sibling_names none = []
+sibling_names (more node below rest) = visible_names node ++ sibling_names rest
+
 -- each visible name of a node, with the node's full name
 unfoldable pub named : Node → List (List ℕ × List ℕ)
 named node = map (λ name. (name, full_name node)) (visible_names node)

@@ -2,7 +2,7 @@
 //! the lists of names in `utils`, and words with spaces between them.
 #![tactic(auto)]
 
-pub mod generator;
+mod generator;
 pub mod utils;
 mod words;
 

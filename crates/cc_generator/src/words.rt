@@ -22,8 +22,8 @@ pub fn put_word<S: Sink>(
     ensures begun { OnOk result (begun.new ≡ true) }
 {
     if *begun {
-        return put_pieces(sink, &[" ".as_bytes(), dashes.as_bytes(), name.as_bytes()]);
+        return put_pieces(sink, &[" ", dashes, name]);
     }
     *begun = true;
-    put_pieces(sink, &[dashes.as_bytes(), name.as_bytes()])
+    put_pieces(sink, &[dashes, name])
 }

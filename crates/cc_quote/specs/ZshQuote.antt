@@ -1,7 +1,9 @@
 -- How a text is escaped between `'` for the lists of zsh's completion, and how the backslashes are
 -- taken off again.
 use Rattle.std.specs.Prelude.{◌≡◌, ℕ, Bool, true, false, List, [], ◌∷◌, ◌++◌, Option, Some, None, option_map, codes, ◌==◌, ◌||◌, if◌then◌else◌}
-use Rattle.cc_base.specs.Bytes.{backslash, backtick, dollar, line_feed, single_quote, space}
+use Rattle.cc_base.specs.Bytes.{backslash, backtick, close_bracket, close_parenthesis, colon}
+use Rattle.cc_base.specs.Bytes.{dollar, line_feed, open_bracket, open_parenthesis, single_quote}
+use Rattle.cc_base.specs.Bytes.{space}
 use Rattle.cc_quote.specs.Escapes.{backslashed, escaped_by}
 use Rattle.cc_quote.specs.PosixQuote.{posix_word_of}
 
@@ -44,12 +46,13 @@ zsh_unescaped text = unmarked (marks text)
 -- `\ [ ] : $` and a backtick, which are after a backslash in a description
 abbrev pub is_help_marked : ℕ → Bool
 is_help_marked byte =
-    byte == backslash || byte == 91 || byte == 93 || byte == 58 || byte == dollar
-    || byte == backtick
+    byte == backslash || byte == open_bracket || byte == close_bracket || byte == colon
+    || byte == dollar || byte == backtick
 
 -- these, `(`, `)` and a space, which are after one in a value
 abbrev pub is_value_marked : ℕ → Bool
-is_value_marked byte = is_help_marked byte || byte == 40 || byte == 41 || byte == space
+is_value_marked byte =
+    is_help_marked byte || byte == open_parenthesis || byte == close_parenthesis || byte == space
 
 -- whether a byte of a value is escaped: one that is marked, or `'`
 abbrev pub is_value_escaped : ℕ → Bool

@@ -6,7 +6,7 @@ use Rattle.std.specs.Path.{path_file_stem}
 use Rattle.std.specs.Str.{bytes_eq}
 use Rattle.cc_bash.specs.Labels.{shared_label}
 use Rattle.cc_bash.specs.Reads.{BashReads}
-use Rattle.cc_bash.specs.Script.{tree_script as bash_script}
+use Rattle.cc_bash.specs.Script.{bash_script}
 use Rattle.cc_command.specs.Tree.{Tree}
 use Rattle.cc_fish.specs.Reads.{FishReads}
 use Rattle.cc_fish.specs.Script.{fish_script}

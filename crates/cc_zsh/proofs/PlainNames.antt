@@ -21,7 +21,8 @@ use Rattle.cc_quote.specs.PosixTokens.{sign}
 use Rattle.cc_quote.specs.PosixTokens.Sign.{other}
 use Rattle.cc_quote.proofs.PosixCutting.{IsOther}
 use Rattle.cc_command.specs.ArgumentLists.{first_with_id}
-use Rattle.cc_zsh.specs.Conflicts.{conflict_scope, conflicts_of, short_word, long_word, short_words, long_words, own_words, conflict_words, conflicts_text, has_arguments}
+use Rattle.cc_generator.specs.ArgumentNames.{long_word, short_word}
+use Rattle.cc_zsh.specs.Conflicts.{conflict_scope, conflicts_of, short_words, long_words, own_words, conflict_words, conflicts_text, has_arguments}
 use Rattle.cc_zsh.specs.Options.{name_word}
 use Rattle.cc_zsh.specs.Reader.{is_name_byte, is_typed_name}
 use Rattle.cc_zsh.proofs.Cutting.{NoQuote}

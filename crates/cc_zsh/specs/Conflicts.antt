@@ -1,11 +1,12 @@
 -- The arguments with which an argument is in conflict, as an option's word names them.
-use Rattle.std.specs.Prelude.{ℕ, List, [], ◌∷◌, ◌++◌, if◌then◌else◌, Bool, true, false, Option, Some, None, codes, encode_utf8}
+use Rattle.std.specs.Prelude.{ℕ, List, [], ◌∷◌, ◌++◌, if◌then◌else◌, Bool, true, false, Option, Some, None, codes}
 use Rattle.std.specs.List.{flat_map}
 use Rattle.std.specs.Option.{option_to_list}
 use Rattle.cc_base.specs.Joined.{joined}
 use Rattle.cc_arg.specs.declared.parts.ArgParts.{ArgParts as Arg}
 use Rattle.cc_command.specs.declared.node.Node.{Node}
 use Rattle.cc_command.specs.ArgumentLists.{conflicting, first_with_id}
+use Rattle.cc_generator.specs.ArgumentNames.{long_word, short_word}
 
 -- for each of these ids in order the first of the arguments with it; an id that none has is passed
 -- over
@@ -20,13 +21,6 @@ conflict_scope above node argument = if argument.global then above.arguments els
 -- the arguments with which an argument of a node is in conflict
 abbrev pub conflicts_of : Node → Node → Arg → List Arg
 conflicts_of above node argument = conflicting (conflict_scope above node argument) argument
-
--- a short and a long as they are typed
-abbrev pub short_word : ℕ → List ℕ
-short_word short = codes "-" ++ encode_utf8 short
-
-abbrev pub long_word : List ℕ → List ℕ
-long_word long = codes "--" ++ long
 
 abbrev pub short_words : Option ℕ → List (List ℕ)
 short_words None = []

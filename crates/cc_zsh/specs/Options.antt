@@ -10,7 +10,8 @@ use Rattle.cc_arg.specs.Arguments.{takes_values}
 use Rattle.cc_arg.specs.ShownNames.{shown_names}
 use Rattle.cc_command.specs.declared.node.Node.{Node}
 use Rattle.cc_command.specs.ArgumentLists.{flags, options}
-use Rattle.cc_zsh.specs.Conflicts.{conflicts_text, conflicts_of, long_word, short_word}
+use Rattle.cc_generator.specs.ArgumentNames.{long_word, short_word}
+use Rattle.cc_zsh.specs.Conflicts.{conflicts_text, conflicts_of}
 use Rattle.cc_quote.specs.ZshQuote.{zsh_escaped_help}
 use Rattle.cc_zsh.specs.Values.{values_text}
 

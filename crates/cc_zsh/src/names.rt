@@ -20,9 +20,9 @@ pub(crate) fn write_name<W: Sink>(name: &ShownName<'_>, sink: &mut W) -> Result<
         ShownName::Short(short) => {
             let mut buffer = [0; 4];
             let short = short.encode_utf8(&mut buffer);
-            put_pieces(sink, &["-".as_bytes(), short.as_bytes()])
+            put_pieces(sink, &["-", short])
         }
-        ShownName::Long(long) => put_pieces(sink, &["--".as_bytes(), long.as_str().as_bytes()]),
+        ShownName::Long(long) => put_pieces(sink, &["--", long.as_str()]),
     }
 }
 

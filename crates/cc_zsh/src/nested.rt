@@ -160,16 +160,16 @@ fn write_case<'a, W: Sink>(
         (case_text command.now.node index.now) }
 {
     let words = [
-        case_state().as_bytes(),
-        command.get_name().as_bytes(),
-        set_words().as_bytes(),
-        index.as_bytes(),
-        set_context().as_bytes(),
+        case_state(),
+        command.get_name(),
+        set_words(),
+        index,
+        set_context(),
     ];
     put_pieces(sink, &words)?;
     write_dashed(full_name(command), sink)?;
     put_around(context_command(), index, case_line(), sink)?;
-    put_pieces(sink, &[index.as_bytes(), case_line_in().as_bytes()])
+    put_pieces(sink, &[index, case_line_in()])
 }
 
 // The index of the word that names a child: after the positionals.

@@ -74,7 +74,7 @@ fn write_positional<W: Sink>(
 {
     put_piece(sink, "'".as_bytes())?;
     write_count(has_children, argument, sink)?;
-    put_pieces(sink, &[":".as_bytes(), argument.get_id().as_bytes()])?;
+    put_pieces(sink, &[":", argument.get_id()])?;
     write_help(argument.get_help(), sink)?;
     put_piece(sink, ":".as_bytes())?;
     write_value(argument, sink)?;

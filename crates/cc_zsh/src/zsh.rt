@@ -68,11 +68,11 @@ fn write_begin<W: Sink>(bin_name: &str, sink: &mut W) -> Result<(), ErrorKind>
         (begin_text bin_name.now) }
 {
     let pieces = [
-        compdef_begins().as_bytes(),
-        bin_name.as_bytes(),
-        autoloads().as_bytes(),
-        bin_name.as_bytes(),
-        body_begins().as_bytes(),
+        compdef_begins(),
+        bin_name,
+        autoloads(),
+        bin_name,
+        body_begins(),
     ];
     put_pieces(sink, &pieces)
 }

@@ -1,7 +1,8 @@
 use Rattle.std.proofs.Common.{◌≡◌, ◌++◌, map, flat_map}
 use Rattle.cc_arg.specs.Aliases.{longs_left}
 use Rattle.cc_arg.specs.ShownNames.{shown_longs}
-use Rattle.cc_bash.specs.Arms.{detail_of, long_word}
+use Rattle.cc_generator.specs.ArgumentNames.{long_word}
+use Rattle.cc_bash.specs.Arms.{detail_of}
 use Rattle.cc_bash.specs.Script.{detail_text}
 use Rattle.cc_bash.proofs.details.write_long_details.Given as goal
 

@@ -1,7 +1,8 @@
 use Rattle.std.proofs.Common.{◌≡◌, ◌++◌, map, flat_map}
 use Rattle.cc_arg.specs.Aliases.{shorts_left}
 use Rattle.cc_arg.specs.ShownNames.{shown_shorts}
-use Rattle.cc_bash.specs.Arms.{detail_of, short_word}
+use Rattle.cc_generator.specs.ArgumentNames.{short_word}
+use Rattle.cc_bash.specs.Arms.{detail_of}
 use Rattle.cc_bash.specs.Script.{detail_text}
 use Rattle.cc_bash.proofs.details.write_short_details.Given as goal
 

@@ -3,7 +3,7 @@ use Rattle.std.proofs.Math.Bool.{or-true}
 use Rattle.cc_base.proofs.Lists.{one_more}
 use Rattle.cc_base.specs.Joined.{has_texts}
 use Rattle.cc_base.proofs.JoinedTexts.{begun_step, joined_step}
-use Rattle.cc_bash.specs.Arms.{sibling_names}
+use Rattle.cc_generator.specs.Subcommands.{sibling_names}
 use Rattle.cc_command.specs.Names.{visible_names}
 use Rattle.cc_command.specs.Tree.{forest_of}
 use Rattle.cc_bash.specs.Words.{words_after}

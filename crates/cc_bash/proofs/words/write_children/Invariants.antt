@@ -1,7 +1,7 @@
 use Rattle.std.proofs.Common.{◌≡◌, ◌++◌, ◌||◌, drop}
 use Rattle.cc_base.specs.Joined.{has_texts}
 use Rattle.cc_command.specs.Tree.{forest_of}
-use Rattle.cc_bash.specs.Arms.{sibling_names}
+use Rattle.cc_generator.specs.Subcommands.{sibling_names}
 use Rattle.cc_bash.specs.Words.{words_after}
 use Rattle.cc_bash.proofs.words.write_children.Given as goal
 

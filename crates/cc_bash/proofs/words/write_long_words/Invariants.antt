@@ -1,6 +1,6 @@
 use Rattle.std.proofs.Common.{◌≡◌, ◌++◌, ◌||◌, [], ◌∷◌, drop, map}
 use Rattle.cc_base.specs.Joined.{has_texts}
-use Rattle.cc_bash.specs.Arms.{long_word}
+use Rattle.cc_generator.specs.ArgumentNames.{long_word}
 use Rattle.cc_bash.specs.Words.{words_after}
 use Rattle.cc_bash.proofs.words.write_long_words.Given as goal
 

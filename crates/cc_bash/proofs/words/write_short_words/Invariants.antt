@@ -1,6 +1,6 @@
 use Rattle.std.proofs.Common.{◌≡◌, ◌++◌, ◌||◌, [], ◌∷◌, drop, map}
 use Rattle.cc_base.specs.Joined.{has_texts}
-use Rattle.cc_bash.specs.Arms.{short_word}
+use Rattle.cc_generator.specs.ArgumentNames.{short_word}
 use Rattle.cc_bash.specs.Words.{words_after}
 use Rattle.cc_bash.proofs.words.write_short_words.Given as goal
 
