@@ -11,17 +11,17 @@ use Rattle.cc_bash.specs.Texts.{function_begins, function_head, cases_begin, arm
 -- a case: the label and the word, then the label that is set
 unfoldable pub case_text : Case → List ℕ
 case_text c =
-    (((((case_begins ++ c.from) ++ case_comma) ++ c.word) ++ case_sets) ++ c.to) ++ case_ends
+    case_begins ++ c.from ++ case_comma ++ c.word ++ case_sets ++ c.to ++ case_ends
 
 -- what offers
 unfoldable pub offered_text : Offered → List ℕ
-offered_text (values names) = (values_begin ++ words_text names) ++ values_end
+offered_text (values names) = values_begin ++ words_text names ++ values_end
 offered_text files = offer_files
 offered_text typed = offer_word
 offered_text nothing = []
 
 unfoldable pub reply_text : Offered → List ℕ
-reply_text offered = (reply_begins ++ offered_text offered) ++ reply_ends
+reply_text offered = reply_begins ++ offered_text offered ++ reply_ends
 
 -- the word of a mode, and what tells bash the mode
 unfoldable pub mode_word : Mode → List ℕ
@@ -31,42 +31,42 @@ mode_word nospace = codes "nospace"
 
 unfoldable pub mode_text : Mode → List ℕ
 unfolding mode_word
-mode_text mode = (mode_begins ++ mode_word mode) ++ mode_ends
+mode_text mode = mode_begins ++ mode_word mode ++ mode_ends
 
 -- the reply of a detail with its mode; around names of files the separator of words is a line feed
 unfoldable pub moded_text : Option Mode → Offered → List ℕ
 unfolding mode_text
 moded_text None offered = reply_text offered
 moded_text (Some filenames) offered =
-    ((keep_separator ++ reply_text offered) ++ separator_back) ++ mode_text filenames
+    keep_separator ++ reply_text offered ++ separator_back ++ mode_text filenames
 moded_text (Some mode) offered = reply_text offered ++ mode_text mode
 
 -- the word of a detail as a pattern, then the reply
 unfoldable pub detail_text : Detail → List ℕ
 detail_text detail =
-    (((detail_begins ++ detail.word) ++ detail_word_ends)
-    ++ moded_text detail.mode detail.offered) ++ detail_ends
+    detail_begins ++ detail.word ++ detail_word_ends ++ moded_text detail.mode detail.offered
+    ++ detail_ends
 
 -- the label of an arm, its words, its level and its details
 unfoldable pub arm_text : Arm → List ℕ
 arm_text arm =
-    (((((((arm_begins ++ arm.label) ++ arm_words) ++ words_text arm.words) ++ arm_level)
-    ++ arm.level) ++ arm_details) ++ flat_map detail_text arm.details) ++ arm_ends
+    arm_begins ++ arm.label ++ arm_words ++ words_text arm.words ++ arm_level ++ arm.level
+    ++ arm_details ++ flat_map detail_text arm.details ++ arm_ends
 
 -- what is before the cases, for the function of this label
 unfoldable pub head_text : List ℕ → List ℕ
-head_text label = (((function_begins ++ label) ++ function_head) ++ label) ++ cases_begin
+head_text label = function_begins ++ label ++ function_head ++ label ++ cases_begin
 
 -- what is after the arms, for the function of this label and the program bin
 unfoldable pub tail_text : List ℕ → List ℕ → List ℕ
 tail_text label bin =
-    (((((((arms_end ++ label) ++ unsorted_options) ++ bin) ++ otherwise) ++ label)
-    ++ sorted_options) ++ bin) ++ script_ends
+    arms_end ++ label ++ unsorted_options ++ bin ++ otherwise ++ label ++ sorted_options ++ bin
+    ++ script_ends
 
 -- a script with these cases and arms
 unfoldable pub script_text : List ℕ → List ℕ → List Case → List Arm → List ℕ
 script_text label bin cases arms =
-    (((head_text label ++ flat_map case_text cases) ++ arms_begin) ++ flat_map arm_text arms)
+    head_text label ++ flat_map case_text cases ++ arms_begin ++ flat_map arm_text arms
     ++ tail_text label bin
 
 -- the script of a tree

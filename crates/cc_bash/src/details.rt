@@ -133,7 +133,7 @@ fn write_offered<W: Sink>(argument: &Arg, sink: &mut W) -> Result<(), ErrorKind>
 // The word names the mode.
 fn write_mode<W: Sink>(word: &str, sink: &mut W) -> Result<(), ErrorKind>
     ensures { Writes W.taken W.failed (as_write result) sink.old sink.new
-        ((mode_begins ++ word.now) ++ mode_ends) }
+        (mode_begins ++ word.now ++ mode_ends) }
 {
     put_around(mode_begins(), word, mode_ends(), sink)
 }

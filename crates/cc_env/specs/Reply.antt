@@ -61,7 +61,7 @@ tab_help (Some help) = codes "\t" ++ help
 
 -- a line of a value, and its help after a tab
 unfoldable pub shown_line : Shown → List ℕ
-shown_line item = (item.value ++ tab_help item.help) ++ codes "\n"
+shown_line item = item.value ++ tab_help item.help ++ codes "\n"
 
 -- a line for each candidate
 abbrev pub candidate_line : CompletionCandidate → List ℕ

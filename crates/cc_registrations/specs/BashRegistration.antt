@@ -69,15 +69,15 @@ registration_ends = codes "\nfi\n\n"
 -- up to the completer
 unfoldable pub registration_front : List ℕ → List ℕ → List ℕ
 registration_front variable name =
-    (((function_begins ++ underscored name) ++ function_head) ++ variable) ++ call_begins
+    function_begins ++ underscored name ++ function_head ++ variable ++ call_begins
 
 -- from the completer on, up to the third occurrence of the name
 unfoldable pub sorted_call : List ℕ → List ℕ → List ℕ
-sorted_call name bin = (((call_ends ++ underscored name) ++ name_ends) ++ bin) ++ otherwise
+sorted_call name bin = call_ends ++ underscored name ++ name_ends ++ bin ++ otherwise
 
 -- from there on
 unfoldable pub plain_call : List ℕ → List ℕ → List ℕ
-plain_call name bin = ((underscored name ++ name_ends) ++ bin) ++ registration_ends
+plain_call name bin = underscored name ++ name_ends ++ bin ++ registration_ends
 
 -- from the completer on
 unfoldable pub registration_tail : List ℕ → List ℕ → List ℕ
@@ -86,7 +86,7 @@ registration_tail name bin = sorted_call name bin ++ plain_call name bin
 -- the registration
 unfoldable pub bash_registration : List ℕ → List ℕ → List ℕ → List ℕ → List ℕ
 bash_registration variable name bin completer =
-    (registration_front variable name ++ bash_doubled completer) ++ registration_tail name bin
+    registration_front variable name ++ bash_doubled completer ++ registration_tail name bin
 
 -- ---- how it is read
 

@@ -37,9 +37,8 @@ registration_ends =
 -- the registration
 unfoldable pub elvish_registration : List ℕ → List ℕ → List ℕ → List ℕ
 elvish_registration variable bin completer =
-    (((((registration_begins ++ posix_quoted bin) ++ function_head) ++ variable) ++ shell_set)
-    ++ posix_quoted completer)
-    ++ registration_ends
+    registration_begins ++ posix_quoted bin ++ function_head ++ variable ++ shell_set
+    ++ posix_quoted completer ++ registration_ends
 
 -- ---- how it is read
 

@@ -28,9 +28,8 @@ registration_ends =
 -- the registration
 unfoldable pub fish_registration : List ℕ → List ℕ → List ℕ → List ℕ
 fish_registration variable bin completer =
-    (((((registration_begins ++ fish_quoted bin) ++ arguments_begin) ++ variable) ++ shell_set)
-    ++ fish_quoted_for_eval completer)
-    ++ registration_ends
+    registration_begins ++ fish_quoted bin ++ arguments_begin ++ variable ++ shell_set
+    ++ fish_quoted_for_eval completer ++ registration_ends
 
 -- ---- how it is read
 

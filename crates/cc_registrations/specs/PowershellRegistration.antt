@@ -89,21 +89,21 @@ registration_ends =
 
 -- up to the first occurrence of the variable
 unfoldable pub registration_head : List ℕ → List ℕ
-registration_head bin = ((registration_begins ++ posix_quoted bin) ++ script_head) ++ environment
+registration_head bin = registration_begins ++ posix_quoted bin ++ script_head ++ environment
 
 -- from there up to the completer
 unfoldable pub call : List ℕ → List ℕ
-call variable = (((variable ++ prev_ends) ++ variable) ++ arguments) ++ call_begins
+call variable = variable ++ prev_ends ++ variable ++ arguments ++ call_begins
 
 -- after the completer
 unfoldable pub registration_tail : List ℕ → List ℕ
 registration_tail variable =
-    (((call_ends ++ variable) ++ otherwise) ++ variable) ++ registration_ends
+    call_ends ++ variable ++ otherwise ++ variable ++ registration_ends
 
 -- the registration
 unfoldable pub powershell_registration : List ℕ → List ℕ → List ℕ → List ℕ
 powershell_registration variable bin completer =
-    ((registration_head bin ++ call variable) ++ posix_quoted completer)
+    registration_head bin ++ call variable ++ posix_quoted completer
     ++ registration_tail variable
 
 -- ---- how it is read

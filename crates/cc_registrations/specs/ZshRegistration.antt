@@ -72,22 +72,22 @@ registration_ends = codes "\n"
 
 -- up to the name
 unfoldable pub registration_head : List ℕ → List ℕ
-registration_head bin = (registration_begins ++ posix_quoted bin) ++ function_begins
+registration_head bin = registration_begins ++ posix_quoted bin ++ function_begins
 
 -- up to the completer
 unfoldable pub registration_front : List ℕ → List ℕ → List ℕ → List ℕ
 registration_front variable name bin =
-    (((registration_head bin ++ underscored name) ++ function_head) ++ variable) ++ call_begins
+    registration_head bin ++ underscored name ++ function_head ++ variable ++ call_begins
 
 -- after the completer
 unfoldable pub registration_tail : List ℕ → List ℕ → List ℕ
 registration_tail name bin =
-    (((call_ends ++ underscored name) ++ name_ends) ++ posix_quoted bin) ++ registration_ends
+    call_ends ++ underscored name ++ name_ends ++ posix_quoted bin ++ registration_ends
 
 -- the registration
 unfoldable pub zsh_registration : List ℕ → List ℕ → List ℕ → List ℕ → List ℕ
 zsh_registration variable name bin completer =
-    (registration_front variable name bin ++ posix_quoted completer) ++ registration_tail name bin
+    registration_front variable name bin ++ posix_quoted completer ++ registration_tail name bin
 
 -- ---- how it is read
 

@@ -47,4 +47,4 @@ has_arguments (_ ∷ _) = true
 unfoldable pub conflicts_text : List Arg → List ℕ
 conflicts_text arguments =
     if has_arguments arguments
-    then (codes "(" ++ joined (codes " ") (conflict_words arguments)) ++ codes ")" else []
+    then codes "(" ++ joined (codes " ") (conflict_words arguments) ++ codes ")" else []

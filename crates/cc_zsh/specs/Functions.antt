@@ -84,7 +84,7 @@ describe_ends = codes " commands' commands \"$@\"\n}\n"
 unfoldable pub entry_text : Entry → List ℕ
 unfolding zsh_escaped_help
 entry_text e =
-    (((codes "\n'" ++ e.word) ++ codes ":") ++ zsh_escaped_help e.help) ++ codes "' \\"
+    codes "\n'" ++ e.word ++ codes ":" ++ zsh_escaped_help e.help ++ codes "' \\"
 
 unfoldable pub entries_end : List ℕ
 entries_end = codes "\n    "
@@ -102,6 +102,6 @@ entries_text entries =
 -- a function, with a line feed at its end
 unfoldable pub function_text : Function → List ℕ
 function_text function =
-    (((((((unless_defined ++ function_label function.name) ++ function_begins)
-    ++ function_label function.name) ++ commands_begin) ++ entries_text function.entries)
-    ++ describe_begins) ++ function.name) ++ describe_ends
+    unless_defined ++ function_label function.name ++ function_begins
+    ++ function_label function.name ++ commands_begin ++ entries_text function.entries
+    ++ describe_begins ++ function.name ++ describe_ends

@@ -38,7 +38,7 @@ state_ends = codes "\" \\\n"
 -- the children: the function that describes them, and the name of the node, at which its arms are
 unfoldable pub children_text : Node → List ℕ
 children_text node =
-    (((command_begins ++ function_label (full_name node)) ++ state_begins) ++ node.name)
+    command_begins ++ function_label (full_name node) ++ state_begins ++ node.name
     ++ state_ends
 
 -- what stands for the words after the options and positionals: the children, or, where there are
@@ -51,8 +51,8 @@ below_text tree =
 -- the block of a tree that has this node above it
 unfoldable pub block_text : Node → Tree → List ℕ
 block_text above tree =
-    ((((block_begins ++ options_text above tree.node) ++ flags_text above tree.node)
-    ++ positionals_text tree) ++ below_text tree) ++ block_ends
+    block_begins ++ options_text above tree.node ++ flags_text above tree.node
+    ++ positionals_text tree ++ below_text tree ++ block_ends
 
 -- ---- the arms of a node's children
 
@@ -90,8 +90,8 @@ context_text node = replace_byte space (codes "-") (full_name node)
 -- it on, the context in which zsh looks up its styles, and the choice by it
 unfoldable pub case_text : Node → List ℕ → List ℕ
 case_text node index =
-    (((((((((case_state ++ node.name) ++ set_words) ++ index) ++ set_context)
-    ++ context_text node) ++ context_command) ++ index) ++ case_line) ++ index) ++ case_line_in
+    case_state ++ node.name ++ set_words ++ index ++ set_context ++ context_text node
+    ++ context_command ++ index ++ case_line ++ index ++ case_line_in
 
 abbrev pub nested_begins : Node → List ℕ
 nested_begins node = case_text node (index_text node)
@@ -99,23 +99,23 @@ nested_begins node = case_text node (index_text node)
 -- the arms of a node, where it has children
 abbrev pub nested_text : Node → Forest → List ℕ → List ℕ
 nested_text node children arms =
-    if has_nodes children then (nested_begins node ++ arms) ++ nested_ends else []
+    if has_nodes children then nested_begins node ++ arms ++ nested_ends else []
 
 -- the same on a line of its own
 abbrev pub nested_line : Node → Forest → List ℕ → List ℕ
 nested_line node children arms =
-    if has_nodes children then line_feed ∷ ((nested_begins node ++ arms) ++ nested_ends) else []
+    if has_nodes children then line_feed ∷ (nested_begins node ++ arms ++ nested_ends) else []
 
 unfoldable pub arm_ends : List ℕ
 arm_ends = codes "\n;;\n"
 
 -- the word of an arm, and its block
 abbrev pub arm_begins : List ℕ → List ℕ → List ℕ
-arm_begins word block = ((codes "(" ++ word) ++ codes ")\n") ++ block
+arm_begins word block = codes "(" ++ word ++ codes ")\n" ++ block
 
 -- the arm of a word, with a block and what is nested in it, and a line feed at its end
 abbrev pub arm_text : List ℕ → List ℕ → List ℕ → List ℕ
-arm_text block nested word = (arm_begins word block ++ nested) ++ arm_ends
+arm_text block nested word = arm_begins word block ++ nested ++ arm_ends
 
 -- an arm for each visible name of each child, below this node
 unfoldable pub arms_text : Node → Forest → List ℕ

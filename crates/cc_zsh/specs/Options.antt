@@ -32,7 +32,7 @@ repeated_text argument = if is_repeated argument then codes "*" else []
 -- the help, or nothing, in square brackets
 unfoldable pub help_text : Arg → List ℕ
 unfolding zsh_escaped_help
-help_text argument = (codes "[" ++ zsh_escaped_help (unwrap_or argument.help [])) ++ codes "]"
+help_text argument = codes "[" ++ zsh_escaped_help (unwrap_or argument.help []) ++ codes "]"
 
 -- what each line ends with
 unfoldable pub line_end : List ℕ
@@ -52,8 +52,8 @@ value_sign argument (Long _) = if takes_values argument then codes "=" else []
 -- an argument under one of its names, after those in conflict with it
 unfoldable pub argument_line : Node → Node → Arg → ShownName → List ℕ
 argument_line above node argument name =
-    ((((((codes "'" ++ conflicts_text (conflicts_of above node argument)) ++ repeated_text argument)
-    ++ name_word name) ++ value_sign argument name) ++ help_text argument) ++ values_text argument)
+    codes "'" ++ conflicts_text (conflicts_of above node argument) ++ repeated_text argument
+    ++ name_word name ++ value_sign argument name ++ help_text argument ++ values_text argument
     ++ line_end
 
 -- an argument under each of its shown names, shorts first

@@ -22,7 +22,7 @@ takes_rest has_children argument = takes_several argument && not has_children
 -- what stands for the rest of the words, or for those up to a terminator
 abbrev pub rest_text : Option (List ℕ) → List ℕ
 rest_text None = codes "*:"
-rest_text (Some terminator) = (codes "*" ++ zsh_escaped_value terminator) ++ codes ":"
+rest_text (Some terminator) = codes "*" ++ zsh_escaped_value terminator ++ codes ":"
 
 -- how many words a positional takes: the rest, or one, which need not be there after a colon
 unfoldable pub count_text : Bool → Arg → List ℕ
@@ -48,8 +48,8 @@ positional_help (Some help) = codes " -- " ++ positional_escaped help
 -- a positional of a node, where it is told whether the node has children
 unfoldable pub positional_text : Bool → Arg → List ℕ
 positional_text has_children argument =
-    ((((((codes "'" ++ count_text has_children argument) ++ codes ":") ++ argument.id)
-    ++ positional_help argument.help) ++ codes ":") ++ value_text argument) ++ line_end
+    codes "'" ++ count_text has_children argument ++ codes ":" ++ argument.id
+    ++ positional_help argument.help ++ codes ":" ++ value_text argument ++ line_end
 
 -- whether a positional takes all words that follow, to the end
 abbrev pub takes_all : Bool → Arg → Bool

@@ -31,7 +31,7 @@ body_begins =
 
 -- what a script begins with
 unfoldable pub begin_text : List ℕ → List ℕ
-begin_text bin_name = (((compdef_begins ++ bin_name) ++ autoloads) ++ bin_name) ++ body_begins
+begin_text bin_name = compdef_begins ++ bin_name ++ autoloads ++ bin_name ++ body_begins
 
 -- between the blocks and the functions
 unfoldable pub body_ends : List ℕ
@@ -53,8 +53,8 @@ if_ends = codes "\nfi\n"
 -- known to zsh
 unfoldable pub end_text : List ℕ → List ℕ
 end_text bin_name =
-    (((((((if_called ++ bin_name) ++ then_call) ++ bin_name) ++ else_define) ++ bin_name)
-    ++ codes " ") ++ bin_name) ++ if_ends
+    if_called ++ bin_name ++ then_call ++ bin_name ++ else_define ++ bin_name ++ codes " "
+    ++ bin_name ++ if_ends
 
 -- all functions of a tree
 unfoldable pub functions_text : Tree → List ℕ
@@ -62,7 +62,7 @@ functions_text root = flat_map function_text (tree_functions root)
 
 unfoldable pub script_text : List ℕ → Tree → List ℕ
 script_text bin_name root =
-    (((begin_text bin_name ++ root_text root) ++ body_ends) ++ functions_text root)
+    begin_text bin_name ++ root_text root ++ body_ends ++ functions_text root
     ++ end_text bin_name
 
 -- the script of a tree

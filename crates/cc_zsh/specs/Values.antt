@@ -23,7 +23,7 @@ is_described value = not value.hide && is_some value.help
 -- what follows the name of a value: its help, or an empty one
 unfoldable pub item_help : List ℕ → List ℕ
 unfolding zsh_escaped_help
-item_help help = (codes "\\:\"" ++ zsh_escaped_help help) ++ codes "\""
+item_help help = codes "\\:\"" ++ zsh_escaped_help help ++ codes "\""
 
 -- a value in a list of names, and in one of names with helps
 unfoldable pub item_text : Form → PossibleValue → List ℕ
@@ -42,8 +42,8 @@ items_text form values = joined (item_separator form) (map (item_text form) (sho
 -- the values of a list that are shown, with their helps where one of them has a help
 unfoldable pub list_text : List PossibleValue → List ℕ
 list_text values =
-    if list_any is_described values then (codes "((" ++ items_text Helps values) ++ codes "))"
-    else (codes "(" ++ items_text Names values) ++ codes ")"
+    if list_any is_described values then codes "((" ++ items_text Helps values ++ codes "))"
+    else codes "(" ++ items_text Names values ++ codes ")"
 
 -- what a hint tells
 unfoldable pub hint_text : ValueHint → List ℕ
@@ -78,7 +78,7 @@ first_name (name ∷ names) = name
 -- one value of an option
 unfoldable pub one_value : Arg → List ℕ
 one_value argument =
-    ((codes ":" ++ first_name argument.value_names) ++ codes ":") ++ value_text argument
+    codes ":" ++ first_name argument.value_names ++ codes ":" ++ value_text argument
 
 -- a text as often as told
 abbrev pub times : ℕ → List ℕ → List ℕ
