@@ -9,7 +9,7 @@ ghost use Rattle.cc_registrations.specs.BashRegistration.{registration_ends, reg
 ghost use Rattle.cc_registrations.specs.BashRegistration.{registration_tail, sorted_call, plain_call};
 
 use crate::names::put_underscored;
-use cc_base::{Error, Sink, put_all};
+use cc_base::{Error, Sink, as_error, put_all, put_around};
 use cc_quote::{BashDouble, put_escaped};
 
 /// Writes the registration for bash: of the variable that asks for completions, the name,
@@ -55,9 +55,7 @@ fn write_front<W: Sink>(variable: &str, name: &str, sink: &mut W) -> Result<(), 
 {
     put_all(sink, function_begins().as_bytes())?;
     put_underscored(name, sink)?;
-    put_all(sink, function_head().as_bytes())?;
-    put_all(sink, variable.as_bytes())?;
-    put_all(sink, call_begins().as_bytes())
+    as_error(put_around(function_head(), variable, call_begins(), sink))
 }
 
 // The text from the completer on.
@@ -80,9 +78,7 @@ fn write_sorted_call<W: Sink>(name: &str, bin: &str, sink: &mut W) -> Result<(),
 {
     put_all(sink, call_ends().as_bytes())?;
     put_underscored(name, sink)?;
-    put_all(sink, name_ends().as_bytes())?;
-    put_all(sink, bin.as_bytes())?;
-    put_all(sink, otherwise().as_bytes())
+    as_error(put_around(name_ends(), bin, otherwise(), sink))
 }
 
 // The text from that name on.
@@ -93,9 +89,7 @@ fn write_plain_call<W: Sink>(name: &str, bin: &str, sink: &mut W) -> Result<(), 
     ensures write_only { IfErr result IsWrite }
 {
     put_underscored(name, sink)?;
-    put_all(sink, name_ends().as_bytes())?;
-    put_all(sink, bin.as_bytes())?;
-    put_all(sink, registration_ends().as_bytes())
+    as_error(put_around(name_ends(), bin, registration_ends(), sink))
 }
 
 #[tactic(auto, unfolding(crate::specs::BashRegistration::function_begins))]

@@ -8,7 +8,7 @@ ghost use Rattle.cc_registrations.specs.ElvishRegistration.{function_head, regis
 ghost use Rattle.cc_registrations.specs.ElvishRegistration.{registration_ends, shell_set};
 
 use crate::words::put_posix_quoted;
-use cc_base::{Error, Sink, put_all};
+use cc_base::{Error, Sink, as_error, put_all, put_around};
 use std::alloc::Global;
 
 /// Writes the registration for Elvish: of the variable that asks for completions, the binary and
@@ -39,9 +39,7 @@ fn write_text<W: Sink>(
         (elvish_registration variable.now bin.now completer.now) }
 {
     write_bin(alloc, bin, sink)?;
-    put_all(sink, function_head().as_bytes())?;
-    put_all(sink, variable.as_bytes())?;
-    put_all(sink, shell_set().as_bytes())?;
+    as_error(put_around(function_head(), variable, shell_set(), sink))?;
     put_posix_quoted(alloc, completer, sink)?;
     put_all(sink, registration_ends().as_bytes())
 }

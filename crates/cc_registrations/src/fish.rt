@@ -7,7 +7,7 @@ ghost use Rattle.cc_registrations.specs.FishRegistration.{FishReads};
 ghost use Rattle.cc_registrations.specs.FishRegistration.{arguments_begin, fish_registration};
 ghost use Rattle.cc_registrations.specs.FishRegistration.{registration_begins, registration_ends, shell_set};
 
-use cc_base::{Error, Sink, as_error, put_all};
+use cc_base::{Error, Sink, as_error, put_all, put_around};
 use cc_quote::{fish_quote, put_fish_quoted_for_eval};
 use std::alloc::Global;
 
@@ -39,9 +39,7 @@ fn write_text<W: Sink>(
         (fish_registration variable.now bin.now completer.now) }
 {
     write_bin(alloc, bin, sink)?;
-    put_all(sink, arguments_begin().as_bytes())?;
-    put_all(sink, variable.as_bytes())?;
-    put_all(sink, shell_set().as_bytes())?;
+    as_error(put_around(arguments_begin(), variable, shell_set(), sink))?;
     as_error(put_fish_quoted_for_eval(completer, sink))?;
     put_all(sink, registration_ends().as_bytes())
 }

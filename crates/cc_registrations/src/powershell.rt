@@ -20,7 +20,7 @@ ghost use Rattle.cc_registrations.specs.PowershellRegistration.{
 };
 
 use crate::words::put_posix_quoted;
-use cc_base::{Error, Sink, put_all};
+use cc_base::{Error, Sink, as_error, put_all, put_around, put_pieces};
 use std::alloc::Global;
 
 /// Writes the registration for PowerShell: of the variable that asks for completions, the binary
@@ -63,8 +63,7 @@ fn write_head<W: Sink>(alloc: Global, bin: &str, sink: &mut W) -> Result<(), Err
 {
     put_all(sink, registration_begins().as_bytes())?;
     put_posix_quoted(alloc, bin, sink)?;
-    put_all(sink, script_head().as_bytes())?;
-    put_all(sink, environment().as_bytes())
+    as_error(put_pieces(sink, &[script_head(), environment()]))
 }
 
 // The text from there up to the completer.
@@ -73,9 +72,7 @@ fn write_call<W: Sink>(variable: &str, sink: &mut W) -> Result<(), Error>
     ensures { Writes W.taken W.failed result sink.old sink.new (call variable.now) }
 {
     put_all(sink, variable.as_bytes())?;
-    put_all(sink, prev_ends().as_bytes())?;
-    put_all(sink, variable.as_bytes())?;
-    put_all(sink, arguments().as_bytes())?;
+    as_error(put_around(prev_ends(), variable, arguments(), sink))?;
     put_all(sink, call_begins().as_bytes())
 }
 
@@ -84,9 +81,7 @@ fn write_call<W: Sink>(variable: &str, sink: &mut W) -> Result<(), Error>
 fn write_tail<W: Sink>(variable: &str, sink: &mut W) -> Result<(), Error>
     ensures { Writes W.taken W.failed result sink.old sink.new (registration_tail variable.now) }
 {
-    put_all(sink, call_ends().as_bytes())?;
-    put_all(sink, variable.as_bytes())?;
-    put_all(sink, otherwise().as_bytes())?;
+    as_error(put_around(call_ends(), variable, otherwise(), sink))?;
     put_all(sink, variable.as_bytes())?;
     put_all(sink, registration_ends().as_bytes())
 }

@@ -10,7 +10,7 @@ ghost use Rattle.cc_registrations.specs.ZshRegistration.{registration_head, regi
 
 use crate::names::put_underscored;
 use crate::words::put_posix_quoted;
-use cc_base::{Error, Sink, put_all};
+use cc_base::{Error, Sink, as_error, put_all, put_around};
 use std::alloc::Global;
 
 /// Writes the registration for zsh: of the variable that asks for completions, the name,
@@ -62,9 +62,7 @@ fn write_front<W: Sink>(
 {
     write_head(alloc, bin, sink)?;
     put_underscored(name, sink)?;
-    put_all(sink, function_head().as_bytes())?;
-    put_all(sink, variable.as_bytes())?;
-    put_all(sink, call_begins().as_bytes())
+    as_error(put_around(function_head(), variable, call_begins(), sink))
 }
 
 // The text up to the name.
