@@ -51,7 +51,6 @@ known_row = refl
 
 message_row : unknown_shell five_names (codes "tcsh")
     ≡ codes "unknown shell `tcsh`, expected one of `bash`, `elvish`, `fish`, `powershell`, `zsh`"
-unfolding unknown_shell
 message_row = refl
 
 -- ---- the arguments

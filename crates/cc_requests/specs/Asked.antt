@@ -38,12 +38,12 @@ asked_of named shells (Some name) = elim (find (λ shell. named shell name) shel
 
 -- a name between backquotes
 abbrev pub quoted_name : List ℕ → List ℕ
-quoted_name name = (codes "`" ++ name) ++ codes "`"
+quoted_name name = codes "`" ++ name ++ codes "`"
 
 -- the message that no shell has this name, with the names of those that there are
-unfoldable pub unknown_shell : List (List ℕ) → List ℕ → List ℕ
+abbrev pub unknown_shell : List (List ℕ) → List ℕ → List ℕ
 unknown_shell names name =
-    ((codes "unknown shell `" ++ name) ++ codes "`, expected one of ")
+    codes "unknown shell `" ++ name ++ codes "`, expected one of "
     ++ joined (codes ", ") (map quoted_name names)
 
 -- the error is `UnknownShell` with that message, or out of memory

@@ -66,7 +66,6 @@ fn unknown_shell<E: EnvCompleter>(alloc: Global, shells: &[E], name: &str) -> Er
     }
 }
 
-#[tactic(auto, unfolding(crate::specs::Asked::unknown_shell))]
 fn message<E: EnvCompleter>(alloc: Global, shells: &[E], name: &str) -> Result<Text, AllocError>
     ensures { IfOk result (λ message.
         message ≡ unknown_shell (map E.own_name shells.now) name.now) }
