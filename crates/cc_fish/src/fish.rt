@@ -101,11 +101,12 @@ fn write_steps<W: Sink>(
     ensures { Writes W.taken W.failed result sink.old sink.new
         (flat_map (where_entered (visit_text bin_name.now function.now)) steps.entry) }
 {
+    let mut front = String::new(alloc);
     while let Some(step) = steps.next(alloc)? {
         let PathStep::Enter(visit) = step else {
             continue;
         };
-        write_visit(alloc, bin_name, function, &visit, sink)?;
+        write_visit(bin_name, function, &visit, &mut front, sink)?;
     }
     Ok(())
 }

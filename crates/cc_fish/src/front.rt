@@ -1,6 +1,6 @@
 //! What each record of a node begins with: the command, and when the record holds.
 
-ghost use Rattle.std.specs.Prelude.{◌≡◌, ◌++◌, [], flat_map, IfOk, OnOk};
+ghost use Rattle.std.specs.Prelude.{◌≡◌, ◌++◌, [], flat_map, OnOk};
 ghost use Rattle.std.specs.String.{string_bytes};
 ghost use Rattle.cc_command.specs.Names.{visible_names};
 ghost use Rattle.cc_command.specs.Tree.{forest_of};
@@ -15,24 +15,24 @@ ghost use Rattle.cc_generator.specs.Subcommands.{sibling_names};
 
 use crate::texts::not_seen;
 use cc_command::Command;
-use std::alloc::{AllocError, Global};
+use std::alloc::AllocError;
 
-/// What each record of a node begins with.
+/// Puts what each record of a node begins with in place of the text.
 #[tactic(auto, unfolding(crate::specs::Script::front_text))]
-pub(crate) fn front(
-    alloc: Global,
+pub(crate) fn set_front(
+    front: &mut String,
     bin_name: &str,
     function: &str,
     key: &str,
     command: &Command,
-) -> Result<String, AllocError>
-    ensures { IfOk result (λ front. string_bytes front
+) -> Result<(), AllocError>
+    ensures { OnOk result (string_bytes front.new
         ≡ front_text bin_name.now (key_condition function.now key.now command.now.children)) }
 {
-    let mut front = String::from_str(alloc, "complete -c ")?;
+    front.clear();
+    front.push_str("complete -c ")?;
     front.push_str(bin_name)?;
-    push_condition(&mut front, function, key, command)?;
-    Ok(front)
+    push_condition(front, function, key, command)
 }
 
 #[tactic(auto, unfolding(crate::specs::Script::key_condition))]

@@ -1,8 +1,16 @@
 //! The keys of nodes: the part of a condition that tells the path.
 
 use cc_base::Text;
-use cc_visits::Keys;
+use cc_visits::{Joined, Keys};
 use std::alloc::{AllocError, Global};
+
+const FIRST: Joined<'static> = Joined {
+    separator: "_using_subcommand ",
+};
+
+const FURTHER: Joined<'static> = Joined {
+    separator: "; and __fish_seen_subcommand_from ",
+};
 
 /// The part of a condition that tells the path of a node: empty at the root.
 #[derive(Drop)]
@@ -15,13 +23,8 @@ impl Keys for FishKeys {
 
     fn longer(&self, alloc: Global, key: &str, name: &str) -> Result<Text, AllocError> {
         if key.is_empty() {
-            let mut text = String::from_str(alloc, "_using_subcommand ")?;
-            text.push_str(name)?;
-            return Ok(Text::from(text));
+            return FIRST.longer(alloc, "", name);
         }
-        let mut text = String::from_str(alloc, key)?;
-        text.push_str("; and __fish_seen_subcommand_from ")?;
-        text.push_str(name)?;
-        Ok(Text::from(text))
+        FURTHER.longer(alloc, key, name)
     }
 }

@@ -33,28 +33,28 @@ ghost use Rattle.cc_fish.specs.Script.{
 };
 ghost use Rattle.cc_fish.specs.Table.{has_positionals};
 
-use crate::front::front;
+use crate::front::set_front;
 use crate::values::write_values;
 use cc_arg::{Arg, shown_longs, shown_shorts};
 use cc_base::{Error, Sink, as_error, put_around, put_piece, put_pieces};
 use cc_command::{Arguments, Command};
 use cc_quote::{FishEscape, put_escaped_piece};
 use cc_visits::Visit;
-use std::alloc::Global;
 use std::io::ErrorKind;
 
+/// `front` is where what each record begins with is made; what it holds before is dropped.
 #[tactic(auto, unfolding(crate::specs::Script::visit_text))]
 pub(crate) fn write_visit<W: Sink>(
-    alloc: Global,
     bin_name: &str,
     function: &str,
     visit: &Visit<'_>,
+    front: &mut String,
     sink: &mut W,
 ) -> Result<(), Error>
     ensures { Writes W.taken W.failed result sink.old sink.new
         (visit_text bin_name.now function.now (visit_of visit.now)) }
 {
-    let front = front(alloc, bin_name, function, visit.key.as_str(), visit.command)?;
+    set_front(front, bin_name, function, visit.key.as_str(), visit.command)?;
     as_error(write_node(front.as_str(), visit.command, sink))
 }
 

@@ -4,13 +4,13 @@ use Rattle.cc_fish.specs.Script.{visit_text}
 use Rattle.cc_fish.proofs.fish.write_steps.Given as goal
 
 -- what was taken and what is left make the whole; no put failed
-abbrev pub invariant-loop-steps : goal.invariant-loop-steps
-invariant-loop-steps g l = record {
+abbrev pub invariant-loop-front : goal.invariant-loop-front
+invariant-loop-front g l = record {
   whole : g.W.Sink.taken l.sink ++ flat_map (where_entered (visit_text l.bin_name l.function)) l.steps
       ≡ g.W.Sink.taken l.initial.sink ++ flat_map (where_entered (visit_text l.bin_name l.function)) l.initial.steps;
   failures : g.W.Sink.failed l.sink ≡ g.W.Sink.failed l.initial.sink;
 }
 
 -- how many are left
-abbrev pub decreases-loop-steps : goal.decreases-loop-steps
-decreases-loop-steps g l = length l.steps
+abbrev pub decreases-loop-front : goal.decreases-loop-front
+decreases-loop-front g l = length l.steps
