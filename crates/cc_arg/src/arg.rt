@@ -213,7 +213,7 @@ impl Arg {
         self
     }
 
-    /// Sets the heading under which help texts list the argument.
+    /// Sets the heading of the argument, with which live completion tags its candidates.
     pub fn help_heading(mut self, heading: String) -> Arg
         ensures { result ≡ record self { help_heading = Some (string_bytes heading) } }
     {
@@ -229,7 +229,7 @@ impl Arg {
         self
     }
 
-    /// Sets the display order.
+    /// Sets the display order, which sorts the candidates of live completion.
     pub fn display_order(mut self, order: usize) -> Arg
         ensures { result ≡ record self { display_order = Some order } }
     {
@@ -263,7 +263,8 @@ impl Arg {
         self
     }
 
-    /// Says whether the argument is left out of help texts.
+    /// Says whether the argument is hidden: live completion then offers it only where no visible
+    /// candidate is left. Scripts have it all the same.
     pub fn hide(mut self, hide: bool) -> Arg
         ensures { result ≡ record self { hide = hide } }
     {
@@ -313,10 +314,7 @@ impl Arg {
     pub fn get_long(&self) -> Option<&str>
         ensures { option_copied result ≡ self.now.long }
     {
-        match &self.parts.long {
-            Some(long) => Some(long.as_str()),
-            None => None,
-        }
+        self.parts.long.as_ref().map(|long| long.as_str())
     }
 
     /// The longs that are shown besides the long.
@@ -347,10 +345,7 @@ impl Arg {
     pub fn get_help(&self) -> Option<&str>
         ensures { option_copied result ≡ self.now.help }
     {
-        match &self.parts.help {
-            Some(help) => Some(help.as_str()),
-            None => None,
-        }
+        self.parts.help.as_ref().map(|help| help.as_str())
     }
 
     /// What the argument does; `Set` where nothing was said.
@@ -385,20 +380,14 @@ impl Arg {
     pub fn get_value_terminator(&self) -> Option<&str>
         ensures { option_copied result ≡ self.now.value_terminator }
     {
-        match &self.parts.value_terminator {
-            Some(terminator) => Some(terminator.as_str()),
-            None => None,
-        }
+        self.parts.value_terminator.as_ref().map(|terminator| terminator.as_str())
     }
 
-    /// The heading under which help texts list the argument.
+    /// The heading of the argument.
     pub fn get_help_heading(&self) -> Option<&str>
         ensures { option_copied result ≡ self.now.help_heading }
     {
-        match &self.parts.help_heading {
-            Some(heading) => Some(heading.as_str()),
-            None => None,
-        }
+        self.parts.help_heading.as_ref().map(|heading| heading.as_str())
     }
 
     /// The character between several values in one word.
@@ -464,7 +453,7 @@ impl Arg {
         self.parts.global
     }
 
-    /// Whether the argument is left out of help texts.
+    /// Whether the argument is hidden.
     pub fn is_hide_set(&self) -> bool
         ensures { result ≡ self.now.hide }
     {
@@ -483,7 +472,7 @@ impl Arg {
     pub fn takes_values(&self) -> bool
         ensures { result ≡ takes_values self.now }
     {
-        self.counted_range().takes_values()
+        counted_range(self).takes_values()
     }
 
     /// An equal argument. Fails with `Memory` where an allocation fails.
@@ -494,21 +483,6 @@ impl Arg {
         Ok(copy_of(alloc, self)?)
     }
 
-    // The range that counts: the given one, or the one that the action and the value names imply.
-    pub(crate) fn counted_range(&self) -> ValueRange
-        ensures { result ≡ range_of self.now }
-    {
-        if let Some(range) = self.parts.num_args {
-            return range;
-        }
-        if let Some(action) = self.parts.action
-            && !action.takes_values()
-        {
-            return ValueRange::exactly(0);
-        }
-        ValueRange::exactly(self.parts.value_names.as_slice().len().max(1))
-    }
-
     // The action that counts: the given one, or the one that the range and the kind imply.
     pub(crate) fn counted_action(&self) -> ArgAction
         ensures { result ≡ action_of self.now }
@@ -516,7 +490,7 @@ impl Arg {
         if let Some(action) = self.parts.action {
             return action;
         }
-        let greatest = self.counted_range().max_values();
+        let greatest = counted_range(self).max_values();
         if greatest == 0 {
             ArgAction::SetTrue
         } else if self.is_positional() && greatest == usize::MAX {
@@ -534,10 +508,27 @@ pub fn possible_values(argument: &Arg) -> Option<&[PossibleValue]>
     if !argument.takes_values() {
         return None;
     }
-    match &argument.parts.possible_values {
-        Some(values) => Some(values.as_slice()),
-        None => None,
+    argument
+        .parts
+        .possible_values
+        .as_ref()
+        .map(|values| values.as_slice())
+}
+
+/// The range of the values that counts: the given one, or the one that the action and the value
+/// names imply. A free function, since `clap` has no such getter.
+pub fn counted_range(argument: &Arg) -> ValueRange
+    ensures { result ≡ range_of argument.now }
+{
+    if let Some(range) = argument.parts.num_args {
+        return range;
     }
+    if let Some(action) = argument.parts.action
+        && !action.takes_values()
+    {
+        return ValueRange::exactly(0);
+    }
+    ValueRange::exactly(argument.parts.value_names.as_slice().len().max(1))
 }
 
 /// The ids of the arguments that may not be given together with this one, in the order in which
@@ -564,7 +555,7 @@ pub fn copy_of(alloc: Global, argument: &Arg) -> Result<Arg, AllocError>
 pub fn fill_range_and_action(argument: &mut Arg)
     ensures { argument.new ≡ filled argument.old }
 {
-    let range = argument.counted_range();
+    let range = counted_range(argument);
     let action = argument.counted_action();
     argument.parts.num_args = Some(range);
     argument.parts.action = Some(action);

@@ -42,7 +42,7 @@ pub struct ArgParts {
     pub value_hint: ValueHint,
     /// The word that ends its values.
     pub value_terminator: Option<Text>,
-    /// The heading under which help texts list it.
+    /// Its heading, a tag of candidates.
     pub help_heading: Option<Text>,
     /// The character between several values in one word.
     pub value_delimiter: Option<char>,
@@ -62,7 +62,7 @@ pub struct ArgParts {
     pub last: bool,
     /// Whether a build propagates it to the commands below.
     pub global: bool,
-    /// Whether help texts leave it out.
+    /// Whether it is hidden.
     pub hide: bool,
     /// Whether words that begin with `-` are taken as its values.
     pub allow_hyphen_values: bool,

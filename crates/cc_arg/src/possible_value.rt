@@ -55,10 +55,7 @@ impl PossibleValue {
     pub fn get_help(&self) -> Option<&str>
         ensures { option_copied result ≡ self.now.help }
     {
-        match &self.help {
-            Some(help) => Some(help.as_str()),
-            None => None,
-        }
+        self.help.as_ref().map(|help| help.as_str())
     }
 
     /// Whether the value is left out where values are shown.

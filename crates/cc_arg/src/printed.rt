@@ -5,7 +5,7 @@ ghost use Rattle.std.specs.Fmt.{DisplaysOnOk};
 ghost use Rattle.cc_arg.specs.Printed.{dots_where, further, is_count, is_optional, placeholder, printed, printed_after_name, printed_name, printed_names, printed_values, takes_more};
 
 use crate::action::ArgAction;
-use crate::arg::Arg;
+use crate::arg::{Arg, counted_range};
 use cc_base::Text;
 use std::fmt;
 
@@ -47,7 +47,7 @@ fn write_after_name<W: fmt::Write>(argument: &Arg, f: &mut fmt::Formatter<W>) ->
     if !argument.takes_values() {
         return write_dots(counts(argument), f);
     }
-    if argument.counted_range().min_values() > 0 {
+    if counted_range(argument).min_values() > 0 {
         f.write_str(" ")?;
         return write_values(argument, f);
     }
@@ -70,7 +70,7 @@ fn write_names<W: fmt::Write>(argument: &Arg, f: &mut fmt::Formatter<W>) -> fmt:
         (Some (printed_names argument.now)) f.new }
 {
     let optional = may_be_left_out(argument);
-    let times = argument.counted_range().min_values().max(1);
+    let times = counted_range(argument).min_values().max(1);
     match argument.get_value_names().split_first() {
         None => write_repeated(argument.get_id(), times - 1, optional, f),
         Some((name, others)) => {
@@ -162,16 +162,16 @@ fn may_be_left_out(argument: &Arg) -> bool
     ensures { result ≡ is_optional argument.now }
 {
     argument.is_positional()
-        && (!argument.is_required_set() || argument.counted_range().min_values() == 0)
+        && (!argument.is_required_set() || counted_range(argument).min_values() == 0)
 }
 
 // Whether more values may follow than there are names.
 fn may_take_more(argument: &Arg) -> bool
     ensures { result ≡ takes_more argument.now }
 {
-    let least = argument.counted_range().min_values();
+    let least = counted_range(argument).min_values();
     let names = argument.get_value_names().len();
     let written = if names > 1 { names } else { least.max(1) };
-    argument.counted_range().max_values() > written
+    counted_range(argument).max_values() > written
         || (argument.is_positional() && argument.counted_action() == ArgAction::Append)
 }

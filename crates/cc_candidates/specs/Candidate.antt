@@ -1,10 +1,10 @@
 -- What a candidate is as it is made, and the order of candidates.
-use Rattle.std.specs.Prelude.{ℕ, List, false, Option, None}
+use Rattle.std.specs.Prelude.{ℕ, List, Bool, false, Option, None}
 use Rattle.std.specs.declared.cmp.Ordering.{Ordering}
 use Rattle.std.specs.Cmp.{IsTotalOrder, on_total, then_total, nat_cmp_total, bool_cmp_total}
 use Rattle.std.specs.Cmp.Lexicographic.{slice_cmp, nat_list_cmp_total, options_total}
 use Rattle.std.specs.Option.{option_cmp}
-use Rattle.std.specs.Ordering.{nat_cmp, bool_cmp, ordering_then}
+use Rattle.std.specs.Ordering.{nat_cmp, bool_cmp, ordering_then, is_lt}
 use Rattle.cc_candidates.specs.declared.candidate.CompletionCandidate.{CompletionCandidate}
 
 -- a candidate of which only the value was given
@@ -52,3 +52,7 @@ candidate_cmp_total =
     (on_total (λ c. c.tag) (options_total nat_list_cmp_total)))
     (on_total (λ c. c.display_order) (options_total nat_cmp_total)))
     (on_total (λ c. c.hidden) bool_cmp_total)
+
+-- one candidate belongs before another
+abbrev pub comes_before : CompletionCandidate → CompletionCandidate → Bool
+comes_before one other = is_lt (candidate_cmp one other)

@@ -119,30 +119,21 @@ impl CompletionCandidate {
     pub fn get_help(&self) -> Option<&str>
         ensures { option_copied result ≡ self.now.help }
     {
-        match &self.help {
-            Some(help) => Some(help.as_str()),
-            None => None,
-        }
+        self.help.as_ref().map(|help| help.as_str())
     }
 
     /// The id.
     pub fn get_id(&self) -> Option<&str>
         ensures { option_copied result ≡ self.now.id }
     {
-        match &self.id {
-            Some(id) => Some(id.as_str()),
-            None => None,
-        }
+        self.id.as_ref().map(|id| id.as_str())
     }
 
     /// The tag.
     pub fn get_tag(&self) -> Option<&str>
         ensures { option_copied result ≡ self.now.tag }
     {
-        match &self.tag {
-            Some(tag) => Some(tag.as_str()),
-            None => None,
-        }
+        self.tag.as_ref().map(|tag| tag.as_str())
     }
 
     /// The display order.
@@ -183,10 +174,7 @@ fn concat(alloc: Global, one: &str, other: &str) -> Result<Text, AllocError>
 fn text_of(text: Option<String>) -> Option<Text>
     ensures { result ≡ option_map string_bytes text }
 {
-    match text {
-        Some(text) => Some(Text::from(text)),
-        None => None,
-    }
+    text.map(|text| Text::from(text))
 }
 
 impl PartialEq for CompletionCandidate {

@@ -37,6 +37,14 @@ impl Completers {
         }
     }
 
+    /// Nothing lent: every number is without candidates.
+    pub fn none(alloc: Global) -> Completers
+        ensures completers { (result.completers.items ≡ []) × (result.completer_closures.items ≡ []) }
+        ensures lists { (result.lists.items ≡ []) × (result.list_closures.items ≡ []) }
+    {
+        Completers::new(alloc, Vec::new(alloc), Vec::new(alloc))
+    }
+
     /// Lends these closures too, in place of those lent before. Their numbers follow the others'.
     pub fn with_closures(
         mut self,

@@ -7,6 +7,7 @@ mod closures;
 mod completers;
 mod copies;
 mod numbers;
+mod sorting;
 mod traits;
 
 pub use crate::beginnings::{begins_with, retain_beginning_with};
@@ -15,4 +16,5 @@ pub use crate::closures::{FnCandidates, FnCompleter};
 pub use crate::completers::Completers;
 pub use crate::copies::copy_of_some;
 pub use crate::numbers::{ArgValueCandidates, ArgValueCompleter, SubcommandCandidates};
+pub use crate::sorting::sort_candidates;
 pub use crate::traits::{ValueCandidates, ValueCompleter};

@@ -22,7 +22,7 @@ pub struct Node {
     pub aliases: Items<Text>,
     /// Names that work and are shown.
     pub visible_aliases: Items<Text>,
-    /// The heading over its children in help texts.
+    /// The heading of its children, a tag of candidates.
     pub subcommand_help_heading: Option<Text>,
     /// Its display order among its siblings, given or taken when it was added.
     pub display_order: Option<usize>,
@@ -30,7 +30,7 @@ pub struct Node {
     pub next_order: usize,
     /// Its arguments, in the order in which they were added.
     pub arguments: Items<Arg>,
-    /// Whether it is left out of help texts.
+    /// Whether it is hidden.
     pub hide: bool,
     /// Whether building adds no flag `help`.
     pub disable_help_flag: bool,

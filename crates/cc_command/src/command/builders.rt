@@ -73,7 +73,8 @@ impl Command {
         Ok(added.map(|()| self)?)
     }
 
-    /// Says whether the command is left out of help texts.
+    /// Says whether the command is hidden: live completion then offers it only where no visible
+    /// candidate is left. Scripts have it all the same.
     pub fn hide(mut self, hide: bool) -> Command
         ensures { result ≡ with_root (λ node. record node { hide = hide }) self }
     {
@@ -82,7 +83,8 @@ impl Command {
         self
     }
 
-    /// Sets the display order among the children of a parent.
+    /// Sets the display order among the children of a parent, which sorts the candidates of live
+    /// completion.
     pub fn display_order(mut self, order: usize) -> Command
         ensures { result ≡ with_root (λ node. record node { display_order = Some order }) self }
     {
@@ -91,7 +93,7 @@ impl Command {
         self
     }
 
-    /// Sets the heading above the children in help texts.
+    /// Sets the heading of the children, with which live completion tags their candidates.
     pub fn subcommand_help_heading(mut self, heading: String) -> Command
         ensures { result ≡ with_root
             (λ node. record node { subcommand_help_heading = Some (string_bytes heading) }) self }

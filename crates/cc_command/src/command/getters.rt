@@ -25,20 +25,14 @@ impl Command {
     pub fn get_bin_name(&self) -> Option<&str>
         ensures { option_copied result ≡ self.now.node.bin_name }
     {
-        match &self.node.bin_name {
-            Some(name) => Some(name.as_str()),
-            None => None,
-        }
+        self.node.bin_name.as_ref().map(|name| name.as_str())
     }
 
     /// What the command says of itself.
     pub fn get_about(&self) -> Option<&str>
         ensures { option_copied result ≡ self.now.node.about }
     {
-        match &self.node.about {
-            Some(about) => Some(about.as_str()),
-            None => None,
-        }
+        self.node.about.as_ref().map(|about| about.as_str())
     }
 
     /// The names that are shown besides the name.
@@ -62,14 +56,11 @@ impl Command {
         NameAndVisibleAliases::new(self.get_name(), self.get_visible_aliases())
     }
 
-    /// The heading above the children in help texts.
+    /// The heading of the children.
     pub fn get_subcommand_help_heading(&self) -> Option<&str>
         ensures { option_copied result ≡ self.now.node.subcommand_help_heading }
     {
-        match &self.node.subcommand_help_heading {
-            Some(heading) => Some(heading.as_str()),
-            None => None,
-        }
+        self.node.subcommand_help_heading.as_ref().map(|heading| heading.as_str())
     }
 
     /// The display order among the children of a parent; 999 where none was given.
@@ -79,7 +70,7 @@ impl Command {
         self.node.display_order.unwrap_or(999)
     }
 
-    /// Whether the command is left out of help texts.
+    /// Whether the command is hidden.
     pub fn is_hide_set(&self) -> bool
         ensures { result ≡ self.now.node.hide }
     {
