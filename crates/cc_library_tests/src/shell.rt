@@ -51,9 +51,9 @@ fn display_heeds_width_fill_and_alignment(rt: HostRuntime) {
 }
 
 #[test]
-fn debug_shows_the_variant(rt: HostRuntime) {
-    let shown = format!(in rt.alloc(); "{:?} {:?}", Shell::PowerShell, InvalidShell);
-    is(&rt, shown, "PowerShell InvalidShell");
+fn errors_and_shells_are_printed(rt: HostRuntime) {
+    let shown = format!(in rt.alloc(); "{:?} {:?} {}", Shell::PowerShell, InvalidShell, InvalidShell);
+    is(&rt, shown, "PowerShell InvalidShell invalid variant");
 }
 
 #[test]

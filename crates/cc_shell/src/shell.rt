@@ -45,6 +45,16 @@ pub enum Shell {
 #[derive(Clone, Copy, PartialEq, Eq, Debug)]
 pub struct InvalidShell;
 
+impl fmt::Display for InvalidShell {
+    ghost output = { λ _. Some (codes "invalid variant") };
+
+    fn fmt<W: fmt::Write>(&self, f: &mut fmt::Formatter<W>) -> fmt::Result {
+        f.write_str("invalid variant")
+    }
+}
+
+impl std::error::Error for InvalidShell {}
+
 /// One line for each shell: its variant, which is named as its generator, its text, and the names
 /// of its programs. `$part!` is given the lines, after what is asked for.
 #[macro_export]
