@@ -1,5 +1,5 @@
 -- What a stable sort returns is the list in order, and what is in a list in order.
-use Rattle.std.proofs.Common.{◌≡◌, ℕ, suc, ◌<◌, ◌≤◌, Bool, true, false, cond, not, ◌&&◌, List, [], ◌∷◌, map, length, get_or, filter, inl, inr, refl, sym, ap, ◌∙◌, arith}
+use Rattle.std.proofs.Common.{◌≡◌, ℕ, zero, suc, ◌+◌, ◌<◌, ◌≤◌, Bool, true, false, cond, not, ◌&&◌, List, [], ◌∷◌, map, length, get_or, filter, inl, inr, refl, sym, ap, ◌∙◌, arith}
 use Rattle.std.specs.Cmp.{IsStrictWeakOrder}
 use Rattle.std.specs.List.{AllByRecursion}
 use Rattle.std.specs.List.Sorted.{IsSortedBy, IsStableBy, ties}
@@ -8,36 +8,37 @@ use Rattle.std.proofs.lemmas.List.Sorted.{sorted_far}
 use Rattle.cc_base.specs.Sorting.{insert, in_order}
 use Rattle.cc_base.proofs.Members.{IsIn, AllByRecursion-IsIn, AllByRecursion-from_IsIn}
 
-module _ {X : Type 0} (lt : X → X → Bool) (o : IsStrictWeakOrder lt) where
+module _ {X : Type 0} (lt : X → X → Bool) where
   -- no element is below x
-  abbrev NoneBelow : X → List X → Type 0
+  abbrev pub NoneBelow : X → List X → Type 0
   NoneBelow x [] = Unit {0}
   NoneBelow x (y ∷ ys) = (lt y x ≡ false) × NoneBelow x ys
 
   -- no element is below one before it
-  abbrev Up : List X → Type 0
+  abbrev pub Up : List X → Type 0
   Up [] = Unit {0}
   Up (x ∷ xs) = NoneBelow x xs × Up xs
 
+module _ {X : Type 0} (lt : X → X → Bool) (o : IsStrictWeakOrder lt) where
   none_below : (x : X) (xs : List X) → ((k : ℕ) → k < length xs → lt (get_or xs k x) x ≡ false) →
-      NoneBelow x xs
+      NoneBelow lt x xs
   none_below x [] h = tt
   none_below x (y ∷ ys) h = (h 0 (omega arith), none_below x ys (λ k p. h (suc k) (omega arith)))
 
   up_from : (xs : List X) → ((i j : ℕ) (d : X) → i ≤ j → j < length xs →
-      lt (get_or xs j d) (get_or xs i d) ≡ false) → Up xs
+      lt (get_or xs j d) (get_or xs i d) ≡ false) → Up lt xs
   up_from [] h = tt
   up_from (x ∷ xs) h = (
     none_below x xs (λ k p. h 0 (suc k) x (omega arith) (omega arith)),
     up_from xs (λ i j d p q. h (suc i) (suc j) d (omega arith) (omega arith)),
   )
 
-  none_below-trans : (x y : X) (ys : List X) → lt y x ≡ false → NoneBelow y ys → NoneBelow x ys
+  none_below-trans : (x y : X) (ys : List X) → lt y x ≡ false → NoneBelow lt y ys → NoneBelow lt x ys
   none_below-trans x y [] e h = tt
   none_below-trans x y (z ∷ ys) e h = (o.chain z y x h.0 e, none_below-trans x y ys e h.1)
 
-  none_below-insert : (z x : X) (ys : List X) → lt x z ≡ false → NoneBelow z ys →
-      NoneBelow z (insert lt x ys)
+  none_below-insert : (z x : X) (ys : List X) → lt x z ≡ false → NoneBelow lt z ys →
+      NoneBelow lt z (insert lt x ys)
   unfolding insert
   none_below-insert z x [] e h = (e, tt)
   none_below-insert z x (y ∷ ys) e h = elim (cases_Bool (lt y x)) [
@@ -45,7 +46,7 @@ module _ {X : Type 0} (lt : X → X → Bool) (o : IsStrictWeakOrder lt) where
     | inr f ↦ rw f (e, h)
   ]
 
-  up-insert : (x : X) (ys : List X) → Up ys → Up (insert lt x ys)
+  up-insert : (x : X) (ys : List X) → Up lt ys → Up lt (insert lt x ys)
   unfolding insert
   up-insert x [] h = (tt, tt)
   up-insert x (y ∷ ys) h = elim (cases_Bool (lt y x)) [
@@ -53,13 +54,13 @@ module _ {X : Type 0} (lt : X → X → Bool) (o : IsStrictWeakOrder lt) where
     | inr f ↦ rw f ((f, none_below-trans x y ys f h.0), h)
   ]
 
-  up-in_order : (xs : List X) → Up (in_order lt xs)
+  pub up-in_order : (xs : List X) → Up lt (in_order lt xs)
   unfolding in_order
   up-in_order [] = tt
   up-in_order (x ∷ xs) = up-insert x (in_order lt xs) (up-in_order xs)
 
   -- where one of two elements is below the other, they do not both tie with z
-  apart : (z x y : X) → lt y x ≡ true → ties lt z x ≡ true → ties lt z y ≡ true → ⊥
+  pub apart : (z x y : X) → lt y x ≡ true → ties lt z x ≡ true → ties lt z y ≡ true → ⊥
   apart z x y below one other =
       let a = both (not (lt z x)) (not (lt x z)) one in
       let b = both (not (lt z y)) (not (lt y z)) other in
@@ -94,7 +95,7 @@ module _ {X : Type 0} (lt : X → X → Bool) (o : IsStrictWeakOrder lt) where
       order false true e f t = refl
       order false false e f t = refl
 
-  stable-in_order : (z : X) (xs : List X) →
+  pub stable-in_order : (z : X) (xs : List X) →
       filter (ties lt z) (in_order lt xs) ≡ filter (ties lt z) xs
   unfolding in_order
   stable-in_order z [] = refl
@@ -113,13 +114,13 @@ module _ {X : Type 0} (lt : X → X → Bool) (o : IsStrictWeakOrder lt) where
       [ inl t ↦ t | inr f ↦ let no : lt y z ≡ false = o.chain y w z f e in cc ]
 
   -- nothing that is above y ties with it
-  none_tied : (y z : X) (zs : List X) → lt y z ≡ true → NoneBelow z zs → filter (ties lt y) zs ≡ []
+  none_tied : (y z : X) (zs : List X) → lt y z ≡ true → NoneBelow lt z zs → filter (ties lt y) zs ≡ []
   none_tied y z [] below h = refl
   none_tied y z (w ∷ zs) below h =
       let e = below_all y z w below h.0 in
       rw e (none_tied y z zs below h.1)
 
-  first_tied : (y z : X) (zs : List X) → lt y z ≡ true → NoneBelow z zs →
+  first_tied : (y z : X) (zs : List X) → lt y z ≡ true → NoneBelow lt z zs →
       filter (ties lt y) (z ∷ zs) ≡ []
   first_tied y z zs below h = none_tied y z (z ∷ zs) below (not_below_itself z, h)
 
@@ -138,7 +139,7 @@ module _ {X : Type 0} (lt : X → X → Bool) (o : IsStrictWeakOrder lt) where
       by false e = e
 
   -- two lists in order whose ties are alike are one
-  one_order : (ys zs : List X) → Up ys → Up zs →
+  pub one_order : (ys zs : List X) → Up lt ys → Up lt zs →
       ((x : X) → filter (ties lt x) ys ≡ filter (ties lt x) zs) → ys ≡ zs
   one_order [] [] up down h = refl
   one_order [] (z ∷ zs) up down h = let e = h z ∙ kept z zs in cc
@@ -156,6 +157,18 @@ module _ {X : Type 0} (lt : X → X → Bool) (o : IsStrictWeakOrder lt) where
           (one_order ys zs up.1 down.1 (λ x. tails x y z ys zs is (h x)))
     ]
   ]
+
+  up_sorted : (xs : List X) → Up lt xs → IsSortedBy lt xs
+  up_sorted [] h k d from below = absurd (omega arith)
+  up_sorted (x ∷ []) h k d from below = absurd (omega arith)
+  up_sorted (x ∷ y ∷ xs) h zero d from below = h.0.0
+  up_sorted (x ∷ y ∷ xs) h (suc k) d from below =
+      let next : suc k + 1 ≡ suc (k + 1) = omega arith in
+      rw next (up_sorted (y ∷ xs) h.1 k d (omega arith) (omega arith))
+
+  -- what is in order is sorted
+  pub in_order-sorted : (xs : List X) → IsSortedBy lt (in_order lt xs)
+  in_order-sorted xs = up_sorted (in_order lt xs) (up-in_order xs)
 
   -- a list that is sorted and stable is the other in order
   pub sorted_is : (xs ys : List X) → IsSortedBy lt ys → IsStableBy lt xs ys → ys ≡ in_order lt xs
