@@ -380,14 +380,20 @@ impl Arg {
     pub fn get_value_terminator(&self) -> Option<&str>
         ensures { option_copied result ≡ self.now.value_terminator }
     {
-        self.parts.value_terminator.as_ref().map(|terminator| terminator.as_str())
+        self.parts
+            .value_terminator
+            .as_ref()
+            .map(|terminator| terminator.as_str())
     }
 
     /// The heading of the argument.
     pub fn get_help_heading(&self) -> Option<&str>
         ensures { option_copied result ≡ self.now.help_heading }
     {
-        self.parts.help_heading.as_ref().map(|heading| heading.as_str())
+        self.parts
+            .help_heading
+            .as_ref()
+            .map(|heading| heading.as_str())
     }
 
     /// The character between several values in one word.

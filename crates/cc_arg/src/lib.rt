@@ -15,8 +15,8 @@ mod value_hint;
 pub use crate::action::ArgAction;
 pub use crate::aliases::{LongAndVisibleAliases, ShortAndVisibleAliases};
 pub use crate::arg::{
-    Arg, conflicting_ids, copy_of, counted_range, fill_display_order, fill_index, fill_range_and_action,
-    possible_values,
+    Arg, conflicting_ids, copy_of, counted_range, fill_display_order, fill_index,
+    fill_range_and_action, possible_values,
 };
 pub use crate::names::{ShownName, ShownNames, shown_longs, shown_names, shown_shorts};
 pub use crate::parts::ArgParts;

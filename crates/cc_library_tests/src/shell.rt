@@ -52,7 +52,12 @@ fn display_heeds_width_fill_and_alignment(rt: HostRuntime) {
 
 #[test]
 fn errors_and_shells_are_printed(rt: HostRuntime) {
-    let shown = format!(in rt.alloc(); "{:?} {:?} {}", Shell::PowerShell, InvalidShell, InvalidShell);
+    let shown = format!(in rt.alloc();
+        "{:?} {:?} {}",
+        Shell::PowerShell,
+        InvalidShell,
+        InvalidShell
+    );
     is(&rt, shown, "PowerShell InvalidShell invalid variant");
 }
 

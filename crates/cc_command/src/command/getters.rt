@@ -60,7 +60,10 @@ impl Command {
     pub fn get_subcommand_help_heading(&self) -> Option<&str>
         ensures { option_copied result ≡ self.now.node.subcommand_help_heading }
     {
-        self.node.subcommand_help_heading.as_ref().map(|heading| heading.as_str())
+        self.node
+            .subcommand_help_heading
+            .as_ref()
+            .map(|heading| heading.as_str())
     }
 
     /// The display order among the children of a parent; 999 where none was given.
