@@ -6,9 +6,6 @@ use Rattle.cc_candidates.specs.declared.candidate.CompletionCandidate.{Completio
 use Rattle.cc_gather.specs.Children.{child_candidates, children_candidates}
 use Rattle.std.proofs.lemmas.List.Elements.{filter-append}
 
-pub filter_both : {X : Type 0} (p : X → Bool) (xs ys : List X) → filter p (xs ++ ys) ≡ filter p xs ++ filter p ys
-filter_both p xs ys = filter-append p xs ys
-
 pub filter_first : {X : Type 0} (p : X → Bool) (x : X) (xs : List X) → filter p (x ∷ xs) ≡ filter p (x ∷ []) ++ filter p xs
 filter_first p x xs = by (p x)
   where

@@ -12,7 +12,6 @@ use Rattle.std.proofs.lemmas.Bool.{cases_Bool}
 use Rattle.cc_base.specs.Sorting.{insert, in_order}
 use Rattle.cc_base.proofs.Sorted.{AllByRecursion-in_order}
 use Rattle.cc_gather.specs.Finished.{share, first_of_ids, SharesNone, ShareNone, Differ}
-use Rattle.cc_gather.proofs.InOrder.{insert-members}
 
 kept_all : (c : CompletionCandidate) (ds : List CompletionCandidate) → SharesNone c ds → filter (λ d. not (share c.id d.id)) ds ≡ ds
 kept_all c [] h = refl
@@ -91,13 +90,21 @@ share_back (Some x) (Some y) h = elim (cases_Bool (bytes_eq y x)) [
   | inr f ↦ f
 ]
 
+all-insert : {X : Type 0} (P : X → Type 0) (by : X → X → Bool) (x : X) (ys : List X) → P x → AllByRecursion P ys → AllByRecursion P (insert by x ys)
+unfolding insert
+all-insert P by x [] p h = (p, tt)
+all-insert P by x (y ∷ ys) p h = elim (cases_Bool (by y x)) [
+  | inl t ↦ rw t (h.0, all-insert P by x ys p h.1)
+  | inr f ↦ rw f (p, h)
+]
+
 differ-insert : (by : CompletionCandidate → CompletionCandidate → Bool) (x : CompletionCandidate) (ys : List CompletionCandidate) →
     Differ (x ∷ ys) → Differ (insert by x ys)
 unfolding insert
 differ-insert by x [] h = h
 differ-insert by x (y ∷ ys) h = elim (cases_Bool (by y x)) [
   | inl t ↦ rw t (
-    insert-members (λ d. share y.id d.id ≡ false) by by (λ a b p q. refl) x ys (share_back x.id y.id h.0.0) h.1.0,
+    all-insert (λ d. share y.id d.id ≡ false) by x ys (share_back x.id y.id h.0.0) h.1.0,
     differ-insert by x ys (h.0.1, h.1.1),
   )
   | inr f ↦ rw f h

@@ -1,13 +1,13 @@
 -- What sorting candidates with their ranks gives.
 use Rattle.std.proofs.Common.{◌≡◌, ◌⊎◌, inl, inr, ℕ, List, [], ◌∷◌, map, refl, ◌∙◌, ap, sym}
-use Rattle.std.specs.Cmp.{IsStrictWeakOrder}
-use Rattle.std.specs.Ordering.{is_lt}
+use Rattle.std.specs.Cmp.{IsStrictWeakOrder, on_total, then_total, nat_cmp_total}
+use Rattle.std.specs.Cmp.Lexicographic.{options_total}
 use Rattle.std.specs.List.Sorted.{IsSortedBy, IsStableBy}
 use Rattle.std.proofs.lemmas.List.Sorted.{ranks_by}
 use Rattle.cc_candidates.specs.declared.candidate.CompletionCandidate.{CompletionCandidate}
 use Rattle.cc_gather.specs.declared.finishing.Ranked.{Ranked}
 use Rattle.cc_gather.specs.Finished.{rank_of, comes_before, group}
-use Rattle.cc_gather.specs.Ranked.{with_ranks, ranked_cmp, ranked_cmp_total}
+use Rattle.cc_gather.specs.Ranked.{with_ranks, ranked_before}
 use Rattle.cc_base.specs.Sorting.{in_order}
 use Rattle.cc_base.proofs.Sorted.{sorted_is, map-in_order}
 
@@ -15,14 +15,15 @@ use Rattle.cc_base.proofs.Sorted.{sorted_is, map-in_order}
 abbrev ranked_in : List CompletionCandidate → CompletionCandidate → Ranked
 ranked_in cs c = record { rank = rank_of cs c.tag; candidate = c }
 
-below : IsStrictWeakOrder (λ (x y : Ranked). is_lt (ranked_cmp x y))
-below = ranks_by ranked_cmp_total (λ p. p)
+pub order : IsStrictWeakOrder ranked_before
+order = ranks_by (then_total (on_total (λ (p : Ranked). p.rank) nat_cmp_total)
+    (on_total (λ (p : Ranked). p.candidate.display_order) (options_total nat_cmp_total))) (λ p. p)
 
 back : (cs xs : List CompletionCandidate) → map (λ p. p.candidate) (map (ranked_in cs) xs) ≡ xs
 back cs [] = refl
 back cs (x ∷ xs) = ap (λ rest. x ∷ rest) (back cs xs)
 
-pub ranked_each : (cs xs : List CompletionCandidate) → with_ranks (map (λ c. rank_of cs c.tag) xs) xs ≡ map (ranked_in cs) xs
+ranked_each : (cs xs : List CompletionCandidate) → with_ranks (map (λ c. rank_of cs c.tag) xs) xs ≡ map (ranked_in cs) xs
 ranked_each cs [] = refl
 ranked_each cs (x ∷ xs) = ap (λ rest. ranked_in cs x ∷ rest) (ranked_each cs xs)
 
@@ -32,21 +33,13 @@ ranks_end [] cs (inr e) = refl
 ranks_end (p ∷ ps) cs (inr e) = ap (with_ranks (p ∷ ps)) e
 
 -- what a stable sort of the ranked candidates gives
-pub sorted_groups : (cs : List CompletionCandidate) (ps qs : List Ranked) → ps ≡ map (ranked_in cs) cs
-    → IsSortedBy (λ x y. is_lt (ranked_cmp x y)) qs → IsStableBy (λ x y. is_lt (ranked_cmp x y)) ps qs
-    → map (λ p. p.candidate) qs ≡ group cs
-unfolding group
-sorted_groups cs ps qs is sorted stable =
-    ap (map (λ p. p.candidate)) (sorted_is (λ x y. is_lt (ranked_cmp x y)) below ps qs sorted stable
-    ∙ ap (in_order (λ x y. is_lt (ranked_cmp x y))) is
-    ∙ sym (map-in_order (ranked_in cs) (λ x y. is_lt (ranked_cmp x y)) cs))
-    ∙ back cs (in_order (comes_before cs) cs)
-
 pub grouped_from : (cs slice : List CompletionCandidate) (ranks : List ℕ) (ps qs : List Ranked) → slice ≡ cs →
     ranks ≡ map (λ c. rank_of slice c.tag) slice → ps ≡ with_ranks ranks cs
-    → IsSortedBy (λ x y. is_lt (ranked_cmp x y)) qs → IsStableBy (λ x y. is_lt (ranked_cmp x y)) ps qs
-    → map (λ p. p.candidate) qs ≡ group cs
+    → IsSortedBy ranked_before qs → IsStableBy ranked_before ps qs → map (λ p. p.candidate) qs ≡ group cs
+unfolding group
 grouped_from cs slice ranks ps qs same value all sorted stable =
-    sorted_groups cs ps qs
-    (all ∙ ap (λ l. with_ranks l cs) (value ∙ ap (λ (xs : List CompletionCandidate). map (λ c. rank_of xs c.tag) xs) same) ∙ ranked_each cs cs)
-    sorted stable
+    let is : ps ≡ map (ranked_in cs) cs =
+    all ∙ ap (λ l. with_ranks l cs) (value ∙ ap (λ (xs : List CompletionCandidate). map (λ c. rank_of xs c.tag) xs) same) ∙ ranked_each cs cs in
+    ap (map (λ p. p.candidate)) (sorted_is ranked_before order ps qs sorted stable
+    ∙ ap (in_order ranked_before) is ∙ sym (map-in_order (ranked_in cs) ranked_before cs))
+    ∙ back cs (in_order (comes_before cs) cs)

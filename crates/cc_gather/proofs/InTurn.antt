@@ -28,10 +28,6 @@ by_test : (b x : Bool) → cond b true x ≡ (x || b)
 by_test true x = sym (or_true x)
 by_test false x = sym (or_false x)
 
--- no id is kept
-pub seen_same : (seen : BTreeSet (List ℕ)) (other : Option (List ℕ)) → is_seen seen other ≡ (is_seen seen other || false)
-seen_same seen other = sym (or_false (is_seen seen other))
-
 -- an id that is kept is seen from then on
 pub seen_more : (before after : BTreeSet (List ℕ)) (id : List ℕ) →
     ((q : List ℕ) → contains (slice_cmp nat_cmp) after q ≡ cond (is_eq (slice_cmp nat_cmp id q)) true (contains (slice_cmp nat_cmp) before q)) →
@@ -179,20 +175,7 @@ first_rank-push (x ∷ cs) c tag = elim (cases_Bool (option_eq bytes_eq x.tag ta
     moved None true = refl
     moved None false = refl
 
-option_or_none : {X : Type 0} (x : Option X) → option_or x None ≡ x
-option_or_none None = refl
-option_or_none (Some x) = refl
-
--- a tag with a rank adds none
-pub rank_kept : (ranks : BTreeMap (Option (List ℕ)) ℕ) (tag : Option (List ℕ)) (p next : ℕ) → get texts_cmp ranks tag ≡ Some p →
-    (other : Option (List ℕ)) → get texts_cmp ranks other ≡ option_or (get texts_cmp ranks other) (cond (option_eq bytes_eq tag other) (Some next) None)
-rank_kept ranks tag p next e other = elim (cases_Bool (option_eq bytes_eq tag other)) [
-  | inl t ↦ let is : get texts_cmp ranks other ≡ Some p = ap (get texts_cmp ranks) (sym (same_tags tag other t)) ∙ e in
-      is ∙ sym (ap (λ x. option_or x (cond (option_eq bytes_eq tag other) (Some next) None)) is)
-  | inr f ↦ sym (option_or_none (get texts_cmp ranks other)) ∙ ap (λ b. option_or (get texts_cmp ranks other) (cond b (Some next) None)) (sym f)
-]
-
--- one without gets it
+-- a tag without a rank gets one
 pub rank_added : (before after : BTreeMap (Option (List ℕ)) ℕ) (tag : Option (List ℕ)) (next : ℕ) → get texts_cmp before tag ≡ None →
     ((q : Option (List ℕ)) → get texts_cmp after q ≡ cond (is_eq (texts_cmp tag q)) (Some next) (get texts_cmp before q)) →
     (other : Option (List ℕ)) → get texts_cmp after other ≡ option_or (get texts_cmp before other) (cond (option_eq bytes_eq tag other) (Some next) None)

@@ -9,10 +9,10 @@ use Rattle.std.proofs.lemmas.List.Elements.{filter-append}
 use Rattle.std.proofs.lemmas.List.Folds.{list_any-append}
 use Rattle.cc_base.specs.Sorting.{in_order}
 use Rattle.cc_base.proofs.Members.{AllByRecursion-IsIn, AllByRecursion-from_IsIn}
-use Rattle.cc_base.proofs.Sorted.{AllByRecursion-in_order, in_order-IsIn}
+use Rattle.cc_base.proofs.Sorted.{AllByRecursion-in_order, in_order-IsIn, in_order-sorted, stable-in_order, up-in_order, apart}
 use Rattle.cc_candidates.specs.declared.candidate.CompletionCandidate.{CompletionCandidate}
-use Rattle.cc_gather.specs.Finished.{is_shown, shown_or_all, share, has_tag, rank_of, first_of_ids, comes_before, group, finish, SharesNone, ShareNone, Differ, AreShown}
-use Rattle.cc_gather.proofs.InOrder.{up-in_order, apart, in_order-alike, filter-in_order, sorted_after}
+use Rattle.cc_gather.specs.Finished.{is_shown, shown_or_all, share, has_tag, rank_of, first_of_ids, comes_before, group, finish, SharesNone, ShareNone, Differ, AreGrouped, AreShown}
+use Rattle.cc_gather.proofs.InOrder.{in_order-alike, filter-in_order, sorted_after}
 use Rattle.cc_gather.proofs.Ranks.{Tag, Has, tag_itself, rank_front, rank_back, rank_below, rank_tag, ranks_rise, below, cmp_less, cmp_equal, cmp_greater}
 use Rattle.cc_gather.proofs.FirstOfIds.{first_of_ids-append, first_of_ids-differ, first_of_ids-stays, differ-in_order, all_kept, all-first_of_ids}
 
@@ -217,6 +217,15 @@ all-finish P cs h =
     AllByRecursion-in_order (comes_before (first_of_ids (shown_or_all cs))) P (first_of_ids (shown_or_all cs)) (all-first_of_ids P (shown_or_all cs) h)
 
 -- where a visible candidate was gathered, no hidden one is left
+pub order : (cs : Candidates) → AreGrouped (first_of_ids (shown_or_all cs)) (finish cs)
+unfolding finish group
+order cs =
+    let left = first_of_ids (shown_or_all cs) in
+    record {
+      sorted = in_order-sorted (comes_before left) (below left) left;
+      stable = λ c. stable-in_order (comes_before left) (below left) c left;
+    }
+
 pub visible : (cs : Candidates) → list_any is_shown cs ≡ true → AreShown (finish cs)
 visible cs e = all-finish (λ c. is_shown c ≡ true) cs (subst AreShown (sym (shown_true cs e)) (passing is_shown cs))
 

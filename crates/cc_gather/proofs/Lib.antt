@@ -1,5 +1,4 @@
 pub mod Ascending
-pub mod CandidatesOrder
 pub mod Examples
 pub mod Filters
 pub mod FirstOfIds

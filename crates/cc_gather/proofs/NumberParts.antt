@@ -1,10 +1,11 @@
 -- The code's way over a text tells whether it is a number.
 use Rattle.std.proofs.Common.{◌≡◌, ℕ, zero, suc, ◌+◌, ◌≤◌, ◌&&◌, ◌||◌, not, nat_le, Bool, true, false, cond, List, [], ◌∷◌, Some, count_by, drop, inl, inr, refl, ap, sym, ◌∙◌, arith}
+use Rattle.std.specs.Char.{is_ascii_digit}
 use Rattle.std.specs.List.{after_first, last_or, list_all, list_any, prefix_len}
 use Rattle.std.proofs.Math.Bool.{and-true}
 use Rattle.std.proofs.lemmas.Bool.{cases_Bool, eqb-true, leb-true, le-leb, lt-leb}
 use Rattle.std.proofs.lemmas.List.Sums.{sum_by-cons}
-use Rattle.cc_gather.specs.Numbers.{is_digit, is_point, is_e, is_of_numbers, is_some_e, is_number}
+use Rattle.cc_gather.specs.Numbers.{is_point, is_e, is_of_numbers, is_some_e, is_number}
 use Rattle.cc_gather.specs.NumberParts.{ends_number, next_part}
 use Rattle.cc_gather.specs.declared.numbers.Part.TheVariants.{Start, Whole, Fraction, AfterE, Exponent, Wrong}
 
@@ -12,7 +13,7 @@ use Rattle.cc_gather.specs.declared.numbers.Part.TheVariants.{Start, Whole, Frac
 
 -- the three tests at a byte
 record Tests (b : ℕ) (digit point e : Bool) : Type 0 where
-  is_digit : is_digit b ≡ digit
+  is_digit : is_ascii_digit b ≡ digit
   is_point : is_point b ≡ point
   is_e : is_e b ≡ e
 
@@ -25,11 +26,11 @@ data Kind (b : ℕ) : Type 0 where
 kind : (b : ℕ) → Kind b
 kind b = elim (cases_Bool (is_point b)) [
   | inl p ↦ let at : b ≡ 46 = eqb-true b 46 p in
-      Point (record { is_digit = ap is_digit at; is_point = p; is_e = ap is_e at })
+      Point (record { is_digit = ap is_ascii_digit at; is_point = p; is_e = ap is_e at })
   | inr no_p ↦ elim (cases_Bool (is_e b)) [
     | inl e ↦ let at : b ≡ 101 = eqb-true b 101 e in
-        E (record { is_digit = ap is_digit at; is_point = no_p; is_e = e })
-    | inr no_e ↦ elim (cases_Bool (is_digit b)) [
+        E (record { is_digit = ap is_ascii_digit at; is_point = no_p; is_e = e })
+    | inr no_e ↦ elim (cases_Bool (is_ascii_digit b)) [
       | inl d ↦ Digit (record { is_digit = d; is_point = no_p; is_e = no_e })
       | inr no_d ↦ Other (record { is_digit = no_d; is_point = no_p; is_e = no_e })
     ]
@@ -38,7 +39,7 @@ kind b = elim (cases_Bool (is_point b)) [
 
 -- what depends on the three tests alone
 at_tests : {X : Type 0} (f : Bool → Bool → Bool → X) {b : ℕ} {digit point e : Bool} → Tests b digit point e →
-    f (is_digit b) (is_point b) (is_e b) ≡ f digit point e
+    f (is_ascii_digit b) (is_point b) (is_e b) ≡ f digit point e
 at_tests f {b} {digit} {point} {e} t =
     ap (λ d. f d (is_point b) (is_e b)) t.is_digit ∙ ap (λ p. f digit p (is_e b)) t.is_point ∙ ap (f digit point) t.is_e
 
@@ -136,7 +137,7 @@ follows_before true f false false y h = ap (λ t. t && not false && true && y) (
 
 wrong : (bs : List ℕ) → ends_number Wrong bs ≡ false
 wrong [] = refl
-wrong (b ∷ bs) = by (is_digit b) (wrong bs)
+wrong (b ∷ bs) = by (is_ascii_digit b) (wrong bs)
   where
     by : (t : Bool) → ends_number Wrong bs ≡ false → ends_number (cond t Wrong Wrong) bs ≡ false
     by true h = h
@@ -150,7 +151,7 @@ exponent_at b bs digit point e =
 
 exponent_next : (before b : ℕ) (bs : List ℕ) →
     ((c : ℕ) → is_e c ≡ false → ends_number Exponent bs ≡ exponent c bs) →
-    ends_number (cond (is_digit b) Exponent Wrong) bs ≡ exponent before (b ∷ bs)
+    ends_number (cond (is_ascii_digit b) Exponent Wrong) bs ≡ exponent before (b ∷ bs)
 exponent_next before b bs others = elim (kind b) [
   | Digit t ↦ part t ∙ others b t.is_e ∙ sym (at_tests (exponent_at b bs) t)
   | Point t ↦ part t ∙ wrong bs
@@ -161,7 +162,7 @@ exponent_next before b bs others = elim (kind b) [
 ]
   where
     part : {digit point e : Bool} → Tests b digit point e →
-        ends_number (cond (is_digit b) Exponent Wrong) bs ≡ ends_number (cond digit Exponent Wrong) bs
+        ends_number (cond (is_ascii_digit b) Exponent Wrong) bs ≡ ends_number (cond digit Exponent Wrong) bs
     part t = ap (λ d. ends_number (cond d Exponent Wrong) bs) t.is_digit
 
 exponent_told : (before : ℕ) (bs : List ℕ) → is_e before ≡ false → ends_number Exponent bs ≡ exponent before bs
@@ -270,7 +271,7 @@ number_at b bs digit =
     digit && list_all is_of_numbers (b ∷ bs) && nat_le (count_by is_point (b ∷ bs)) 1 && nat_le (count_by is_e (b ∷ bs)) 1
     && not (list_any is_point (after_first is_e (b ∷ bs))) && not (is_some_e (last_or (Some b) bs))
 
-number_next : (b : ℕ) (bs : List ℕ) → ends_number (cond (is_digit b) Whole Wrong) bs ≡ number_at b bs (is_digit b)
+number_next : (b : ℕ) (bs : List ℕ) → ends_number (cond (is_ascii_digit b) Whole Wrong) bs ≡ number_at b bs (is_ascii_digit b)
 number_next b bs = elim (kind b) [
   | Digit t ↦ part t
       ∙ sym (at_tests (λ d p e. ends_number (cond d Whole (cond p Fraction (cond e AfterE Wrong))) bs) t)
@@ -281,7 +282,7 @@ number_next b bs = elim (kind b) [
 ]
   where
     part : {digit point e : Bool} → Tests b digit point e →
-        ends_number (cond (is_digit b) Whole Wrong) bs ≡ ends_number (cond digit Whole Wrong) bs
+        ends_number (cond (is_ascii_digit b) Whole Wrong) bs ≡ ends_number (cond digit Whole Wrong) bs
     part t = ap (λ d. ends_number (cond d Whole Wrong) bs) t.is_digit
 
 pub parts_tell : (bytes : List ℕ) → ends_number Start bytes ≡ is_number bytes

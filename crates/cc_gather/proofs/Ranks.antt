@@ -13,7 +13,7 @@ use Rattle.std.proofs.lemmas.Bool.{cases_Bool}
 use Rattle.std.proofs.lemmas.List.Sorted.{ranks_by}
 use Rattle.cc_candidates.specs.declared.candidate.CompletionCandidate.{CompletionCandidate}
 use Rattle.cc_gather.specs.Finished.{has_tag, rank_of, comes_before}
-use Rattle.cc_gather.proofs.InOrder.{NoneBelow, Up}
+use Rattle.cc_base.proofs.Sorted.{NoneBelow, Up}
 
 abbrev pub Tag : Type 0
 Tag = Option (List ℕ)

@@ -98,10 +98,6 @@ pub asked_plain : (argument : Arg) (before rest : List ℕ) → ((s : List ℕ) 
 asked_plain argument before [] h = refl
 asked_plain argument before (c ∷ s) h = rw (ne_eqb c 61 (λ e. h s (ap (λ x. x ∷ s) e))) refl
 
-pub asked_equals : (argument : Arg) (before rest s : List ℕ) → rest ≡ 61 ∷ s →
-    value_asked_after argument before rest ≡ record { argument = argument; before = before ++ codes "="; text = s }
-asked_equals argument before rest s e = ap (value_asked_after argument before) e
-
 -- THE END OF A WORD
 
 seam : (text leading end : List ℕ) → text ≡ leading ++ end → length text - length end ≡ length leading

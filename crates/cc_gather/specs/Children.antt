@@ -1,14 +1,14 @@
 -- The candidates that are children of a command.
 use Rattle.std.specs.Prelude.{ℕ, List, [], ◌++◌, map, filter, Bool, true, Some, unwrap_or, codes, if◌then◌else◌}
 use Rattle.std.specs.List.{dedup}
-use Rattle.std.specs.Ordering.{is_lt, eq_by_cmp}
+use Rattle.std.specs.Ordering.{eq_by_cmp}
 use Rattle.cc_base.specs.Sorting.{in_order}
 use Rattle.cc_candidates.specs.Beginning.{begins}
 use Rattle.cc_command.specs.declared.node.Node.{Node}
 use Rattle.cc_command.specs.Tree.{Forest, none, more, Tree}
 use Rattle.cc_command.specs.Names.{visible_names}
 use Rattle.cc_candidates.specs.declared.candidate.CompletionCandidate.{CompletionCandidate}
-use Rattle.cc_candidates.specs.Candidate.{candidate_cmp}
+use Rattle.cc_candidates.specs.Candidate.{candidate_cmp, comes_before}
 
 -- a name of a child; its id has the child's own name
 abbrev pub child_candidate : Node → Node → Bool → List ℕ → CompletionCandidate
@@ -40,7 +40,7 @@ external node lent = if node.allow_external_subcommands then lent else []
 -- in the order of candidates, equal ones once
 unfoldable pub in_candidates_order : List CompletionCandidate → List CompletionCandidate
 in_candidates_order cs =
-    dedup (eq_by_cmp candidate_cmp) (in_order (λ x y. is_lt (candidate_cmp x y)) cs)
+    dedup (eq_by_cmp candidate_cmp) (in_order comes_before cs)
 
 -- the children's names and the lent list, those that begin with the word, in order
 unfoldable pub subcommand_candidates : Tree → List CompletionCandidate → List ℕ

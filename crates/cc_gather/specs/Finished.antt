@@ -1,6 +1,7 @@
 -- What is returned of the candidates that were gathered.
 use Rattle.std.specs.Prelude.{◌≡◌, ℕ, suc, List, [], ◌∷◌, Bool, true, false, not, Option, Some, None, filter, bytes_eq, if◌then◌else◌}
 use Rattle.std.specs.List.{list_any, AllByRecursion}
+use Rattle.std.specs.List.Sorted.{IsSortedBy, IsStableBy}
 use Rattle.std.specs.Option.{option_eq, option_cmp}
 use Rattle.std.specs.Ordering.{is_lt, nat_cmp, ordering_then}
 use Rattle.cc_base.specs.Sorting.{in_order}
@@ -45,6 +46,12 @@ comes_before cs one other =
 -- grouped by tags, and within one by display order; ties keep their order
 unfoldable pub group : List CompletionCandidate → List CompletionCandidate
 group cs = in_order (comes_before cs) cs
+
+-- a list is the other one grouped: no candidate comes before an earlier one, and of those that tie
+-- with a candidate both lists have the same, in the same order
+pub record AreGrouped (cs grouped : List CompletionCandidate) : Type 0 where
+  pub sorted : IsSortedBy (comes_before cs) grouped
+  pub stable : IsStableBy (comes_before cs) cs grouped
 
 -- the visible ones if any is, of each id the first, grouped
 unfoldable pub finish : List CompletionCandidate → List CompletionCandidate

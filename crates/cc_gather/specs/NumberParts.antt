@@ -1,14 +1,15 @@
 -- The way that the code goes over a text to tell whether it is a number. The definition of a number
 -- is in `Numbers`; that this way tells it is proved.
-use Rattle.std.specs.Prelude.{ℕ, List, [], ◌∷◌, ◌==◌, Bool, true, false, if◌then◌else◌}
-use Rattle.cc_gather.specs.Numbers.{is_digit}
+use Rattle.std.specs.Prelude.{ℕ, List, [], ◌∷◌, Bool, true, false, if◌then◌else◌}
+use Rattle.std.specs.Char.{is_ascii_digit}
+use Rattle.cc_gather.specs.Numbers.{is_point, is_e}
 use Rattle.cc_gather.specs.declared.numbers.Part.{Part}
 use Rattle.cc_gather.specs.declared.numbers.Part.TheVariants.{Start, Whole, Fraction, AfterE, Exponent, Wrong}
 
 -- where a number is after a byte that is no digit
 abbrev pub after_other : Part → ℕ → Part
-after_other Whole b = if b == 46 then Fraction else (if b == 101 then AfterE else Wrong)
-after_other Fraction b = if b == 101 then AfterE else Wrong
+after_other Whole b = if is_point b then Fraction else (if is_e b then AfterE else Wrong)
+after_other Fraction b = if is_e b then AfterE else Wrong
 after_other _ b = Wrong
 
 -- and after a digit
@@ -21,7 +22,7 @@ after_digit Exponent = Exponent
 after_digit Wrong = Wrong
 
 abbrev pub next_part : Part → ℕ → Part
-next_part part b = if is_digit b then after_digit part else after_other part b
+next_part part b = if is_ascii_digit b then after_digit part else after_other part b
 
 -- a number may end here
 abbrev pub is_whole : Part → Bool

@@ -1,26 +1,30 @@
 -- Which texts are numbers.
 use Rattle.std.specs.Prelude.{ℕ, List, [], ◌∷◌, Option, Some, None, ◌==◌, ◌&&◌, ◌||◌, nat_le, Bool, false, not}
+use Rattle.std.specs.Char.{is_ascii_digit}
 use Rattle.std.specs.List.{after_first, count_by, last_or, list_all, list_any}
 
-abbrev pub is_digit : ℕ → Bool
-is_digit b = nat_le 48 b && nat_le b 57
-
 -- `.`
-abbrev pub is_point : ℕ → Bool
-is_point b = b == 46
+abbrev point : ℕ
+point = 46
 
 -- `e`
+abbrev letter_e : ℕ
+letter_e = 101
+
+abbrev pub is_point : ℕ → Bool
+is_point b = b == point
+
 abbrev pub is_e : ℕ → Bool
-is_e b = b == 101
+is_e b = b == letter_e
 
 -- what numbers are written with
 abbrev pub is_of_numbers : ℕ → Bool
-is_of_numbers b = is_digit b || is_point b || is_e b
+is_of_numbers b = is_ascii_digit b || is_point b || is_e b
 
 -- whether the first byte is a digit
 abbrev pub begins_with_digit : List ℕ → Bool
 begins_with_digit [] = false
-begins_with_digit (b ∷ _) = is_digit b
+begins_with_digit (b ∷ _) = is_ascii_digit b
 
 -- whether there is a byte, and it is `e`
 abbrev pub is_some_e : Option ℕ → Bool

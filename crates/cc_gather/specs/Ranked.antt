@@ -1,10 +1,8 @@
 -- Candidates with the ranks of their tags.
-use Rattle.std.specs.Prelude.{ℕ, List, [], ◌∷◌}
+use Rattle.std.specs.Prelude.{ℕ, List, [], ◌∷◌, Bool}
 use Rattle.std.specs.declared.cmp.Ordering.{Ordering}
-use Rattle.std.specs.Cmp.{IsTotalOrder, on_total, then_total, nat_cmp_total}
-use Rattle.std.specs.Cmp.Lexicographic.{options_total}
 use Rattle.std.specs.Option.{option_cmp}
-use Rattle.std.specs.Ordering.{nat_cmp, ordering_then}
+use Rattle.std.specs.Ordering.{is_lt, nat_cmp, ordering_then}
 use Rattle.cc_candidates.specs.declared.candidate.CompletionCandidate.{CompletionCandidate}
 use Rattle.cc_gather.specs.declared.finishing.Ranked.{Ranked}
 
@@ -21,7 +19,5 @@ ranked_cmp one other =
     ordering_then (nat_cmp one.rank other.rank)
     (option_cmp nat_cmp one.candidate.display_order other.candidate.display_order)
 
-pub ranked_cmp_total : IsTotalOrder ranked_cmp
-ranked_cmp_total =
-    then_total (on_total (λ p. p.rank) nat_cmp_total)
-    (on_total (λ p. p.candidate.display_order) (options_total nat_cmp_total))
+abbrev pub ranked_before : Ranked → Ranked → Bool
+ranked_before one other = is_lt (ranked_cmp one other)

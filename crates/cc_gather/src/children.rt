@@ -1,16 +1,14 @@
 //! The candidates that are children of a command.
 
-ghost use Rattle.std.specs.Prelude.{◌≡◌, ◌++◌, [], ◌∷◌, map, filter, nat_eq, codes, Some, IfOk, OnOk};
-ghost use Rattle.std.specs.List.{dedup, starts_with};
-ghost use Rattle.std.specs.Option.{option_copied, option_map};
-ghost use Rattle.std.specs.String.{string_bytes};
+ghost use Rattle.std.specs.Prelude.{◌≡◌, ◌++◌, [], ◌∷◌, map, filter, IfOk, OnOk};
 ghost use Rattle.cc_candidates.specs.Beginning.{begins};
 ghost use Rattle.cc_command.specs.Tree.{forest_of};
-ghost use Rattle.cc_command.specs.Names.{visible_names};
 ghost use Rattle.cc_gather.specs.Children.{child_candidate, child_candidates, children_candidates, external, in_candidates_order, subcommand_candidates};
 
 use cc_base::Text;
-use cc_candidates::{CompletionCandidate, begins_with, copy_of_some, retain_beginning_with};
+use cc_candidates::{
+    CompletionCandidate, begins_with, copy_of_some, retain_beginning_with, sort_candidates,
+};
 use cc_command::Command;
 use std::alloc::{AllocError, Global};
 
@@ -52,7 +50,7 @@ fn external(
 fn sort(candidates: &mut Vec<CompletionCandidate>) -> Result<(), AllocError>
     ensures { OnOk result (candidates.new.items ≡ in_candidates_order candidates.old.items) }
 {
-    candidates.sort()?;
+    sort_candidates(candidates)?;
     candidates.dedup();
     Ok(())
 }

@@ -1,15 +1,13 @@
 //! Finishing a list of candidates.
 
-ghost use Rattle.std.specs.Prelude.{◌≡◌, ◌||◌, ◌++◌, not, ℕ, List, true, Option, Some, None, map, filter, IfOk, OnOk, if◌then◌else◌, refl};
+ghost use Rattle.std.specs.Prelude.{◌≡◌, ◌||◌, ◌++◌, not, ℕ, List, true, Option, Some, None, map, filter, IfOk, OnOk, if◌then◌else◌};
 ghost use Rattle.std.specs.BTreeMap.{get};
-ghost use Rattle.std.specs.Cmp.{partial_order_from_total, partial_equiv_from_equiv, eq_by_cmp_equiv};
 ghost use Rattle.std.specs.List.{list_any};
-ghost use Rattle.std.specs.Option.{option_copied, option_eq, option_or, unwrap_or};
-ghost use Rattle.std.specs.Ordering.{as_partial_cmp, eq_by_cmp};
+ghost use Rattle.std.specs.Option.{option_eq, option_or, unwrap_or};
 ghost use Rattle.std.specs.Str.{bytes_eq};
 ghost use Rattle.cc_candidates.specs.Candidate.{texts_cmp};
-ghost use Rattle.cc_gather.specs.Finished.{finish, first_of_ids, group, is_shown, rank_of, shown_or_all, share, AreShown, Differ, ShareNone};
-ghost use Rattle.cc_gather.specs.Ranked.{with_ranks, ranked_cmp, ranked_cmp_total};
+ghost use Rattle.cc_gather.specs.Finished.{finish, first_of_ids, group, is_shown, rank_of, shown_or_all, share, AreGrouped, AreShown, Differ, ShareNone};
+ghost use Rattle.cc_gather.specs.Ranked.{with_ranks, ranked_cmp};
 ghost use Rattle.cc_gather.specs.Seen.{ascend_from, is_seen, select};
 
 use cc_base::TextRef;
@@ -33,9 +31,13 @@ pub fn finish(
 
     // Two candidates that are returned never share an id.
     ensures differ { IfOk result (λ finished. Differ finished.items) }
+
+    // They are sorted by the rank of the tag's first member and the display order; ties keep their
+    // order, and none is lost.
+    ensures order { IfOk result
+        (λ finished. AreGrouped (first_of_ids (shown_or_all candidates.items)) finished.items) }
 {
-    let finished = group_first_of_ids(alloc, candidates)?;
-    Ok(finished)
+    group_first_of_ids(alloc, candidates)
 }
 
 #[tactic(auto, unfolding(crate::specs::Finished::finish))]
@@ -66,8 +68,7 @@ pub fn finish_after(
     let mut all = first;
     let mut rest = finish(alloc, rest)?;
     all.append(&mut rest)?;
-    let finished = finish(alloc, all)?;
-    Ok(finished)
+    finish(alloc, all)
 }
 
 // The visible ones, or all where none is.
@@ -106,8 +107,7 @@ fn first_of_ids(
         return Ok(candidates);
     }
     let marks = new_ids(alloc, candidates.as_slice())?;
-    let kept = select(alloc, candidates, marks)?;
-    Ok(kept)
+    select(alloc, candidates, marks)
 }
 
 // Whether each id comes after the one before it, as those of children without aliases do. No two
@@ -129,10 +129,7 @@ fn have_ascending_ids(candidates: &[CompletionCandidate]) -> bool
 fn id_of<'a>(candidate: &'a CompletionCandidate) -> Option<TextRef<'a>>
     ensures { result ≡ candidate.now.id }
 {
-    match candidate.get_id() {
-        Some(id) => Some(TextRef::new(id)),
-        None => None,
-    }
+    candidate.get_id().map(TextRef::new)
 }
 
 // Marks those whose id no earlier one has.
@@ -189,46 +186,15 @@ struct Ranked {
     candidate: CompletionCandidate,
 }
 
-impl PartialEq for Ranked {
-    ghost eq = { eq_by_cmp ranked_cmp };
-
-    ghost laws = { partial_equiv_from_equiv (eq_by_cmp_equiv ranked_cmp_total) };
-
-    fn eq(&self, other: &Ranked) -> bool {
-        self.cmp(other).is_eq()
-    }
-}
-
-impl Eq for Ranked {
-    ghost laws = { eq_by_cmp_equiv ranked_cmp_total };
-}
-
-impl PartialOrd for Ranked {
-    ghost partial_cmp = { as_partial_cmp ranked_cmp };
-
-    ghost laws = { partial_order_from_total ranked_cmp_total };
-
-    fn partial_cmp(&self, other: &Ranked) -> Option<Ordering> {
-        Some(self.cmp(other))
-    }
-}
-
-impl Ord for Ranked {
-    ghost cmp = { ranked_cmp };
-
-    ghost total = { ranked_cmp_total };
-
-    ghost matches_partial_cmp = { λ a b. refl };
-
-    ghost matches_eq = { λ a b. refl };
-
-    fn cmp(&self, other: &Ranked) -> Ordering {
-        let orders = self
-            .candidate
-            .get_display_order()
-            .cmp(&other.candidate.get_display_order());
-        self.rank.cmp(&other.rank).then(orders)
-    }
+// By the rank, then by the display order.
+fn compare(one: &Ranked, other: &Ranked) -> Ordering
+    ensures { result ≡ ranked_cmp one.now other.now }
+{
+    let orders = one
+        .candidate
+        .get_display_order()
+        .cmp(&other.candidate.get_display_order());
+    one.rank.cmp(&other.rank).then(orders)
 }
 
 // Grouped by tags, and within one by display order.
@@ -240,9 +206,8 @@ fn group(
 {
     let ranks = ranks(alloc, candidates.as_slice())?;
     let mut all = with_ranks(alloc, candidates, ranks)?;
-    all.sort()?;
-    let finished = candidates_of(alloc, all)?;
-    Ok(finished)
+    all.sort_by(compare)?;
+    candidates_of(alloc, all)
 }
 
 // For each candidate the rank of its tag's first member.
@@ -282,10 +247,7 @@ fn rank_for<'a>(
 fn tag_of<'a>(candidate: &'a CompletionCandidate) -> Option<TextRef<'a>>
     ensures { result ≡ candidate.now.tag }
 {
-    match candidate.get_tag() {
-        Some(tag) => Some(TextRef::new(tag)),
-        None => None,
-    }
+    candidate.get_tag().map(TextRef::new)
 }
 
 // Each candidate with its rank.

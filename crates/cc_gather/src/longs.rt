@@ -11,14 +11,14 @@ use cc_candidates::{CompletionCandidate, begins_with, copy_of_some};
 use std::alloc::{AllocError, Global};
 
 // All longs and their visible aliases, then all hidden ones.
+#[tactic(auto, using(crate::proofs::LongNames::longs_begin))]
 pub(crate) fn longs(
     alloc: Global,
     arguments: &[Arg],
 ) -> Result<Vec<CompletionCandidate>, AllocError>
     ensures { IfOk result (λ found. found.items ≡ longs arguments.now) }
 {
-    let found = longs_beginning(alloc, arguments, "")?;
-    Ok(found)
+    longs_beginning(alloc, arguments, "")
 }
 
 // Those that go on with this text after the two dashes.
@@ -88,8 +88,7 @@ fn push_own_longs(
         argument.get_visible_aliases(),
         hidden,
         long,
-    )?;
-    Ok(())
+    )
 }
 
 // Adds a candidate for each of the names that begin so.

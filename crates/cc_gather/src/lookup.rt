@@ -12,14 +12,5 @@ pub(crate) fn with_own_long<'a>(arguments: &'a [Arg], flag: &str) -> Option<&'a 
 {
     arguments
         .iter()
-        .find(|argument| has_own_long(argument, flag))
-}
-
-fn has_own_long(argument: &Arg, flag: &str) -> bool
-    ensures { result ≡ has_own_long flag.now argument.now }
-{
-    match argument.get_long() {
-        None => false,
-        Some(long) => long == flag,
-    }
+        .find(|argument| argument.get_long() == Some(flag))
 }

@@ -19,7 +19,7 @@ impl Part {
     fn next(self, byte: u8) -> Part
         ensures { result ≡ next_part self byte }
     {
-        if byte >= b'0' && byte <= b'9' {
+        if byte.is_ascii_digit() {
             return self.after_digit();
         }
         self.after_other(byte)

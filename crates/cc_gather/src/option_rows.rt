@@ -38,7 +38,7 @@ pub struct ValuesAsked<'a> {
     pub text: TextRef<'a>,
 }
 
-/// What a word asks of the options. Fails only where an allocation fails.
+/// What a word asks of the options. Fails where memory runs out.
 pub fn option_row<'a>(
     alloc: Global,
     arguments: &'a [Arg],
@@ -47,26 +47,21 @@ pub fn option_row<'a>(
     ensures { IfOk result (λ row. row_given row ≡ row_of arguments.now word.now) }
 {
     let Some(rest) = word.strip_prefix('-') else {
-        let found = without_dash(alloc, arguments, word)?;
-        return Ok(OptionRow::Listed(found));
+        return Ok(OptionRow::Listed(without_dash(alloc, arguments, word)?));
     };
     if rest.is_empty() {
-        let found = shorts_then_longs(alloc, arguments)?;
-        return Ok(OptionRow::Listed(found));
+        return Ok(OptionRow::Listed(shorts_then_longs(alloc, arguments)?));
     }
     let Some(long) = rest.strip_prefix('-') else {
-        let row = short_options(alloc, arguments, word, rest)?;
-        return Ok(row);
+        return short_options(alloc, arguments, word, rest);
     };
     if long.is_empty() {
-        let found = longs(alloc, arguments)?;
-        return Ok(OptionRow::Listed(found));
+        return Ok(OptionRow::Listed(longs(alloc, arguments)?));
     }
-    let row = long_options(alloc, arguments, long)?;
-    Ok(row)
+    long_options(alloc, arguments, long)
 }
 
-/// The candidates, with a text before the value of each. Fails only where an allocation fails.
+/// The candidates, with a text before the value of each. Fails where memory runs out.
 pub fn all_with_prefix(
     alloc: Global,
     candidates: Vec<CompletionCandidate>,
@@ -130,14 +125,8 @@ fn long_options<'a>(
         (λ row. row_given row ≡ long_row arguments.now long.now (after_equals long.now)) }
 {
     match long.split_once('=') {
-        None => {
-            let found = longs_beginning(alloc, arguments, long)?;
-            Ok(OptionRow::Listed(found))
-        }
-        Some((flag, text)) => {
-            let row = flag_values(alloc, arguments, flag, text)?;
-            Ok(row)
-        }
+        None => Ok(OptionRow::Listed(longs_beginning(alloc, arguments, long)?)),
+        Some((flag, text)) => flag_values(alloc, arguments, flag, text),
     }
 }
 
@@ -184,14 +173,8 @@ fn short_options<'a>(
         return Ok(OptionRow::Listed(Vec::new(alloc)));
     }
     match value_character(arguments, rest) {
-        Some(found) => {
-            let asked = character_values(alloc, word, found)?;
-            Ok(OptionRow::ValuesOf(asked))
-        }
-        None => {
-            let found = shorts(alloc, arguments, word)?;
-            Ok(OptionRow::Listed(found))
-        }
+        Some(found) => Ok(OptionRow::ValuesOf(character_values(alloc, word, found)?)),
+        None => Ok(OptionRow::Listed(shorts(alloc, arguments, word)?)),
     }
 }
 
@@ -208,8 +191,7 @@ fn character_values<'a>(
 {
     let after = found.after.as_str();
     let before = String::from_str(alloc, without_end(word, after))?;
-    let asked = value_asked_after(found.argument.get(), before, after)?;
-    Ok(asked)
+    value_asked_after(found.argument.get(), before, after)
 }
 
 // What is in a text before an end of it.

@@ -3,13 +3,12 @@
 ghost use Rattle.std.specs.Prelude.{◌≡◌, ◌<◌, find, ◌==◌};
 ghost use Rattle.std.specs.Option.{option_copied};
 ghost use Rattle.std.specs.List.{list_any};
-ghost use Rattle.cc_arg.specs.Arguments.{range_of};
 ghost use Rattle.cc_command.specs.Names.{contains_name};
 ghost use Rattle.cc_walk.specs.Lookup.{has_long, has_short, is_at, positional_at, limit};
 ghost use Rattle.cc_walk.specs.Lookup.{allows_hyphens_at, greatest};
 ghost use Rattle.cc_walk.specs.Signs.{value_argument};
 
-use cc_arg::Arg;
+use cc_arg::{Arg, counted_range};
 use cc_base::Text;
 
 fn contains_text(texts: &[Text], text: &str) -> bool
@@ -29,10 +28,9 @@ fn contains_char(characters: &[char], character: char) -> bool
 pub fn has_long(argument: &Arg, flag: &str) -> bool
     ensures { result ≡ has_long flag.now argument.now }
 {
-    match argument.get_long() {
-        None => false,
-        Some(long) => long == flag || contains_text(argument.get_visible_aliases(), flag),
-    }
+    argument.get_long().is_some_and(|long| {
+        long == flag || contains_text(argument.get_visible_aliases(), flag)
+    })
 }
 
 /// Whether the character is the argument's short or a visible alias of it. An argument without a
@@ -40,12 +38,9 @@ pub fn has_long(argument: &Arg, flag: &str) -> bool
 pub fn has_short(argument: &Arg, character: char) -> bool
     ensures { result ≡ has_short character argument.now }
 {
-    match argument.get_short() {
-        None => false,
-        Some(short) => {
-            short == character || contains_char(argument.get_visible_short_aliases(), character)
-        }
-    }
+    argument.get_short().is_some_and(|short| {
+        short == character || contains_char(argument.get_visible_short_aliases(), character)
+    })
 }
 
 fn is_at(argument: &Arg, position: usize) -> bool
@@ -73,29 +68,14 @@ fn with_short(arguments: &[Arg], character: char) -> Option<&Arg>
 pub(crate) fn value_argument(arguments: &[Arg], character: char) -> Option<&Arg>
     ensures { option_copied result ≡ value_argument arguments.now character }
 {
-    match with_short(arguments, character) {
-        Some(argument) => {
-            if argument.takes_values() {
-                Some(argument)
-            } else {
-                None
-            }
-        }
-        None => None,
-    }
+    with_short(arguments, character).filter(|argument| argument.takes_values())
 }
 
 /// The most values that one use of the argument takes.
 pub(crate) fn greatest(argument: &Arg) -> usize
     ensures { result ≡ greatest argument.now }
 {
-    if let Some(range) = argument.get_num_args() {
-        return range.max_values();
-    }
-    if !argument.get_action().takes_values() {
-        return 0;
-    }
-    argument.get_value_names().len().max(1)
+    counted_range(argument).max_values()
 }
 
 /// The first positional with this index.
@@ -112,10 +92,7 @@ pub(crate) fn limit(arguments: &[Arg], position: usize) -> usize
     ensures value { result ≡ limit arguments.now position }
     ensures some { 0 < result }
 {
-    match positional_at(arguments, position) {
-        None => 1,
-        Some(argument) => greatest(argument).max(1),
-    }
+    positional_at(arguments, position).map_or(1, |argument| greatest(argument).max(1))
 }
 
 /// Whether the positional at the position takes words that begin with a hyphen.
@@ -123,8 +100,5 @@ pub(crate) fn limit(arguments: &[Arg], position: usize) -> usize
 pub(crate) fn allows_hyphens_at(arguments: &[Arg], position: usize) -> bool
     ensures { result ≡ allows_hyphens_at arguments.now position }
 {
-    match positional_at(arguments, position) {
-        None => false,
-        Some(argument) => argument.is_allow_hyphen_values_set(),
-    }
+    positional_at(arguments, position).is_some_and(|argument| argument.is_allow_hyphen_values_set())
 }

@@ -1,10 +1,19 @@
 use Rattle.std.proofs.Common.{sym, subst}
-use Rattle.cc_gather.specs.Finished.{AreShown, Differ}
-use Rattle.cc_gather.proofs.Law.{visible, differ}
+use Rattle.std.proofs.lemmas.Result.{IfOk-weaker}
+use Rattle.cc_gather.specs.Finished.{AreGrouped, AreShown, Differ, first_of_ids, shown_or_all}
+use Rattle.cc_gather.proofs.Law.{visible, differ, order}
 use Rattle.cc_gather.proofs.finishing.finish.Goals as goal
 
 pub returns-clause-visible : goal.returns-clause-visible
-returns-clause-visible c = λ h. subst AreShown (sym c.in_ok-finished.ensures) (visible c.args.candidates.items h)
+returns-clause-visible c =
+    IfOk-weaker c.group_first_of_ids.result _ _ (λ finished e h. subst AreShown (sym e) (visible c.args.candidates.items h)) c.group_first_of_ids.ensures
 
 pub returns-clause-differ : goal.returns-clause-differ
-returns-clause-differ c = subst Differ (sym c.in_ok-finished.ensures) (differ c.args.candidates.items)
+returns-clause-differ c =
+    IfOk-weaker c.group_first_of_ids.result _ _ (λ finished e. subst Differ (sym e) (differ c.args.candidates.items)) c.group_first_of_ids.ensures
+
+pub returns-clause-order : goal.returns-clause-order
+returns-clause-order c =
+    IfOk-weaker c.group_first_of_ids.result _ _
+    (λ finished e. subst (AreGrouped (first_of_ids (shown_or_all c.args.candidates.items))) (sym e) (order c.args.candidates.items))
+    c.group_first_of_ids.ensures

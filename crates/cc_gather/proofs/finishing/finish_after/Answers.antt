@@ -1,9 +1,12 @@
 use Rattle.std.proofs.Common.{ap, ◌∙◌, ◌++◌}
+use Rattle.std.proofs.lemmas.Result.{IfOk-weaker}
 use Rattle.cc_gather.specs.Finished.{finish}
 use Rattle.cc_gather.proofs.Law.{finish_after}
 use Rattle.cc_gather.proofs.finishing.finish_after.Goals as goal
 
 pub returns-clause-once : goal.returns-clause-once
-returns-clause-once c = λ apart.
-    c.in_ok-finished.ensures.value ∙ ap finish (c.in_ok-append.ensures.items ∙ ap (λ r. c.args.first.items ++ r) c.in_ok-rest.ensures.value)
-    ∙ finish_after c.args.first.items c.args.rest.items apart
+returns-clause-once c =
+    IfOk-weaker c.finish-2.result _ _
+    (λ finished e apart. e ∙ ap finish (c.in_ok-append.ensures.items ∙ ap (λ r. c.args.first.items ++ r) c.in_ok-rest.ensures.value)
+    ∙ finish_after c.args.first.items c.args.rest.items apart)
+    c.finish-2.ensures.value

@@ -1,9 +1,16 @@
 use Rattle.std.proofs.Common.{rules, ◌∙◌}
-use Rattle.cc_gather.proofs.Groups.{grouped_from}
+use Rattle.std.proofs.lemmas.Fn.{always_returns_same}
+use Rattle.std.proofs.lemmas.Result.{IfOk-weaker}
+use Rattle.cc_gather.specs.Ranked.{ranked_before}
+use Rattle.cc_gather.proofs.Groups.{grouped_from, order}
 use Rattle.cc_gather.proofs.finishing.group.Goals as goal
 
 pub returns : goal.returns
 returns c =
-    c.in_ok-finished.ensures
-    ∙ grouped_from c.args.candidates.items c.as_slice.result.now c.in_ok-ranks.ranks.items c.in_ok-all.all.items c.sort.new.self.items
-    (search rules) c.in_ok-ranks.ensures c.in_ok-all.ensures c.in_ok-sort.ensures.sorted c.in_ok-sort.ensures.stable
+    IfOk-weaker c.candidates_of.result _ _
+    (λ finished e. e
+    ∙ grouped_from c.args.candidates.items c.as_slice.result.now c.in_ok-ranks.ranks.items c.in_ok-all.all.items c.sort_by.new.self.items
+    (search rules) c.in_ok-ranks.ensures c.in_ok-all.ensures
+    (c.in_ok-sort_by.ensures.sorted ranked_before order (always_returns_same _ _ _ (λ a r f k. search rules)))
+    (c.in_ok-sort_by.ensures.stable ranked_before order (always_returns_same _ _ _ (λ a r f k. search rules))))
+    c.candidates_of.ensures
