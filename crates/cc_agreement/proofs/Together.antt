@@ -3,6 +3,8 @@ use Rattle.std.proofs.Common.{◌≡◌, ◌∙◌, ap, sym, subst, inl, inr, �
 use Rattle.std.proofs.Common.{Result, Ok, Err, IfErr, IfOk, IsTrue, OnOk}
 use Rattle.cc_base.specs.declared.error.Error.{Error}
 use Rattle.cc_base.specs.declared.error.Error.TheVariants as error
+use Rattle.cc_base.specs.declared.failures.Failures.{Failures}
+use Rattle.cc_base.specs.Writes.{CountsWrite}
 use Rattle.cc_agreement.specs.Agreement.{AgreesWithBash, FailsBefore}
 use Rattle.cc_agreement.proofs.BashEnd.{leads}
 use Rattle.cc_agreement.proofs.HiddenBuilt.{none_when_built}
@@ -75,14 +77,28 @@ all_agree items lent bin_name old mid new words index (Ok found) made again read
 all_agree items lent bin_name old mid new words index (Err e) made again reads completes = tt
 
 -- how a second call ends that finds no candidates
-pub second_fails : {A : Type 0} (bin_name : List ℕ) (old mid new : Tree) (count index : ℕ)
-    (result : Result A Error) → mid ≡ built_under (Some bin_name) old
+pub second_fails : {A : Type 0} (bin_name taken_old taken_new : List ℕ) (old mid new : Tree)
+    (count index : ℕ) (result : Result A Error) → mid ≡ built_under (Some bin_name) old
+    → taken_new ≡ taken_old ++ bash_script (built_under (Some bin_name) old)
     → IfErr result (Refuses mid new count index)
-    → IfErr result (FailsBefore old new (built_under (Some bin_name) old) count index)
-second_fails bin_name old mid new count index (Ok found) made refuses = tt
-second_fails bin_name old mid new count index (Err error.Memory) made (inl same) = inr (same ∙ made)
-second_fails bin_name old mid new count index (Err error.Memory) made (inr again) =
-    inr (stays_built bin_name old mid new made again)
-second_fails bin_name old mid new count index (Err error.NoCompletion) made refuses =
-    (stays_built bin_name old mid new made refuses.0, refuses.1)
-second_fails bin_name old mid new count index (Err _) made refuses = absurd refuses
+    → IfErr result
+    (FailsBefore old new (built_under (Some bin_name) old) taken_old taken_new count index)
+second_fails bin_name taken_old taken_new old mid new count index (Ok found) made written refuses =
+    tt
+second_fails bin_name taken_old taken_new old mid new count index (Err error.Memory) made written
+    (inl same) = inr (same ∙ made)
+second_fails bin_name taken_old taken_new old mid new count index (Err error.Memory) made written
+    (inr again) = inr (stays_built bin_name old mid new made again)
+second_fails bin_name taken_old taken_new old mid new count index (Err error.NoCompletion) made
+    written refuses = (stays_built bin_name old mid new made refuses.0, refuses.1, written)
+second_fails bin_name taken_old taken_new old mid new count index (Err _) made written refuses =
+    absurd refuses
+
+-- a second call that puts nothing, and so never fails to write
+pub second_counts : {A : Type 0} (mid new : Tree) (count index : ℕ) (before after : Failures)
+    (result : Result A Error) → after ≡ before → IfErr result (Refuses mid new count index)
+    → CountsWrite result before after
+second_counts mid new count index before after (Ok found) same refuses = same
+second_counts mid new count index before after (Err (error.Write kind)) same refuses =
+    absurd refuses
+second_counts mid new count index before after (Err _) same refuses = same

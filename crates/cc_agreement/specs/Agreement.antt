@@ -1,11 +1,12 @@
 -- Where the cases of a bash script lead, and the candidates there.
-use Rattle.std.specs.Prelude.{◌≡◌, ◌⊎◌, ℕ, List, [], false, get_or, Some}
+use Rattle.std.specs.Prelude.{◌≡◌, ◌⊎◌, ◌++◌, ℕ, List, [], false, get_or, Some}
 use Rattle.cc_base.specs.declared.error.Error.{Error}
 use Rattle.cc_base.specs.declared.error.Error.TheVariants.{LabelClash, Memory, NoCompletion, Write}
 use Rattle.cc_bash.specs.Arms.{tree_arms}
 use Rattle.cc_bash.specs.CaseTable.{tree_cases, run_end}
 use Rattle.cc_bash.specs.Labels.{root_label, shared_label}
 use Rattle.cc_bash.specs.Reads.{BashReads, arm_at, position_arm, position_label}
+use Rattle.cc_bash.specs.Script.{bash_script}
 use Rattle.cc_bash.specs.Walk.{root_position, walk}
 use Rattle.cc_candidates.specs.declared.candidate.CompletionCandidate.{CompletionCandidate}
 use Rattle.cc_command.specs.Tree.{Tree}
@@ -36,14 +37,17 @@ pub record AgreesWithBash (lent : Lent) (root : Tree) (words : List (List ℕ)) 
   pub reads : BashReads root
   pub leads : BashLeadsTo root (words_before root.node words index) tree
 
--- How a call that writes a script and then finds no candidates ends: out of memory, with the tree
--- as it was or built; else with the tree built, and a put that failed, a label that two nodes
--- share, or an index that is out of range.
-abbrev pub FailsBefore : Tree → Tree → Tree → ℕ → ℕ → Error → Type 0
-FailsBefore old new built count index Memory = (new ≡ old) ⊎ (new ≡ built)
-FailsBefore old new built count index (Write kind) = new ≡ built
-FailsBefore old new built count index (LabelClash label) =
-    (new ≡ built) × (shared_label built ≡ Some label)
-FailsBefore old new built count index NoCompletion =
+-- How a call that writes a script and then finds no candidates ends, by what its sink had taken
+-- before and after: out of memory, with the tree as it was and nothing taken, or built; else with
+-- the tree built, and a put that failed; a label that two nodes share, with nothing taken; or an
+-- index that is out of range, with the script taken.
+abbrev pub FailsBefore : Tree → Tree → Tree → List ℕ → List ℕ → ℕ → ℕ → Error → Type 0
+FailsBefore old new built before after count index Memory =
+    ((new ≡ old) × (after ≡ before)) ⊎ (new ≡ built)
+FailsBefore old new built before after count index (Write kind) = new ≡ built
+FailsBefore old new built before after count index (LabelClash label) =
+    (new ≡ built) × (shared_label built ≡ Some label) × (after ≡ before)
+FailsBefore old new built before after count index NoCompletion =
     (new ≡ built) × (is_in_range new.node count index ≡ false)
-FailsBefore old new built count index _ = ⊥
+    × (after ≡ before ++ bash_script built)
+FailsBefore old new built before after count index _ = ⊥

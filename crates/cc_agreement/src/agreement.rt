@@ -4,6 +4,7 @@ ghost use Rattle.std.specs.Prelude.{◌≡◌, ◌++◌, Some, length, map, stri
 ghost use Rattle.std.specs.Prelude.{IfErr, IfOk, IsTrue, OnOk};
 ghost use Rattle.std.specs.Option.{option_copied};
 ghost use Rattle.cc_agreement.specs.Agreement.{AgreesWithBash, FailsBefore};
+ghost use Rattle.cc_base.specs.Writes.{CountsWrite};
 ghost use Rattle.cc_bash.specs.Script.{bash_script};
 ghost use Rattle.cc_command.specs.Built.{built_under};
 ghost use Rattle.cc_command.specs.Plain.{is_plain_tree};
@@ -32,19 +33,20 @@ use std::alloc::Global;
 /// of the very command whose candidates are returned, and the arm at that label is that command's.
 /// `Command::is_plain`, `is_plain_name` and `has_no_hidden_alias` test this before the call.
 ///
-/// Fails with `Write` where the sink failed; with `LabelClash` where two commands share a label;
-/// with `NoCompletion` where no word, or the program's name, is at the index; and with `Memory`.
-/// Where the script fails, no candidates are looked for.
+/// Fails with `Write` where the sink failed; with `LabelClash`, before anything is written, where
+/// two commands share a label; with `NoCompletion`, after the script, where no word, or the
+/// program's name, is at the index; and with `Memory`. Where the script fails, no candidates are
+/// looked for.
 pub fn bash_script_and_candidates<W: Sink, D: Folder>(
     alloc: Global,
     command: &mut Command,
     bin_name: String,
-    sink: &mut W,
     words: Vec<String>,
     index: usize,
     current_dir: Option<&str>,
     folder: &D,
     completers: &Completers,
+    sink: &mut W,
 ) -> Result<Vec<CompletionCandidate>, Error>
     ensures built { OnOk result
         (command.new ≡ built_under (Some (string_bytes bin_name)) command.old) }
@@ -66,7 +68,9 @@ pub fn bash_script_and_candidates<W: Sink, D: Folder>(
         (option_copied current_dir.entry)))
         command.new (map string_bytes words.items) index found.items) }
     ensures errors { IfErr result (FailsBefore command.old command.new
-        (built_under (Some (string_bytes bin_name)) command.old) (length words.items) index) }
+        (built_under (Some (string_bytes bin_name)) command.old)
+        (W.taken sink.old) (W.taken sink.new) (length words.items) index) }
+    ensures failures { CountsWrite result (W.failed sink.old) (W.failed sink.new) }
 {
     generate(alloc, Bash, command, bin_name, sink)?;
     complete(

@@ -1,16 +1,17 @@
-//! The bash script of a command beside what live completion offers, by the calls of `cc_agreement`.
+//! The bash script of a command beside what live completion offers.
 
 use crate::checks::{holds, is, same};
 use crate::fixtures::tree;
 use crate::sinks::{BROKEN, ZERO, kind_of, narrow_sink, state_of};
 use crate::written::script;
-use cc_agreement::{bash_script_and_candidates, has_no_hidden_alias};
 use cc_fixtures::trees::CLASHING;
 use cc_fixtures::words::to_strings;
 use clap_complete::Error;
 use clap_complete::aot::{Bash, Collected, Sink};
 use clap_complete::command::Command;
-use clap_complete::engine::{Completers, CompletionCandidate, MemoryFolder};
+use clap_complete::engine::{
+    Completers, CompletionCandidate, MemoryFolder, bash_script_and_candidates, has_no_hidden_alias,
+};
 use std::alloc::{AllocError, Global};
 use std::fmt::Write;
 use std::io::ErrorKind;
@@ -53,9 +54,9 @@ fn call<W: Sink>(
 ) -> Result<Vec<CompletionCandidate>, Error> {
     let bin_name = String::from_str(alloc, "app")?;
     let folder = MemoryFolder::new(&[], &[]);
-    let lent = Completers::new(alloc, Vec::new(alloc), Vec::new(alloc));
+    let lent = Completers::none(alloc);
     bash_script_and_candidates(
-        alloc, command, bin_name, sink, words, index, None, &folder, &lent,
+        alloc, command, bin_name, words, index, None, &folder, &lent, sink,
     )
 }
 

@@ -1,5 +1,5 @@
 //! Tests of the library as programs use it: sinks that take little or fail, files, the shells as
-//! values, the calls of `cc_agreement`, and the callers of `cc_caller`. The tests of what each
+//! values, a bash script beside candidates, and the callers of `cc_caller`. The tests of what each
 //! script holds are in `cc_script_tests`, and those that know no shell in `cc_core_tests`.
 #![tactic(auto)]
 

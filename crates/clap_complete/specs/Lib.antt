@@ -118,9 +118,13 @@ pub use Rattle.cc_candidates.specs.Beginning
 pub use Rattle.cc_candidates.specs.Candidate
 pub use Rattle.cc_candidates.specs.Lent
 pub use Rattle.cc_candidates.specs.declared.candidate.CompletionCandidate
+pub use Rattle.cc_candidates.specs.declared.numbers.ArgValueCandidates
+pub use Rattle.cc_candidates.specs.declared.numbers.ArgValueCompleter
+pub use Rattle.cc_candidates.specs.declared.numbers.SubcommandCandidates
 pub use Rattle.cc_paths.specs.InMemory
 pub use Rattle.cc_paths.specs.PathCandidates
 pub use Rattle.cc_paths.specs.PathTexts
+pub use Rattle.cc_paths.specs.declared.entry.Entry as PathEntry
 pub use Rattle.cc_walk.specs.Blocks as WalkBlocks
 pub use Rattle.cc_walk.specs.Line as WalkLine
 pub use Rattle.cc_walk.specs.Lookup as WalkLookup
@@ -128,10 +132,14 @@ pub use Rattle.cc_walk.specs.Reach as WalkReach
 pub use Rattle.cc_walk.specs.Signs as WalkSigns
 pub use Rattle.cc_walk.specs.Visible as WalkVisible
 pub use Rattle.cc_walk.specs.Words as WalkWords
+pub use Rattle.cc_walk.specs.declared.sign.Sign as WalkSign
+pub use Rattle.cc_walk.specs.declared.sign.ValueCharacter as WalkValueCharacter
 pub use Rattle.cc_walk.specs.declared.state.Pending as WalkPending
 pub use Rattle.cc_walk.specs.declared.state.State as WalkState
 pub use Rattle.cc_gather.specs.Children as OfferedChildren
 pub use Rattle.cc_gather.specs.Finished
+pub use Rattle.cc_gather.specs.Lookup as OptionLookup
+pub use Rattle.cc_gather.specs.Numbers as WordNumbers
 pub use Rattle.cc_gather.specs.Options as OfferedOptions
 pub use Rattle.cc_gather.specs.Rows as OptionRows
 pub use Rattle.cc_values.specs.Parts as ValueParts
@@ -139,6 +147,8 @@ pub use Rattle.cc_values.specs.Values as ArgumentValues
 pub use Rattle.cc_engine.specs.Completion
 pub use Rattle.cc_engine.specs.Offer as WordOffer
 pub use Rattle.cc_engine.specs.Paths as HintPaths
+pub use Rattle.cc_engine.specs.declared.offer.Offer as OfferAtWord
+pub use Rattle.cc_agreement.specs.Agreement as BashAgreement
 -- requests of a shell
 pub use Rattle.cc_registrations.specs.BashRegistration
 pub use Rattle.cc_registrations.specs.ElvishRegistration
@@ -148,6 +158,7 @@ pub use Rattle.cc_registrations.specs.Names as RegistrationNames
 pub use Rattle.cc_registrations.specs.PowershellRegistration
 pub use Rattle.cc_registrations.specs.ZshRegistration
 pub use Rattle.cc_env.specs.Environment as EnvironmentValues
+pub use Rattle.cc_env.specs.declared.environment.EnvValues
 pub use Rattle.cc_env.specs.Reply as ShellReplies
 pub use Rattle.cc_adapters.specs.Asks as ShellAsks
 pub use Rattle.cc_adapters.specs.Builtins as BuiltinShells

@@ -1,5 +1,6 @@
 //! Candidates for a word of a command line, and the completers that a program lends.
 
+pub use cc_agreement::{bash_script_and_candidates, has_no_hidden_alias};
 pub use cc_candidates::{
     ArgValueCandidates, ArgValueCompleter, Completers, CompletionCandidate, FnCandidates,
     FnCompleter, SubcommandCandidates, ValueCandidates, ValueCompleter,
