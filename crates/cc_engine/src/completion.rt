@@ -10,6 +10,7 @@ ghost use Rattle.cc_values.specs.Values.{lent_by};
 
 use crate::candidates::offer_candidates;
 use crate::folder_paths::FolderPaths;
+use crate::lenders::{Boxes, Lenders, Lending};
 use cc_base::Error;
 use cc_candidates::{
     Completers, CompletionCandidate, FnCandidates, FnCompleter, ValueCandidates, ValueCompleter,
@@ -17,9 +18,9 @@ use cc_candidates::{
 use cc_command::Command;
 use cc_flat::Flat;
 use cc_paths::Folder;
-use cc_values::PathSource;
 use cc_walk::line_of;
 use std::alloc::{AllocError, Global};
+use std::marker::PhantomData;
 
 /// The candidates for the word at the index, counted from 0, of a command that is built first.
 ///
@@ -69,8 +70,12 @@ pub fn complete<D: Folder>(
         folder,
         current_dir,
     };
-    let found = complete_in_range(alloc, command, words.as_slice(), index, completers, &paths)?;
-    Ok(found)
+    let lenders = Lending {
+        completers,
+        paths: &paths,
+        boxes: PhantomData::<Boxes>,
+    };
+    Ok(complete_in_range(alloc, command, words.as_slice(), index, &lenders)?)
 }
 
 fn names_before(command: &Command) -> usize
@@ -90,31 +95,22 @@ fn in_range(command: &Command, count: usize, index: usize) -> bool
 }
 
 // The candidates of a command that is built, for an index in range.
-fn complete_in_range<P: PathSource>(
+fn complete_in_range<L: Lenders>(
     alloc: Global,
     command: &Command,
     words: &[String],
     index: usize,
-    completers: &Completers,
-    paths: &P,
+    lenders: &L,
 ) -> Result<Vec<CompletionCandidate>, AllocError>
     requires { is_in_range command.now.node (length words.now) index ≡ true }
-    ensures { IfOk result (λ found. Completes (lent_by
-        (λ item. (⟦<dyn ValueCompleter as ValueCompleter>⟧ item.vtable).completes item.value)
-        completers.now.completers.items
-        ⟦<FnCompleter as ValueCompleter>⟧.completes completers.now.completer_closures.items
-        (λ item. (⟦<dyn ValueCandidates as ValueCandidates>⟧ item.vtable).lists item.value)
-        completers.now.lists.items
-        ⟦<FnCandidates as ValueCandidates>⟧.lists completers.now.list_closures.items
-        (P.finds paths.now))
+    ensures { IfOk result (λ found. Completes (L.lent lenders.now)
         command.now (map string_bytes words.now) index found.items) }
 {
     let flat = Flat::new(alloc, command)?;
     let line = line_of(&flat, words_before(command, words, index));
     let node = flat.command(line.node);
     let word = word_at(words, index);
-    let found = offer_candidates(alloc, node, &line.state, word, completers, paths)?;
-    Ok(found)
+    offer_candidates(alloc, node, &line.state, word, lenders)
 }
 
 // The words before the index, without the program's name.

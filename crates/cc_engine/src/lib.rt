@@ -5,6 +5,7 @@ mod asking;
 mod candidates;
 mod completion;
 mod folder_paths;
+mod lenders;
 mod offer;
 
 pub use crate::completion::complete;

@@ -2,9 +2,9 @@
 
 ghost use Rattle.std.specs.Prelude.{◌≡◌};
 ghost use Rattle.std.specs.Option.{option_copied};
-ghost use Rattle.cc_engine.specs.Offer.{full_offer, has_enough, least, no_offer, offer_by};
+ghost use Rattle.cc_engine.specs.Offer.{full_offer, has_enough, no_offer, offer_by};
 
-use cc_arg::Arg;
+use cc_arg::{Arg, counted_range};
 use cc_walk::{Pending, State, positional_at};
 
 /// The lists that are offered besides the values of an open option.
@@ -38,7 +38,7 @@ impl Offer {
                 options: false,
             },
             Pending::OptionOpen(option, count) => {
-                if least(option.get()) <= *count {
+                if counted_range(option.get()).min_values() <= *count {
                     Offer::full(state.escaped)
                 } else {
                     Offer::none()
@@ -68,24 +68,11 @@ impl Offer {
     }
 }
 
-/// The least count of values in one use of an argument.
-pub(crate) fn least(argument: &Arg) -> usize
-    ensures { result ≡ least argument.now }
-{
-    if let Some(range) = argument.get_num_args() {
-        return range.min_values();
-    }
-    if !argument.get_action().takes_values() {
-        return 0;
-    }
-    argument.get_value_names().len().max(1)
-}
-
 fn has_enough(positional: Option<&Arg>, count: usize) -> bool
     ensures { result ≡ has_enough (option_copied positional.entry) count }
 {
     match positional {
         None => true,
-        Some(argument) => least(argument) <= count,
+        Some(argument) => counted_range(argument).min_values() <= count,
     }
 }

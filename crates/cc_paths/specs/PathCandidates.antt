@@ -1,10 +1,9 @@
 -- The candidates that lead to the names in a folder.
 use Rattle.std.specs.Prelude.{◌≡◌, ℕ, List, [], ◌∷◌, ◌++◌, map, filter, length, slice_index, Bool, not, ◌&&◌, ◌==◌, if◌then◌else◌, Option, Some, unwrap_or, MatchOption, codes, nat_eq}
 use Rattle.std.specs.List.{AllByRecursion, starts_with}
-use Rattle.std.specs.Ordering.{is_lt}
 use Rattle.std.specs.Path.{cur_dir, dot, path_join, slash}
 use Rattle.cc_base.specs.Sorting.{in_order}
-use Rattle.cc_candidates.specs.Candidate.{candidate_cmp, new_candidate}
+use Rattle.cc_candidates.specs.Candidate.{comes_before, new_candidate}
 use Rattle.cc_candidates.specs.declared.candidate.CompletionCandidate.{CompletionCandidate}
 use Rattle.cc_paths.specs.PathTexts.{search_root, word_name, word_prefix}
 use Rattle.cc_paths.specs.declared.entry.Entry.{Entry}
@@ -33,10 +32,6 @@ is_wanted entry = entry.passes
 -- a folder that doesn't pass the test
 abbrev pub is_unwanted_folder : Entry → Bool
 is_unwanted_folder entry = not entry.passes && entry.is_folder
-
--- one candidate belongs before another
-abbrev pub comes_before : CompletionCandidate → CompletionCandidate → Bool
-comes_before one other = is_lt (candidate_cmp one other)
 
 -- these wanted candidates and those of the wanted entries in order, then the unwanted folders in
 -- order

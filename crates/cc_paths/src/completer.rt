@@ -135,15 +135,15 @@ impl<D: Folder + Drop, T: PathTest<D> + Drop> ValueCompleter for PathCompleter<D
     ) -> Result<Vec<CompletionCandidate>, AllocError> {
         let current_dir = self.current_dir.as_ref().map(|path| path.as_str());
         let mut found = path_candidates(alloc, &self.folder, &self.test, current_dir, word)?;
-        push_stdio(alloc, &mut found, word, self.stdio)?;
+        push_stdio(&mut found, alloc, word, self.stdio)?;
         Ok(found)
     }
 }
 
 // Adds the candidate `-`, where it is offered and the word is empty.
 fn push_stdio(
-    alloc: Global,
     found: &mut Vec<CompletionCandidate>,
+    alloc: Global,
     word: &str,
     stdio: bool,
 ) -> Result<(), AllocError>

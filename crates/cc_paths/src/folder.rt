@@ -56,7 +56,7 @@ pub trait Folder {
     ghost home_path: { Self → Option (List ℕ) };
 
     /// The names in the folder at a path, in any order. Fails with `Unreadable` where the path
-    /// isn't that of a folder that can be read, and with `Memory` when memory runs out.
+    /// isn't that of a folder that can be read, and with `Memory` where memory runs out.
     fn names(&self, alloc: Global, path: &str) -> Result<Vec<String>, FolderError>
         ensures ok { IfOk result
             (λ names. lists self.now path.now (Some (map string_bytes names.items))) }

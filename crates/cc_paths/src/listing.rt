@@ -1,20 +1,19 @@
 //! The candidates that lead to the names in a folder.
 
-ghost use Rattle.std.specs.Prelude.{◌≡◌, ◌==◌, ◌++◌, [], Bool, map, filter, slice_index, nat_eq, string_bytes, IfOk, OnOk};
-ghost use Rattle.std.specs.List.{AllByRecursion, starts_with};
+ghost use Rattle.std.specs.Prelude.{◌≡◌, ◌==◌, ◌++◌, [], Bool, map, filter, slice_index, string_bytes, IfOk, OnOk};
+ghost use Rattle.std.specs.List.{AllByRecursion};
 ghost use Rattle.std.specs.Option.{option_copied};
 ghost use Rattle.std.specs.Path.{dot};
-ghost use Rattle.cc_base.specs.Sorting.{in_order};
 ghost use Rattle.cc_paths.specs.PathCandidates.{ArePathCandidates, AreCandidatesAt, IsTold, MayList, begins};
 ghost use Rattle.cc_paths.specs.PathCandidates.{dot_candidate, entry_name, folder_mark, groups, is_unwanted_folder, is_wanted};
-ghost use Rattle.cc_paths.specs.PathCandidates.{path_candidate, comes_before};
+ghost use Rattle.cc_paths.specs.PathCandidates.{path_candidate};
 
 use crate::entry::Entry;
 use crate::folder::{Folder, FolderError};
 use crate::path_test::PathTest;
 use crate::path_texts::{join, search_root, word_name, word_prefix};
 use cc_base::Text;
-use cc_candidates::CompletionCandidate;
+use cc_candidates::{CompletionCandidate, begins_with, sort_candidates};
 use std::alloc::{AllocError, Global};
 
 /// The candidates for a word that lead to paths which pass the test, sorted, then those for the
@@ -26,7 +25,7 @@ use std::alloc::{AllocError, Global};
 /// begins with a dot is hidden. For an empty word `.` is a candidate where the current folder
 /// passes. A folder that can't be read has no names.
 ///
-/// Fails when memory runs out.
+/// Fails where memory runs out.
 pub fn path_candidates<D: Folder, T: PathTest<D>>(
     alloc: Global,
     folder: &D,
@@ -59,8 +58,7 @@ fn candidates_at<D: Folder, T: PathTest<D>>(
     let dot = dot_candidate(alloc, folder, test, root, word)?;
     let names = names_at(alloc, folder, root)?;
     let entries = ask_all(alloc, folder, test, root, word_name(word), names)?;
-    let candidates = in_groups(alloc, dot, word_prefix(word), entries.as_slice())?;
-    Ok(candidates)
+    in_groups(alloc, dot, word_prefix(word), entries.as_slice())
 }
 
 // The names at the root; none where it can't be read.
@@ -122,12 +120,6 @@ fn ask<D: Folder, T: PathTest<D>>(
     })
 }
 
-fn begins_with(text: &str, start: &str) -> bool
-    ensures { result ≡ starts_with nat_eq text.now start.now }
-{
-    text.as_bytes().starts_with(start.as_bytes())
-}
-
 // The candidate `.`, where the word is empty and the root passes. For another word the test isn't
 // asked.
 fn dot_candidate<D: Folder, T: PathTest<D>>(
@@ -161,18 +153,18 @@ fn in_groups(
     ensures { IfOk result (λ candidates.
         candidates.items ≡ groups wanted.items prefix.now entries.now) }
 {
-    push_wanted(alloc, &mut wanted, prefix, entries)?;
-    sort(&mut wanted)?;
+    push_wanted(&mut wanted, alloc, prefix, entries)?;
+    sort_candidates(&mut wanted)?;
     let mut unwanted = unwanted_folders(alloc, prefix, entries)?;
-    sort(&mut unwanted)?;
+    sort_candidates(&mut unwanted)?;
     wanted.append(&mut unwanted)?;
     Ok(wanted)
 }
 
 // Adds the candidates of the entries that pass.
 fn push_wanted(
-    alloc: Global,
     found: &mut Vec<CompletionCandidate>,
+    alloc: Global,
     prefix: &str,
     entries: &[Entry],
 ) -> Result<(), AllocError>
@@ -237,11 +229,4 @@ fn mark_folder(mut path: String, is_folder: bool) -> Result<String, AllocError>
         return Ok(path);
     }
     Ok(path)
-}
-
-fn sort(candidates: &mut Vec<CompletionCandidate>) -> Result<(), AllocError>
-    ensures { OnOk result (candidates.new.items ≡ in_order comes_before candidates.old.items) }
-{
-    candidates.sort()?;
-    Ok(())
 }

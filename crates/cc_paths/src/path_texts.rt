@@ -31,7 +31,7 @@ fn is_trailing(path: &[u8], i: usize) -> bool
 }
 
 /// A path from a base: the base, a slash unless the base is empty or ends in one, and the path. An
-/// absolute path is returned as it is. Fails when memory runs out.
+/// absolute path is returned as it is. Fails where memory runs out.
 pub fn join(alloc: Global, base: &str, path: &str) -> Result<String, AllocError>
     ensures { IfOk result (λ joined. string_bytes joined ≡ path_join base.now path.now) }
 {
@@ -60,10 +60,9 @@ pub(crate) fn word_prefix(word: &str) -> &str
     if is_folder_word(word) {
         return word;
     }
-    match Path::new(word).parent() {
-        Some(parent) => parent.as_str(),
-        None => "",
-    }
+    Path::new(word)
+        .parent()
+        .map_or("", |parent| parent.as_str())
 }
 
 // The start of a name in that folder.
@@ -74,10 +73,7 @@ pub(crate) fn word_name(word: &str) -> &str
     if is_folder_word(word) {
         return "";
     }
-    match Path::new(word).file_name() {
-        Some(name) => name,
-        None => "",
-    }
+    Path::new(word).file_name().unwrap_or("")
 }
 
 // The path after its leading slashes and `.` pieces.

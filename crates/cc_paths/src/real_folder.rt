@@ -73,10 +73,7 @@ impl<R: Files + Drop> Folder for RealFolder<R> {
     }
 
     fn home(&self) -> Option<&str> {
-        match &self.home {
-            Some(home) => Some(home.as_str()),
-            None => None,
-        }
+        self.home.as_ref().map(|home| home.as_str())
     }
 }
 

@@ -1,7 +1,6 @@
 -- The values of an argument for a word: what is asked, what may be returned, and what is made of
 -- it.
 use Rattle.std.specs.Prelude.{◌≡◌, ℕ, List, [], ◌++◌, map, filter, Bool, true, false, Option, Some, None, unwrap_or}
-use Rattle.std.specs.Ordering.{is_lt}
 use Rattle.cc_base.specs.Sorting.{in_order}
 use Rattle.cc_arg.specs.declared.parts.ArgParts.{ArgParts as Arg}
 use Rattle.cc_arg.specs.declared.possible_value.PossibleValue.{PossibleValue}
@@ -11,7 +10,7 @@ use Rattle.cc_arg.specs.Arguments.{possible_values}
 use Rattle.cc_arg.specs.Printed.{printed}
 use Rattle.cc_candidates.specs.Beginning.{begins}
 use Rattle.cc_candidates.specs.declared.candidate.CompletionCandidate.{CompletionCandidate}
-use Rattle.cc_candidates.specs.Candidate.{candidate_cmp, new_candidate}
+use Rattle.cc_candidates.specs.Candidate.{comes_before, new_candidate}
 use Rattle.cc_candidates.specs.Lent.{ReturnsAt}
 use Rattle.cc_candidates.specs.declared.numbers.ArgValueCandidates.{ArgValueCandidates}
 use Rattle.cc_candidates.specs.declared.numbers.ArgValueCompleter.{ArgValueCompleter}
@@ -85,7 +84,7 @@ value_candidate value = record (new_candidate value.name) { help = value.help; h
 
 -- in the candidates' order
 unfoldable pub sorted : List CompletionCandidate → List CompletionCandidate
-sorted list = in_order (λ one other. is_lt (candidate_cmp one other)) list
+sorted = in_order comes_before
 
 -- what is made of what was returned: a completer's stays, of a list and of the possible values those stay
 -- that begin with the text, and paths are sorted as one list

@@ -10,7 +10,7 @@ use cc_candidates::{CompletionCandidate, begins_with, copy_of_some};
 use std::alloc::{AllocError, Global};
 
 /// A candidate for each value: its name, its help and whether it is hidden, in the values' order.
-/// Fails with `Memory` alone, when an allocation fails.
+/// Fails with `Memory` alone.
 pub fn possible_value_candidates(
     alloc: Global,
     values: Vec<PossibleValue>,
@@ -18,12 +18,11 @@ pub fn possible_value_candidates(
     ensures ok { IfOk result (λ found. found.items ≡ map value_candidate values.items) }
     ensures memory { IfErr result (λ error. error ≡ Error.Memory) }
 {
-    let found = candidates_of(alloc, values.as_slice())?;
-    Ok(found)
+    Ok(candidates_of(alloc, values.as_slice())?)
 }
 
 /// A candidate for each value whose name begins with the text, in the values' order. Fails with
-/// `Memory` alone, when an allocation fails.
+/// `Memory` alone.
 pub fn complete_possible_values(
     alloc: Global,
     text: &str,
@@ -33,8 +32,7 @@ pub fn complete_possible_values(
         found.items ≡ filter (begins text.now) (map value_candidate values.items)) }
     ensures memory { IfErr result (λ error. error ≡ Error.Memory) }
 {
-    let found = candidates_beginning(alloc, values.as_slice(), text)?;
-    Ok(found)
+    Ok(candidates_beginning(alloc, values.as_slice(), text)?)
 }
 
 fn candidates_of(

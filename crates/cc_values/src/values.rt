@@ -1,6 +1,6 @@
 //! The values of an argument for a word.
 
-ghost use Rattle.std.specs.Prelude.{◌≡◌, ◌++◌, ℕ, List, map, IfOk, OnOk};
+ghost use Rattle.std.specs.Prelude.{◌≡◌, ◌++◌, ℕ, List, map, IfOk};
 ghost use Rattle.cc_arg.specs.declared.value_hint.ValueHint.{ValueHint};
 ghost use Rattle.cc_candidates.specs.declared.candidate.CompletionCandidate.{CompletionCandidate};
 ghost use Rattle.cc_values.specs.Values.{Gathers, ArgumentValues, as_value, is_path, lent_by, sorted};
@@ -11,12 +11,12 @@ use crate::possible::candidates_beginning;
 use cc_arg::{Arg, ValueHint, possible_values};
 use cc_candidates::{
     Completers, CompletionCandidate, FnCandidates, FnCompleter, ValueCandidates, ValueCompleter,
-    retain_beginning_with,
+    retain_beginning_with, sort_candidates,
 };
 use std::alloc::{AllocError, Global};
 
-/// A source of paths: a folder, read from where a program runs. It fails only where an allocation
-/// fails.
+/// A source of paths: a folder, read from where a program runs. It fails only where memory runs
+/// out.
 pub trait PathSource {
     // the lists that it may return, for a kind of paths and the text to complete
     ghost finds: { Self → ValueHint → List ℕ → List CompletionCandidate → Type 0 };
@@ -33,7 +33,7 @@ pub trait PathSource {
 
 /// The candidates for a word that is the value of this number, counted from 0, in one use of an
 /// argument. The text up to the last delimiter of the word stays before each value, and a
-/// candidate without a tag gets the printed form of the argument. Fails when an allocation fails.
+/// candidate without a tag gets the printed form of the argument. Fails where memory runs out.
 pub fn arg_values<P: PathSource>(
     alloc: Global,
     argument: &Arg,
@@ -104,6 +104,7 @@ fn is_path(hint: ValueHint) -> bool
 }
 
 // The paths, sorted as one list.
+#[tactic(auto, unfolding(crate::specs::Values::sorted))]
 fn sorted_paths<P: PathSource>(
     alloc: Global,
     paths: &P,
@@ -114,15 +115,8 @@ fn sorted_paths<P: PathSource>(
         × P.finds paths.now hint part.now returned × (found.items ≡ sorted returned)) }
 {
     let mut found = paths.find(alloc, hint, part)?;
-    sort(&mut found)?;
+    sort_candidates(&mut found)?;
     Ok(found)
-}
-
-fn sort(candidates: &mut Vec<CompletionCandidate>) -> Result<(), AllocError>
-    ensures { OnOk result (candidates.new.items ≡ sorted candidates.old.items) }
-{
-    candidates.sort()?;
-    Ok(())
 }
 
 // The candidates after the earlier values of the word, each with a tag.

@@ -6,7 +6,7 @@ use Rattle.cc_engine.proofs.completion.complete.Goals as goal
 
 pub returns-clause-candidates : goal.returns-clause-candidates
 returns-clause-candidates g c =
-    completes_words _ _ _ _ c.args.index c.in_ok-found.found.items (ap (map string_bytes) c.as_slice.ensures.value) c.in_ok-found.ensures
+    completes_words _ _ _ _ c.args.index _ (ap (map string_bytes) c.as_slice.ensures.value) c.in_ok-complete_in_range.ensures
 
 pub returns-clause-differ : goal.returns-clause-differ
-returns-clause-differ g c = candidates_differ _ _ _ _ c.in_ok-found.found.items c.in_ok-found.ensures
+returns-clause-differ g c = candidates_differ _ _ _ _ _ c.in_ok-complete_in_range.ensures

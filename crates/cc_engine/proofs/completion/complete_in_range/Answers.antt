@@ -1,12 +1,15 @@
 use Rattle.std.proofs.Common.{map, string_bytes}
 use Rattle.cc_flat.specs.Flat.{tree_at}
+use Rattle.cc_values.proofs.Results.{IfOk-map}
 use Rattle.cc_engine.proofs.Begins.{text_at}
 use Rattle.cc_engine.proofs.Lines.{completes}
 use Rattle.cc_engine.proofs.completion.complete_in_range.Goals as goal
 
 pub returns : goal.returns
 returns g c =
-    completes _ c.args.command.now (tree_at c.in_ok-flat.flat 0) c.command-node.result.now (tree_at c.in_ok-flat.flat c.line_of-line.result.node) c.line_of-line.result.state
-    (map string_bytes c.args.words.now) (map string_bytes c.words_before.result.now) c.args.index c.word_at-word.result.now c.in_ok-found.found.items (text_at c.args.words.now c.args.index)
+    IfOk-map c.offer_candidates.result
+    (λ found offered. completes _ c.args.command.now (tree_at c.in_ok-flat.flat 0) c.command-node.result.now (tree_at c.in_ok-flat.flat c.line_of-line.result.node) c.line_of-line.result.state
+    (map string_bytes c.args.words.now) (map string_bytes c.words_before.result.now) c.args.index c.word_at-word.result.now found.items (text_at c.args.words.now c.args.index)
     c.in_ok-flat.ensures.root c.command-node.ensures
-    c.words_before.ensures c.word_at-word.ensures c.line_of-line.ensures.line c.line_of-line.ensures.only c.line_of-line.ensures.visible c.in_ok-found.ensures
+    c.words_before.ensures c.word_at-word.ensures c.line_of-line.ensures.line c.line_of-line.ensures.only c.line_of-line.ensures.visible offered)
+    c.offer_candidates.ensures
