@@ -94,7 +94,7 @@ fn complete_word(
     let last = words.len().saturating_sub(1);
     let words = texts(alloc, words)?;
     let folder = folder();
-    let lent = Completers::new(alloc, Vec::new(alloc), Vec::new(alloc));
+    let lent = Completers::none(alloc);
     let found = complete(alloc, command, words, last, Some("/w"), &folder, &lent)?;
     for candidate in &found {
         put_all(sink, candidate.get_value().as_bytes())?;
@@ -121,7 +121,7 @@ fn reply(
     let words = texts(alloc, &["app", "--root", "k"])?;
     let asked = environment(alloc, &[("_CLAP_COMPLETE_INDEX", "2")])?;
     let folder = folder();
-    let lent = Completers::new(alloc, Vec::new(alloc), Vec::new(alloc));
+    let lent = Completers::none(alloc);
     match Shells::builtins().completer(shell) {
         Some(shell) => {
             shell.write_complete(
@@ -155,7 +155,7 @@ fn attempt(alloc: Global, asked: &str, sink: &mut Counted<Narrow>) -> Result<(),
             Some("/w"),
             &environment(alloc, &variables)?,
             &folder(),
-            &Completers::new(alloc, Vec::new(alloc), Vec::new(alloc)),
+            &Completers::none(alloc),
             sink,
         )
         .map(drop)

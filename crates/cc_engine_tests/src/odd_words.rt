@@ -34,7 +34,7 @@ fn offers_for<R: Abort + AllocGlobal>(
     let index = words.len().saturating_sub(1);
     let folder = MemoryFolder::new(&[], &[]);
     let alloc = rt.alloc();
-    let lent = Completers::new(alloc, Vec::new(alloc), Vec::new(alloc));
+    let lent = Completers::none(alloc);
     let mut command = command.expect(rt, "no command");
     let found = complete(rt.alloc(), &mut command, words, index, None, &folder, &lent);
     drop(command);

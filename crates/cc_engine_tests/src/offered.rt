@@ -41,7 +41,7 @@ pub(crate) fn find_at<D: Folder>(
 ) -> Result<Vec<CompletionCandidate>, Error> {
     let mut command = read(alloc, tree)?;
     let words = to_strings(alloc, words)?;
-    let lent = Completers::new(alloc, Vec::new(alloc), Vec::new(alloc));
+    let lent = Completers::none(alloc);
     let found = complete(
         alloc,
         &mut command,

@@ -72,7 +72,7 @@ fn a_relative_word_needs_a_current_folder(rt: HostRuntime) {
 fn a_folder_that_is_out_of_memory(rt: HostRuntime) {
     let folder = work().out_of_memory();
     let alloc = rt.alloc();
-    let lent = Completers::new(alloc, Vec::new(alloc), Vec::new(alloc));
+    let lent = Completers::none(alloc);
     let mut command = read(rt.alloc(), FILE).expect(&rt, "no command");
     let words = ["app", ""];
     let found = find_last(

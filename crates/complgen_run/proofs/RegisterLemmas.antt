@@ -11,7 +11,7 @@ use Rattle.clap_complete.specs.Failures.{Failures}
 use Rattle.clap_complete.specs.Tree.{Tree}
 use Rattle.clap_complete.specs.Writes.{Writes}
 use Rattle.complgen_run.specs.Refusals.{Reports, error_line}
-use Rattle.complgen_run.specs.Registrations.{IsRegistration, Registers, adapter_reads, builtin_reads}
+use Rattle.complgen_run.specs.Registrations.{IsRegistration, Registers, AdapterReads, RegistrationReadsBy}
 use Rattle.complgen_run.specs.Registrations.{no_registration, registration_by, some_registration}
 use Rattle.complgen_run.specs.Writing.{Finishes}
 use Rattle.complgen_run.proofs.WritingLemmas.{ends_failed, ends_written, same}
@@ -22,10 +22,10 @@ module _ {S : Type 0} (taken : S → List ℕ) (failed : S → Failures) (messag
   -- there is no adapter for the shell
   pub without_registration : (state : S) (refusal : Refusal) → found ≡ None
       → IsRefusal (error_line (error.UnknownShell message)) refusal
-      → Registers taken failed (adapter_reads found) message bin file state state
+      → Registers taken failed (AdapterReads found) message bin file state state
       (option_map registration_by found) (Err refusal)
   without_registration state refusal is reported =
-      subst (λ f. Registers taken failed (adapter_reads f) message bin file state state
+      subst (λ f. Registers taken failed (AdapterReads f) message bin file state state
       (option_map registration_by f) (Err refusal)) (sym is)
       (no_registration refusal reported (same taken failed state))
 
@@ -33,11 +33,11 @@ module _ {S : Type 0} (taken : S → List ℕ) (failed : S → Failures) (messag
   pub with_registration : (old new : S) (adapter : Builtin) (result : Result (Unit {0}) Refusal)
       → found ≡ Some adapter
       → Finishes taken failed true (λ tree refusal. ⊥)
-      (IsRegistration (registration_by adapter) (builtin_reads adapter) bin) old new file result
-      → Registers taken failed (adapter_reads found) message bin file old new
+      (IsRegistration (registration_by adapter) (RegistrationReadsBy adapter) bin) old new file result
+      → Registers taken failed (AdapterReads found) message bin file old new
       (option_map registration_by found) result
   with_registration old new adapter result is ends =
-      subst (λ f. Registers taken failed (adapter_reads f) message bin file old new
+      subst (λ f. Registers taken failed (AdapterReads f) message bin file old new
       (option_map registration_by f) result) (sym is)
       (some_registration (registration_by adapter) result ends)
 

@@ -1,6 +1,6 @@
 -- How writing the script of a tree file ends.
 use Rattle.std.proofs.Common.{◌≡◌, ◌⊎◌, inl, inr, refl, subst, ℕ, List, Option, None, Some, Result}
-use Rattle.std.proofs.Common.{true, Ok, Err}
+use Rattle.std.proofs.Common.{true, Ok, Err, OnOk}
 use Rattle.complgen_command_line.specs.declared.types.Refusal.{Refusal}
 use Rattle.clap_complete.specs.Built.{built_under}
 use Rattle.clap_complete.specs.Error.{Error}
@@ -8,14 +8,23 @@ use Rattle.clap_complete.specs.Failures.{Failures}
 use Rattle.clap_complete.specs.Generators.{Generates, ReportsClash}
 use Rattle.clap_complete.specs.Shell.{Shell}
 use Rattle.clap_complete.specs.ShellGenerators.{shell_clash, shell_script}
+use Rattle.clap_complete.specs.Shells.{shell_text}
 use Rattle.clap_complete.specs.Tree.{Tree}
 use Rattle.clap_complete.specs.Writes.{CountsWrite}
 use Rattle.complgen_run.specs.Refusals.{Reports}
-use Rattle.complgen_run.specs.Scripts.{IsScript, SharesLabel}
+use Rattle.complgen_run.specs.Ends.{NamedScriptReads}
+use Rattle.complgen_run.specs.Scripts.{IsScript, ScriptReads, SharesLabel}
 use Rattle.complgen_run.specs.Writing.{Finishes, Untouched}
 use Rattle.complgen_run.proofs.WritingLemmas.{ends_failed, ends_rejected, ends_without_memory}
 use Rattle.complgen_run.proofs.WritingLemmas.{ends_written}
 use Rattle.cc_tree_file.specs.TreeFile.{HoldsTree}
+
+-- what a script is read as, for the shell that has this name
+pub named_reads : (shell : Shell) (name bin : List ℕ) (file : Option (List ℕ))
+    (result : Result (Unit {0}) Refusal) → name ≡ shell_text shell
+    → OnOk result (ScriptReads shell bin file) → OnOk result (NamedScriptReads name bin file)
+named_reads shell name bin file (Ok done) is reads = (shell, is, reads)
+named_reads shell name bin file (Err refusal) is reads = tt
 
 module _ {S : Type 0} (taken : S → List ℕ) (failed : S → Failures) (shell : Shell)
     (bin : List ℕ) where

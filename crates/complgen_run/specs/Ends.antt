@@ -1,7 +1,8 @@
 -- How carrying out a plan ends.
-use Rattle.std.specs.Prelude.{◌≡◌, ℕ, true, false, List, Option, Result, Ok, Err, length, map, string_bytes}
+use Rattle.std.specs.Prelude.{◌≡◌, ⊤, ℕ, true, false, List, Option, Result, Ok, Err, length, map, string_bytes}
 use Rattle.clap_complete.specs.Failures.{Failures}
 use Rattle.clap_complete.specs.Shell.{Shell}
+use Rattle.clap_complete.specs.Shells.{shell_text}
 use Rattle.complgen_command_line.specs.declared.types.Plan.{Plan}
 use Rattle.complgen_command_line.specs.declared.types.Plan.TheVariants.{Candidates, Register, Script}
 use Rattle.complgen_command_line.specs.declared.types.Refusal.{Refusal}
@@ -9,7 +10,7 @@ use Rattle.complgen_run.specs.Refusals.{FindsShell}
 use Rattle.complgen_run.specs.Registrations.{Registers, RegistrationReads, no_registration_text}
 use Rattle.complgen_run.specs.Registrations.{registration_for}
 use Rattle.complgen_run.specs.Replies.{IsOutOfRange, IsReply, Paths}
-use Rattle.complgen_run.specs.Scripts.{IsScript, SharesLabel}
+use Rattle.complgen_run.specs.Scripts.{IsScript, ScriptReads, SharesLabel}
 use Rattle.complgen_run.specs.Writing.{Finishes, Untouched}
 
 -- how a call ends that is given the name of a shell; a name that no shell has is reported before
@@ -51,3 +52,15 @@ Ends taken failed Finds (Register shell bin tree) file old new result =
     EndsRegistration taken failed (string_bytes shell) (string_bytes bin) file old new result
 Ends taken failed Finds (Candidates index tree words) file old new result =
     EndsReply taken failed Finds (map string_bytes words.items) index file old new result
+
+-- what the script for the shell of this name is read as, once it is written
+abbrev pub NamedScriptReads : List ℕ → List ℕ → Option (List ℕ) → Type 0
+NamedScriptReads name bin file =
+    (shell : Shell) × (name ≡ shell_text shell) × ScriptReads shell bin file
+
+-- what a script is read as, once its plan is carried out; of a registration and of a reply the
+-- cases above say it
+abbrev pub ReadsBack : Plan → Option (List ℕ) → Type 0
+ReadsBack (Script shell bin tree) file =
+    NamedScriptReads (string_bytes shell) (string_bytes bin) file
+ReadsBack _ file = ⊤

@@ -28,20 +28,20 @@ abbrev pub registration_by : Builtin → List ℕ → List ℕ → List ℕ
 registration_by adapter name bin = builtin_registration adapter variable name bin bin
 
 -- what it is read as, of the same names
-abbrev pub builtin_reads : Builtin → List ℕ → List ℕ → Type 0
-builtin_reads adapter name bin = BuiltinReads adapter variable name bin bin
+abbrev pub RegistrationReadsBy : Builtin → List ℕ → List ℕ → Type 0
+RegistrationReadsBy adapter name bin = BuiltinReads adapter variable name bin bin
 
 -- the registration for a shell; without an adapter there is none
 abbrev pub registration_for : Shell → Option (List ℕ → List ℕ → List ℕ)
 registration_for shell = option_map registration_by (adapter_for shell)
 
 -- what the registration by an adapter is read as; without one none is read
-abbrev pub adapter_reads : Option Builtin → List ℕ → List ℕ → Type 0
-adapter_reads None name bin = ⊥
-adapter_reads (Some adapter) name bin = builtin_reads adapter name bin
+abbrev pub AdapterReads : Option Builtin → List ℕ → List ℕ → Type 0
+AdapterReads None name bin = ⊥
+AdapterReads (Some adapter) name bin = RegistrationReadsBy adapter name bin
 
 abbrev pub RegistrationReads : Shell → List ℕ → List ℕ → Type 0
-RegistrationReads shell = adapter_reads (adapter_for shell)
+RegistrationReads shell = AdapterReads (adapter_for shell)
 
 -- the message that there is none for a shell
 abbrev pub no_registration_text : Shell → List ℕ

@@ -1,12 +1,15 @@
 -- The script for the command of a tree file, and when there is none.
-use Rattle.std.specs.Prelude.{◌≡◌, ℕ, List, Some, None}
+use Rattle.std.specs.Prelude.{◌≡◌, ℕ, List, Option, Some, None, IsTrue}
 use Rattle.clap_complete.specs.Built.{built_under}
 use Rattle.clap_complete.specs.Error.TheVariants.{LabelClash}
+use Rattle.clap_complete.specs.Plain.{is_plain_tree}
+use Rattle.clap_complete.specs.PlainName.{is_plain_name}
 use Rattle.clap_complete.specs.Shell.{Shell}
-use Rattle.clap_complete.specs.ShellGenerators.{shell_clash, shell_script}
+use Rattle.clap_complete.specs.ShellGenerators.{ShellReads, shell_clash, shell_script}
 use Rattle.clap_complete.specs.Tree.{Tree}
 use Rattle.complgen_command_line.specs.declared.types.Refusal.{Refusal}
 use Rattle.complgen_run.specs.Refusals.{IsMade, error_line}
+use Rattle.cc_tree_file.specs.TreeFile.{HoldsTree}
 
 -- two nodes of the command, built under the bin name, would share this label, and that is reported
 pub record SharesLabel (shell : Shell) (bin : List ℕ) (tree : Tree) (refusal : Refusal)
@@ -19,3 +22,11 @@ pub record SharesLabel (shell : Shell) (bin : List ℕ) (tree : Tree) (refusal :
 pub record IsScript (shell : Shell) (bin : List ℕ) (tree : Tree) (text : List ℕ) : Type 0 where
   pub unshared : shell_clash shell (built_under (Some bin) tree) ≡ None
   pub is : text ≡ shell_script shell (built_under (Some bin) tree)
+
+-- the file holds a command of which the script reads back, where the command and the bin name are
+-- plain
+pub record ScriptReads (shell : Shell) (bin : List ℕ) (file : Option (List ℕ)) : Type 0 where
+  pub tree : Tree
+  pub held : HoldsTree file tree
+  pub reads : IsTrue (is_plain_tree tree) → IsTrue (is_plain_name bin)
+      → ShellReads shell (built_under (Some bin) tree)

@@ -1,9 +1,9 @@
 //! Carries out a plan.
 
-ghost use Rattle.std.specs.Prelude.{Some, codes};
+ghost use Rattle.std.specs.Prelude.{OnOk, Some, codes};
 ghost use Rattle.std.specs.Option.{option_copied};
 ghost use Rattle.clap_complete.specs.HintPaths.{PathsOf};
-ghost use Rattle.complgen_run.specs.Ends.{Ends};
+ghost use Rattle.complgen_run.specs.Ends.{Ends, ReadsBack};
 
 use crate::registrations::register;
 use crate::replies::reply;
@@ -25,9 +25,10 @@ pub fn run<D: Folder, W: Sink>(
     folder: &D,
     out: &mut W,
 ) -> Result<(), Refusal>
-    ensures { Ends W.taken W.failed (PathsOf (D.lists folder.now) (D.tells_dir folder.now)
+    ensures ends { Ends W.taken W.failed (PathsOf (D.lists folder.now) (D.tells_dir folder.now)
         (D.tells_file folder.now) (D.tells_executable folder.now) (D.home_path folder.now)
         (Some (codes "."))) plan.now (option_copied file.entry) out.old out.new result }
+    ensures read_back { OnOk result (ReadsBack plan.now (option_copied file.entry)) }
 {
     match plan {
         Plan::Script(shell, bin, _) => script(alloc, shell.as_str(), bin.as_str(), file, out),

@@ -6,7 +6,7 @@ ghost use Rattle.clap_complete.specs.BuiltinShells.{all_builtins, builtin_named}
 ghost use Rattle.clap_complete.specs.Shells.{shell_text};
 ghost use Rattle.complgen_run.specs.Ends.{EndsRegistration};
 ghost use Rattle.complgen_run.specs.Registrations.{IsRegistration, Registers, RegistrationReads};
-ghost use Rattle.complgen_run.specs.Registrations.{builtin_reads, no_registration_text, registration_by};
+ghost use Rattle.complgen_run.specs.Registrations.{RegistrationReadsBy, no_registration_text, registration_by};
 ghost use Rattle.complgen_run.specs.Registrations.{registration_for};
 ghost use Rattle.complgen_run.specs.Writing.{Finishes};
 
@@ -75,7 +75,7 @@ fn register_by<W: Sink>(
     out: &mut W,
 ) -> Result<(), Refusal>
     ensures { Finishes W.taken W.failed true (λ tree refusal. ⊥)
-        (IsRegistration (registration_by adapter) (builtin_reads adapter) bin.now)
+        (IsRegistration (registration_by adapter) (RegistrationReadsBy adapter) bin.now)
         out.old out.new (option_copied file.entry) result }
 {
     let command = tree(alloc, file)?;

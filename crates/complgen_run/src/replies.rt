@@ -69,7 +69,7 @@ fn candidates<D: Folder>(
         found.items) }
     ensures err { IfErr result (FindsNone (length words.items) index command) }
 {
-    let lent = Completers::new(alloc, Vec::new(alloc), Vec::new(alloc));
+    let lent = Completers::none(alloc);
     complete(
         alloc,
         &mut command,

@@ -1,9 +1,9 @@
 //! Writes a script.
 
-ghost use Rattle.std.specs.Prelude.{true};
+ghost use Rattle.std.specs.Prelude.{OnOk, true};
 ghost use Rattle.std.specs.Option.{option_copied};
-ghost use Rattle.complgen_run.specs.Ends.{EndsScript};
-ghost use Rattle.complgen_run.specs.Scripts.{IsScript, SharesLabel};
+ghost use Rattle.complgen_run.specs.Ends.{EndsScript, NamedScriptReads};
+ghost use Rattle.complgen_run.specs.Scripts.{IsScript, ScriptReads, SharesLabel};
 ghost use Rattle.complgen_run.specs.Writing.{Finishes};
 
 use crate::refusals::error_refusal;
@@ -22,8 +22,10 @@ pub(crate) fn script<W: Sink>(
     file: Option<&[u8]>,
     out: &mut W,
 ) -> Result<(), Refusal>
-    ensures { EndsScript W.taken W.failed shell.now bin.now (option_copied file.entry)
+    ensures ends { EndsScript W.taken W.failed shell.now bin.now (option_copied file.entry)
         out.old out.new result }
+    ensures read_back { OnOk result
+        (NamedScriptReads shell.now bin.now (option_copied file.entry)) }
 {
     match shell_of(alloc, shell) {
         Ok(shell) => script_by(alloc, shell, bin, file, out),
@@ -39,8 +41,9 @@ fn script_by<W: Sink>(
     file: Option<&[u8]>,
     out: &mut W,
 ) -> Result<(), Refusal>
-    ensures { Finishes W.taken W.failed true (SharesLabel shell bin.now) (IsScript shell bin.now)
-        out.old out.new (option_copied file.entry) result }
+    ensures ends { Finishes W.taken W.failed true (SharesLabel shell bin.now)
+        (IsScript shell bin.now) out.old out.new (option_copied file.entry) result }
+    ensures read_back { OnOk result (ScriptReads shell bin.now (option_copied file.entry)) }
 {
     let mut command = tree(alloc, file)?;
     let bin = String::from_str(alloc, bin)?;
