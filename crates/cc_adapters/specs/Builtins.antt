@@ -22,7 +22,7 @@ abbrev pub all_builtins : List Builtin
 all_builtins = Bash ∷ Elvish ∷ Fish ∷ Powershell ∷ Zsh ∷ []
 
 -- what is said of an adapter
-pub record BuiltinSpec : Type 1 where
+pub record CompleterSpec : Type 1 where
   -- its name
   pub name : List ℕ
   -- whether it has a name
@@ -38,8 +38,8 @@ pub record BuiltinSpec : Type 1 where
   -- what it is read as
   pub ReplyReads : EnvValues → List CompletionCandidate → Type 0
 
-abbrev pub builtin_spec : Builtin → BuiltinSpec
-builtin_spec Bash = record {
+abbrev pub bash_spec : CompleterSpec
+bash_spec = record {
   name = codes "bash";
   named = λ name. bytes_eq name (codes "bash");
   registration = λ variable name bin completer. bash_registration variable name bin completer;
@@ -48,7 +48,9 @@ builtin_spec Bash = record {
   reply = λ env found. values_reply (separator_of env) found;
   ReplyReads = λ env found. ValuesRead (separator_of env) found;
 }
-builtin_spec Elvish = record {
+
+abbrev pub elvish_spec : CompleterSpec
+elvish_spec = record {
   name = codes "elvish";
   named = λ name. bytes_eq name (codes "elvish");
   registration = λ variable name bin completer. elvish_registration variable bin completer;
@@ -57,7 +59,9 @@ builtin_spec Elvish = record {
   reply = λ env found. values_reply (separator_of env) found;
   ReplyReads = λ env found. ValuesRead (separator_of env) found;
 }
-builtin_spec Fish = record {
+
+abbrev pub fish_spec : CompleterSpec
+fish_spec = record {
   name = codes "fish";
   named = λ name. bytes_eq name (codes "fish");
   registration = λ variable name bin completer. fish_registration variable bin completer;
@@ -66,7 +70,9 @@ builtin_spec Fish = record {
   reply = λ env found. lines_reply found;
   ReplyReads = λ env found. LinesRead found;
 }
-builtin_spec Powershell = record {
+
+abbrev pub powershell_spec : CompleterSpec
+powershell_spec = record {
   name = codes "powershell";
   named = λ name. is_powershell name;
   registration = λ variable name bin completer. powershell_registration variable bin completer;
@@ -75,7 +81,9 @@ builtin_spec Powershell = record {
   reply = λ env found. lines_reply found;
   ReplyReads = λ env found. LinesRead found;
 }
-builtin_spec Zsh = record {
+
+abbrev pub zsh_spec : CompleterSpec
+zsh_spec = record {
   name = codes "zsh";
   named = λ name. bytes_eq name (codes "zsh");
   registration = λ variable name bin completer. zsh_registration variable name bin completer;
@@ -84,6 +92,13 @@ builtin_spec Zsh = record {
   reply = λ env found. zsh_reply (separator_of env) found;
   ReplyReads = λ env found. ZshReplyRead (separator_of env) found;
 }
+
+abbrev pub builtin_spec : Builtin → CompleterSpec
+builtin_spec Bash = bash_spec
+builtin_spec Elvish = elvish_spec
+builtin_spec Fish = fish_spec
+builtin_spec Powershell = powershell_spec
+builtin_spec Zsh = zsh_spec
 
 -- ---- the same, member by member
 

@@ -1,11 +1,6 @@
 //! The adapter for bash.
 
-ghost use Rattle.std.specs.Prelude.{codes};
-ghost use Rattle.std.specs.Str.{bytes_eq};
-ghost use Rattle.cc_adapters.specs.Asks.{AsksAtIndex};
-ghost use Rattle.cc_env.specs.Environment.{separator_of};
-ghost use Rattle.cc_env.specs.Reply.{ValuesRead, values_reply};
-ghost use Rattle.cc_registrations.specs.BashRegistration.{BashReads, bash_registration};
+ghost use Rattle.cc_adapters.specs.Builtins.{bash_spec};
 
 use crate::env_completer::EnvCompleter;
 use crate::forms::{Values, reply_at};
@@ -25,20 +20,19 @@ use std::alloc::Global;
 pub struct Bash;
 
 impl EnvCompleter for Bash {
-    ghost own_name = { λ _. codes "bash" };
+    ghost own_name = { λ _. bash_spec.name };
 
-    ghost named = { λ _ name. bytes_eq name (codes "bash") };
+    ghost named = { λ _. bash_spec.named };
 
-    ghost registration = { λ _ variable name bin completer.
-        bash_registration variable name bin completer };
+    ghost registration = { λ _. bash_spec.registration };
 
-    ghost Reads = { λ _ variable name bin completer. BashReads variable name bin completer };
+    ghost Reads = { λ _. bash_spec.Reads };
 
-    ghost Asks = { λ _ env words asked index. AsksAtIndex env words asked index };
+    ghost Asks = { λ _. bash_spec.Asks };
 
-    ghost reply = { λ _ env found. values_reply (separator_of env) found };
+    ghost reply = { λ _. bash_spec.reply };
 
-    ghost ReplyReads = { λ _ env found. ValuesRead (separator_of env) found };
+    ghost ReplyReads = { λ _. bash_spec.ReplyReads };
 
     fn name(&self) -> &'static str {
         "bash"

@@ -1,11 +1,6 @@
 //! The adapter for Elvish.
 
-ghost use Rattle.std.specs.Prelude.{codes};
-ghost use Rattle.std.specs.Str.{bytes_eq};
-ghost use Rattle.cc_adapters.specs.Asks.{AsksAtIndex};
-ghost use Rattle.cc_env.specs.Environment.{separator_of};
-ghost use Rattle.cc_env.specs.Reply.{ValuesRead, values_reply};
-ghost use Rattle.cc_registrations.specs.ElvishRegistration.{ElvishReads, elvish_registration};
+ghost use Rattle.cc_adapters.specs.Builtins.{elvish_spec};
 
 use crate::env_completer::EnvCompleter;
 use crate::forms::{Values, reply_at};
@@ -25,20 +20,19 @@ use std::alloc::Global;
 pub struct Elvish;
 
 impl EnvCompleter for Elvish {
-    ghost own_name = { λ _. codes "elvish" };
+    ghost own_name = { λ _. elvish_spec.name };
 
-    ghost named = { λ _ name. bytes_eq name (codes "elvish") };
+    ghost named = { λ _. elvish_spec.named };
 
-    ghost registration = { λ _ variable _ bin completer.
-        elvish_registration variable bin completer };
+    ghost registration = { λ _. elvish_spec.registration };
 
-    ghost Reads = { λ _ variable _ bin completer. ElvishReads variable bin completer };
+    ghost Reads = { λ _. elvish_spec.Reads };
 
-    ghost Asks = { λ _ env words asked index. AsksAtIndex env words asked index };
+    ghost Asks = { λ _. elvish_spec.Asks };
 
-    ghost reply = { λ _ env found. values_reply (separator_of env) found };
+    ghost reply = { λ _. elvish_spec.reply };
 
-    ghost ReplyReads = { λ _ env found. ValuesRead (separator_of env) found };
+    ghost ReplyReads = { λ _. elvish_spec.ReplyReads };
 
     fn name(&self) -> &'static str {
         "elvish"

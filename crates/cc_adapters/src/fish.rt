@@ -1,10 +1,6 @@
 //! The adapter for fish.
 
-ghost use Rattle.std.specs.Prelude.{codes};
-ghost use Rattle.std.specs.Str.{bytes_eq};
-ghost use Rattle.cc_adapters.specs.Asks.{AsksAtLast};
-ghost use Rattle.cc_env.specs.Reply.{LinesRead, lines_reply};
-ghost use Rattle.cc_registrations.specs.FishRegistration.{FishReads, fish_registration};
+ghost use Rattle.cc_adapters.specs.Builtins.{fish_spec};
 
 use crate::env_completer::EnvCompleter;
 use crate::forms::{Lines, reply_at};
@@ -24,20 +20,19 @@ use std::alloc::Global;
 pub struct Fish;
 
 impl EnvCompleter for Fish {
-    ghost own_name = { λ _. codes "fish" };
+    ghost own_name = { λ _. fish_spec.name };
 
-    ghost named = { λ _ name. bytes_eq name (codes "fish") };
+    ghost named = { λ _. fish_spec.named };
 
-    ghost registration = { λ _ variable _ bin completer.
-        fish_registration variable bin completer };
+    ghost registration = { λ _. fish_spec.registration };
 
-    ghost Reads = { λ _ variable _ bin completer. FishReads variable bin completer };
+    ghost Reads = { λ _. fish_spec.Reads };
 
-    ghost Asks = { λ _ _ words asked index. AsksAtLast words asked index };
+    ghost Asks = { λ _. fish_spec.Asks };
 
-    ghost reply = { λ _ _ found. lines_reply found };
+    ghost reply = { λ _. fish_spec.reply };
 
-    ghost ReplyReads = { λ _ _ found. LinesRead found };
+    ghost ReplyReads = { λ _. fish_spec.ReplyReads };
 
     fn name(&self) -> &'static str {
         "fish"

@@ -18,5 +18,5 @@ pub use crate::elvish::Elvish;
 pub use crate::env_completer::EnvCompleter;
 pub use crate::fish::Fish;
 pub use crate::powershell::Powershell;
-pub use crate::shells::{Names, Shells};
+pub use crate::shells::{ShellNames, Shells};
 pub use crate::zsh::Zsh;

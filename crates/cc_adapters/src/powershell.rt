@@ -1,11 +1,6 @@
 //! The adapter for PowerShell.
 
-ghost use Rattle.std.specs.Prelude.{codes};
-ghost use Rattle.cc_adapters.specs.Asks.{AsksAtLast};
-ghost use Rattle.cc_adapters.specs.ShellNames.{is_powershell};
-ghost use Rattle.cc_env.specs.Reply.{LinesRead, lines_reply};
-ghost use Rattle.cc_registrations.specs.PowershellRegistration.{PowershellReads};
-ghost use Rattle.cc_registrations.specs.PowershellRegistration.{powershell_registration};
+ghost use Rattle.cc_adapters.specs.Builtins.{powershell_spec};
 
 use crate::env_completer::EnvCompleter;
 use crate::forms::{Lines, reply_at};
@@ -25,20 +20,19 @@ use std::alloc::Global;
 pub struct Powershell;
 
 impl EnvCompleter for Powershell {
-    ghost own_name = { λ _. codes "powershell" };
+    ghost own_name = { λ _. powershell_spec.name };
 
-    ghost named = { λ _ name. is_powershell name };
+    ghost named = { λ _. powershell_spec.named };
 
-    ghost registration = { λ _ variable _ bin completer.
-        powershell_registration variable bin completer };
+    ghost registration = { λ _. powershell_spec.registration };
 
-    ghost Reads = { λ _ variable _ bin completer. PowershellReads variable bin completer };
+    ghost Reads = { λ _. powershell_spec.Reads };
 
-    ghost Asks = { λ _ _ words asked index. AsksAtLast words asked index };
+    ghost Asks = { λ _. powershell_spec.Asks };
 
-    ghost reply = { λ _ _ found. lines_reply found };
+    ghost reply = { λ _. powershell_spec.reply };
 
-    ghost ReplyReads = { λ _ _ found. LinesRead found };
+    ghost ReplyReads = { λ _. powershell_spec.ReplyReads };
 
     fn name(&self) -> &'static str {
         "powershell"

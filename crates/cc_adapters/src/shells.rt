@@ -33,10 +33,10 @@ impl<'s, E: EnvCompleter> Shells<'s, E> {
     }
 
     /// The names of the shells, one for each, in their order.
-    pub fn names(&self) -> Names<'s, E>
+    pub fn names(&self) -> ShellNames<'s, E>
         ensures { names_left E.own_name result ≡ map E.own_name self.now.0.now }
     {
-        Names { shells: self.0 }
+        ShellNames { shells: self.0 }
     }
 
     /// The shells, in their order.
@@ -49,11 +49,11 @@ impl<'s, E: EnvCompleter> Shells<'s, E> {
 
 /// The names of some shells.
 #[derive(Drop)]
-pub struct Names<'s, E> {
+pub struct ShellNames<'s, E> {
     shells: &'s [E],
 }
 
-impl<'s, E: EnvCompleter> Iterator for Names<'s, E> {
+impl<'s, E: EnvCompleter> Iterator for ShellNames<'s, E> {
     type Item = &'static str;
 
     ghost next_gives = { YieldsFirstBy (λ name. name.now) (names_left E.own_name) };

@@ -1,11 +1,8 @@
 //! The adapter for zsh.
 
-ghost use Rattle.std.specs.Prelude.{◌≡◌, IfOk, codes, map, string_bytes};
-ghost use Rattle.std.specs.Str.{bytes_eq};
-ghost use Rattle.cc_adapters.specs.Asks.{AsksAtNext, with_next};
-ghost use Rattle.cc_env.specs.Environment.{separator_of};
-ghost use Rattle.cc_env.specs.Reply.{ZshReplyRead, zsh_reply};
-ghost use Rattle.cc_registrations.specs.ZshRegistration.{ZshReads, zsh_registration};
+ghost use Rattle.std.specs.Prelude.{◌≡◌, IfOk, map, string_bytes};
+ghost use Rattle.cc_adapters.specs.Asks.{with_next};
+ghost use Rattle.cc_adapters.specs.Builtins.{zsh_spec};
 
 use crate::env_completer::EnvCompleter;
 use crate::forms::{ZshItems, reply_at};
@@ -25,20 +22,19 @@ use std::alloc::{AllocError, Global};
 pub struct Zsh;
 
 impl EnvCompleter for Zsh {
-    ghost own_name = { λ _. codes "zsh" };
+    ghost own_name = { λ _. zsh_spec.name };
 
-    ghost named = { λ _ name. bytes_eq name (codes "zsh") };
+    ghost named = { λ _. zsh_spec.named };
 
-    ghost registration = { λ _ variable name bin completer.
-        zsh_registration variable name bin completer };
+    ghost registration = { λ _. zsh_spec.registration };
 
-    ghost Reads = { λ _ variable name bin completer. ZshReads variable name bin completer };
+    ghost Reads = { λ _. zsh_spec.Reads };
 
-    ghost Asks = { λ _ env words asked index. AsksAtNext env words asked index };
+    ghost Asks = { λ _. zsh_spec.Asks };
 
-    ghost reply = { λ _ env found. zsh_reply (separator_of env) found };
+    ghost reply = { λ _. zsh_spec.reply };
 
-    ghost ReplyReads = { λ _ env found. ZshReplyRead (separator_of env) found };
+    ghost ReplyReads = { λ _. zsh_spec.ReplyReads };
 
     fn name(&self) -> &'static str {
         "zsh"

@@ -12,6 +12,9 @@ use Rattle.cc_candidates.specs.declared.candidate.CompletionCandidate.{Completio
 abbrev carriage_return : ℕ
 carriage_return = 13
 
+abbrev vertical_tab : ℕ
+vertical_tab = 11
+
 -- a line without a carriage return at its end
 unfoldable pub without_return : List ℕ → List ℕ
 without_return [] = []
@@ -147,7 +150,7 @@ AreSendable separator candidates =
 
 -- a line feed, or a vertical tab, is between values
 abbrev pub IsSeparator : ℕ → Type 0
-IsSeparator byte = (byte ≡ 10) ⊎ (byte ≡ 11)
+IsSeparator byte = (byte ≡ line_feed) ⊎ (byte ≡ vertical_tab)
 
 -- the reply is read as the values
 abbrev pub ValuesRead : List ℕ → List CompletionCandidate → Type 0
@@ -165,4 +168,4 @@ ZshReplyRead between candidates =
 
 abbrev pub LinesRead : List CompletionCandidate → Type 0
 LinesRead candidates =
-    AreSendable 10 candidates → lines_read (lines_reply candidates) ≡ map shown candidates
+    AreSendable line_feed candidates → lines_read (lines_reply candidates) ≡ map shown candidates

@@ -59,10 +59,7 @@ impl EnvValues {
     pub fn separator(&self) -> &str
         ensures { result.now ≡ separator_of self.now }
     {
-        match self.get("_CLAP_IFS") {
-            Some(separator) => separator,
-            None => "\n",
-        }
+        self.get("_CLAP_IFS").unwrap_or("\n")
     }
 }
 
@@ -76,8 +73,5 @@ fn is_named(variable: &(String, String), name: &str) -> bool
 fn number(text: &str) -> usize
     ensures { IsNumberOf text.now result }
 {
-    match text.parse::<usize>() {
-        Ok(number) => number,
-        Err(_) => 0,
-    }
+    text.parse::<usize>().unwrap_or(0)
 }

@@ -151,8 +151,5 @@ fn first_line(text: &str) -> &str
 fn without_return(line: &str) -> &str
     ensures { result.now ≡ without_return line.now }
 {
-    match line.strip_suffix('\r') {
-        Some(front) => front,
-        None => line,
-    }
+    line.strip_suffix('\r').unwrap_or(line)
 }

@@ -8,7 +8,7 @@ use Rattle.cc_quote.specs.PosixQuote.{posix_word_of}
 use Rattle.cc_quote.proofs.BashDoubles.{doubled_is_word}
 use Rattle.cc_registrations.specs.Found.{after, with_front, cut_at, up_to, after_mark, between, without_blanks, after_last_from, last_line, word_by, word_after, words_from, before_last}
 use Rattle.cc_registrations.specs.Names.{underscored}
-use Rattle.cc_registrations.specs.BashRegistration.{function_begins, function_head, call_begins, call_ends, name_ends, otherwise, registration_ends, registration_front, sorted_call, plain_call, registration_tail, bash_registration, variable_ends, bash_variable, bash_completer, bash_name, bash_binary, BashRegistrationReads}
+use Rattle.cc_registrations.specs.BashRegistration.{function_begins, function_head, call_begins, call_ends, name_ends, otherwise, registration_ends, registration_front, sorted_call, plain_call, registration_tail, bash_registration, variable_ends, bash_variable, bash_completer, bash_name, bash_binary, BashRegistrationReads, BashReads}
 use Rattle.cc_registrations.proofs.Finding.{past_lacking, past_free, run_on, no_blanks, before_fi}
 use Rattle.cc_registrations.proofs.NameBytes.{AreNameBytes, name_lacks, name_no_blanks, name_no_line_feeds, underscored_bytes, plain_some}
 
@@ -94,10 +94,14 @@ module _ (variable name bin completer : List ℕ) where
         ap (λ text. before_last (codes "fi") (words_from [] text)) up_to_bin
         ∙ before_fi before_bin bin (name_no_blanks bin (plain_bytes bin bin_plain)) (plain_some bin bin_plain)
 
-    pub bash_reads : BashRegistrationReads variable name bin completer
-    bash_reads = record {
+    reads : BashRegistrationReads variable name bin completer
+    reads = record {
       variable_read = variable_found;
       completer_read = completer_found;
       name_read = name_found;
       binary_read = binary_found;
     }
+
+pub bash_reads : (variable name bin completer : List ℕ) → BashReads variable name bin completer
+unfolding BashReads
+bash_reads = reads

@@ -8,7 +8,7 @@ use Rattle.cc_quote.specs.Signs.{is_blank}
 use Rattle.cc_quote.proofs.BeforeBlanks.{elvish_before_space}
 use Rattle.cc_registrations.specs.Found.{after, with_front, cut_at, up_to, after_mark, between, without_blanks, after_last_from, last_run, word_by, word_after}
 use Rattle.cc_registrations.specs.Names.{is_plain_path}
-use Rattle.cc_registrations.specs.ElvishRegistration.{registration_begins, function_head, shell_set, registration_ends, elvish_registration, variable_ends, elvish_variable, elvish_completer, elvish_binary, ElvishRegistrationReads}
+use Rattle.cc_registrations.specs.ElvishRegistration.{registration_begins, function_head, shell_set, registration_ends, elvish_registration, variable_ends, elvish_variable, elvish_completer, elvish_binary, ElvishRegistrationReads, ElvishReads}
 use Rattle.cc_registrations.proofs.Finding.{past_lacking, past_free, run_on, bare_first}
 use Rattle.cc_registrations.proofs.NameBytes.{name_lacks, name_no_blanks, posix_plain, path_safe, safe_as_it_is}
 
@@ -67,9 +67,13 @@ module _ (variable bin completer : List ℕ) (variable_plain : IsTrue (is_plain_
       ∙ ap (option_map (λ c. c.0)) (past_lacking 93 [] bin (function_head ++ (variable ++ (variable_ends ++ call))) (name_lacks 93 bin refl (plain_bytes bin bin_plain)))
       ∙ ap Some (append-nil bin)
 
-  pub elvish_reads : ElvishRegistrationReads variable bin completer
-  elvish_reads = record {
+  reads : ElvishRegistrationReads variable bin completer
+  reads = record {
     variable_read = variable_found;
     completer_read = completer_found;
     binary_read = binary_found;
   }
+
+pub elvish_reads : (variable bin completer : List ℕ) → ElvishReads variable bin completer
+unfolding ElvishReads
+elvish_reads = reads

@@ -9,7 +9,7 @@ use Rattle.cc_quote.proofs.FishWords.{safe_double_escaped}
 use Rattle.cc_quote.proofs.FishReaders.{double_from}
 use Rattle.cc_quote.proofs.BeforeBlanks.{fish_before_space}
 use Rattle.cc_registrations.specs.Found.{after, with_front, cut_at, up_to, after_mark, between, without_blanks, word_by, word_after}
-use Rattle.cc_registrations.specs.FishRegistration.{registration_begins, arguments_begin, shell_set, registration_ends, fish_registration, fish_binary, fish_arguments, fish_variable, fish_completer, FishRegistrationReads}
+use Rattle.cc_registrations.specs.FishRegistration.{registration_begins, arguments_begin, shell_set, registration_ends, fish_registration, fish_binary, fish_arguments, fish_variable, fish_completer, FishRegistrationReads, FishReads}
 use Rattle.cc_registrations.proofs.Finding.{cut_at-none, after-none, past_lacking, past_free, bare_first}
 use Rattle.cc_registrations.proofs.NameBytes.{name_lacks, fish_plain, fish_safe_bytes, no_dash_first, plain_some}
 
@@ -98,9 +98,13 @@ module _ (variable bin completer : List ℕ) where
         ∙ ap (λ text. option_map (λ read. read.0) (fish_word_of text)) (bare_first (fish_quoted completer ++ closing) read.0)
         ∙ ap (option_map (λ read. read.0)) read.1
 
-    pub fish_reads : FishRegistrationReads variable bin completer
-    fish_reads = record {
+    reads : FishRegistrationReads variable bin completer
+    reads = record {
       variable_read = variable_found;
       completer_read = completer_found;
       binary_read = binary_found;
     }
+
+pub fish_reads : (variable bin completer : List ℕ) → FishReads variable bin completer
+unfolding FishReads
+fish_reads = reads

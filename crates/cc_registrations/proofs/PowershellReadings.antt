@@ -7,7 +7,7 @@ use Rattle.cc_quote.specs.PowershellQuote.{powershell_word_of}
 use Rattle.cc_quote.proofs.BeforeBlanks.{powershell_before_space}
 use Rattle.cc_registrations.specs.Found.{after, with_front, cut_at, up_to, after_mark, between, without_blanks, word_by, word_after}
 use Rattle.cc_registrations.specs.Names.{is_plain_path}
-use Rattle.cc_registrations.specs.PowershellRegistration.{registration_begins, script_head, environment, prev_ends, arguments, call_begins, call_ends, registration_head, call, registration_tail, powershell_registration, powershell_variable, powershell_completer, powershell_binary, PowershellRegistrationReads}
+use Rattle.cc_registrations.specs.PowershellRegistration.{registration_begins, script_head, environment, prev_ends, arguments, call_begins, call_ends, registration_head, call, registration_tail, powershell_registration, powershell_variable, powershell_completer, powershell_binary, PowershellRegistrationReads, PowershellReads}
 use Rattle.cc_registrations.proofs.Finding.{past_lacking, past_free, bare_first}
 use Rattle.cc_registrations.proofs.NameBytes.{name_lacks, posix_plain, plain_safe, path_safe, safe_as_it_is}
 
@@ -83,9 +83,13 @@ module _ (variable bin completer : List ℕ) (variable_plain : IsTrue (is_plain_
       ∙ ap (λ text. option_map (λ read. read.0) (powershell_word_of text)) (bare_first (bin ++ 32 ∷ rest) read.0)
       ∙ ap (option_map (λ read. read.0)) read.1
 
-  pub powershell_reads : PowershellRegistrationReads variable bin completer
-  powershell_reads = record {
+  reads : PowershellRegistrationReads variable bin completer
+  reads = record {
     variable_read = variable_found;
     completer_read = completer_found;
     binary_read = binary_found;
   }
+
+pub powershell_reads : (variable bin completer : List ℕ) → PowershellReads variable bin completer
+unfolding PowershellReads
+powershell_reads = reads

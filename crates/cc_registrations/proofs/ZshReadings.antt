@@ -7,7 +7,7 @@ use Rattle.cc_quote.specs.PosixQuote.{posix_quoted, posix_word_of}
 use Rattle.cc_quote.proofs.BeforeBlanks.{posix_before_space, posix_before_line_feed}
 use Rattle.cc_registrations.specs.Found.{after, with_front, cut_at, up_to, after_mark, between, without_blanks, after_last_from, last_line, word_by, word_after}
 use Rattle.cc_registrations.specs.Names.{underscored}
-use Rattle.cc_registrations.specs.ZshRegistration.{registration_begins, function_begins, function_head, call_begins, call_ends, registration_head, registration_front, registration_tail, zsh_registration, variable_ends, zsh_variable, zsh_completer, zsh_name, zsh_binary, ZshRegistrationReads}
+use Rattle.cc_registrations.specs.ZshRegistration.{registration_begins, function_begins, function_head, call_begins, call_ends, registration_head, registration_front, registration_tail, zsh_registration, variable_ends, zsh_variable, zsh_completer, zsh_name, zsh_binary, ZshRegistrationReads, ZshReads}
 use Rattle.cc_registrations.proofs.Finding.{cut_at-none, after-none, with_front-append, past_lacking, past_free, run_on, no_blanks, bare_first}
 use Rattle.cc_registrations.proofs.NameBytes.{AreNameBytes, name_lacks, name_no_blanks, name_no_line_feeds, underscored_bytes, posix_plain, no_underscore_first, plain_some}
 
@@ -111,10 +111,14 @@ module _ (variable name bin completer : List ℕ) where
         ∙ ap (option_map (λ c. c.0)) (past_lacking 40 (codes ") {") n after_name (name_lacks 40 n refl of_name))
         ∙ ap Some (append-nil n)
 
-    pub zsh_reads : ZshRegistrationReads variable name bin completer
-    zsh_reads = record {
+    reads : ZshRegistrationReads variable name bin completer
+    reads = record {
       variable_read = variable_found;
       completer_read = completer_found;
       name_read = name_found;
       binary_read = binary_found;
     }
+
+pub zsh_reads : (variable name bin completer : List ℕ) → ZshReads variable name bin completer
+unfolding ZshReads
+zsh_reads = reads

@@ -1,5 +1,5 @@
 -- The registration for bash, and what its parts are read as.
-use Rattle.std.specs.Prelude.{◌≡◌, ℕ, IsTrue, List, [], ◌++◌, Option, Some, option_map, codes}
+use Rattle.std.specs.Prelude.{⊤, ◌≡◌, ℕ, IsTrue, List, [], ◌++◌, Option, Some, option_map, codes}
 use Rattle.cc_quote.specs.BashDouble.{bash_doubled}
 use Rattle.cc_quote.specs.PosixQuote.{posix_word_of}
 use Rattle.cc_command.specs.PlainName.{is_plain_name}
@@ -66,6 +66,11 @@ otherwise = codes "\nelse\n    complete -o nospace -o bashdefault -F _clap_compl
 unfoldable pub registration_ends : List ℕ
 registration_ends = codes "\nfi\n\n"
 
+-- what opens each fixed text
+unfoldable pub fixed_texts : ⊤
+unfolding function_begins function_head call_begins call_ends name_ends otherwise registration_ends
+fixed_texts = tt
+
 -- up to the completer
 unfoldable pub registration_front : List ℕ → List ℕ → List ℕ
 registration_front variable name =
@@ -121,7 +126,7 @@ pub record BashRegistrationReads (variable name bin completer : List ℕ) : Type
   pub binary_read : bash_binary (bash_registration variable name bin completer) ≡ Some bin
 
 -- the registration of a plain variable, name and binary is read so, whatever the completer
-abbrev pub BashReads : List ℕ → List ℕ → List ℕ → List ℕ → Type 0
+unfoldable pub BashReads : List ℕ → List ℕ → List ℕ → List ℕ → Type 0
 BashReads variable name bin completer =
     IsTrue (is_plain_name variable) → IsTrue (is_plain_name name) → IsTrue (is_plain_name bin)
     → BashRegistrationReads variable name bin completer

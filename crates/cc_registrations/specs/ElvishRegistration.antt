@@ -1,5 +1,5 @@
 -- The registration for Elvish, and what its parts are read as.
-use Rattle.std.specs.Prelude.{◌≡◌, ℕ, IsTrue, List, ◌++◌, Option, Some, option_map, codes}
+use Rattle.std.specs.Prelude.{⊤, ◌≡◌, ℕ, IsTrue, List, ◌++◌, Option, Some, option_map, codes}
 use Rattle.cc_command.specs.PlainName.{is_plain_name}
 use Rattle.cc_quote.specs.ElvishQuote.{elvish_word_of}
 use Rattle.cc_quote.specs.PosixQuote.{posix_quoted}
@@ -34,6 +34,11 @@ registration_ends =
     ++ codes "}\n"
     ++ codes "\n"
 
+-- what opens each fixed text
+unfoldable pub fixed_texts : ⊤
+unfolding registration_begins function_head shell_set registration_ends
+fixed_texts = tt
+
 -- the registration
 unfoldable pub elvish_registration : List ℕ → List ℕ → List ℕ → List ℕ
 elvish_registration variable bin completer =
@@ -66,7 +71,7 @@ pub record ElvishRegistrationReads (variable bin completer : List ℕ) : Type 0 
   pub binary_read : elvish_binary (elvish_registration variable bin completer) ≡ Some bin
 
 -- the registration of a plain variable and binary and a plain path is read so
-abbrev pub ElvishReads : List ℕ → List ℕ → List ℕ → Type 0
+unfoldable pub ElvishReads : List ℕ → List ℕ → List ℕ → Type 0
 ElvishReads variable bin completer =
     IsTrue (is_plain_name variable) → IsTrue (is_plain_name bin) → IsTrue (is_plain_path completer)
     → ElvishRegistrationReads variable bin completer

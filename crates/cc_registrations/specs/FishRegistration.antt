@@ -1,5 +1,5 @@
 -- The registration for fish, and what its parts are read as.
-use Rattle.std.specs.Prelude.{◌≡◌, ℕ, IsTrue, List, ◌++◌, Option, Some, codes}
+use Rattle.std.specs.Prelude.{⊤, ◌≡◌, ℕ, IsTrue, List, ◌++◌, Option, Some, codes}
 use Rattle.std.specs.Option.{option_and_then}
 use Rattle.cc_quote.specs.FishQuote.{fish_double_of, fish_quoted, fish_quoted_for_eval, fish_word_of}
 use Rattle.cc_command.specs.PlainName.{is_plain_name}
@@ -24,6 +24,11 @@ unfoldable pub registration_ends : List ℕ
 registration_ends =
     codes " -- (commandline --current-process --tokenize --cut-at-cursor) "
     ++ codes "(commandline --current-token))\"\n"
+
+-- what opens each fixed text
+unfoldable pub fixed_texts : ⊤
+unfolding registration_begins arguments_begin shell_set registration_ends
+fixed_texts = tt
 
 -- the registration
 unfoldable pub fish_registration : List ℕ → List ℕ → List ℕ → List ℕ
@@ -57,7 +62,7 @@ pub record FishRegistrationReads (variable bin completer : List ℕ) : Type 0 wh
   pub binary_read : fish_binary (fish_registration variable bin completer) ≡ Some bin
 
 -- the registration of a plain variable and binary is read so, whatever the completer
-abbrev pub FishReads : List ℕ → List ℕ → List ℕ → Type 0
+unfoldable pub FishReads : List ℕ → List ℕ → List ℕ → Type 0
 FishReads variable bin completer =
     IsTrue (is_plain_name variable) → IsTrue (is_plain_name bin)
     → FishRegistrationReads variable bin completer

@@ -1,5 +1,5 @@
 -- The registration for PowerShell, and what its parts are read as.
-use Rattle.std.specs.Prelude.{◌≡◌, ℕ, IsTrue, List, ◌++◌, Option, Some, codes}
+use Rattle.std.specs.Prelude.{⊤, ◌≡◌, ℕ, IsTrue, List, ◌++◌, Option, Some, codes}
 use Rattle.cc_command.specs.PlainName.{is_plain_name}
 use Rattle.cc_quote.specs.PosixQuote.{posix_quoted}
 use Rattle.cc_quote.specs.PowershellQuote.{powershell_word_of}
@@ -87,6 +87,11 @@ registration_ends =
     ++ codes "};\n"
     ++ codes "        \n"
 
+-- what opens each fixed text
+unfoldable pub fixed_texts : ⊤
+unfolding registration_begins script_head environment prev_ends arguments call_begins call_ends otherwise registration_ends
+fixed_texts = tt
+
 -- up to the first occurrence of the variable
 unfoldable pub registration_head : List ℕ → List ℕ
 registration_head bin = registration_begins ++ posix_quoted bin ++ script_head ++ environment
@@ -129,7 +134,7 @@ pub record PowershellRegistrationReads (variable bin completer : List ℕ) : Typ
   pub binary_read : powershell_binary (powershell_registration variable bin completer) ≡ Some bin
 
 -- the registration of a plain variable and binary and a plain path is read so
-abbrev pub PowershellReads : List ℕ → List ℕ → List ℕ → Type 0
+unfoldable pub PowershellReads : List ℕ → List ℕ → List ℕ → Type 0
 PowershellReads variable bin completer =
     IsTrue (is_plain_name variable) → IsTrue (is_plain_name bin) → IsTrue (is_plain_path completer)
     → PowershellRegistrationReads variable bin completer

@@ -1,5 +1,5 @@
 -- The registration for zsh, and what its parts are read as.
-use Rattle.std.specs.Prelude.{◌≡◌, ℕ, IsTrue, List, ◌++◌, Option, Some, option_map, codes}
+use Rattle.std.specs.Prelude.{⊤, ◌≡◌, ℕ, IsTrue, List, ◌++◌, Option, Some, option_map, codes}
 use Rattle.cc_quote.specs.PosixQuote.{posix_quoted, posix_word_of}
 use Rattle.cc_command.specs.PlainName.{is_plain_name}
 use Rattle.cc_registrations.specs.Found.{between, last_line, up_to, without_blanks, word_after}
@@ -70,6 +70,11 @@ name_ends = codes " "
 unfoldable pub registration_ends : List ℕ
 registration_ends = codes "\n"
 
+-- what opens each fixed text
+unfoldable pub fixed_texts : ⊤
+unfolding registration_begins function_begins function_head call_begins call_ends name_ends registration_ends
+fixed_texts = tt
+
 -- up to the name
 unfoldable pub registration_head : List ℕ → List ℕ
 registration_head bin = registration_begins ++ posix_quoted bin ++ function_begins
@@ -121,7 +126,7 @@ pub record ZshRegistrationReads (variable name bin completer : List ℕ) : Type 
   pub binary_read : zsh_binary (zsh_registration variable name bin completer) ≡ Some bin
 
 -- the registration of a plain variable, name and binary is read so, whatever the completer
-abbrev pub ZshReads : List ℕ → List ℕ → List ℕ → List ℕ → Type 0
+unfoldable pub ZshReads : List ℕ → List ℕ → List ℕ → List ℕ → Type 0
 ZshReads variable name bin completer =
     IsTrue (is_plain_name variable) → IsTrue (is_plain_name name) → IsTrue (is_plain_name bin)
     → ZshRegistrationReads variable name bin completer

@@ -1,4 +1,5 @@
 //! The registration for bash.
+#![tactic(auto, unfolding(crate::specs::BashRegistration::fixed_texts))]
 
 ghost use Rattle.std.specs.Prelude.{◌≡◌, IfErr};
 ghost use Rattle.cc_base.specs.Writes.{IsWrite, Writes};
@@ -14,6 +15,7 @@ use cc_quote::{BashDouble, put_escaped};
 
 /// Writes the registration for bash: of the variable that asks for completions, the name,
 /// the binary and the completer that is run. Fails with `Write` alone, where the sink fails.
+#[tactic(auto, using(crate::proofs::BashReadings::bash_reads), unfolding(crate::specs::BashRegistration::bash_registration))]
 pub fn write_bash<W: Sink>(
     variable: &str,
     name: &str,
@@ -25,21 +27,6 @@ pub fn write_bash<W: Sink>(
         (bash_registration variable.now name.now bin.now completer.now) }
     ensures write_only { IfErr result IsWrite }
     ensures read_back { BashReads variable.now name.now bin.now completer.now }
-{
-    write_text(variable, name, bin, completer, sink)
-}
-
-#[tactic(auto, unfolding(crate::specs::BashRegistration::bash_registration))]
-fn write_text<W: Sink>(
-    variable: &str,
-    name: &str,
-    bin: &str,
-    completer: &str,
-    sink: &mut W,
-) -> Result<(), Error>
-    ensures written { Writes W.taken W.failed result sink.old sink.new
-        (bash_registration variable.now name.now bin.now completer.now) }
-    ensures write_only { IfErr result IsWrite }
 {
     write_front(variable, name, sink)?;
     put_escaped(&BashDouble, completer, sink)?;
@@ -92,7 +79,6 @@ fn write_plain_call<W: Sink>(name: &str, bin: &str, sink: &mut W) -> Result<(), 
     as_error(put_around(name_ends(), bin, registration_ends(), sink))
 }
 
-#[tactic(auto, unfolding(crate::specs::BashRegistration::function_begins))]
 fn function_begins() -> &'static str
     ensures { result.now ≡ function_begins }
 {
@@ -100,7 +86,6 @@ fn function_begins() -> &'static str
 _clap_complete_"
 }
 
-#[tactic(auto, unfolding(crate::specs::BashRegistration::function_head))]
 fn function_head() -> &'static str
     ensures { result.now ≡ function_head }
 {
@@ -125,7 +110,6 @@ fn function_head() -> &'static str
         "
 }
 
-#[tactic(auto, unfolding(crate::specs::BashRegistration::call_begins))]
 fn call_begins() -> &'static str
     ensures { result.now ≡ call_begins }
 {
@@ -133,7 +117,6 @@ fn call_begins() -> &'static str
         \""
 }
 
-#[tactic(auto, unfolding(crate::specs::BashRegistration::call_ends))]
 fn call_ends() -> &'static str
     ensures { result.now ≡ call_ends }
 {
@@ -149,14 +132,12 @@ if [[ \"${BASH_VERSINFO[0]}\" -eq 4 && \"${BASH_VERSINFO[1]}\" -ge 4 || \"${BASH
     complete -o nospace -o bashdefault -o nosort -F _clap_complete_"
 }
 
-#[tactic(auto, unfolding(crate::specs::BashRegistration::name_ends))]
 fn name_ends() -> &'static str
     ensures { result.now ≡ name_ends }
 {
     " "
 }
 
-#[tactic(auto, unfolding(crate::specs::BashRegistration::otherwise))]
 fn otherwise() -> &'static str
     ensures { result.now ≡ otherwise }
 {
@@ -165,7 +146,6 @@ else
     complete -o nospace -o bashdefault -F _clap_complete_"
 }
 
-#[tactic(auto, unfolding(crate::specs::BashRegistration::registration_ends))]
 fn registration_ends() -> &'static str
     ensures { result.now ≡ registration_ends }
 {

@@ -1,4 +1,5 @@
 //! The registration for Elvish.
+#![tactic(auto, unfolding(crate::specs::ElvishRegistration::fixed_texts))]
 
 ghost use Rattle.std.specs.Prelude.{◌≡◌, ◌++◌};
 ghost use Rattle.cc_base.specs.Writes.{Writes};
@@ -13,6 +14,7 @@ use std::alloc::Global;
 
 /// Writes the registration for Elvish: of the variable that asks for completions, the binary and
 /// the completer that is run. Fails with `Write` where the sink fails, and with `Memory`.
+#[tactic(auto, using(crate::proofs::ElvishReadings::elvish_reads), unfolding(crate::specs::ElvishRegistration::elvish_registration))]
 pub fn write_elvish<W: Sink>(
     alloc: Global,
     variable: &str,
@@ -23,20 +25,6 @@ pub fn write_elvish<W: Sink>(
     ensures written { Writes W.taken W.failed result sink.old sink.new
         (elvish_registration variable.now bin.now completer.now) }
     ensures read_back { ElvishReads variable.now bin.now completer.now }
-{
-    write_text(alloc, variable, bin, completer, sink)
-}
-
-#[tactic(auto, unfolding(crate::specs::ElvishRegistration::elvish_registration))]
-fn write_text<W: Sink>(
-    alloc: Global,
-    variable: &str,
-    bin: &str,
-    completer: &str,
-    sink: &mut W,
-) -> Result<(), Error>
-    ensures { Writes W.taken W.failed result sink.old sink.new
-        (elvish_registration variable.now bin.now completer.now) }
 {
     write_bin(alloc, bin, sink)?;
     as_error(put_around(function_head(), variable, shell_set(), sink))?;
@@ -53,7 +41,6 @@ fn write_bin<W: Sink>(alloc: Global, bin: &str, sink: &mut W) -> Result<(), Erro
     put_posix_quoted(alloc, bin, sink)
 }
 
-#[tactic(auto, unfolding(crate::specs::ElvishRegistration::registration_begins))]
 fn registration_begins() -> &'static str
     ensures { result.now ≡ registration_begins }
 {
@@ -61,7 +48,6 @@ fn registration_begins() -> &'static str
 set edit:completion:arg-completer["
 }
 
-#[tactic(auto, unfolding(crate::specs::ElvishRegistration::function_head))]
 fn function_head() -> &'static str
     ensures { result.now ≡ function_head }
 {
@@ -72,14 +58,12 @@ fn function_head() -> &'static str
     put (env _CLAP_IFS=\"\\n\" _CLAP_COMPLETE_INDEX=(to-string $index) "
 }
 
-#[tactic(auto, unfolding(crate::specs::ElvishRegistration::shell_set))]
 fn shell_set() -> &'static str
     ensures { result.now ≡ shell_set }
 {
     "=\"elvish\" "
 }
 
-#[tactic(auto, unfolding(crate::specs::ElvishRegistration::registration_ends))]
 fn registration_ends() -> &'static str
     ensures { result.now ≡ registration_ends }
 {

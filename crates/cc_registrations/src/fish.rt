@@ -1,4 +1,5 @@
 //! The registration for fish.
+#![tactic(auto, unfolding(crate::specs::FishRegistration::fixed_texts))]
 
 ghost use Rattle.std.specs.Prelude.{◌≡◌, ◌++◌};
 ghost use Rattle.cc_base.specs.Writes.{Writes};
@@ -13,6 +14,7 @@ use std::alloc::Global;
 
 /// Writes the registration for fish: of the variable that asks for completions, the binary and the
 /// completer that is run. Fails with `Write` where the sink fails, and with `Memory`.
+#[tactic(auto, using(crate::proofs::FishReadings::fish_reads), unfolding(crate::specs::FishRegistration::fish_registration))]
 pub fn write_fish<W: Sink>(
     alloc: Global,
     variable: &str,
@@ -23,20 +25,6 @@ pub fn write_fish<W: Sink>(
     ensures written { Writes W.taken W.failed result sink.old sink.new
         (fish_registration variable.now bin.now completer.now) }
     ensures read_back { FishReads variable.now bin.now completer.now }
-{
-    write_text(alloc, variable, bin, completer, sink)
-}
-
-#[tactic(auto, unfolding(crate::specs::FishRegistration::fish_registration))]
-fn write_text<W: Sink>(
-    alloc: Global,
-    variable: &str,
-    bin: &str,
-    completer: &str,
-    sink: &mut W,
-) -> Result<(), Error>
-    ensures { Writes W.taken W.failed result sink.old sink.new
-        (fish_registration variable.now bin.now completer.now) }
 {
     write_bin(alloc, bin, sink)?;
     as_error(put_around(arguments_begin(), variable, shell_set(), sink))?;
@@ -54,28 +42,24 @@ fn write_bin<W: Sink>(alloc: Global, bin: &str, sink: &mut W) -> Result<(), Erro
     put_all(sink, quoted.as_bytes())
 }
 
-#[tactic(auto, unfolding(crate::specs::FishRegistration::registration_begins))]
 fn registration_begins() -> &'static str
     ensures { result.now ≡ registration_begins }
 {
     "complete --keep-order --exclusive --command "
 }
 
-#[tactic(auto, unfolding(crate::specs::FishRegistration::arguments_begin))]
 fn arguments_begin() -> &'static str
     ensures { result.now ≡ arguments_begin }
 {
     " --arguments \"("
 }
 
-#[tactic(auto, unfolding(crate::specs::FishRegistration::shell_set))]
 fn shell_set() -> &'static str
     ensures { result.now ≡ shell_set }
 {
     "=fish "
 }
 
-#[tactic(auto, unfolding(crate::specs::FishRegistration::registration_ends))]
 fn registration_ends() -> &'static str
     ensures { result.now ≡ registration_ends }
 {

@@ -1,4 +1,5 @@
 //! The registration for PowerShell.
+#![tactic(auto, unfolding(crate::specs::PowershellRegistration::fixed_texts))]
 
 ghost use Rattle.std.specs.Prelude.{◌≡◌};
 ghost use Rattle.cc_base.specs.Writes.{Writes};
@@ -25,6 +26,7 @@ use std::alloc::Global;
 
 /// Writes the registration for PowerShell: of the variable that asks for completions, the binary
 /// and the completer that is run. Fails with `Write` where the sink fails, and with `Memory`.
+#[tactic(auto, using(crate::proofs::PowershellReadings::powershell_reads), unfolding(crate::specs::PowershellRegistration::powershell_registration))]
 pub fn write_powershell<W: Sink>(
     alloc: Global,
     variable: &str,
@@ -35,20 +37,6 @@ pub fn write_powershell<W: Sink>(
     ensures written { Writes W.taken W.failed result sink.old sink.new
         (powershell_registration variable.now bin.now completer.now) }
     ensures read_back { PowershellReads variable.now bin.now completer.now }
-{
-    write_text(alloc, variable, bin, completer, sink)
-}
-
-#[tactic(auto, unfolding(crate::specs::PowershellRegistration::powershell_registration))]
-fn write_text<W: Sink>(
-    alloc: Global,
-    variable: &str,
-    bin: &str,
-    completer: &str,
-    sink: &mut W,
-) -> Result<(), Error>
-    ensures { Writes W.taken W.failed result sink.old sink.new
-        (powershell_registration variable.now bin.now completer.now) }
 {
     write_head(alloc, bin, sink)?;
     write_call(variable, sink)?;
@@ -86,7 +74,6 @@ fn write_tail<W: Sink>(variable: &str, sink: &mut W) -> Result<(), Error>
     put_all(sink, registration_ends().as_bytes())
 }
 
-#[tactic(auto, unfolding(crate::specs::PowershellRegistration::registration_begins))]
 fn registration_begins() -> &'static str
     ensures { result.now ≡ registration_begins }
 {
@@ -94,7 +81,6 @@ fn registration_begins() -> &'static str
 Register-ArgumentCompleter -Native -CommandName "
 }
 
-#[tactic(auto, unfolding(crate::specs::PowershellRegistration::script_head))]
 fn script_head() -> &'static str
     ensures { result.now ≡ script_head }
 {
@@ -104,14 +90,12 @@ fn script_head() -> &'static str
     $prev = "
 }
 
-#[tactic(auto, unfolding(crate::specs::PowershellRegistration::environment))]
 fn environment() -> &'static str
     ensures { result.now ≡ environment }
 {
     "$env:"
 }
 
-#[tactic(auto, unfolding(crate::specs::PowershellRegistration::prev_ends))]
 fn prev_ends() -> &'static str
     ensures { result.now ≡ prev_ends }
 {
@@ -119,7 +103,6 @@ fn prev_ends() -> &'static str
     $env:"
 }
 
-#[tactic(auto, unfolding(crate::specs::PowershellRegistration::arguments))]
 fn arguments() -> &'static str
     ensures { result.now ≡ arguments }
 {
@@ -134,7 +117,6 @@ fn arguments() -> &'static str
     $results = Invoke-Expression @\""
 }
 
-#[tactic(auto, unfolding(crate::specs::PowershellRegistration::call_begins))]
 fn call_begins() -> &'static str
     ensures { result.now ≡ call_begins }
 {
@@ -142,7 +124,6 @@ fn call_begins() -> &'static str
 & "
 }
 
-#[tactic(auto, unfolding(crate::specs::PowershellRegistration::call_ends))]
 fn call_ends() -> &'static str
     ensures { result.now ≡ call_ends }
 {
@@ -152,7 +133,6 @@ fn call_ends() -> &'static str
         Remove-Item Env:\\"
 }
 
-#[tactic(auto, unfolding(crate::specs::PowershellRegistration::otherwise))]
 fn otherwise() -> &'static str
     ensures { result.now ≡ otherwise }
 {
@@ -161,7 +141,6 @@ fn otherwise() -> &'static str
         $env:"
 }
 
-#[tactic(auto, unfolding(crate::specs::PowershellRegistration::registration_ends))]
 fn registration_ends() -> &'static str
     ensures { result.now ≡ registration_ends }
 {

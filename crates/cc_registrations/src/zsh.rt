@@ -1,4 +1,5 @@
 //! The registration for zsh.
+#![tactic(auto, unfolding(crate::specs::ZshRegistration::fixed_texts))]
 
 ghost use Rattle.std.specs.Prelude.{◌≡◌};
 ghost use Rattle.cc_base.specs.Writes.{Writes};
@@ -16,6 +17,7 @@ use std::alloc::Global;
 /// Writes the registration for zsh: of the variable that asks for completions, the name,
 /// the binary and the completer that is run. Fails with `Write` where the sink fails, and with
 /// `Memory`.
+#[tactic(auto, using(crate::proofs::ZshReadings::zsh_reads), unfolding(crate::specs::ZshRegistration::zsh_registration))]
 pub fn write_zsh<W: Sink>(
     alloc: Global,
     variable: &str,
@@ -27,21 +29,6 @@ pub fn write_zsh<W: Sink>(
     ensures written { Writes W.taken W.failed result sink.old sink.new
         (zsh_registration variable.now name.now bin.now completer.now) }
     ensures read_back { ZshReads variable.now name.now bin.now completer.now }
-{
-    write_text(alloc, variable, name, bin, completer, sink)
-}
-
-#[tactic(auto, unfolding(crate::specs::ZshRegistration::zsh_registration))]
-fn write_text<W: Sink>(
-    alloc: Global,
-    variable: &str,
-    name: &str,
-    bin: &str,
-    completer: &str,
-    sink: &mut W,
-) -> Result<(), Error>
-    ensures { Writes W.taken W.failed result sink.old sink.new
-        (zsh_registration variable.now name.now bin.now completer.now) }
 {
     write_front(alloc, variable, name, bin, sink)?;
     put_posix_quoted(alloc, completer, sink)?;
@@ -88,14 +75,12 @@ fn write_tail<W: Sink>(alloc: Global, name: &str, bin: &str, sink: &mut W) -> Re
     put_all(sink, registration_ends().as_bytes())
 }
 
-#[tactic(auto, unfolding(crate::specs::ZshRegistration::registration_begins))]
 fn registration_begins() -> &'static str
     ensures { result.now ≡ registration_begins }
 {
     "#compdef "
 }
 
-#[tactic(auto, unfolding(crate::specs::ZshRegistration::function_begins))]
 fn function_begins() -> &'static str
     ensures { result.now ≡ function_begins }
 {
@@ -103,7 +88,6 @@ fn function_begins() -> &'static str
 function _clap_dynamic_completer_"
 }
 
-#[tactic(auto, unfolding(crate::specs::ZshRegistration::function_head))]
 fn function_head() -> &'static str
     ensures { result.now ≡ function_head }
 {
@@ -117,7 +101,6 @@ fn function_head() -> &'static str
         "
 }
 
-#[tactic(auto, unfolding(crate::specs::ZshRegistration::call_begins))]
 fn call_begins() -> &'static str
     ensures { result.now ≡ call_begins }
 {
@@ -125,7 +108,6 @@ fn call_begins() -> &'static str
         "
 }
 
-#[tactic(auto, unfolding(crate::specs::ZshRegistration::call_ends))]
 fn call_ends() -> &'static str
     ensures { result.now ≡ call_ends }
 {
@@ -158,14 +140,12 @@ fn call_ends() -> &'static str
 compdef _clap_dynamic_completer_"
 }
 
-#[tactic(auto, unfolding(crate::specs::ZshRegistration::name_ends))]
 fn name_ends() -> &'static str
     ensures { result.now ≡ name_ends }
 {
     " "
 }
 
-#[tactic(auto, unfolding(crate::specs::ZshRegistration::registration_ends))]
 fn registration_ends() -> &'static str
     ensures { result.now ≡ registration_ends }
 {

@@ -51,7 +51,7 @@ pub(crate) fn after_dashes(words: &[String]) -> &[String]
 }
 
 /// The path by which a shell runs the program of this first argument: one that leads through a
-/// folder is joined to the current folder, where that is given. Fails when memory runs out.
+/// folder is joined to the current folder, where that is given. Fails where memory runs out.
 pub(crate) fn program_path(
     alloc: Global,
     current_dir: Option<&str>,

@@ -23,10 +23,7 @@ pub(crate) fn asked_name(value: Option<&str>) -> Option<&str>
     if asks_nothing(value) {
         return None;
     }
-    match Path::new(value).file_stem() {
-        Some(stem) => Some(stem),
-        None => Some(value),
-    }
+    Some(Path::new(value).file_stem().unwrap_or(value))
 }
 
 fn asks_nothing(value: &str) -> bool
@@ -73,34 +70,34 @@ fn message<E: EnvCompleter>(alloc: Global, shells: &[E], name: &str) -> Result<T
     let mut text = String::from_str(alloc, "unknown shell `")?;
     text.push_str(name)?;
     text.push_str("`, expected one of ")?;
-    push_names(shells, &mut text)?;
+    push_names(&mut text, shells)?;
     Ok(Text::from(text))
 }
 
 // Appends the names of the shells, with a comma and a space before each but the first.
-fn push_names<E: EnvCompleter>(shells: &[E], text: &mut String) -> Result<(), AllocError>
+fn push_names<E: EnvCompleter>(text: &mut String, shells: &[E]) -> Result<(), AllocError>
     ensures { OnOk result (string_bytes text.new ≡ string_bytes text.old
         ++ joined (codes ", ") (map quoted_name (map E.own_name shells.now))) }
 {
     let mut begun = false;
     for shell in shells {
-        push_name(shell.name(), &mut begun, text)?;
+        push_name(text, shell.name(), &mut begun)?;
     }
     Ok(())
 }
 
-fn push_name(name: &str, begun: &mut bool, text: &mut String) -> Result<(), AllocError>
+fn push_name(text: &mut String, name: &str, begun: &mut bool) -> Result<(), AllocError>
     ensures text { OnOk result (string_bytes text.new ≡ string_bytes text.old
         ++ (separator (codes ", ") begun.old ++ quoted_name name.now)) }
     ensures begun { OnOk result (begun.new ≡ true) }
 {
-    push_comma(begun, text)?;
+    push_comma(text, begun)?;
     text.push_str("`")?;
     text.push_str(name)?;
     text.push_str("`")
 }
 
-fn push_comma(begun: &mut bool, text: &mut String) -> Result<(), AllocError>
+fn push_comma(text: &mut String, begun: &mut bool) -> Result<(), AllocError>
     ensures text { OnOk result (string_bytes text.new ≡ string_bytes text.old
         ++ separator (codes ", ") begun.old) }
     ensures begun { OnOk result (begun.new ≡ true) }
