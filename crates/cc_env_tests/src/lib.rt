@@ -13,3 +13,5 @@ mod registrations;
 mod replied;
 #[cfg(test)]
 mod replies;
+#[cfg(test)]
+mod writers;

@@ -1,7 +1,7 @@
 //! Replies of adapters.
 
 use cc_adapters::EnvCompleter;
-use cc_base::{Collected, Error};
+use cc_base::{Collected, Error, Sink};
 use cc_candidates::Completers;
 use cc_env::EnvValues;
 use cc_fixtures::trees::read;
@@ -39,19 +39,20 @@ pub(crate) fn refuses<R: Abort + AllocGlobal, E: EnvCompleter>(
     assert!(rt; sink.as_slice().is_empty());
 }
 
-fn reply<E: EnvCompleter>(
+/// Writes the reply for the words, where the index is told by its variable.
+pub(crate) fn reply<E: EnvCompleter, W: Sink>(
     alloc: Global,
     shell: &E,
     tree: &str,
     index: &str,
     words: &[&str],
-    sink: &mut Collected,
+    sink: &mut W,
 ) -> Result<(), Error> {
     let mut command = read(alloc, tree)?;
     let words = to_strings(alloc, words)?;
     let values = environment(alloc, index)?;
     let folder = MemoryFolder::new(&[], &[]);
-    let lent = Completers::new(alloc, Vec::new(alloc), Vec::new(alloc));
+    let lent = Completers::none(alloc);
     let done = shell.write_complete(
         alloc,
         &mut command,

@@ -89,7 +89,7 @@ pub(crate) fn attempt<F: Fn(Global) -> Result<Command, Error> + Drop, W: Sink>(
         current_dir,
         &environment(alloc, variables)?,
         &MemoryFolder::new(&[], &[]),
-        &Completers::new(alloc, Vec::new(alloc), Vec::new(alloc)),
+        &Completers::none(alloc),
         out,
     )
 }

@@ -147,7 +147,6 @@ pub use Rattle.cc_values.specs.Values as ArgumentValues
 pub use Rattle.cc_engine.specs.Completion
 pub use Rattle.cc_engine.specs.Offer as WordOffer
 pub use Rattle.cc_engine.specs.Paths as HintPaths
-pub use Rattle.cc_engine.specs.declared.offer.Offer as OfferAtWord
 pub use Rattle.cc_agreement.specs.Agreement as BashAgreement
 -- requests of a shell
 pub use Rattle.cc_registrations.specs.BashRegistration

@@ -1,6 +1,8 @@
 //! A program that completes its own command line where the environment of its shell asks for it.
 
-pub use cc_adapters::{Bash, Builtin, Elvish, EnvCompleter, Fish, Names, Powershell, Shells, Zsh};
+pub use cc_adapters::{
+    Bash, Builtin, Elvish, EnvCompleter, Fish, Powershell, ShellNames, Shells, Zsh,
+};
 pub use cc_env::EnvValues;
 pub use cc_registrations::is_plain_path;
 pub use cc_requests::CompleteEnv;
