@@ -1,7 +1,7 @@
 use Rattle.std.proofs.Common.{◌≡◌, ◌++◌, length}
 use denote.Text.{Utf8}
 use denote.Shadow.{shadow}
-use Rattle.cc_quote.proofs.escape.put_escaped_piece.Given as goal
+use Rattle.cc_quote.proofs.escape.put_escaped.Given as goal
 
 -- what was taken and the escape of what is left make the whole; no put failed
 abbrev pub invariant-loop-run : goal.invariant-loop-run
