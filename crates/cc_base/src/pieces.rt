@@ -1,7 +1,8 @@
 //! Pieces of a text, put one after another. The error is the kind of the put that failed, which is
 //! smaller than the library's error, so that a row of many pieces takes fewer instructions.
 
-ghost use Rattle.std.specs.Prelude.{◌≡◌, [], ◌++◌, flat_map, IsOk};
+ghost use Rattle.std.specs.Prelude.{◌≡◌, [], ◌++◌, IsOk};
+ghost use Rattle.cc_base.specs.Joined.{with_pieces};
 ghost use Rattle.cc_base.specs.Writes.{Writes, as_write};
 
 use crate::sink::Sink;
@@ -56,7 +57,7 @@ fn put_rest<S: Sink>(sink: &mut S, bytes: &[u8]) -> Result<(), ErrorKind>
 #[inline(always)]
 pub fn put_pieces<S: Sink>(sink: &mut S, pieces: &[&str]) -> Result<(), ErrorKind>
     ensures { Writes S.taken S.failed (as_write result) sink.old sink.new
-        (flat_map (λ piece. piece.now) pieces.now) }
+        (with_pieces (λ piece. piece.now) [] pieces.now) }
 {
     for piece in pieces {
         put_piece(sink, piece)?;
