@@ -1,2 +1,3 @@
 mod ByValue
+mod Examples
 pub mod Results

@@ -22,8 +22,8 @@ use Rattle.cc_walk.specs.declared.state.State.{State}
 use Rattle.cc_walk.specs.Line.{IsLine, IsOnlyLine}
 use Rattle.cc_walk.specs.Lookup.{positional_at}
 use Rattle.cc_walk.specs.Visible.{HasNoHiddenAlias, visible_end}
-use Rattle.cc_engine.specs.declared.offer.Offer.{Offer}
-use Rattle.cc_engine.specs.Offer.{least, offer_by}
+use Rattle.cc_engine.specs.declared.open_lists.OpenLists.{OpenLists}
+use Rattle.cc_engine.specs.OpenLists.{least, open_lists_by}
 
 -- THE CHILDREN
 
@@ -107,27 +107,27 @@ pub record AreAllowed (lent : Lent) (asked : Questions) (given : Given) : Type 0
   pub opened : Allows lent asked.opened given.opened
 
 -- what the offered lists ask
-abbrev pub offer_questions : Tree → ℕ → Offer → Pending → List ℕ → Questions
-offer_questions tree position offer pending word = record {
-  children = children_question offer.children tree.node;
-  positional = positional_question (positional_at tree.node.arguments position) offer.value word;
-  within = row_question (offered_row offer.options tree.node.arguments word);
+abbrev pub questions_of_lists : Tree → ℕ → OpenLists → Pending → List ℕ → Questions
+questions_of_lists tree position lists pending word = record {
+  children = children_question lists.children tree.node;
+  positional = positional_question (positional_at tree.node.arguments position) lists.value word;
+  within = row_question (offered_row lists.options tree.node.arguments word);
   opened = open_question pending word;
 }
 
 -- what the word at a node asks, where the words before it lead to this state
 abbrev pub questions : Tree → State → List ℕ → Questions
 questions tree state word =
-    offer_questions tree state.position
-    (offer_by tree.node.arguments state.position state.escaped state.pending) state.pending word
+    questions_of_lists tree state.position
+    (open_lists_by tree.node.arguments state.position state.escaped state.pending) state.pending word
 
 -- the offered lists, one after another
-abbrev pub offered : Tree → ℕ → Offer → List ℕ → Given → List CompletionCandidate
-offered tree position offer word given =
-    (offered_children offer.children tree word given.children
+abbrev pub offered : Tree → ℕ → OpenLists → List ℕ → Given → List CompletionCandidate
+offered tree position lists word given =
+    (offered_children lists.children tree word given.children
     ++ positional_values
-    (positional_at tree.node.arguments position) offer.value word given.positional)
-    ++ row_candidates (offered_row offer.options tree.node.arguments word) given.within
+    (positional_at tree.node.arguments position) lists.value word given.positional)
+    ++ row_candidates (offered_row lists.options tree.node.arguments word) given.within
 
 -- finished: the values of an option that has too few alone; those of one that may end here, and
 -- after them the finished others; else the others
@@ -142,7 +142,7 @@ finished_with _ word given others = finish others
 abbrev pub besides : Tree → State → List ℕ → Given → List CompletionCandidate
 besides tree state word given =
     offered tree state.position
-    (offer_by tree.node.arguments state.position state.escaped state.pending) word given
+    (open_lists_by tree.node.arguments state.position state.escaped state.pending) word given
 
 -- what is offered for the word, where these lists are given
 abbrev pub candidates_for : Tree → State → List ℕ → Given → List CompletionCandidate
@@ -156,19 +156,19 @@ Offers lent tree state word result =
     × (result ≡ candidates_for tree state word given)
 
 -- the lists that may be offered for the word, the values of an open option aside
-pub record AreOffered (lent : Lent) (tree : Tree) (position : ℕ) (offer : Offer) (word : List ℕ)
+pub record AreOffered (lent : Lent) (tree : Tree) (position : ℕ) (lists : OpenLists) (word : List ℕ)
     (found : List CompletionCandidate) : Type 0 where
   pub children : List CompletionCandidate
-  pub children_given : Allows lent (children_question offer.children tree.node) children
+  pub children_given : Allows lent (children_question lists.children tree.node) children
   pub positional : List CompletionCandidate
   pub positional_given : Allows lent
-      (positional_question (positional_at tree.node.arguments position) offer.value word) positional
+      (positional_question (positional_at tree.node.arguments position) lists.value word) positional
   pub within : List CompletionCandidate
   pub within_given : Allows lent
-      (row_question (offered_row offer.options tree.node.arguments word)) within
-  pub is : found ≡ (offered_children offer.children tree word children
-      ++ positional_values (positional_at tree.node.arguments position) offer.value word positional)
-      ++ row_candidates (offered_row offer.options tree.node.arguments word) within
+      (row_question (offered_row lists.options tree.node.arguments word)) within
+  pub is : found ≡ (offered_children lists.children tree word children
+      ++ positional_values (positional_at tree.node.arguments position) lists.value word positional)
+      ++ row_candidates (offered_row lists.options tree.node.arguments word) within
 
 -- WHAT IS SO OF THE RESULT
 
@@ -200,20 +200,20 @@ told (paths hint text) found = found
 told _ found = []
 
 -- all that is made of the lists of completers and of the folder, where these lists are offered
-abbrev pub told_by_offer : Tree → ℕ → Offer → Pending → List ℕ → Given → List CompletionCandidate
-told_by_offer tree position offer pending word given =
-    told (positional_question (positional_at tree.node.arguments position) offer.value word)
-    (positional_values (positional_at tree.node.arguments position) offer.value word
+abbrev pub told_by_lists : Tree → ℕ → OpenLists → Pending → List ℕ → Given → List CompletionCandidate
+told_by_lists tree position lists pending word given =
+    told (positional_question (positional_at tree.node.arguments position) lists.value word)
+    (positional_values (positional_at tree.node.arguments position) lists.value word
     given.positional)
-    ++ (told (row_question (offered_row offer.options tree.node.arguments word))
-    (row_candidates (offered_row offer.options tree.node.arguments word) given.within)
+    ++ (told (row_question (offered_row lists.options tree.node.arguments word))
+    (row_candidates (offered_row lists.options tree.node.arguments word) given.within)
     ++ told (open_question pending word) (opened_values pending word given.opened))
 
 -- the same for the word at a node, where the words before it lead to this state
 abbrev pub told_candidates : Tree → State → List ℕ → Given → List CompletionCandidate
 told_candidates tree state word given =
-    told_by_offer tree state.position
-    (offer_by tree.node.arguments state.position state.escaped state.pending)
+    told_by_lists tree state.position
+    (open_lists_by tree.node.arguments state.position state.escaped state.pending)
     state.pending word given
 
 -- each candidate of the result begins with the word, or is made of the list of a completer or of

@@ -2,14 +2,14 @@
 
 ghost use Rattle.std.specs.Prelude.{◌≡◌};
 ghost use Rattle.std.specs.Option.{option_copied};
-ghost use Rattle.cc_engine.specs.Offer.{full_offer, has_enough, no_offer, offer_by};
+ghost use Rattle.cc_engine.specs.OpenLists.{all_open, has_enough, none_open, open_lists_by};
 
 use cc_arg::{Arg, counted_range};
 use cc_walk::{Pending, State, positional_at};
 
 /// The lists that are offered besides the values of an open option.
 #[derive(Drop)]
-pub(crate) struct Offer {
+pub(crate) struct OpenLists {
     /// Whether the children of the node are offered.
     pub children: bool,
     /// The number of the value of the positional at the position, where its values are offered.
@@ -18,49 +18,49 @@ pub(crate) struct Offer {
     pub options: bool,
 }
 
-impl Offer {
+impl OpenLists {
     /// What the words leave open at a node with these arguments.
-    pub(crate) fn new(arguments: &[Arg], state: &State<'_>) -> Offer
-        ensures { result ≡ offer_by arguments.now state.now.position state.now.escaped
+    pub(crate) fn new(arguments: &[Arg], state: &State<'_>) -> OpenLists
+        ensures { result ≡ open_lists_by arguments.now state.now.position state.now.escaped
             state.now.pending }
     {
         match &state.pending {
-            Pending::Nothing => Offer::full(state.escaped),
-            Pending::PositionalRun(count) => Offer {
+            Pending::Nothing => OpenLists::full(state.escaped),
+            Pending::PositionalRun(count) => OpenLists {
                 children: false,
                 value: Some(*count),
                 options: !state.escaped
                     && has_enough(positional_at(arguments, state.position), *count),
             },
-            Pending::PositionMoved => Offer {
+            Pending::PositionMoved => OpenLists {
                 children: false,
                 value: Some(0),
                 options: false,
             },
             Pending::OptionOpen(option, count) => {
                 if counted_range(option.get()).min_values() <= *count {
-                    Offer::full(state.escaped)
+                    OpenLists::full(state.escaped)
                 } else {
-                    Offer::none()
+                    OpenLists::none()
                 }
             }
         }
     }
 
-    fn full(escaped: bool) -> Offer
-        ensures { result ≡ full_offer escaped }
+    fn full(escaped: bool) -> OpenLists
+        ensures { result ≡ all_open escaped }
     {
-        Offer {
+        OpenLists {
             children: true,
             value: Some(0),
             options: !escaped,
         }
     }
 
-    fn none() -> Offer
-        ensures { result ≡ no_offer }
+    fn none() -> OpenLists
+        ensures { result ≡ none_open }
     {
-        Offer {
+        OpenLists {
             children: false,
             value: None,
             options: false,
