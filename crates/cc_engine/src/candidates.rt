@@ -35,7 +35,8 @@ pub(crate) fn offer_candidates<L: Lenders>(
     finish_values(alloc, option.get(), *count, values, others)
 }
 
-// The values of an open option that has so many, and the others where it may end here.
+// Candidates for the next value of the open option; once it has its minimum, also what may follow
+// it.
 fn finish_values(
     alloc: Global,
     option: &Arg,
