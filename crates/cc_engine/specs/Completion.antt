@@ -12,7 +12,7 @@ use Rattle.cc_candidates.specs.declared.numbers.SubcommandCandidates.{Subcommand
 use Rattle.cc_command.specs.declared.node.Node.{Node}
 use Rattle.cc_command.specs.Tree.{Tree}
 use Rattle.cc_gather.specs.Children.{subcommand_candidates}
-use Rattle.cc_gather.specs.Finished.{finish, is_shown, AreShown, ShareNone}
+use Rattle.cc_gather.specs.Finished.{finish, first_of_ids, is_shown, shown_or_all, AreGrouped, AreShown, ShareNone}
 use Rattle.cc_gather.specs.Rows.{Row, Listed, ValuesOf, with_prefix, row_of}
 use Rattle.cc_values.specs.Parts.{part}
 use Rattle.cc_values.specs.Values.{Allows, Lent, Question, nothing, candidates, completer, paths, question, values}
@@ -188,6 +188,24 @@ FinishesOnce tree state word given result =
     ShareNone (opened_values state.pending word given.opened) (besides tree state word given)
     → result ≡ finish (all_gathered tree state word given)
 
+-- the list whose finishing is the result
+abbrev pub finished_last : Pending → List ℕ → List CompletionCandidate → List CompletionCandidate
+    → List CompletionCandidate
+finished_last (OptionOpen option count) word given others =
+    if nat_le (least option) count then values option word given ++ finish others
+    else values option word given
+finished_last _ word given others = others
+
+-- The result is sorted: of those candidates the visible ones if any is, and of each id the first,
+-- by the rank of their tags and then by display order; those that tie keep their order. What is
+-- offered besides the values of an open option is sorted so before it comes after them.
+abbrev pub IsSorted : Tree → State → List ℕ → Given → List CompletionCandidate → Type 0
+IsSorted tree state word given result =
+    AreGrouped (first_of_ids (shown_or_all
+    (finished_last state.pending word given.opened (besides tree state word given)))) result
+    × AreGrouped (first_of_ids (shown_or_all (besides tree state word given)))
+    (finish (besides tree state word given))
+
 -- where a visible candidate is gathered, no hidden one is in the result
 abbrev pub ShowsVisible : Tree → State → List ℕ → Given → List CompletionCandidate → Type 0
 ShowsVisible tree state word given result =
@@ -239,8 +257,8 @@ words_before node words index = drop (names_before node) (take index words)
 
 -- What may be offered for the word at the index: the words before it lead to one node and one
 -- state, to no others, and the list is one that may be offered there. Where none of those words is
--- a hidden alias, the node is that of the walk by visible names. The laws speak of this node and
--- state, and of the very lists of which the result is made.
+-- a hidden alias at the command where it is read, the node is that of the walk by visible names. The
+-- laws speak of this node and state, and of the very lists of which the result is made.
 pub record Completes (lent : Lent) (root : Tree) (words : List (List ℕ)) (index : ℕ)
     (result : List CompletionCandidate) : Type 0 where
   pub tree : Tree
@@ -250,6 +268,7 @@ pub record Completes (lent : Lent) (root : Tree) (words : List (List ℕ)) (inde
   pub visible : HasNoHiddenAlias root (words_before root.node words index)
       → tree ≡ visible_end root (words_before root.node words index)
   pub offers : Offers lent tree state (get_or words index []) result
+  pub grouped : IsSorted tree state (get_or words index []) offers.0 result
   pub once : FinishesOnce tree state (get_or words index []) offers.0 result
   pub shows_visible : ShowsVisible tree state (get_or words index []) offers.0 result
   pub begins_or_told : BeginsOrIsTold tree state (get_or words index []) offers.0 result
