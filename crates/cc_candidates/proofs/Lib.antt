@@ -1,3 +1,4 @@
+pub mod AddedLast
 mod ByValue
 mod Examples
 pub mod Results

@@ -1,5 +1,5 @@
 -- What completers and lists of candidates may return, by their numbers.
-use Rattle.std.specs.Prelude.{◌≡◌, ◌≢◌, ◌↔◌, ℕ, List, [], MatchOption, slice_get}
+use Rattle.std.specs.Prelude.{◌≡◌, ◌≢◌, ◌↔◌, ℕ, ◌-◌, List, [], length, MatchOption, slice_get}
 use Rattle.cc_candidates.specs.declared.candidate.CompletionCandidate.{CompletionCandidate}
 use Rattle.cc_candidates.specs.declared.sources.Source.{Source}
 use Rattle.cc_candidates.specs.declared.sources.Source.TheVariants.{Boxed, Closure}
@@ -10,13 +10,16 @@ abbrev pub SourceReturns : {B C : Type 0} → (B → List CompletionCandidate �
 SourceReturns Boxes Closures (Boxed item) list = Boxes item list
 SourceReturns Boxes Closures (Closure item) list = Closures item list
 
--- the lists that the source of a number may return; no candidates where there is no such source
+-- the lists that the source of a number may return, where what was added has the numbers after the
+-- trait objects that were there first; no candidates where there is no such source
 abbrev pub ReturnsAt : {B C : Type 0} → (B → List CompletionCandidate → Type 0)
-    → (C → List CompletionCandidate → Type 0) → List (Source B C) → ℕ → List CompletionCandidate
-    → Type 0
-ReturnsAt Boxes Closures sources number list =
-    MatchOption (slice_get sources number) (list ≡ [])
-    (λ source. SourceReturns Boxes Closures source list)
+    → (C → List CompletionCandidate → Type 0) → List B → List (Source B C) → ℕ
+    → List CompletionCandidate → Type 0
+ReturnsAt Boxes Closures first added number list =
+    MatchOption (slice_get first number)
+    (MatchOption (slice_get added (number - length first)) (list ≡ [])
+    (λ source. SourceReturns Boxes Closures source list))
+    (λ item. Boxes item list)
 
 -- This number, at which no candidates were returned, is that of a source which may return the lists
 -- of `Item`. What may be returned at every other number is as it was.

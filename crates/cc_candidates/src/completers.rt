@@ -1,6 +1,6 @@
 //! Completers and lists of candidates, by number.
 
-ghost use Rattle.std.specs.Prelude.{◌≡◌, ℕ, List, [], length, map, IfOk, OnErr};
+ghost use Rattle.std.specs.Prelude.{◌≡◌, ◌+◌, ℕ, List, [], length, IfOk, OnErr};
 ghost use Rattle.cc_candidates.specs.Sources.{Adds};
 
 use crate::candidate::CompletionCandidate;
@@ -22,8 +22,10 @@ type CandidateList = Source<Box<dyn ValueCandidates>, FnCandidates>;
 /// stays that of what it was returned for.
 #[derive(Drop)]
 pub struct Completers {
-    completers: Vec<Completer>,
-    lists: Vec<CandidateList>,
+    completers: Vec<Box<dyn ValueCompleter>>,
+    added_completers: Vec<Completer>,
+    lists: Vec<Box<dyn ValueCandidates>>,
+    added_lists: Vec<CandidateList>,
 }
 
 impl CandidateSources for Completers {
@@ -35,42 +37,40 @@ impl CandidateSources for Completers {
         (λ closure list. (alloc : _) × (passed : _) × (found : _)
         × TextCall.post closure.call alloc passed (Ok found)
         × (passed.now ≡ text) × (found.items ≡ list))
-        completers.completers.items which };
+        completers.completers.items completers.added_completers.items which };
 
     ghost may_list = { λ completers which. ReturnsAt
         (λ item. (ValueCandidates-box item).lists item.value)
         (λ closure list. (alloc : _) × (found : _)
         × ListCall.post closure.call alloc (Ok found) × (found.items ≡ list))
-        completers.lists.items which };
+        completers.lists.items completers.added_lists.items which };
 }
 
 impl Completers {
-    /// These completers and these lists, each in the order of the numbers. Fails where memory runs
-    /// out.
+    /// These completers and these lists, each in the order of the numbers.
     pub fn new(
         alloc: Global,
         completers: Vec<Box<dyn ValueCompleter>>,
         lists: Vec<Box<dyn ValueCandidates>>,
-    ) -> Result<Completers, AllocError>
-        ensures completers { IfOk result (λ made.
-            made.completers.items ≡ map Source.Boxed completers.items) }
-        ensures lists { IfOk result (λ made. made.lists.items ≡ map Source.Boxed lists.items) }
+    ) -> Completers
+        ensures completers { result.completers ≡ completers }
+        ensures lists { result.lists ≡ lists }
+        ensures added { (result.added_completers.items ≡ []) × (result.added_lists.items ≡ []) }
     {
-        Ok(Completers {
-            completers: boxed(alloc, completers)?,
-            lists: boxed(alloc, lists)?,
-        })
+        Completers {
+            completers,
+            added_completers: Vec::new(alloc),
+            lists,
+            added_lists: Vec::new(alloc),
+        }
     }
 
     /// No completers and no lists: every number is without candidates.
     pub fn none(alloc: Global) -> Completers
-        ensures completers { result.completers.items ≡ [] }
-        ensures lists { result.lists.items ≡ [] }
+        ensures completers { (result.completers.items ≡ []) × (result.added_completers.items ≡ []) }
+        ensures lists { (result.lists.items ≡ []) × (result.added_lists.items ≡ []) }
     {
-        Completers {
-            completers: Vec::new(alloc),
-            lists: Vec::new(alloc),
-        }
+        Completers::new(alloc, Vec::new(alloc), Vec::new(alloc))
     }
 
     /// Adds a completer, and returns its number. Fails where memory runs out: nothing is added
@@ -79,18 +79,22 @@ impl Completers {
         &mut self,
         completer: Box<dyn ValueCompleter>,
     ) -> Result<ArgValueCompleter, AllocError>
-        ensures number { IfOk result (λ added. added.number ≡ length self.old.completers.items) }
+        ensures number { IfOk result (λ added. added.number
+            ≡ length self.old.completers.items + length self.old.added_completers.items) }
         ensures added { IfOk result (λ added. (number : ℕ) → (text : List ℕ) → Adds
             (λ which. ⟦<Completers as CandidateSources>⟧.may_complete self.old which number text)
             (λ which. ⟦<Completers as CandidateSources>⟧.may_complete self.new which number text)
             added.number
             ((⟦<dyn ValueCompleter as ValueCompleter>⟧ completer.vtable).completes completer.value
             number text)) }
-        ensures err { OnErr result (self.new.completers.items ≡ self.old.completers.items) }
-        ensures lists { self.new.lists ≡ self.old.lists }
+        ensures err { OnErr result
+            (self.new.added_completers.items ≡ self.old.added_completers.items) }
+        ensures kept { (self.new.completers ≡ self.old.completers)
+            × (self.new.lists ≡ self.old.lists)
+            × (self.new.added_lists ≡ self.old.added_lists) }
     {
-        let number = self.completers.len();
-        self.completers.push(Source::Boxed(completer))?;
+        let number = self.completers.len() + self.added_completers.len();
+        self.added_completers.push(Source::Boxed(completer))?;
         Ok(ArgValueCompleter::new(number))
     }
 
@@ -100,17 +104,21 @@ impl Completers {
         &mut self,
         closure: FnCompleter,
     ) -> Result<ArgValueCompleter, AllocError>
-        ensures number { IfOk result (λ added. added.number ≡ length self.old.completers.items) }
+        ensures number { IfOk result (λ added. added.number
+            ≡ length self.old.completers.items + length self.old.added_completers.items) }
         ensures added { IfOk result (λ added. (number : ℕ) → (text : List ℕ) → Adds
             (λ which. ⟦<Completers as CandidateSources>⟧.may_complete self.old which number text)
             (λ which. ⟦<Completers as CandidateSources>⟧.may_complete self.new which number text)
             added.number
             (⟦<FnCompleter as ValueCompleter>⟧.completes closure number text)) }
-        ensures err { OnErr result (self.new.completers.items ≡ self.old.completers.items) }
-        ensures lists { self.new.lists ≡ self.old.lists }
+        ensures err { OnErr result
+            (self.new.added_completers.items ≡ self.old.added_completers.items) }
+        ensures kept { (self.new.completers ≡ self.old.completers)
+            × (self.new.lists ≡ self.old.lists)
+            × (self.new.added_lists ≡ self.old.added_lists) }
     {
-        let number = self.completers.len();
-        self.completers.push(Source::Closure(closure))?;
+        let number = self.completers.len() + self.added_completers.len();
+        self.added_completers.push(Source::Closure(closure))?;
         Ok(ArgValueCompleter::new(number))
     }
 
@@ -118,32 +126,38 @@ impl Completers {
     /// `SubcommandCandidates::new`. Fails where memory runs out: nothing is added then, and the
     /// list is dropped.
     pub fn add_list(&mut self, list: Box<dyn ValueCandidates>) -> Result<usize, AllocError>
-        ensures number { IfOk result (λ added. added ≡ length self.old.lists.items) }
+        ensures number { IfOk result (λ added. added
+            ≡ length self.old.lists.items + length self.old.added_lists.items) }
         ensures added { IfOk result (λ added. Adds
             (⟦<Completers as CandidateSources>⟧.may_list self.old)
             (⟦<Completers as CandidateSources>⟧.may_list self.new) added
             ((⟦<dyn ValueCandidates as ValueCandidates>⟧ list.vtable).lists list.value)) }
-        ensures err { OnErr result (self.new.lists.items ≡ self.old.lists.items) }
-        ensures completers { self.new.completers ≡ self.old.completers }
+        ensures err { OnErr result (self.new.added_lists.items ≡ self.old.added_lists.items) }
+        ensures kept { (self.new.completers ≡ self.old.completers)
+            × (self.new.lists ≡ self.old.lists)
+            × (self.new.added_completers ≡ self.old.added_completers) }
     {
-        let number = self.lists.len();
-        self.lists.push(Source::Boxed(list))?;
+        let number = self.lists.len() + self.added_lists.len();
+        self.added_lists.push(Source::Boxed(list))?;
         Ok(number)
     }
 
     /// Adds a closure as a list of candidates, and returns its number, as `add_list` does. Fails
     /// where memory runs out: nothing is added then, and the closure is dropped.
     pub fn add_list_closure(&mut self, closure: FnCandidates) -> Result<usize, AllocError>
-        ensures number { IfOk result (λ added. added ≡ length self.old.lists.items) }
+        ensures number { IfOk result (λ added. added
+            ≡ length self.old.lists.items + length self.old.added_lists.items) }
         ensures added { IfOk result (λ added. Adds
             (⟦<Completers as CandidateSources>⟧.may_list self.old)
             (⟦<Completers as CandidateSources>⟧.may_list self.new) added
             (⟦<FnCandidates as ValueCandidates>⟧.lists closure)) }
-        ensures err { OnErr result (self.new.lists.items ≡ self.old.lists.items) }
-        ensures completers { self.new.completers ≡ self.old.completers }
+        ensures err { OnErr result (self.new.added_lists.items ≡ self.old.added_lists.items) }
+        ensures kept { (self.new.completers ≡ self.old.completers)
+            × (self.new.lists ≡ self.old.lists)
+            × (self.new.added_completers ≡ self.old.added_completers) }
     {
-        let number = self.lists.len();
-        self.lists.push(Source::Closure(closure))?;
+        let number = self.lists.len() + self.added_lists.len();
+        self.added_lists.push(Source::Closure(closure))?;
         Ok(number)
     }
 
@@ -158,7 +172,10 @@ impl Completers {
         ensures { IfOk result (λ found. ⟦<Completers as CandidateSources>⟧.may_complete self.now
             completer number text.now found.items) }
     {
-        match self.completers.get(completer) {
+        if let Some(completer) = self.completers.get(completer) {
+            return complete_by(completer, alloc, number, text);
+        }
+        match self.added_completers.get(completer - self.completers.len()) {
             Some(Source::Boxed(completer)) => complete_by(completer, alloc, number, text),
             Some(Source::Closure(closure)) => closure.complete_at(alloc, number, text),
             None => Ok(Vec::new(alloc)),
@@ -174,22 +191,15 @@ impl Completers {
         ensures { IfOk result (λ found. ⟦<Completers as CandidateSources>⟧.may_list self.now number
             found.items) }
     {
-        match self.lists.get(number) {
+        if let Some(list) = self.lists.get(number) {
+            return candidates_of(list, alloc);
+        }
+        match self.added_lists.get(number - self.lists.len()) {
             Some(Source::Boxed(list)) => candidates_of(list, alloc),
             Some(Source::Closure(closure)) => closure.candidates(alloc),
             None => Ok(Vec::new(alloc)),
         }
     }
-}
-
-fn boxed<B: Drop, C: Drop>(alloc: Global, items: Vec<B>) -> Result<Vec<Source<B, C>>, AllocError>
-    ensures { IfOk result (λ sources. sources.items ≡ map Source.Boxed items.items) }
-{
-    let mut sources = Vec::new(alloc);
-    for item in items {
-        sources.push(Source::Boxed(item))?;
-    }
-    Ok(sources)
 }
 
 fn complete_by(
