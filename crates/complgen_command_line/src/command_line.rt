@@ -1,6 +1,6 @@
 //! The command lines that the program takes.
 
-ghost use Rattle.std.specs.Prelude.{◌≡◌, IfOk, false};
+ghost use Rattle.std.specs.Prelude.{◌≡◌, IfOk, codes, false};
 ghost use Rattle.clap.specs.Words.{app_of, rule_of};
 ghost use Rattle.clap.specs.declared.builder.command.Command.TheViews.{out-Command};
 ghost use Rattle.complgen_command_line.specs.CommandLine.{candidates_line, option_rule, program_line};
@@ -44,6 +44,24 @@ Examples:
   complgen register --shell bash --bin app tree.json
   complgen candidates --index 1 tree.json -- app ''"
 );
+
+// Where each shell looks for the script of a program N, which is the end of the long help of
+// `script`: the file for a user, the file for a package where shells have one, and what has to be
+// written so that the shell reads it.
+const SCRIPT_FOLDERS: &str =
+    "Where a shell looks for the script of a program N, of a user and of a package:
+  bash        ~/.local/share/bash-completion/completions/N
+              /usr/share/bash-completion/completions/N
+  elvish      ~/.config/elvish/lib/N.elv, with the line `use N` in ~/.config/elvish/rc.elv
+  fish        ~/.config/fish/completions/N.fish
+              /usr/share/fish/vendor_completions.d/N.fish
+  nushell     FOLDER/N.nu, with the line `use FOLDER/N.nu *` in config.nu
+  powershell  FOLDER/_N.ps1, with the line `. FOLDER/_N.ps1` in the file of $PROFILE
+  zsh         ~/.zfunc/_N, with the line `fpath=(~/.zfunc $fpath)` before compinit in ~/.zshrc
+              /usr/share/zsh/site-functions/_N; on Debian /usr/share/zsh/vendor-completions/_N
+
+Example:
+  complgen script --shell zsh --bin app tree.json > ~/.zfunc/_app";
 
 const BIN_HELP: &str = "The name by which the shell calls the program";
 
@@ -110,6 +128,15 @@ fn for_shell<'a>(
         .arg(tree(alloc))
 }
 
+// `script --shell S --bin N TREE`
+fn script<'a>(alloc: Global) -> Result<Command<'a>, AllocError>
+    ensures shape { IfOk result (λ command. app_of command ≡ shell_line (codes "script")) }
+    ensures local { IfOk result (λ command. (out-Command command).has_globals ≡ false) }
+{
+    let command = for_shell(alloc, "script", SCRIPT_HELP, SCRIPT_SHELL_HELP)?;
+    Ok(command.after_long_help(SCRIPT_FOLDERS))
+}
+
 // `candidates --index I TREE WORDS..`
 fn candidates<'a>(alloc: Global) -> Result<Command<'a>, AllocError>
     ensures shape { IfOk result (λ command. app_of command ≡ candidates_line) }
@@ -141,11 +168,10 @@ fn top<'a>(alloc: Global) -> Result<Command<'a>, AllocError>
 pub fn command_line<'a>(alloc: Global) -> Result<Command<'a>, AllocError>
     ensures { IfOk result (λ command. app_of command ≡ program_line) }
 {
-    let script = for_shell(alloc, "script", SCRIPT_HELP, SCRIPT_SHELL_HELP)?;
+    // Each is added before the next one is made, so that few are alive where memory runs out.
+    let script = script(alloc)?;
+    let line = top(alloc)?.subcommand(script)?;
     let register = for_shell(alloc, "register", REGISTER_HELP, REGISTER_SHELL_HELP)?;
-    let candidates = candidates(alloc)?;
-    top(alloc)?
-        .subcommand(script)?
-        .subcommand(register)?
-        .subcommand(candidates)
+    let line = line.subcommand(register)?;
+    line.subcommand(candidates(alloc)?)
 }

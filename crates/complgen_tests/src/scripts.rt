@@ -1,6 +1,6 @@
 //! What a script's plan writes, and how carrying it out fails.
 
-use crate::checks::{has, same};
+use crate::checks::{has, is, same};
 use crate::runs::{fails, output_of, script};
 use cc_paths::MemoryFolder;
 use clap_complete::aot::Collected;
@@ -49,6 +49,41 @@ fn writes_nothing_without_memory(rt: HostRuntime) {
             assert!(rt; out.as_slice().is_empty());
         }
     }
+}
+
+const BARE: &str = "{\"name\": \"app\", \"disable_help_flag\": true}";
+
+// The Elvish script of a command without arguments, whole.
+const BARE_SCRIPT: &str = "
+use builtin;
+use str;
+
+set edit:completion:arg-completer[app] = {|@words|
+    fn spaces {|n|
+        builtin:repeat $n ' ' | str:join ''
+    }
+    fn cand {|text desc|
+        edit:complex-candidate $text &display=$text' '(spaces (- 14 (wcswidth $text)))$desc
+    }
+    var command = 'app'
+    for word $words[1..-1] {
+        if (str:has-prefix $word '-') {
+            break
+        }
+        set command = $command';'$word
+    }
+    var completions = [
+        &'app'= {
+        }
+    ]
+    $completions[$command]
+}
+";
+
+#[test]
+fn writes_the_whole_script(rt: HostRuntime) {
+    let script = script_of(rt.alloc(), "elvish", BARE.as_bytes());
+    is(&rt, script, BARE_SCRIPT);
 }
 
 #[test]

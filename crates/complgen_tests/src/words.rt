@@ -96,7 +96,38 @@ fn shows_the_help_of_script(rt: HostRuntime) {
         Options:\n      \
         --shell <SHELL>  The shell: bash, elvish, fish, nushell, powershell or zsh\n      \
         --bin <NAME>     The name by which the shell calls the program\n  \
-        -h, --help           Print help\n";
+        -h, --help           Print help (see more with '--help')\n";
+    shows(&rt, rt.alloc(), &["complgen", "script", "-h"], text);
+}
+
+#[test]
+fn shows_the_long_help_of_script(rt: HostRuntime) {
+    let text = "Writes a completion script to the standard output\n\n\
+        Usage: complgen script --shell <SHELL> --bin <NAME> <TREE>\n\n\
+        Arguments:\n  \
+        <TREE>\n          \
+        A JSON file that describes a command, with its arguments and subcommands\n\n\
+        Options:\n      \
+        --shell <SHELL>\n          \
+        The shell: bash, elvish, fish, nushell, powershell or zsh\n\n      \
+        --bin <NAME>\n          \
+        The name by which the shell calls the program\n\n  \
+        -h, --help\n          \
+        Print help (see a summary with '-h')\n\n\
+        Where a shell looks for the script of a program N, of a user and of a package:\n  \
+        bash        ~/.local/share/bash-completion/completions/N\n              \
+        /usr/share/bash-completion/completions/N\n  \
+        elvish      ~/.config/elvish/lib/N.elv, \
+        with the line `use N` in ~/.config/elvish/rc.elv\n  \
+        fish        ~/.config/fish/completions/N.fish\n              \
+        /usr/share/fish/vendor_completions.d/N.fish\n  \
+        nushell     FOLDER/N.nu, with the line `use FOLDER/N.nu *` in config.nu\n  \
+        powershell  FOLDER/_N.ps1, with the line `. FOLDER/_N.ps1` in the file of $PROFILE\n  \
+        zsh         ~/.zfunc/_N, \
+        with the line `fpath=(~/.zfunc $fpath)` before compinit in ~/.zshrc\n              \
+        /usr/share/zsh/site-functions/_N; on Debian /usr/share/zsh/vendor-completions/_N\n\n\
+        Example:\n  \
+        complgen script --shell zsh --bin app tree.json > ~/.zfunc/_app\n";
     shows(&rt, rt.alloc(), &["complgen", "script", "--help"], text);
 }
 

@@ -8,9 +8,9 @@ returns c =
     let script = c.in_ok-script.ensures in
     let register = c.in_ok-register.ensures in
     let last = c.in_ok-candidates.ensures in
-    let one = c.in_ok-subcommand.ensures.shape script.local
+    let one = c.in_ok-line.ensures.shape script.local
     ∙ ap₂ with_subcommand c.in_ok-top.ensures (ap (λ (a : App). a.top) script.shape) in
-    let two = c.in_ok-subcommand-2.ensures.shape register.local
+    let two = c.in_ok-line-2.ensures.shape register.local
     ∙ ap₂ with_subcommand one (ap (λ (a : App). a.top) register.shape) in
     IfOk-weaker c.subcommand-3.result _ _ (λ line adds. adds.shape last.local
     ∙ ap₂ with_subcommand two (ap (λ (a : App). a.top) last.shape)) c.subcommand-3.ensures

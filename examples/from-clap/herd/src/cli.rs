@@ -1,16 +1,12 @@
-//! `herd`, which runs a cluster, declared by clap's derive.
+//! The command line of `herd`, declared by clap's derive.
 
-use clap::{Args, CommandFactory, Parser, Subcommand, ValueEnum, ValueHint};
+use clap::{Args, Parser, Subcommand, ValueEnum, ValueHint};
 use std::path::PathBuf;
-
-fn main() {
-    from_clap::print(&Herd::command());
-}
 
 /// Run a cluster of machines
 #[derive(Parser)]
 #[command(name = "herd", version = "0.9.1", propagate_version = true)]
-struct Herd {
+pub struct Herd {
     /// The cluster to work on
     #[arg(short, long, global = true, value_name = "NAME")]
     cluster: Option<String>,

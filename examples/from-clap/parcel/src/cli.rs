@@ -1,13 +1,10 @@
-//! `parcel`, a package manager, declared by clap's builder.
+//! The command line of `parcel`, declared by clap's builder.
 
 use clap::builder::PossibleValue;
 use clap::{value_parser, Arg, ArgAction, Command, ValueHint};
 
-fn main() {
-    from_clap::print(&command());
-}
-
-fn command() -> Command {
+/// The command, which was not built yet.
+pub fn command() -> Command {
     Command::new("parcel")
         .version("2.4.0")
         .about("Install, update and publish packages")

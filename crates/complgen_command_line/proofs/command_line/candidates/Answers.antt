@@ -1,0 +1,15 @@
+use Rattle.std.proofs.Common.{◌∙◌, ap, ap₂}
+use Rattle.std.proofs.lemmas.Result.{IfOk-weaker}
+use Rattle.clap.specs.Simple.{app_of_fields}
+use Rattle.clap.specs.Words.{with_rule}
+use Rattle.complgen_command_line.proofs.command_line.candidates.Goals as goal
+
+pub returns-clause-shape : goal.returns-clause-shape
+returns-clause-shape c =
+    let start = ap app_of_fields c.about.ensures ∙ c.new.ensures.app in
+    let one = c.in_ok-arg.ensures.shape c.option.ensures.local
+    ∙ ap₂ with_rule start c.option.ensures.rule in
+    let two = c.in_ok-arg-2.ensures.shape c.tree.ensures.local
+    ∙ ap₂ with_rule one c.tree.ensures.rule in
+    IfOk-weaker c.arg-3.result _ _ (λ line adds. adds.shape c.words.ensures.local
+    ∙ ap₂ with_rule two c.words.ensures.rule) c.arg-3.ensures

@@ -1,0 +1,10 @@
+//! Prints the tree file of the program.
+
+#[path = "../../src/cli.rs"]
+mod cli;
+#[path = "../../../herd/examples/tree/tree_file.rs"]
+mod tree_file;
+
+fn main() {
+    print!("{}", tree_file::tree_file(&cli::command()));
+}
