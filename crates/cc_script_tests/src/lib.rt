@@ -3,9 +3,9 @@
 #![tactic(auto)]
 
 #[cfg(test)]
-mod characters;
-#[cfg(test)]
 mod chains;
+#[cfg(test)]
+mod characters;
 #[cfg(test)]
 mod checks;
 #[cfg(test)]
