@@ -1,7 +1,7 @@
 -- What an adapter asks for, and which names it has, by example.
 use Rattle.std.proofs.Common.{◌≡◌, [], ◌∷◌, true, false, codes, refl}
 use Rattle.cc_adapters.specs.Asks.{with_next}
-use Rattle.cc_adapters.specs.Builtins.{builtin_named}
+use Rattle.cc_adapters.specs.Builtins.{builtin_spec}
 use Rattle.cc_adapters.specs.declared.builtin.Builtin.TheVariants.{Powershell}
 
 -- the index of the word after `app`
@@ -14,14 +14,14 @@ told_word = refl
 
 -- ---- names
 
-powershell_row : builtin_named Powershell (codes "powershell") ≡ true
+powershell_row : (builtin_spec Powershell).named (codes "powershell") ≡ true
 powershell_row = refl
 
-pwsh_row : builtin_named Powershell (codes "pwsh") ≡ true
+pwsh_row : (builtin_spec Powershell).named (codes "pwsh") ≡ true
 pwsh_row = refl
 
-powershell_ise_row : builtin_named Powershell (codes "powershell_ise") ≡ true
+powershell_ise_row : (builtin_spec Powershell).named (codes "powershell_ise") ≡ true
 powershell_ise_row = refl
 
-other_row : builtin_named Powershell (codes "zsh") ≡ false
+other_row : (builtin_spec Powershell).named (codes "zsh") ≡ false
 other_row = refl

@@ -99,26 +99,3 @@ builtin_spec Elvish = elvish_spec
 builtin_spec Fish = fish_spec
 builtin_spec Powershell = powershell_spec
 builtin_spec Zsh = zsh_spec
-
--- ---- the same, member by member
-
-abbrev pub builtin_name : Builtin → List ℕ
-builtin_name shell = (builtin_spec shell).name
-
-abbrev pub builtin_named : Builtin → List ℕ → Bool
-builtin_named shell = (builtin_spec shell).named
-
-abbrev pub builtin_registration : Builtin → List ℕ → List ℕ → List ℕ → List ℕ → List ℕ
-builtin_registration shell = (builtin_spec shell).registration
-
-abbrev pub BuiltinReads : Builtin → List ℕ → List ℕ → List ℕ → List ℕ → Type 0
-BuiltinReads shell = (builtin_spec shell).Reads
-
-abbrev pub BuiltinAsks : Builtin → EnvValues → List (List ℕ) → List (List ℕ) → ℕ → Type 0
-BuiltinAsks shell = (builtin_spec shell).Asks
-
-abbrev pub builtin_reply : Builtin → EnvValues → List CompletionCandidate → List ℕ
-builtin_reply shell = (builtin_spec shell).reply
-
-abbrev pub BuiltinReplyReads : Builtin → EnvValues → List CompletionCandidate → Type 0
-BuiltinReplyReads shell = (builtin_spec shell).ReplyReads

@@ -3,7 +3,7 @@
 ghost use Rattle.cc_adapters.specs.Builtins.{bash_spec};
 
 use crate::env_completer::EnvCompleter;
-use crate::forms::{Values, reply_at};
+use crate::reply::{Values, reply_at};
 use cc_base::{Error, Sink};
 use cc_candidates::Completers;
 use cc_command::Command;
@@ -20,19 +20,7 @@ use std::alloc::Global;
 pub struct Bash;
 
 impl EnvCompleter for Bash {
-    ghost own_name = { λ _. bash_spec.name };
-
-    ghost named = { λ _. bash_spec.named };
-
-    ghost registration = { λ _. bash_spec.registration };
-
-    ghost Reads = { λ _. bash_spec.Reads };
-
-    ghost Asks = { λ _. bash_spec.Asks };
-
-    ghost reply = { λ _. bash_spec.reply };
-
-    ghost ReplyReads = { λ _. bash_spec.ReplyReads };
+    ghost spec = { λ _. bash_spec };
 
     fn name(&self) -> &'static str {
         "bash"

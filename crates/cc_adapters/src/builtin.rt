@@ -1,8 +1,6 @@
 //! The adapters as one type.
 
-ghost use Rattle.cc_adapters.specs.Builtins.{BuiltinAsks, BuiltinReads, BuiltinReplyReads};
-ghost use Rattle.cc_adapters.specs.Builtins.{builtin_name, builtin_named, builtin_registration};
-ghost use Rattle.cc_adapters.specs.Builtins.{builtin_reply};
+ghost use Rattle.cc_adapters.specs.Builtins.{builtin_spec};
 
 use crate::bash::Bash;
 use crate::elvish::Elvish;
@@ -63,19 +61,7 @@ macro_rules! adapter {
 pub(crate) const BUILTINS: &[Builtin] = each_builtin!(all!);
 
 impl EnvCompleter for Builtin {
-    ghost own_name = { builtin_name };
-
-    ghost named = { builtin_named };
-
-    ghost registration = { builtin_registration };
-
-    ghost Reads = { BuiltinReads };
-
-    ghost Asks = { BuiltinAsks };
-
-    ghost reply = { builtin_reply };
-
-    ghost ReplyReads = { BuiltinReplyReads };
+    ghost spec = { builtin_spec };
 
     fn name(&self) -> &'static str {
         each_builtin!(adapter! self, name())

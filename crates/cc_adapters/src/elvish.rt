@@ -3,7 +3,7 @@
 ghost use Rattle.cc_adapters.specs.Builtins.{elvish_spec};
 
 use crate::env_completer::EnvCompleter;
-use crate::forms::{Values, reply_at};
+use crate::reply::{Values, reply_at};
 use cc_base::{Error, Sink};
 use cc_candidates::Completers;
 use cc_command::Command;
@@ -20,19 +20,7 @@ use std::alloc::Global;
 pub struct Elvish;
 
 impl EnvCompleter for Elvish {
-    ghost own_name = { λ _. elvish_spec.name };
-
-    ghost named = { λ _. elvish_spec.named };
-
-    ghost registration = { λ _. elvish_spec.registration };
-
-    ghost Reads = { λ _. elvish_spec.Reads };
-
-    ghost Asks = { λ _. elvish_spec.Asks };
-
-    ghost reply = { λ _. elvish_spec.reply };
-
-    ghost ReplyReads = { λ _. elvish_spec.ReplyReads };
+    ghost spec = { λ _. elvish_spec };
 
     fn name(&self) -> &'static str {
         "elvish"

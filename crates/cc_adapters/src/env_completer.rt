@@ -1,17 +1,17 @@
 //! What every adapter does.
 
-ghost use Rattle.std.specs.Prelude.{◌≡◌, ℕ, Bool, true, List, map, string_bytes};
+ghost use Rattle.std.specs.Prelude.{◌≡◌, true, List, map, string_bytes};
 ghost use Rattle.std.specs.Option.{option_copied};
+ghost use Rattle.cc_adapters.specs.Builtins.{CompleterSpec};
 ghost use Rattle.cc_adapters.specs.Replies.{Replies};
 ghost use Rattle.cc_base.specs.Writes.{Writes};
 ghost use Rattle.cc_candidates.specs.declared.candidate.CompletionCandidate.{CompletionCandidate};
 ghost use Rattle.cc_engine.specs.Completion.{Completes};
 ghost use Rattle.cc_engine.specs.Paths.{PathsOf};
-ghost use Rattle.cc_env.specs.declared.environment.EnvValues.{EnvValues};
 ghost use Rattle.cc_values.specs.Values.{lent_by};
 
 use cc_base::{Error, Sink};
-use cc_candidates::{Completers, FnCandidates, FnCompleter, ValueCandidates, ValueCompleter};
+use cc_candidates::{CandidateSources, Completers};
 use cc_command::Command;
 use cc_env::EnvValues;
 use cc_paths::Folder;
@@ -20,36 +20,17 @@ use std::alloc::Global;
 /// An adapter for a shell: what the shell is told to run for the words of a program, and how it is
 /// replied to.
 pub trait EnvCompleter {
-    // the name of the shell
-    ghost own_name: { Self → List ℕ };
-
-    // whether a name is the shell's
-    ghost named: { Self → List ℕ → Bool };
-
-    // the registration of a variable, a name, a binary and a completer
-    ghost registration: { Self → List ℕ → List ℕ → List ℕ → List ℕ → List ℕ };
-
-    // what the registration is read as
-    ghost Reads: { Self → List ℕ → List ℕ → List ℕ → List ℕ → Type 0 };
-
-    // the words that the shell asks for, and the index of the one to complete, where an environment
-    // and some words are told
-    ghost Asks: { Self → EnvValues → List (List ℕ) → List (List ℕ) → ℕ → Type 0 };
-
-    // the reply of some candidates
-    ghost reply: { Self → EnvValues → List CompletionCandidate → List ℕ };
-
-    // what the reply is read as
-    ghost ReplyReads: { Self → EnvValues → List CompletionCandidate → Type 0 };
+    // what is said of the adapter: its names, its registration, which words it completes, its reply
+    ghost spec: { Self → CompleterSpec };
 
     /// The name of the shell.
     fn name(&self) -> &'static str
-        ensures value { result.now ≡ own_name self.now }
-        ensures named { named self.now result.now ≡ true };
+        ensures value { result.now ≡ (spec self.now).name }
+        ensures named { (spec self.now).named result.now ≡ true };
 
     /// Whether the shell has this name.
     fn is(&self, name: &str) -> bool
-        ensures { result ≡ named self.now name.now };
+        ensures { result ≡ (spec self.now).named name.now };
 
     /// Writes the registration: the text that tells the shell to run the completer, with the
     /// variable set to the shell's name, for the words of the binary. The name makes the names of
@@ -67,8 +48,8 @@ pub trait EnvCompleter {
         sink: &mut W,
     ) -> Result<(), Error>
         ensures written { Writes W.taken W.failed result sink.old sink.new
-            (registration self.now variable.now name.now bin.now completer.now) }
-        ensures read_back { Reads self.now variable.now name.now bin.now completer.now };
+            ((spec self.now).registration variable.now name.now bin.now completer.now) }
+        ensures read_back { (spec self.now).Reads variable.now name.now bin.now completer.now };
 
     /// Writes the reply for the words of a command line: the candidates for the word that the shell
     /// asks for, of the command, which is built first.
@@ -89,17 +70,11 @@ pub trait EnvCompleter {
         sink: &mut W,
     ) -> Result<(), Error>
         ensures reply { Replies W.taken W.failed result sink.old sink.new command.old command.new
-            (Asks self.now env.now (map string_bytes words.items)) (Completes (lent_by
-            (λ item. (⟦<dyn ValueCompleter as ValueCompleter>⟧ item.vtable).completes item.value)
-            completers.now.completers.items
-            ⟦<FnCompleter as ValueCompleter>⟧.completes completers.now.completer_closures.items
-            (λ item. (⟦<dyn ValueCandidates as ValueCandidates>⟧ item.vtable).lists item.value)
-            completers.now.lists.items
-            ⟦<FnCandidates as ValueCandidates>⟧.lists completers.now.list_closures.items
-            (PathsOf (D.lists folder.now) (D.tells_dir folder.now) (D.tells_file folder.now)
-            (D.tells_executable folder.now) (D.home_path folder.now)
-            (option_copied current_dir.entry)))
-            command.new) (reply self.now env.now) }
+            ((spec self.now).Asks env.now (map string_bytes words.items)) (Completes (lent_by
+            ⟦<Completers as CandidateSources>⟧.may_complete
+            ⟦<Completers as CandidateSources>⟧.may_list completers.now
+            (PathsOf (D.facts folder.now) (option_copied current_dir.entry)))
+            command.new) ((spec self.now).reply env.now) }
         ensures read_back { (candidates : List CompletionCandidate)
-            → ReplyReads self.now env.now candidates };
+            → (spec self.now).ReplyReads env.now candidates };
 }

@@ -3,8 +3,7 @@
 ghost use Rattle.cc_adapters.specs.Builtins.{fish_spec};
 
 use crate::env_completer::EnvCompleter;
-use crate::forms::{Lines, reply_at};
-use crate::words::last_index;
+use crate::reply::{Lines, last_index, reply_at};
 use cc_base::{Error, Sink};
 use cc_candidates::Completers;
 use cc_command::Command;
@@ -20,19 +19,7 @@ use std::alloc::Global;
 pub struct Fish;
 
 impl EnvCompleter for Fish {
-    ghost own_name = { λ _. fish_spec.name };
-
-    ghost named = { λ _. fish_spec.named };
-
-    ghost registration = { λ _. fish_spec.registration };
-
-    ghost Reads = { λ _. fish_spec.Reads };
-
-    ghost Asks = { λ _. fish_spec.Asks };
-
-    ghost reply = { λ _. fish_spec.reply };
-
-    ghost ReplyReads = { λ _. fish_spec.ReplyReads };
+    ghost spec = { λ _. fish_spec };
 
     fn name(&self) -> &'static str {
         "fish"

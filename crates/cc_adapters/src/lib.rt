@@ -6,10 +6,9 @@ mod builtin;
 mod elvish;
 mod env_completer;
 mod fish;
-mod forms;
 mod powershell;
+mod reply;
 mod shells;
-mod words;
 mod zsh;
 
 pub use crate::bash::Bash;

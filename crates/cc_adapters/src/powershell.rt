@@ -3,8 +3,7 @@
 ghost use Rattle.cc_adapters.specs.Builtins.{powershell_spec};
 
 use crate::env_completer::EnvCompleter;
-use crate::forms::{Lines, reply_at};
-use crate::words::last_index;
+use crate::reply::{Lines, last_index, reply_at};
 use cc_base::{Error, Sink};
 use cc_candidates::Completers;
 use cc_command::Command;
@@ -20,19 +19,7 @@ use std::alloc::Global;
 pub struct Powershell;
 
 impl EnvCompleter for Powershell {
-    ghost own_name = { λ _. powershell_spec.name };
-
-    ghost named = { λ _. powershell_spec.named };
-
-    ghost registration = { λ _. powershell_spec.registration };
-
-    ghost Reads = { λ _. powershell_spec.Reads };
-
-    ghost Asks = { λ _. powershell_spec.Asks };
-
-    ghost reply = { λ _. powershell_spec.reply };
-
-    ghost ReplyReads = { λ _. powershell_spec.ReplyReads };
+    ghost spec = { λ _. powershell_spec };
 
     fn name(&self) -> &'static str {
         "powershell"

@@ -1,6 +1,6 @@
-//! The candidates for a word, written in the form that a shell reads.
+//! The candidates for a word, written as a shell reads them: what all adapters share.
 
-ghost use Rattle.std.specs.Prelude.{ℕ, IfErr, List, map, string_bytes};
+ghost use Rattle.std.specs.Prelude.{◌≡◌, ◌-◌, ℕ, IfErr, List, length, map, string_bytes};
 ghost use Rattle.std.specs.Option.{option_copied};
 ghost use Rattle.cc_adapters.specs.Asks.{AsksFor};
 ghost use Rattle.cc_adapters.specs.Replies.{Replies};
@@ -12,17 +12,15 @@ ghost use Rattle.cc_env.specs.Reply.{lines_reply, values_reply, zsh_reply};
 ghost use Rattle.cc_values.specs.Values.{lent_by};
 
 use cc_base::{Error, Sink};
-use cc_candidates::{
-    Completers, CompletionCandidate, FnCandidates, FnCompleter, ValueCandidates, ValueCompleter,
-};
+use cc_candidates::{CandidateSources, Completers, CompletionCandidate};
 use cc_command::Command;
 use cc_engine::complete;
 use cc_env::{write_lines, write_values, write_zsh_items};
 use cc_paths::Folder;
 use std::alloc::Global;
 
-/// The form in which a shell reads candidates.
-pub(crate) trait Form {
+/// The format in which a shell reads candidates.
+pub(crate) trait ReplyFormat {
     // the text of some candidates
     ghost text: { Self → List CompletionCandidate → List ℕ };
 
@@ -37,8 +35,8 @@ pub(crate) trait Form {
 #[derive(Drop)]
 pub(crate) struct Values<'s>(pub &'s str);
 
-impl Form for Values<'_> {
-    ghost text = { λ form found. values_reply form.0.now found };
+impl ReplyFormat for Values<'_> {
+    ghost text = { λ format found. values_reply format.0.now found };
 
     fn write<W: Sink>(&self, found: &[CompletionCandidate], sink: &mut W) -> Result<(), Error> {
         write_values(self.0, found, sink)
@@ -49,8 +47,8 @@ impl Form for Values<'_> {
 #[derive(Drop)]
 pub(crate) struct ZshItems<'s>(pub &'s str);
 
-impl Form for ZshItems<'_> {
-    ghost text = { λ form found. zsh_reply form.0.now found };
+impl ReplyFormat for ZshItems<'_> {
+    ghost text = { λ format found. zsh_reply format.0.now found };
 
     fn write<W: Sink>(&self, found: &[CompletionCandidate], sink: &mut W) -> Result<(), Error> {
         write_zsh_items(self.0, found, sink)
@@ -61,7 +59,7 @@ impl Form for ZshItems<'_> {
 #[derive(Drop)]
 pub(crate) struct Lines;
 
-impl Form for Lines {
+impl ReplyFormat for Lines {
     ghost text = { λ _ found. lines_reply found };
 
     fn write<W: Sink>(&self, found: &[CompletionCandidate], sink: &mut W) -> Result<(), Error> {
@@ -69,9 +67,9 @@ impl Form for Lines {
     }
 }
 
-/// Writes the candidates for the word at the index in this form. Fails as
+/// Writes the candidates for the word at the index in this format. Fails as
 /// `EnvCompleter::write_complete` does.
-pub(crate) fn reply_at<D: Folder, F: Form, W: Sink>(
+pub(crate) fn reply_at<D: Folder, F: ReplyFormat, W: Sink>(
     alloc: Global,
     command: &mut Command,
     words: Vec<String>,
@@ -79,21 +77,14 @@ pub(crate) fn reply_at<D: Folder, F: Form, W: Sink>(
     current_dir: Option<&str>,
     folder: &D,
     completers: &Completers,
-    form: &F,
+    format: &F,
     sink: &mut W,
 ) -> Result<(), Error>
     ensures { Replies W.taken W.failed result sink.old sink.new command.old command.new
         (AsksFor (map string_bytes words.items) index) (Completes (lent_by
-        (λ item. (⟦<dyn ValueCompleter as ValueCompleter>⟧ item.vtable).completes item.value)
-        completers.now.completers.items
-        ⟦<FnCompleter as ValueCompleter>⟧.completes completers.now.completer_closures.items
-        (λ item. (⟦<dyn ValueCandidates as ValueCandidates>⟧ item.vtable).lists item.value)
-        completers.now.lists.items
-        ⟦<FnCandidates as ValueCandidates>⟧.lists completers.now.list_closures.items
-        (PathsOf (D.lists folder.now) (D.tells_dir folder.now) (D.tells_file folder.now)
-        (D.tells_executable folder.now) (D.home_path folder.now)
-        (option_copied current_dir.entry)))
-        command.new) (F.text form.now) }
+        ⟦<Completers as CandidateSources>⟧.may_complete ⟦<Completers as CandidateSources>⟧.may_list
+        completers.now (PathsOf (D.facts folder.now) (option_copied current_dir.entry)))
+        command.new) (F.text format.now) }
 {
     let found = complete(
         alloc,
@@ -104,5 +95,12 @@ pub(crate) fn reply_at<D: Folder, F: Form, W: Sink>(
         folder,
         completers,
     )?;
-    form.write(found.as_slice(), sink)
+    format.write(found.as_slice(), sink)
+}
+
+/// The index of the last word; 0 where there is none.
+pub(crate) fn last_index(words: &[String]) -> usize
+    ensures { result ≡ length words.now - 1 }
+{
+    words.len().saturating_sub(1)
 }

@@ -27,14 +27,14 @@ impl<'s, E: EnvCompleter> Shells<'s, E> {
     /// The first shell that has this name.
     pub fn completer(&self, name: &str) -> Option<&E>
         ensures { option_map (λ shell. shell.now) result
-            ≡ find (λ shell. E.named shell name.now) self.now.0.now }
+            ≡ find (λ shell. (E.spec shell).named name.now) self.now.0.now }
     {
         self.0.iter().find(|shell| shell.is(name))
     }
 
     /// The names of the shells, one for each, in their order.
     pub fn names(&self) -> ShellNames<'s, E>
-        ensures { names_left E.own_name result ≡ map E.own_name self.now.0.now }
+        ensures { names_left E.spec result ≡ map (λ shell. (E.spec shell).name) self.now.0.now }
     {
         ShellNames { shells: self.0 }
     }
@@ -56,9 +56,9 @@ pub struct ShellNames<'s, E> {
 impl<'s, E: EnvCompleter> Iterator for ShellNames<'s, E> {
     type Item = &'static str;
 
-    ghost next_gives = { YieldsFirstBy (λ name. name.now) (names_left E.own_name) };
+    ghost next_gives = { YieldsFirstBy (λ name. name.now) (names_left E.spec) };
 
-    ghost remaining = { item_count (names_left E.own_name) };
+    ghost remaining = { item_count (names_left E.spec) };
 
     fn next(&mut self) -> Option<&'static str> {
         let (first, others) = self.shells.split_first()?;

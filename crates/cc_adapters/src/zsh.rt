@@ -5,7 +5,7 @@ ghost use Rattle.cc_adapters.specs.Asks.{with_next};
 ghost use Rattle.cc_adapters.specs.Builtins.{zsh_spec};
 
 use crate::env_completer::EnvCompleter;
-use crate::forms::{ZshItems, reply_at};
+use crate::reply::{ZshItems, reply_at};
 use cc_base::{Error, Sink};
 use cc_candidates::Completers;
 use cc_command::Command;
@@ -22,19 +22,7 @@ use std::alloc::{AllocError, Global};
 pub struct Zsh;
 
 impl EnvCompleter for Zsh {
-    ghost own_name = { λ _. zsh_spec.name };
-
-    ghost named = { λ _. zsh_spec.named };
-
-    ghost registration = { λ _. zsh_spec.registration };
-
-    ghost Reads = { λ _. zsh_spec.Reads };
-
-    ghost Asks = { λ _. zsh_spec.Asks };
-
-    ghost reply = { λ _. zsh_spec.reply };
-
-    ghost ReplyReads = { λ _. zsh_spec.ReplyReads };
+    ghost spec = { λ _. zsh_spec };
 
     fn name(&self) -> &'static str {
         "zsh"

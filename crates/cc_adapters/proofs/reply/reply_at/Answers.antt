@@ -1,7 +1,7 @@
 use Rattle.std.proofs.Common.{map, refl, string_bytes}
 use Rattle.std.proofs.lemmas.List.{length-map}
 use Rattle.cc_adapters.proofs.Replying.{refused, replied}
-use Rattle.cc_adapters.proofs.forms.reply_at.Goals as goal
+use Rattle.cc_adapters.proofs.reply.reply_at.Goals as goal
 
 pub returns : goal.returns
 returns g c =
