@@ -1,7 +1,8 @@
 -- Texts that are written one after another, with a separator before each but the first.
-use Rattle.std.proofs.Common.{◌≡◌, ℕ, Bool, true, false, ◌||◌, List, [], ◌∷◌, ◌++◌, refl, sym, ap, ◌∙◌, append_assoc}
+use Rattle.std.proofs.Common.{◌≡◌, ℕ, Bool, true, false, ◌||◌, List, [], ◌∷◌, ◌++◌, flat_map, refl, sym, ap, ◌∙◌, append_assoc}
+use Rattle.std.proofs.lemmas.List.{append-nil}
 use Rattle.std.proofs.Math.Bool.{or_assoc}
-use Rattle.cc_base.specs.Joined.{has_texts, joined_after}
+use Rattle.cc_base.specs.Joined.{has_texts, joined_after, with_pieces}
 
 -- the texts of two lists
 pub joined_append : (between : List ℕ) (begun : Bool) (texts more : List (List ℕ)) →
@@ -42,3 +43,15 @@ pub begun_step : (begun now whole : Bool) (first rest : List (List ℕ)) →
 begun_step begun now whole first rest is so_far =
     ap (λ b. b || has_texts rest) is ∙ or_assoc begun (has_texts first) (has_texts rest)
     ∙ ap (λ b. begun || b) (sym (has_texts_append first rest)) ∙ so_far
+
+-- pieces after a text, the brackets aside
+pieces_after : {P : Type 0} (text : P → List ℕ) (before : List ℕ) (pieces : List P) →
+    with_pieces text before pieces ≡ before ++ flat_map text pieces
+pieces_after text before [] = sym (append-nil before)
+pieces_after text before (piece ∷ pieces) =
+    pieces_after text (before ++ text piece) pieces
+    ∙ append_assoc before (text piece) (flat_map text pieces)
+
+pub pieces_flat : {P : Type 0} (text : P → List ℕ) (pieces : List P) →
+    with_pieces text [] pieces ≡ flat_map text pieces
+pieces_flat text pieces = pieces_after text [] pieces

@@ -2,7 +2,7 @@
 
 ghost use Rattle.std.specs.Prelude.{◌≡◌, Some};
 ghost use Rattle.cc_base.specs.ErrorText.{error_text};
-ghost use Rattle.cc_base.specs.declared.error.Error.TheVariants.{Memory as OutOfMemory};
+ghost use Rattle.cc_base.specs.declared.error.Error.TheVariants.{Memory as OutOfMemory, Write as FailedWrite};
 
 use crate::text::Text;
 use std::alloc::{AllocError, AllocFailed};
@@ -62,5 +62,13 @@ impl<T: Drop> From<AllocFailed<T>> for Error {
 
     fn from(_failure: AllocFailed<T>) -> Error {
         Error::Memory
+    }
+}
+
+impl From<ErrorKind> for Error {
+    ghost from_gives = { λ kind error. error ≡ FailedWrite kind };
+
+    fn from(kind: ErrorKind) -> Error {
+        Error::Write(kind)
     }
 }

@@ -1,18 +1,27 @@
 //! Pieces of a text, put one after another. The error is the kind of the put that failed, which is
 //! smaller than the library's error, so that a row of many pieces takes fewer instructions.
 
-ghost use Rattle.std.specs.Prelude.{◌≡◌, [], ◌++◌, flat_map, IsOk};
+ghost use Rattle.std.specs.Prelude.{◌≡◌, [], ◌++◌, IsOk};
+ghost use Rattle.cc_base.specs.Joined.{with_pieces};
 ghost use Rattle.cc_base.specs.Writes.{Writes, as_write};
 
-use crate::error::Error;
 use crate::sink::Sink;
 use std::io::ErrorKind;
 
-/// Puts until all is taken or a put fails. An empty piece is not put.
+/// Puts a text until all is taken or a put fails. An empty text is not put.
 ///
 /// Fails with the kind of the put that failed, which is `WriteZero` where it took nothing.
 #[inline(always)]
-pub fn put_piece<S: Sink>(sink: &mut S, bytes: &[u8]) -> Result<(), ErrorKind>
+pub fn put_piece<S: Sink>(sink: &mut S, text: &str) -> Result<(), ErrorKind>
+    ensures written { Writes S.taken S.failed (as_write result) sink.old sink.new text.now }
+    ensures empty { text.now ≡ [] → (IsOk result × (sink.new ≡ sink.old)) }
+{
+    put_bytes(sink, text.as_bytes())
+}
+
+// Puts until all is taken or a put fails.
+#[inline(always)]
+pub(crate) fn put_bytes<S: Sink>(sink: &mut S, bytes: &[u8]) -> Result<(), ErrorKind>
     ensures written { Writes S.taken S.failed (as_write result) sink.old sink.new bytes.now }
     ensures empty { bytes.now ≡ [] → (IsOk result × (sink.new ≡ sink.old)) }
 {
@@ -48,10 +57,10 @@ fn put_rest<S: Sink>(sink: &mut S, bytes: &[u8]) -> Result<(), ErrorKind>
 #[inline(always)]
 pub fn put_pieces<S: Sink>(sink: &mut S, pieces: &[&str]) -> Result<(), ErrorKind>
     ensures { Writes S.taken S.failed (as_write result) sink.old sink.new
-        (flat_map (λ piece. piece.now) pieces.now) }
+        (with_pieces (λ piece. piece.now) [] pieces.now) }
 {
     for piece in pieces {
-        put_piece(sink, piece.as_bytes())?;
+        put_piece(sink, piece)?;
     }
     Ok(())
 }
@@ -59,23 +68,13 @@ pub fn put_pieces<S: Sink>(sink: &mut S, pieces: &[&str]) -> Result<(), ErrorKin
 /// Puts a text between two others. Fails with the kind of the put that failed.
 #[inline(always)]
 pub fn put_around<'a, S: Sink>(
+    sink: &mut S,
     before: &'a str,
     text: &'a str,
     after: &'a str,
-    sink: &mut S,
 ) -> Result<(), ErrorKind>
     ensures { Writes S.taken S.failed (as_write result) sink.old sink.new
         (before.now ++ text.now ++ after.now) }
 {
     put_pieces(sink, &[before, text, after])
-}
-
-/// The result of puts, with the kind of its failure as `Write`.
-pub fn as_error(put: Result<(), ErrorKind>) -> Result<(), Error>
-    ensures { result ≡ as_write put }
-{
-    match put {
-        Ok(()) => Ok(()),
-        Err(kind) => Err(Error::Write(kind)),
-    }
 }

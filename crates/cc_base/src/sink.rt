@@ -5,7 +5,7 @@ ghost use Rattle.cc_base.specs.Sink.{Failures, after_put};
 ghost use Rattle.cc_base.specs.Writes.{IsWrite, Writes};
 
 use crate::error::Error;
-use crate::pieces::put_piece;
+use crate::pieces::put_bytes;
 use std::io::ErrorKind;
 
 /// Something that takes bytes and counts its failures.
@@ -42,8 +42,5 @@ pub fn put_all<S: Sink>(sink: &mut S, bytes: &[u8]) -> Result<(), Error>
     ensures write_only { IfErr result IsWrite }
     ensures empty { bytes.now ≡ [] → (IsOk result × (sink.new ≡ sink.old)) }
 {
-    match put_piece(sink, bytes) {
-        Ok(()) => Ok(()),
-        Err(kind) => Err(Error::Write(kind)),
-    }
+    Ok(put_bytes(sink, bytes)?)
 }

@@ -5,11 +5,12 @@ ghost use Rattle.std.specs.Option.{option_copied};
 ghost use Rattle.std.specs.String.{string_bytes};
 
 use std::alloc::{AllocError, Global};
+use std::fmt;
 use std::marker::Model;
 
 /// A text. A clause sees its bytes alone, so that two texts are equal exactly where they read the
 /// same.
-#[derive(Drop, Debug)]
+#[derive(Drop)]
 pub struct Text {
     inner: String,
 }
@@ -18,6 +19,13 @@ impl Model for Text {
     ghost Value = { List ℕ };
 
     ghost view = { λ text. string_bytes text.inner };
+}
+
+/// As the `Debug` of a `str`.
+impl fmt::Debug for Text {
+    fn fmt<W: fmt::Write>(&self, f: &mut fmt::Formatter<W>) -> fmt::Result {
+        fmt::Debug::fmt(self.as_str(), f)
+    }
 }
 
 impl From<String> for Text {

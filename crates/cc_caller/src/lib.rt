@@ -1,5 +1,6 @@
-//! Callers of the library: two whose contracts say what the script that they write reads to, and
-//! one whose contract says which names it completes a word with.
+//! Callers of the library: two whose contracts say what the script that they write reads to, one
+//! whose contract says which names it completes a word with, some that compare its values, and a
+//! generator outside it.
 #![tactic(auto)]
 
 ghost use Rattle.std.specs.Prelude.{◌≡◌, ◌&&◌, IfOk, Some};
@@ -10,10 +11,14 @@ ghost use Rattle.clap_complete.specs.PlainName.{is_plain_name};
 ghost use Rattle.cc_caller.specs.PlainScript.{TakesPlain};
 
 mod bash;
+mod equality;
 mod known_names;
+mod word_list;
 
 pub use crate::bash::write_bash_if_quiet;
+pub use crate::equality::{same_action, same_hint, same_range, same_shell};
 pub use crate::known_names::{KnownNames, tools};
+pub use crate::word_list::WordList;
 use clap_complete::aot::{Elvish, Sink};
 use clap_complete::command::{Command, is_plain_name};
 use clap_complete::{Error, generate};

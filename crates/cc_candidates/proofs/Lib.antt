@@ -1,2 +1,4 @@
+pub mod AddedLast
 mod ByValue
+mod Examples
 pub mod Results

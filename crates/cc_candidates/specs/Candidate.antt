@@ -7,7 +7,7 @@ use Rattle.std.specs.Option.{option_cmp}
 use Rattle.std.specs.Ordering.{nat_cmp, bool_cmp, ordering_then, is_lt}
 use Rattle.cc_candidates.specs.declared.candidate.CompletionCandidate.{CompletionCandidate}
 
--- a candidate of which only the value was given
+-- a candidate that holds its value alone
 abbrev pub new_candidate : List ℕ → CompletionCandidate
 new_candidate value = record {
   value = value;

@@ -1,24 +1,53 @@
-//! What a caller lends, by number.
+//! Completers and lists of candidates, by number.
 
-ghost use Rattle.std.specs.Prelude.{◌≡◌, [], IfOk};
-ghost use Rattle.cc_candidates.specs.Lent.{ReturnsAt};
+ghost use Rattle.std.specs.Prelude.{◌≡◌, ◌+◌, ℕ, List, [], length, IfOk, OnErr};
+ghost use Rattle.cc_candidates.specs.Sources.{Adds};
 
 use crate::candidate::CompletionCandidate;
-use crate::closures::{FnCandidates, FnCompleter};
+use crate::closures::{FnCandidates, FnCompleter, ListCall, TextCall};
+use crate::numbers::ArgValueCompleter;
+use crate::sources::{CandidateSources, Source};
 use crate::traits::{ValueCandidates, ValueCompleter};
 use std::alloc::{AllocError, Global};
 
-/// The completers and the lists that a caller lends. A number past them has no candidates.
+type Completer = Source<Box<dyn ValueCompleter>, FnCompleter>;
+
+type CandidateList = Source<Box<dyn ValueCandidates>, FnCandidates>;
+
+/// The completers of a program, numbered from 0 in the order in which they were added, and its
+/// lists of candidates, numbered so among themselves. A number without a completer, or a list, has
+/// no candidates.
+///
+/// What is added gets the next number, whether it is a trait object or a closure, and every number
+/// stays that of what it was returned for.
 #[derive(Drop)]
 pub struct Completers {
     completers: Vec<Box<dyn ValueCompleter>>,
-    completer_closures: Vec<FnCompleter>,
+    added_completers: Vec<Completer>,
     lists: Vec<Box<dyn ValueCandidates>>,
-    list_closures: Vec<FnCandidates>,
+    added_lists: Vec<CandidateList>,
+}
+
+impl CandidateSources for Completers {
+    ghost use Rattle.std.specs.Prelude.{◌≡◌, Ok};
+    ghost use Rattle.cc_candidates.specs.Sources.{ReturnsAt};
+
+    ghost may_complete = { λ completers which number text. ReturnsAt
+        (λ item. (ValueCompleter-box item).completes item.value number text)
+        (λ closure list. (alloc : _) × (passed : _) × (found : _)
+        × TextCall.post closure.call alloc passed (Ok found)
+        × (passed.now ≡ text) × (found.items ≡ list))
+        completers.completers.items completers.added_completers.items which };
+
+    ghost may_list = { λ completers which. ReturnsAt
+        (λ item. (ValueCandidates-box item).lists item.value)
+        (λ closure list. (alloc : _) × (found : _)
+        × ListCall.post closure.call alloc (Ok found) × (found.items ≡ list))
+        completers.lists.items completers.added_lists.items which };
 }
 
 impl Completers {
-    /// What a caller lends: the completers and the lists, each in the order of the numbers.
+    /// These completers and these lists, each in the order of the numbers.
     pub fn new(
         alloc: Global,
         completers: Vec<Box<dyn ValueCompleter>>,
@@ -26,36 +55,110 @@ impl Completers {
     ) -> Completers
         ensures completers { result.completers ≡ completers }
         ensures lists { result.lists ≡ lists }
-        ensures no_closures { (result.completer_closures.items ≡ [])
-            × (result.list_closures.items ≡ []) }
+        ensures added { (result.added_completers.items ≡ []) × (result.added_lists.items ≡ []) }
     {
         Completers {
             completers,
-            completer_closures: Vec::new(alloc),
+            added_completers: Vec::new(alloc),
             lists,
-            list_closures: Vec::new(alloc),
+            added_lists: Vec::new(alloc),
         }
     }
 
-    /// Nothing lent: every number is without candidates.
+    /// No completers and no lists: every number is without candidates.
     pub fn none(alloc: Global) -> Completers
-        ensures completers { (result.completers.items ≡ []) × (result.completer_closures.items ≡ []) }
-        ensures lists { (result.lists.items ≡ []) × (result.list_closures.items ≡ []) }
+        ensures completers { (result.completers.items ≡ []) × (result.added_completers.items ≡ []) }
+        ensures lists { (result.lists.items ≡ []) × (result.added_lists.items ≡ []) }
     {
         Completers::new(alloc, Vec::new(alloc), Vec::new(alloc))
     }
 
-    /// Lends these closures too, in place of those lent before. Their numbers follow the others'.
-    pub fn with_closures(
-        mut self,
-        completers: Vec<FnCompleter>,
-        lists: Vec<FnCandidates>,
-    ) -> Completers
-        ensures { result ≡ record self { completer_closures = completers; list_closures = lists } }
+    /// Adds a completer, and returns its number. Fails where memory runs out: nothing is added
+    /// then, and the completer is dropped.
+    pub fn add_completer(
+        &mut self,
+        completer: Box<dyn ValueCompleter>,
+    ) -> Result<ArgValueCompleter, AllocError>
+        ensures number { IfOk result (λ added. added.number
+            ≡ length self.old.completers.items + length self.old.added_completers.items) }
+        ensures added { IfOk result (λ added. (number : ℕ) → (text : List ℕ) → Adds
+            (λ which. ⟦<Completers as CandidateSources>⟧.may_complete self.old which number text)
+            (λ which. ⟦<Completers as CandidateSources>⟧.may_complete self.new which number text)
+            added.number
+            ((⟦<dyn ValueCompleter as ValueCompleter>⟧ completer.vtable).completes completer.value
+            number text)) }
+        ensures err { OnErr result
+            (self.new.added_completers.items ≡ self.old.added_completers.items) }
+        ensures kept { (self.new.completers ≡ self.old.completers)
+            × (self.new.lists ≡ self.old.lists)
+            × (self.new.added_lists ≡ self.old.added_lists) }
     {
-        self.completer_closures = completers;
-        self.list_closures = lists;
-        self
+        let number = self.completers.len() + self.added_completers.len();
+        self.added_completers.push(Source::Boxed(completer))?;
+        Ok(ArgValueCompleter::new(number))
+    }
+
+    /// Adds a closure as a completer, and returns its number. Fails where memory runs out: nothing
+    /// is added then, and the closure is dropped.
+    pub fn add_completer_closure(
+        &mut self,
+        closure: FnCompleter,
+    ) -> Result<ArgValueCompleter, AllocError>
+        ensures number { IfOk result (λ added. added.number
+            ≡ length self.old.completers.items + length self.old.added_completers.items) }
+        ensures added { IfOk result (λ added. (number : ℕ) → (text : List ℕ) → Adds
+            (λ which. ⟦<Completers as CandidateSources>⟧.may_complete self.old which number text)
+            (λ which. ⟦<Completers as CandidateSources>⟧.may_complete self.new which number text)
+            added.number
+            (⟦<FnCompleter as ValueCompleter>⟧.completes closure number text)) }
+        ensures err { OnErr result
+            (self.new.added_completers.items ≡ self.old.added_completers.items) }
+        ensures kept { (self.new.completers ≡ self.old.completers)
+            × (self.new.lists ≡ self.old.lists)
+            × (self.new.added_lists ≡ self.old.added_lists) }
+    {
+        let number = self.completers.len() + self.added_completers.len();
+        self.added_completers.push(Source::Closure(closure))?;
+        Ok(ArgValueCompleter::new(number))
+    }
+
+    /// Adds a list of candidates, and returns its number, for `ArgValueCandidates::new` or
+    /// `SubcommandCandidates::new`. Fails where memory runs out: nothing is added then, and the
+    /// list is dropped.
+    pub fn add_list(&mut self, list: Box<dyn ValueCandidates>) -> Result<usize, AllocError>
+        ensures number { IfOk result (λ added. added
+            ≡ length self.old.lists.items + length self.old.added_lists.items) }
+        ensures added { IfOk result (λ added. Adds
+            (⟦<Completers as CandidateSources>⟧.may_list self.old)
+            (⟦<Completers as CandidateSources>⟧.may_list self.new) added
+            ((⟦<dyn ValueCandidates as ValueCandidates>⟧ list.vtable).lists list.value)) }
+        ensures err { OnErr result (self.new.added_lists.items ≡ self.old.added_lists.items) }
+        ensures kept { (self.new.completers ≡ self.old.completers)
+            × (self.new.lists ≡ self.old.lists)
+            × (self.new.added_completers ≡ self.old.added_completers) }
+    {
+        let number = self.lists.len() + self.added_lists.len();
+        self.added_lists.push(Source::Boxed(list))?;
+        Ok(number)
+    }
+
+    /// Adds a closure as a list of candidates, and returns its number, as `add_list` does. Fails
+    /// where memory runs out: nothing is added then, and the closure is dropped.
+    pub fn add_list_closure(&mut self, closure: FnCandidates) -> Result<usize, AllocError>
+        ensures number { IfOk result (λ added. added
+            ≡ length self.old.lists.items + length self.old.added_lists.items) }
+        ensures added { IfOk result (λ added. Adds
+            (⟦<Completers as CandidateSources>⟧.may_list self.old)
+            (⟦<Completers as CandidateSources>⟧.may_list self.new) added
+            (⟦<FnCandidates as ValueCandidates>⟧.lists closure)) }
+        ensures err { OnErr result (self.new.added_lists.items ≡ self.old.added_lists.items) }
+        ensures kept { (self.new.completers ≡ self.old.completers)
+            × (self.new.lists ≡ self.old.lists)
+            × (self.new.added_completers ≡ self.old.added_completers) }
+    {
+        let number = self.lists.len() + self.added_lists.len();
+        self.added_lists.push(Source::Closure(closure))?;
+        Ok(number)
     }
 
     // What the completer of this number returns.
@@ -66,21 +169,15 @@ impl Completers {
         number: usize,
         text: &str,
     ) -> Result<Vec<CompletionCandidate>, AllocError>
-        ensures { IfOk result (λ found. ReturnsAt (λ item.
-            (⟦<dyn ValueCompleter as ValueCompleter>⟧ item.vtable).completes item.value number
-            text.now)
-            self.now.completers.items
-            (λ closure. ⟦<FnCompleter as ValueCompleter>⟧.completes closure number text.now)
-            self.now.completer_closures.items completer found.items) }
+        ensures { IfOk result (λ found. ⟦<Completers as CandidateSources>⟧.may_complete self.now
+            completer number text.now found.items) }
     {
         if let Some(completer) = self.completers.get(completer) {
-            return ask(completer, alloc, number, text);
+            return complete_by(completer, alloc, number, text);
         }
-        match self
-            .completer_closures
-            .get(completer - self.completers.len())
-        {
-            Some(closure) => closure.complete_at(alloc, number, text),
+        match self.added_completers.get(completer - self.completers.len()) {
+            Some(Source::Boxed(completer)) => complete_by(completer, alloc, number, text),
+            Some(Source::Closure(closure)) => closure.complete_at(alloc, number, text),
             None => Ok(Vec::new(alloc)),
         }
     }
@@ -91,22 +188,21 @@ impl Completers {
         alloc: Global,
         number: usize,
     ) -> Result<Vec<CompletionCandidate>, AllocError>
-        ensures { IfOk result (λ found. ReturnsAt (λ item.
-            (⟦<dyn ValueCandidates as ValueCandidates>⟧ item.vtable).lists item.value)
-            self.now.lists.items ⟦<FnCandidates as ValueCandidates>⟧.lists
-            self.now.list_closures.items number found.items) }
+        ensures { IfOk result (λ found. ⟦<Completers as CandidateSources>⟧.may_list self.now number
+            found.items) }
     {
         if let Some(list) = self.lists.get(number) {
-            return ask_list(list, alloc);
+            return candidates_of(list, alloc);
         }
-        match self.list_closures.get(number - self.lists.len()) {
-            Some(closure) => closure.candidates(alloc),
+        match self.added_lists.get(number - self.lists.len()) {
+            Some(Source::Boxed(list)) => candidates_of(list, alloc),
+            Some(Source::Closure(closure)) => closure.candidates(alloc),
             None => Ok(Vec::new(alloc)),
         }
     }
 }
 
-fn ask(
+fn complete_by(
     completer: &Box<dyn ValueCompleter>,
     alloc: Global,
     number: usize,
@@ -117,7 +213,7 @@ fn ask(
     completer.complete_at(alloc, number, text)
 }
 
-fn ask_list(
+fn candidates_of(
     list: &Box<dyn ValueCandidates>,
     alloc: Global,
 ) -> Result<Vec<CompletionCandidate>, AllocError>

@@ -1,4 +1,4 @@
-//! Candidates for a word, and the completers and lists of candidates that a caller lends by number.
+//! Candidates for a word, and completers and lists of candidates by number.
 #![tactic(auto)]
 
 mod beginnings;
@@ -8,6 +8,7 @@ mod completers;
 mod copies;
 mod numbers;
 mod sorting;
+mod sources;
 mod traits;
 
 pub use crate::beginnings::{begins_with, retain_beginning_with};
@@ -17,4 +18,5 @@ pub use crate::completers::Completers;
 pub use crate::copies::copy_of_some;
 pub use crate::numbers::{ArgValueCandidates, ArgValueCompleter, SubcommandCandidates};
 pub use crate::sorting::sort_candidates;
+pub use crate::sources::CandidateSources;
 pub use crate::traits::{ValueCandidates, ValueCompleter};

@@ -1,15 +1,13 @@
-//! Numbers of what a caller lends, as an argument or a command holds them.
+//! Numbers of completers and lists of candidates, as an argument or a command holds them.
 
 ghost use Rattle.std.specs.Prelude.{◌≡◌, IfOk};
-ghost use Rattle.cc_candidates.specs.Lent.{ReturnsAt};
 
 use crate::candidate::CompletionCandidate;
-use crate::closures::{FnCandidates, FnCompleter};
 use crate::completers::Completers;
-use crate::traits::{ValueCandidates, ValueCompleter};
+use crate::sources::CandidateSources;
 use std::alloc::{AllocError, Global};
 
-/// The number of a lent completer.
+/// The number of a completer in `Completers`.
 #[derive(Clone, Copy, Debug)]
 pub struct ArgValueCompleter {
     number: usize,
@@ -23,7 +21,7 @@ impl ArgValueCompleter {
         ArgValueCompleter { number }
     }
 
-    /// The candidates for a text that is the first value; none where no such completer is lent.
+    /// The candidates for a text that is the first value; none where there is no such completer.
     /// Fails where memory runs out.
     pub fn complete(
         &self,
@@ -31,17 +29,14 @@ impl ArgValueCompleter {
         completers: &Completers,
         text: &str,
     ) -> Result<Vec<CompletionCandidate>, AllocError>
-        ensures { IfOk result (λ found. ReturnsAt (λ item.
-            (⟦<dyn ValueCompleter as ValueCompleter>⟧ item.vtable).completes item.value 0 text.now)
-            completers.now.completers.items
-            (λ closure. ⟦<FnCompleter as ValueCompleter>⟧.completes closure 0 text.now)
-            completers.now.completer_closures.items self.now.number found.items) }
+        ensures { IfOk result (λ found. ⟦<Completers as CandidateSources>⟧.may_complete
+            completers.now self.now.number 0 text.now found.items) }
     {
         completers.complete_at(alloc, self.number, 0, text)
     }
 
-    /// The candidates for a text that is the value of this number, counted from 0; none where no
-    /// such completer is lent. Fails where memory runs out.
+    /// The candidates for a text that is the value of this number, counted from 0; none where there
+    /// is no such completer. Fails where memory runs out.
     pub fn complete_at(
         &self,
         alloc: Global,
@@ -49,18 +44,14 @@ impl ArgValueCompleter {
         number: usize,
         text: &str,
     ) -> Result<Vec<CompletionCandidate>, AllocError>
-        ensures { IfOk result (λ found. ReturnsAt (λ item.
-            (⟦<dyn ValueCompleter as ValueCompleter>⟧ item.vtable).completes item.value number
-            text.now)
-            completers.now.completers.items
-            (λ closure. ⟦<FnCompleter as ValueCompleter>⟧.completes closure number text.now)
-            completers.now.completer_closures.items self.now.number found.items) }
+        ensures { IfOk result (λ found. ⟦<Completers as CandidateSources>⟧.may_complete
+            completers.now self.now.number number text.now found.items) }
     {
         completers.complete_at(alloc, self.number, number, text)
     }
 }
 
-/// The number of a lent list, for the values of an argument.
+/// The number of a list in `Completers`, for the values of an argument.
 #[derive(Clone, Copy, Debug)]
 pub struct ArgValueCandidates {
     number: usize,
@@ -74,22 +65,20 @@ impl ArgValueCandidates {
         ArgValueCandidates { number }
     }
 
-    /// The candidates; none where no such list is lent. Fails where memory runs out.
+    /// The candidates; none where there is no such list. Fails where memory runs out.
     pub fn candidates(
         &self,
         alloc: Global,
         completers: &Completers,
     ) -> Result<Vec<CompletionCandidate>, AllocError>
-        ensures { IfOk result (λ found. ReturnsAt (λ item.
-            (⟦<dyn ValueCandidates as ValueCandidates>⟧ item.vtable).lists item.value)
-            completers.now.lists.items ⟦<FnCandidates as ValueCandidates>⟧.lists
-            completers.now.list_closures.items self.now.number found.items) }
+        ensures { IfOk result (λ found. ⟦<Completers as CandidateSources>⟧.may_list completers.now
+            self.now.number found.items) }
     {
         completers.candidates(alloc, self.number)
     }
 }
 
-/// The number of a lent list, for the external subcommands of a command.
+/// The number of a list in `Completers`, for the external subcommands of a command.
 #[derive(Clone, Copy, Debug)]
 pub struct SubcommandCandidates {
     number: usize,
@@ -103,16 +92,14 @@ impl SubcommandCandidates {
         SubcommandCandidates { number }
     }
 
-    /// The candidates; none where no such list is lent. Fails where memory runs out.
+    /// The candidates; none where there is no such list. Fails where memory runs out.
     pub fn candidates(
         &self,
         alloc: Global,
         completers: &Completers,
     ) -> Result<Vec<CompletionCandidate>, AllocError>
-        ensures { IfOk result (λ found. ReturnsAt (λ item.
-            (⟦<dyn ValueCandidates as ValueCandidates>⟧ item.vtable).lists item.value)
-            completers.now.lists.items ⟦<FnCandidates as ValueCandidates>⟧.lists
-            completers.now.list_closures.items self.now.number found.items) }
+        ensures { IfOk result (λ found. ⟦<Completers as CandidateSources>⟧.may_list completers.now
+            self.now.number found.items) }
     {
         completers.candidates(alloc, self.number)
     }

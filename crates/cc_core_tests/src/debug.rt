@@ -56,11 +56,7 @@ fn items_show_their_field(rt: HostRuntime) {
 }
 
 #[test]
-fn a_text_shows_its_field(rt: HostRuntime) {
-    let text = Text::copy_of(rt.alloc(), "it's").expect(&rt, "no text");
-    is(
-        &rt,
-        debug_text(rt.alloc(), text),
-        "Text { inner: \"it's\" }",
-    );
+fn a_text_is_shown_as_a_str(rt: HostRuntime) {
+    let text = Text::copy_of(rt.alloc(), "it's \"\n").expect(&rt, "no text");
+    is(&rt, debug_text(rt.alloc(), text), r#""it's \"\n""#);
 }

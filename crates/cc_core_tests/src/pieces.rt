@@ -2,15 +2,15 @@
 
 use crate::checks::is;
 use cc_base::{
-    Collected, Error, as_error, put_all, put_around, put_piece, put_pieces, put_separator,
+    Collected, Error, put_all, put_around, put_piece, put_pieces, put_separator, put_word,
 };
 use std::alloc::Global;
 
 fn put_in_turn(alloc: Global) -> Result<String, Error> {
     let mut sink = Collected::new(alloc);
-    as_error(put_pieces(&mut sink, &["ab", "", "c"]))?;
-    as_error(put_around("(", "d", ")", &mut sink))?;
-    as_error(put_piece(&mut sink, b"e"))?;
+    put_pieces(&mut sink, &["ab", "", "c"])?;
+    put_around(&mut sink, "(", "d", ")")?;
+    put_piece(&mut sink, "e")?;
     Ok(String::from_utf8_lossy(alloc, sink.as_slice())?)
 }
 
@@ -23,7 +23,7 @@ fn with_separators(alloc: Global) -> Result<String, Error> {
     let mut sink = Collected::new(alloc);
     let mut begun = false;
     for name in ["ls", "rm"] {
-        as_error(put_separator(", ", &mut begun, &mut sink))?;
+        put_separator(&mut sink, ", ", &mut begun)?;
         put_all(&mut sink, name.as_bytes())?;
     }
     Ok(String::from_utf8_lossy(alloc, sink.as_slice())?)
@@ -32,4 +32,17 @@ fn with_separators(alloc: Global) -> Result<String, Error> {
 #[test]
 fn no_separator_comes_first(rt: HostRuntime) {
     is(&rt, with_separators(rt.alloc()), "ls, rm");
+}
+
+fn as_words(alloc: Global) -> Result<String, Error> {
+    let mut sink = Collected::new(alloc);
+    let mut begun = false;
+    put_word(&mut sink, "-", "v", &mut begun)?;
+    put_word(&mut sink, "--", "all", &mut begun)?;
+    Ok(String::from_utf8_lossy(alloc, sink.as_slice())?)
+}
+
+#[test]
+fn a_space_is_between_words(rt: HostRuntime) {
+    is(&rt, as_words(rt.alloc()), "-v --all");
 }

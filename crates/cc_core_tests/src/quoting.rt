@@ -1,13 +1,12 @@
 //! The writers and readers of quoted words.
 
 use crate::checks::{is, is_none, same};
-use cc_base::{Collected, Error, as_error};
+use cc_base::{Collected, Error};
 use cc_quote::{
     ElvishEscape, PowershellEscape, bash_double, bash_double_word, elvish_escape, elvish_word,
     fish_double, fish_escape, fish_help_for_eval, fish_quote, fish_quote_for_eval, fish_word,
     posix_quote, posix_word, powershell_escape, powershell_word, push_escaped, put_escaped,
-    put_escaped_piece, zsh_escape_help, zsh_escape_value, zsh_reply_help, zsh_reply_value,
-    zsh_unescape,
+    zsh_escape_help, zsh_escape_value, zsh_reply_help, zsh_reply_value, zsh_unescape,
 };
 use std::alloc::{AllocError, Global};
 use std::process::Abort;
@@ -68,9 +67,8 @@ fn elvish_reads_words(rt: HostRuntime) {
 // What escapes write to a sink.
 fn escape(alloc: Global) -> Result<String, Error> {
     let mut sink = Collected::new(alloc);
-    put_escaped(&ElvishEscape, "it's\n’", &mut sink)?;
-    put_escaped(&PowershellEscape, "’it's\n", &mut sink)?;
-    as_error(put_escaped_piece(&ElvishEscape, "'", &mut sink))?;
+    put_escaped(&mut sink, &ElvishEscape, "it's\n’")?;
+    put_escaped(&mut sink, &PowershellEscape, "’it's\n'")?;
     Ok(String::from_utf8_lossy(alloc, sink.as_slice())?)
 }
 

@@ -41,9 +41,9 @@ use Rattle.cc_walk.specs.declared.state.State.{State}
 use Rattle.cc_walk.specs.Lookup.{positional_at}
 use Rattle.cc_walk.specs.Signs.{character_value, value_argument, value_character}
 use Rattle.cc_walk.specs.Words.{EndsWith, before_equals}
-use Rattle.cc_engine.specs.declared.offer.Offer.{Offer}
-use Rattle.cc_engine.specs.Completion.{AreAllowed, BeginsOrIsTold, Given, candidates_for, finished_with, offer_questions, offered, offered_children, offered_row, open_question, opened_values, positional_question, positional_values, questions, row_candidates, row_question, told}
-use Rattle.cc_engine.specs.Offer.{least, offer_by}
+use Rattle.cc_engine.specs.declared.open_lists.OpenLists.{OpenLists}
+use Rattle.cc_engine.specs.Completion.{AreAllowed, BeginsOrIsTold, Given, candidates_for, finished_with, questions_of_lists, offered, offered_children, offered_row, open_question, opened_values, positional_question, positional_values, questions, row_candidates, row_question, told}
+use Rattle.cc_engine.specs.OpenLists.{least, open_lists_by}
 
 abbrev Candidates : Type 0
 Candidates = List CompletionCandidate
@@ -328,38 +328,38 @@ all_finished_with P (OptionOpen option count) word given others h k = by (nat_le
 -- THE LAW
 
 all_offered : (lent : Lent) (P : CompletionCandidate → Type 0) (word : List ℕ) → IsUtf8 word → IsOfBeginning P word
-    → (tree : Tree) (position : ℕ) (offer : Offer) (pending : Pending) (given : Given)
-    → AreAllowed lent (offer_questions tree position offer pending word) given
-    → AllByRecursion P (told (positional_question (positional_at tree.node.arguments position) offer.value word)
-    (positional_values (positional_at tree.node.arguments position) offer.value word given.positional))
-    → AllByRecursion P (told (row_question (offered_row offer.options tree.node.arguments word)) (row_candidates (offered_row offer.options tree.node.arguments word) given.within))
-    → AllByRecursion P (offered tree position offer word given)
-all_offered lent P word valid ok tree position offer pending given allowed values within =
-    let positional = positional_values (positional_at tree.node.arguments position) offer.value word given.positional in
-    let children = offered_children offer.children tree word given.children in
-    AllByRecursion-append P (children ++ positional) (row_candidates (offered_row offer.options tree.node.arguments word) given.within)
-    (AllByRecursion-append P children positional (all_children P word ok offer.children tree given.children)
-    (all_positional lent P word ok (positional_at tree.node.arguments position) offer.value given.positional allowed.positional values))
-    (all_row lent P word ok (offered_row offer.options tree.node.arguments word) (offered_fits P offer.options tree.node.arguments word valid ok) given.within allowed.within within)
+    → (tree : Tree) (position : ℕ) (lists : OpenLists) (pending : Pending) (given : Given)
+    → AreAllowed lent (questions_of_lists tree position lists pending word) given
+    → AllByRecursion P (told (positional_question (positional_at tree.node.arguments position) lists.value word)
+    (positional_values (positional_at tree.node.arguments position) lists.value word given.positional))
+    → AllByRecursion P (told (row_question (offered_row lists.options tree.node.arguments word)) (row_candidates (offered_row lists.options tree.node.arguments word) given.within))
+    → AllByRecursion P (offered tree position lists word given)
+all_offered lent P word valid ok tree position lists pending given allowed values within =
+    let positional = positional_values (positional_at tree.node.arguments position) lists.value word given.positional in
+    let children = offered_children lists.children tree word given.children in
+    AllByRecursion-append P (children ++ positional) (row_candidates (offered_row lists.options tree.node.arguments word) given.within)
+    (AllByRecursion-append P children positional (all_children P word ok lists.children tree given.children)
+    (all_positional lent P word ok (positional_at tree.node.arguments position) lists.value given.positional allowed.positional values))
+    (all_row lent P word ok (offered_row lists.options tree.node.arguments word) (offered_fits P lists.options tree.node.arguments word valid ok) given.within allowed.within within)
 
 pub begins_or_is_told : (lent : Lent) (tree : Tree) (state : State) (word : List ℕ) (given : Given) (found : Candidates) → IsUtf8 word
     → AreAllowed lent (questions tree state word) given → found ≡ candidates_for tree state word given
     → BeginsOrIsTold tree state word given found
 begins_or_is_told lent tree state word given found valid allowed is =
-    let offer = offer_by tree.node.arguments state.position state.escaped state.pending in
-    let positional = told (positional_question (positional_at tree.node.arguments state.position) offer.value word)
-    (positional_values (positional_at tree.node.arguments state.position) offer.value word given.positional) in
-    let within = told (row_question (offered_row offer.options tree.node.arguments word)) (row_candidates (offered_row offer.options tree.node.arguments word) given.within) in
+    let lists = open_lists_by tree.node.arguments state.position state.escaped state.pending in
+    let positional = told (positional_question (positional_at tree.node.arguments state.position) lists.value word)
+    (positional_values (positional_at tree.node.arguments state.position) lists.value word given.positional) in
+    let within = told (row_question (offered_row lists.options tree.node.arguments word)) (row_candidates (offered_row lists.options tree.node.arguments word) given.within) in
     let opened = told (open_question state.pending word) (opened_values state.pending word given.opened) in
     let P : CompletionCandidate → Type 0 = λ c. (begins word c ≡ true) ⊎ Contains (positional ++ (within ++ opened)) c in
     let ok : IsOfBeginning P word = λ c e. inl e in
     let all : Candidates = positional ++ (within ++ opened) in
     subst (AllByRecursion P) (sym is)
-    (all_finished_with P state.pending word given.opened (offered tree state.position offer word given)
+    (all_finished_with P state.pending word given.opened (offered tree state.position lists word given)
     (all_opened lent P word ok state.pending given.opened allowed.opened
     (AllByRecursion-from_IsIn P opened
     (λ c h. inr (Contains-from_IsIn all c (IsIn-append_right positional (within ++ opened) c (IsIn-append_right within opened c h))))))
-    (all_offered lent P word valid ok tree state.position offer state.pending given allowed
+    (all_offered lent P word valid ok tree state.position lists state.pending given allowed
     (AllByRecursion-from_IsIn P positional (λ c h. inr (Contains-from_IsIn all c (IsIn-append_left positional (within ++ opened) c h))))
     (AllByRecursion-from_IsIn P within
     (λ c h. inr (Contains-from_IsIn all c (IsIn-append_right positional (within ++ opened) c (IsIn-append_left within opened c h)))))))

@@ -4,7 +4,6 @@ use Rattle.std.specs.Path.{path_file_name, path_join, split_last_component, trim
 use Rattle.std.specs.Str.{chars}
 use Rattle.cc_arg.specs.declared.action.ArgAction.TheVariants.{SetTrue}
 use Rattle.cc_arg.specs.declared.parts.ArgParts.{ArgParts as Arg}
-use Rattle.cc_arg.specs.declared.value_hint.ValueHint.{ValueHint}
 use Rattle.cc_arg.specs.declared.value_hint.ValueHint.TheVariants.{FilePath}
 use Rattle.cc_arg.specs.Arguments.{exactly, new_arg}
 use Rattle.cc_arg.specs.PossibleValues.{new_possible_value}
@@ -26,7 +25,7 @@ use Rattle.cc_gather.specs.Rows.{row_of}
 use Rattle.cc_paths.specs.PathCandidates.{grouped_candidates, groups}
 use Rattle.cc_paths.specs.PathTexts.{word_prefix}
 use Rattle.cc_values.specs.Parts.{front_length}
-use Rattle.cc_values.specs.Values.{Allows, completer, gather, lent_by, nothing, paths, question, sorted, values}
+use Rattle.cc_values.specs.Values.{completer, gather, nothing, paths, question, sorted, values}
 use Rattle.cc_walk.specs.Blocks.{start}
 use Rattle.cc_walk.specs.Lookup.{allows_hyphens_at, limit, positional_at}
 use Rattle.cc_walk.specs.Machine.{NodeState, walk}
@@ -383,15 +382,3 @@ unfolding help_argument help_name help_about help_help subcommand_candidates in_
     allows_hyphens_at chars values gather sorted front_length printed printed_names printed_values
     printed_after_name lib.Utf8.encode
 dash_as_a_value = refl
-
--- WHAT IS LENT
-
--- a completer past the list gives no candidates
-past_the_list : {C F L G : Type 0} (Completes : C → ℕ → List ℕ → List CompletionCandidate → Type 0)
-    (one other : C) (ClosureCompletes : F → ℕ → List ℕ → List CompletionCandidate → Type 0)
-    (Lists : L → List CompletionCandidate → Type 0) (ClosureLists : G → List CompletionCandidate → Type 0)
-    (Finds : ValueHint → List ℕ → List CompletionCandidate → Type 0)
-    (found : List CompletionCandidate)
-    → Allows (lent_by Completes (one ∷ other ∷ []) ClosureCompletes [] Lists [] ClosureLists [] Finds)
-    (completer 7 0 []) found → found ≡ []
-past_the_list Completes one other ClosureCompletes Lists ClosureLists Finds found allowed = allowed

@@ -8,14 +8,14 @@ use Rattle.std.proofs.lemmas.List.Folds.{list_any-append}
 use Rattle.cc_base.specs.Sorting.{in_order, insert}
 use Rattle.cc_candidates.specs.declared.candidate.CompletionCandidate.{CompletionCandidate}
 use Rattle.cc_command.specs.Tree.{Tree}
-use Rattle.cc_gather.specs.Finished.{AreShown, Differ, comes_before, finish, first_of_ids, group, is_shown, shown_or_all}
-use Rattle.cc_gather.proofs.Law.{differ, visible}
+use Rattle.cc_gather.specs.Finished.{AreGrouped, AreShown, Differ, comes_before, finish, first_of_ids, group, is_shown, shown_or_all}
+use Rattle.cc_gather.proofs.Law.{differ, order, visible}
 use Rattle.cc_values.specs.Values.{Lent, values}
 use Rattle.cc_walk.specs.declared.state.Pending.{Pending}
 use Rattle.cc_walk.specs.declared.state.Pending.TheVariants.{Nothing, OptionOpen, PositionalRun, PositionMoved}
 use Rattle.cc_walk.specs.declared.state.State.{State}
-use Rattle.cc_engine.specs.Completion.{Completes, Given, ShowsVisible, candidates_for, besides, finished_with, offered, opened_values}
-use Rattle.cc_engine.specs.Offer.{full_offer, least, no_offer, offer_by}
+use Rattle.cc_engine.specs.Completion.{Completes, Given, IsSorted, ShowsVisible, candidates_for, besides, finished_last, finished_with, offered, opened_values}
+use Rattle.cc_engine.specs.OpenLists.{all_open, least, none_open, open_lists_by}
 use Rattle.cc_engine.proofs.OneFinishing.{nothing_offered}
 
 abbrev Candidates : Type 0
@@ -94,26 +94,46 @@ any_after opened others e =
 -- where a visible candidate is gathered, no hidden one is among those returned
 
 beside_option : (tree : Tree) (position : ℕ) (escaped : Bool) (word : List ℕ) (given : Given) (opened : Candidates) (enough : Bool)
-    → list_any is_shown (opened ++ offered tree position (if enough then full_offer escaped else no_offer) word given) ≡ true
-    → AreShown (if enough then finish (opened ++ finish (offered tree position (if enough then full_offer escaped else no_offer) word given)) else finish opened)
+    → list_any is_shown (opened ++ offered tree position (if enough then all_open escaped else none_open) word given) ≡ true
+    → AreShown (if enough then finish (opened ++ finish (offered tree position (if enough then all_open escaped else none_open) word given)) else finish opened)
 beside_option tree position escaped word given opened true e =
-    visible (opened ++ finish (offered tree position (full_offer escaped) word given)) (any_after opened (offered tree position (full_offer escaped) word given) e)
+    visible (opened ++ finish (offered tree position (all_open escaped) word given)) (any_after opened (offered tree position (all_open escaped) word given) e)
 beside_option tree position escaped word given opened false e =
     visible opened
     (ap (list_any is_shown) (sym (append-nil opened)) ∙ ap (λ rest. list_any is_shown (opened ++ rest)) (sym (nothing_offered tree position word given)) ∙ e)
 
 by_pending : (tree : Tree) (state : State) (word : List ℕ) (given : Given) (pending : Pending)
     → list_any is_shown (opened_values pending word given.opened
-    ++ offered tree state.position (offer_by tree.node.arguments state.position state.escaped pending) word given) ≡ true
-    → AreShown (finished_with pending word given.opened (offered tree state.position (offer_by tree.node.arguments state.position state.escaped pending) word given))
-by_pending tree state word given Nothing e = visible (offered tree state.position (full_offer state.escaped) word given) e
+    ++ offered tree state.position (open_lists_by tree.node.arguments state.position state.escaped pending) word given) ≡ true
+    → AreShown (finished_with pending word given.opened (offered tree state.position (open_lists_by tree.node.arguments state.position state.escaped pending) word given))
+by_pending tree state word given Nothing e = visible (offered tree state.position (all_open state.escaped) word given) e
 by_pending tree state word given (PositionalRun count) e =
-    visible (offered tree state.position (offer_by tree.node.arguments state.position state.escaped (PositionalRun count)) word given) e
+    visible (offered tree state.position (open_lists_by tree.node.arguments state.position state.escaped (PositionalRun count)) word given) e
 by_pending tree state word given PositionMoved e =
-    visible (offered tree state.position (offer_by tree.node.arguments state.position state.escaped PositionMoved) word given) e
+    visible (offered tree state.position (open_lists_by tree.node.arguments state.position state.escaped PositionMoved) word given) e
 by_pending tree state word given (OptionOpen option count) e =
     beside_option tree state.position state.escaped word given (values option word given.opened) (nat_le (least option) count) e
 
 pub shows_visible : (tree : Tree) (state : State) (word : List ℕ) (given : Given) (found : Candidates)
     → found ≡ candidates_for tree state word given → ShowsVisible tree state word given found
 shows_visible tree state word given found is any = subst AreShown (sym is) (by_pending tree state word given state.pending any)
+
+-- THE RESULT IS SORTED
+
+finished_is : (pending : Pending) (word : List ℕ) (given others : Candidates) → finished_with pending word given others ≡ finish (finished_last pending word given others)
+finished_is Nothing word given others = refl
+finished_is (PositionalRun count) word given others = refl
+finished_is PositionMoved word given others = refl
+finished_is (OptionOpen option count) word given others = by (nat_le (least option) count)
+  where
+    by : (enough : Bool) → (if enough then finish (values option word given ++ finish others) else finish (values option word given))
+        ≡ finish (if enough then values option word given ++ finish others else values option word given)
+    by true = refl
+    by false = refl
+
+pub is_sorted : (tree : Tree) (state : State) (word : List ℕ) (given : Given) (found : Candidates)
+    → found ≡ candidates_for tree state word given → IsSorted tree state word given found
+is_sorted tree state word given found is =
+    let others : Candidates = besides tree state word given in
+    let all : Candidates = finished_last state.pending word given.opened others in
+    (subst (AreGrouped (first_of_ids (shown_or_all all))) (sym (is ∙ finished_is state.pending word given.opened others)) (order all), order others)

@@ -9,10 +9,10 @@ use Rattle.cc_walk.specs.Line.{IsLine, IsOnlyLine}
 use Rattle.cc_walk.specs.Visible.{HasNoHiddenAlias, visible_end}
 use Rattle.cc_engine.specs.Completion.{Completes, Offers, words_before}
 use Rattle.cc_engine.proofs.Begins.{begins_or_is_told}
-use Rattle.cc_engine.proofs.Laws.{shows_visible}
+use Rattle.cc_engine.proofs.Laws.{is_sorted, shows_visible}
 use Rattle.cc_engine.proofs.OneFinishing.{finishes_once}
 
--- where none of the words is a hidden alias, the walk by visible names ends at this node
+-- where none of the words is a hidden alias at the node where it is read, the walk by visible names ends at this node
 abbrev EndsVisibly : Tree → List (List ℕ) → Tree → Type 0
 EndsVisibly top before node = HasNoHiddenAlias top before → node ≡ visible_end top before
 
@@ -29,6 +29,7 @@ with_laws lent root tree state words index found valid line only visible offers 
   only = only;
   visible = visible;
   offers = offers;
+  grouped = is_sorted tree state (get_or words index []) offers.0 found offers.2;
   once = finishes_once tree state (get_or words index []) offers.0 found offers.2;
   shows_visible = shows_visible tree state (get_or words index []) offers.0 found offers.2;
   begins_or_told = begins_or_is_told lent tree state (get_or words index []) offers.0 found valid offers.1 offers.2;

@@ -12,7 +12,7 @@ use Rattle.cc_walk.specs.declared.state.Pending.TheVariants.{Nothing, OptionOpen
 use Rattle.cc_walk.specs.declared.state.State.{State}
 use Rattle.cc_walk.specs.Lookup.{positional_at}
 use Rattle.cc_engine.specs.Completion.{FinishesOnce, Given, candidates_for, finished_with, offered, opened_values, positional_values}
-use Rattle.cc_engine.specs.Offer.{full_offer, least, no_offer, offer_by}
+use Rattle.cc_engine.specs.OpenLists.{all_open, least, none_open, open_lists_by}
 use Rattle.cc_values.specs.Values.{values}
 
 -- without a number a positional has no values
@@ -20,26 +20,26 @@ no_values : (positional : Option Arg) (word : List ℕ) (given : List Completion
 no_values None word given = refl
 no_values (Some argument) word given = refl
 
--- an empty offer is empty
-pub nothing_offered : (tree : Tree) (position : ℕ) (word : List ℕ) (given : Given) → offered tree position no_offer word given ≡ []
+-- where no list is open nothing is offered
+pub nothing_offered : (tree : Tree) (position : ℕ) (word : List ℕ) (given : Given) → offered tree position none_open word given ≡ []
 nothing_offered tree position word given =
     append-nil (positional_values (positional_at tree.node.arguments position) None word given.positional)
     ∙ no_values (positional_at tree.node.arguments position) word given.positional
 
 -- beside an open option, which has enough values or has too few
 beside_option : (tree : Tree) (position : ℕ) (escaped : Bool) (word : List ℕ) (given : Given) (opened : List CompletionCandidate) (enough : Bool)
-    → ShareNone opened (offered tree position (if enough then full_offer escaped else no_offer) word given)
-    → (if enough then finish (opened ++ finish (offered tree position (if enough then full_offer escaped else no_offer) word given)) else finish opened)
-    ≡ finish (opened ++ offered tree position (if enough then full_offer escaped else no_offer) word given)
-beside_option tree position escaped word given opened true apart = finish_after opened (offered tree position (full_offer escaped) word given) apart
+    → ShareNone opened (offered tree position (if enough then all_open escaped else none_open) word given)
+    → (if enough then finish (opened ++ finish (offered tree position (if enough then all_open escaped else none_open) word given)) else finish opened)
+    ≡ finish (opened ++ offered tree position (if enough then all_open escaped else none_open) word given)
+beside_option tree position escaped word given opened true apart = finish_after opened (offered tree position (all_open escaped) word given) apart
 beside_option tree position escaped word given opened false apart =
     ap finish (sym (append-nil opened)) ∙ ap (λ rest. finish (opened ++ rest)) (sym (nothing_offered tree position word given))
 
 -- after the words before it, whatever is open
 by_pending : (tree : Tree) (state : State) (word : List ℕ) (given : Given) (pending : Pending)
-    → ShareNone (opened_values pending word given.opened) (offered tree state.position (offer_by tree.node.arguments state.position state.escaped pending) word given)
-    → finished_with pending word given.opened (offered tree state.position (offer_by tree.node.arguments state.position state.escaped pending) word given)
-    ≡ finish (opened_values pending word given.opened ++ offered tree state.position (offer_by tree.node.arguments state.position state.escaped pending) word given)
+    → ShareNone (opened_values pending word given.opened) (offered tree state.position (open_lists_by tree.node.arguments state.position state.escaped pending) word given)
+    → finished_with pending word given.opened (offered tree state.position (open_lists_by tree.node.arguments state.position state.escaped pending) word given)
+    ≡ finish (opened_values pending word given.opened ++ offered tree state.position (open_lists_by tree.node.arguments state.position state.escaped pending) word given)
 by_pending tree state word given Nothing apart = refl
 by_pending tree state word given (PositionalRun count) apart = refl
 by_pending tree state word given PositionMoved apart = refl

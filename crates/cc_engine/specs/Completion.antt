@@ -12,7 +12,7 @@ use Rattle.cc_candidates.specs.declared.numbers.SubcommandCandidates.{Subcommand
 use Rattle.cc_command.specs.declared.node.Node.{Node}
 use Rattle.cc_command.specs.Tree.{Tree}
 use Rattle.cc_gather.specs.Children.{subcommand_candidates}
-use Rattle.cc_gather.specs.Finished.{finish, is_shown, AreShown, ShareNone}
+use Rattle.cc_gather.specs.Finished.{finish, first_of_ids, is_shown, shown_or_all, AreGrouped, AreShown, ShareNone}
 use Rattle.cc_gather.specs.Rows.{Row, Listed, ValuesOf, with_prefix, row_of}
 use Rattle.cc_values.specs.Parts.{part}
 use Rattle.cc_values.specs.Values.{Allows, Lent, Question, nothing, candidates, completer, paths, question, values}
@@ -22,8 +22,8 @@ use Rattle.cc_walk.specs.declared.state.State.{State}
 use Rattle.cc_walk.specs.Line.{IsLine, IsOnlyLine}
 use Rattle.cc_walk.specs.Lookup.{positional_at}
 use Rattle.cc_walk.specs.Visible.{HasNoHiddenAlias, visible_end}
-use Rattle.cc_engine.specs.declared.offer.Offer.{Offer}
-use Rattle.cc_engine.specs.Offer.{least, offer_by}
+use Rattle.cc_engine.specs.declared.open_lists.OpenLists.{OpenLists}
+use Rattle.cc_engine.specs.OpenLists.{least, open_lists_by}
 
 -- THE CHILDREN
 
@@ -107,27 +107,27 @@ pub record AreAllowed (lent : Lent) (asked : Questions) (given : Given) : Type 0
   pub opened : Allows lent asked.opened given.opened
 
 -- what the offered lists ask
-abbrev pub offer_questions : Tree → ℕ → Offer → Pending → List ℕ → Questions
-offer_questions tree position offer pending word = record {
-  children = children_question offer.children tree.node;
-  positional = positional_question (positional_at tree.node.arguments position) offer.value word;
-  within = row_question (offered_row offer.options tree.node.arguments word);
+abbrev pub questions_of_lists : Tree → ℕ → OpenLists → Pending → List ℕ → Questions
+questions_of_lists tree position lists pending word = record {
+  children = children_question lists.children tree.node;
+  positional = positional_question (positional_at tree.node.arguments position) lists.value word;
+  within = row_question (offered_row lists.options tree.node.arguments word);
   opened = open_question pending word;
 }
 
 -- what the word at a node asks, where the words before it lead to this state
 abbrev pub questions : Tree → State → List ℕ → Questions
 questions tree state word =
-    offer_questions tree state.position
-    (offer_by tree.node.arguments state.position state.escaped state.pending) state.pending word
+    questions_of_lists tree state.position
+    (open_lists_by tree.node.arguments state.position state.escaped state.pending) state.pending word
 
 -- the offered lists, one after another
-abbrev pub offered : Tree → ℕ → Offer → List ℕ → Given → List CompletionCandidate
-offered tree position offer word given =
-    (offered_children offer.children tree word given.children
+abbrev pub offered : Tree → ℕ → OpenLists → List ℕ → Given → List CompletionCandidate
+offered tree position lists word given =
+    (offered_children lists.children tree word given.children
     ++ positional_values
-    (positional_at tree.node.arguments position) offer.value word given.positional)
-    ++ row_candidates (offered_row offer.options tree.node.arguments word) given.within
+    (positional_at tree.node.arguments position) lists.value word given.positional)
+    ++ row_candidates (offered_row lists.options tree.node.arguments word) given.within
 
 -- finished: the values of an option that has too few alone; those of one that may end here, and
 -- after them the finished others; else the others
@@ -142,7 +142,7 @@ finished_with _ word given others = finish others
 abbrev pub besides : Tree → State → List ℕ → Given → List CompletionCandidate
 besides tree state word given =
     offered tree state.position
-    (offer_by tree.node.arguments state.position state.escaped state.pending) word given
+    (open_lists_by tree.node.arguments state.position state.escaped state.pending) word given
 
 -- what is offered for the word, where these lists are given
 abbrev pub candidates_for : Tree → State → List ℕ → Given → List CompletionCandidate
@@ -156,19 +156,19 @@ Offers lent tree state word result =
     × (result ≡ candidates_for tree state word given)
 
 -- the lists that may be offered for the word, the values of an open option aside
-pub record AreOffered (lent : Lent) (tree : Tree) (position : ℕ) (offer : Offer) (word : List ℕ)
+pub record AreOffered (lent : Lent) (tree : Tree) (position : ℕ) (lists : OpenLists) (word : List ℕ)
     (found : List CompletionCandidate) : Type 0 where
   pub children : List CompletionCandidate
-  pub children_given : Allows lent (children_question offer.children tree.node) children
+  pub children_given : Allows lent (children_question lists.children tree.node) children
   pub positional : List CompletionCandidate
   pub positional_given : Allows lent
-      (positional_question (positional_at tree.node.arguments position) offer.value word) positional
+      (positional_question (positional_at tree.node.arguments position) lists.value word) positional
   pub within : List CompletionCandidate
   pub within_given : Allows lent
-      (row_question (offered_row offer.options tree.node.arguments word)) within
-  pub is : found ≡ (offered_children offer.children tree word children
-      ++ positional_values (positional_at tree.node.arguments position) offer.value word positional)
-      ++ row_candidates (offered_row offer.options tree.node.arguments word) within
+      (row_question (offered_row lists.options tree.node.arguments word)) within
+  pub is : found ≡ (offered_children lists.children tree word children
+      ++ positional_values (positional_at tree.node.arguments position) lists.value word positional)
+      ++ row_candidates (offered_row lists.options tree.node.arguments word) within
 
 -- WHAT IS SO OF THE RESULT
 
@@ -188,6 +188,24 @@ FinishesOnce tree state word given result =
     ShareNone (opened_values state.pending word given.opened) (besides tree state word given)
     → result ≡ finish (all_gathered tree state word given)
 
+-- the list whose finishing is the result
+abbrev pub finished_last : Pending → List ℕ → List CompletionCandidate → List CompletionCandidate
+    → List CompletionCandidate
+finished_last (OptionOpen option count) word given others =
+    if nat_le (least option) count then values option word given ++ finish others
+    else values option word given
+finished_last _ word given others = others
+
+-- The result is sorted: of those candidates the visible ones if any is, and of each id the first,
+-- by the rank of their tags and then by display order; those that tie keep their order. What is
+-- offered besides the values of an open option is sorted so before it comes after them.
+abbrev pub IsSorted : Tree → State → List ℕ → Given → List CompletionCandidate → Type 0
+IsSorted tree state word given result =
+    AreGrouped (first_of_ids (shown_or_all
+    (finished_last state.pending word given.opened (besides tree state word given)))) result
+    × AreGrouped (first_of_ids (shown_or_all (besides tree state word given)))
+    (finish (besides tree state word given))
+
 -- where a visible candidate is gathered, no hidden one is in the result
 abbrev pub ShowsVisible : Tree → State → List ℕ → Given → List CompletionCandidate → Type 0
 ShowsVisible tree state word given result =
@@ -200,20 +218,20 @@ told (paths hint text) found = found
 told _ found = []
 
 -- all that is made of the lists of completers and of the folder, where these lists are offered
-abbrev pub told_by_offer : Tree → ℕ → Offer → Pending → List ℕ → Given → List CompletionCandidate
-told_by_offer tree position offer pending word given =
-    told (positional_question (positional_at tree.node.arguments position) offer.value word)
-    (positional_values (positional_at tree.node.arguments position) offer.value word
+abbrev pub told_by_lists : Tree → ℕ → OpenLists → Pending → List ℕ → Given → List CompletionCandidate
+told_by_lists tree position lists pending word given =
+    told (positional_question (positional_at tree.node.arguments position) lists.value word)
+    (positional_values (positional_at tree.node.arguments position) lists.value word
     given.positional)
-    ++ (told (row_question (offered_row offer.options tree.node.arguments word))
-    (row_candidates (offered_row offer.options tree.node.arguments word) given.within)
+    ++ (told (row_question (offered_row lists.options tree.node.arguments word))
+    (row_candidates (offered_row lists.options tree.node.arguments word) given.within)
     ++ told (open_question pending word) (opened_values pending word given.opened))
 
 -- the same for the word at a node, where the words before it lead to this state
 abbrev pub told_candidates : Tree → State → List ℕ → Given → List CompletionCandidate
 told_candidates tree state word given =
-    told_by_offer tree state.position
-    (offer_by tree.node.arguments state.position state.escaped state.pending)
+    told_by_lists tree state.position
+    (open_lists_by tree.node.arguments state.position state.escaped state.pending)
     state.pending word given
 
 -- each candidate of the result begins with the word, or is made of the list of a completer or of
@@ -239,8 +257,8 @@ words_before node words index = drop (names_before node) (take index words)
 
 -- What may be offered for the word at the index: the words before it lead to one node and one
 -- state, to no others, and the list is one that may be offered there. Where none of those words is
--- a hidden alias, the node is that of the walk by visible names. The laws speak of this node and
--- state, and of the very lists of which the result is made.
+-- a hidden alias at the command where it is read, the node is that of the walk by visible names. The
+-- laws speak of this node and state, and of the very lists of which the result is made.
 pub record Completes (lent : Lent) (root : Tree) (words : List (List ℕ)) (index : ℕ)
     (result : List CompletionCandidate) : Type 0 where
   pub tree : Tree
@@ -250,6 +268,7 @@ pub record Completes (lent : Lent) (root : Tree) (words : List (List ℕ)) (inde
   pub visible : HasNoHiddenAlias root (words_before root.node words index)
       → tree ≡ visible_end root (words_before root.node words index)
   pub offers : Offers lent tree state (get_or words index []) result
+  pub grouped : IsSorted tree state (get_or words index []) offers.0 result
   pub once : FinishesOnce tree state (get_or words index []) offers.0 result
   pub shows_visible : ShowsVisible tree state (get_or words index []) offers.0 result
   pub begins_or_told : BeginsOrIsTold tree state (get_or words index []) offers.0 result

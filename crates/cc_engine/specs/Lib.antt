@@ -1,3 +1,3 @@
 pub mod Completion
-pub mod Offer
+pub mod OpenLists
 pub mod Paths

@@ -6,69 +6,74 @@ ghost use Rattle.cc_candidates.specs.declared.candidate.CompletionCandidate.{Com
 ghost use Rattle.cc_engine.specs.Completion.{children_question, offered_children};
 ghost use Rattle.cc_engine.specs.Completion.{positional_question, positional_values};
 ghost use Rattle.cc_engine.specs.Completion.{offered_row, row_candidates, row_question};
-ghost use Rattle.cc_values.specs.Values.{Allows};
+ghost use Rattle.cc_values.specs.Values.{Allows, lent_by};
 
-use crate::lenders::Lenders;
+use crate::sources::Sources;
 use cc_arg::Arg;
-use cc_candidates::CompletionCandidate;
+use cc_candidates::{CandidateSources, Completers, CompletionCandidate};
 use cc_command::Command;
 use cc_gather::{OptionRow, all_with_prefix, option_row, subcommand_candidates};
+use cc_values::PathSource;
 use std::alloc::{AllocError, Global};
 
-/// The children that begin with the word, and what the lent list of other programs adds.
-pub(crate) fn children<L: Lenders>(
+/// The children that begin with the word, and what the list of other programs adds.
+pub(crate) fn children<P: PathSource>(
     alloc: Global,
     offered: bool,
     command: &Command,
     word: &str,
-    lenders: &L,
+    sources: &Sources<'_, P>,
 ) -> Result<Vec<CompletionCandidate>, AllocError>
     ensures { IfOk result (λ found. (given : List CompletionCandidate)
-        × Allows (L.lent lenders.now) (children_question offered command.now.node) given
+        × Allows (lent_by
+        ⟦<Completers as CandidateSources>⟧.may_complete
+        ⟦<Completers as CandidateSources>⟧.may_list sources.now.completers.now
+        (P.finds sources.now.paths.now)) (children_question offered command.now.node) given
         × (found.items ≡ offered_children offered command.now word.now given)) }
 {
     if !offered {
         return Ok(Vec::new(alloc));
     }
-    let lent = match command.get_candidates() {
-        Some(list) if command.is_allow_external_subcommands_set() => {
-            lenders.other_programs(alloc, list)?
-        }
-        _ => Vec::new(alloc),
-    };
-    subcommand_candidates(alloc, command, lent, word)
+    let programs = sources.other_programs(alloc, command)?;
+    subcommand_candidates(alloc, command, programs, word)
 }
 
 /// The values of a positional, as its value of this number.
-pub(crate) fn positional_values<L: Lenders>(
+pub(crate) fn positional_values<P: PathSource>(
     alloc: Global,
     positional: Option<&Arg>,
     number: Option<usize>,
     word: &str,
-    lenders: &L,
+    sources: &Sources<'_, P>,
 ) -> Result<Vec<CompletionCandidate>, AllocError>
     ensures { IfOk result (λ found. (given : List CompletionCandidate)
-        × Allows (L.lent lenders.now)
+        × Allows (lent_by
+        ⟦<Completers as CandidateSources>⟧.may_complete
+        ⟦<Completers as CandidateSources>⟧.may_list sources.now.completers.now
+        (P.finds sources.now.paths.now))
         (positional_question (option_copied positional.entry) number word.now) given
         × (found.items
         ≡ positional_values (option_copied positional.entry) number word.now given)) }
 {
     match (positional, number) {
-        (Some(argument), Some(number)) => lenders.values(alloc, argument, word, number),
+        (Some(argument), Some(number)) => sources.values(alloc, argument, word, number),
         (Some(_), None) | (None, _) => Ok(Vec::new(alloc)),
     }
 }
 
 /// The options that the word may become, or the values of the one that it names.
-pub(crate) fn options<L: Lenders>(
+pub(crate) fn options<P: PathSource>(
     alloc: Global,
     offered: bool,
     arguments: &[Arg],
     word: &str,
-    lenders: &L,
+    sources: &Sources<'_, P>,
 ) -> Result<Vec<CompletionCandidate>, AllocError>
     ensures { IfOk result (λ found. (given : List CompletionCandidate)
-        × Allows (L.lent lenders.now)
+        × Allows (lent_by
+        ⟦<Completers as CandidateSources>⟧.may_complete
+        ⟦<Completers as CandidateSources>⟧.may_list sources.now.completers.now
+        (P.finds sources.now.paths.now))
         (row_question (offered_row offered arguments.now word.now)) given
         × (found.items ≡ row_candidates (offered_row offered arguments.now word.now) given)) }
 {
@@ -78,7 +83,7 @@ pub(crate) fn options<L: Lenders>(
     match option_row(alloc, arguments, word)? {
         OptionRow::Listed(found) => Ok(found),
         OptionRow::ValuesOf(asked) => {
-            let values = lenders.values(alloc, asked.argument, asked.text.as_str(), 0)?;
+            let values = sources.values(alloc, asked.argument, asked.text.as_str(), 0)?;
             all_with_prefix(alloc, values, asked.before.as_str())
         }
     }

@@ -2,40 +2,46 @@
 
 ghost use Rattle.std.specs.Prelude.{◌≡◌, ◌++◌, nat_le, IfOk, if◌then◌else◌};
 ghost use Rattle.cc_gather.specs.Finished.{finish};
-ghost use Rattle.cc_engine.specs.Offer.{least};
+ghost use Rattle.cc_engine.specs.OpenLists.{least};
 ghost use Rattle.cc_engine.specs.Completion.{AreOffered, Offers};
+ghost use Rattle.cc_values.specs.Values.{lent_by};
 
 use crate::asking::{children, options, positional_values};
-use crate::lenders::Lenders;
-use crate::offer::Offer;
+use crate::open_lists::OpenLists;
+use crate::sources::Sources;
 use cc_arg::{Arg, counted_range};
-use cc_candidates::CompletionCandidate;
+use cc_candidates::{CandidateSources, Completers, CompletionCandidate};
 use cc_command::Command;
 use cc_gather::{finish, finish_after};
+use cc_values::PathSource;
 use cc_walk::{Pending, State, positional_at};
 use std::alloc::{AllocError, Global};
 
 /// What is offered for the word at a node, where the words before it lead to this state.
-pub(crate) fn offer_candidates<L: Lenders>(
+pub(crate) fn offer_candidates<P: PathSource>(
     alloc: Global,
     command: &Command,
     state: &State<'_>,
     word: &str,
-    lenders: &L,
+    sources: &Sources<'_, P>,
 ) -> Result<Vec<CompletionCandidate>, AllocError>
-    ensures { IfOk result (λ found. Offers (L.lent lenders.now)
+    ensures { IfOk result (λ found. Offers (lent_by
+        ⟦<Completers as CandidateSources>⟧.may_complete
+        ⟦<Completers as CandidateSources>⟧.may_list sources.now.completers.now
+        (P.finds sources.now.paths.now))
         command.now state.now word.now found.items) }
 {
-    let offer = Offer::new(command.get_arguments(), state);
-    let others = others(alloc, command, state.position, &offer, word, lenders)?;
+    let lists = OpenLists::new(command.get_arguments(), state);
+    let others = besides_open_option(alloc, command, state.position, &lists, word, sources)?;
     let Pending::OptionOpen(option, count) = &state.pending else {
         return finish(alloc, others);
     };
-    let values = lenders.values(alloc, option.get(), word, *count)?;
+    let values = sources.values(alloc, option.get(), word, *count)?;
     finish_values(alloc, option.get(), *count, values, others)
 }
 
-// The values of an open option that has so many, and the others where it may end here.
+// Candidates for the next value of the open option, of which there are so many; once it has its
+// minimum, also what may follow it.
 fn finish_values(
     alloc: Global,
     option: &Arg,
@@ -52,23 +58,26 @@ fn finish_values(
     finish(alloc, values)
 }
 
-// The offered lists, one after another.
-fn others<L: Lenders>(
+// What is offered besides the values of an open option: the offered lists, one after another.
+fn besides_open_option<P: PathSource>(
     alloc: Global,
     command: &Command,
     position: usize,
-    offer: &Offer,
+    lists: &OpenLists,
     word: &str,
-    lenders: &L,
+    sources: &Sources<'_, P>,
 ) -> Result<Vec<CompletionCandidate>, AllocError>
-    ensures { IfOk result (λ found. AreOffered (L.lent lenders.now)
-        command.now position offer.now word.now found.items) }
+    ensures { IfOk result (λ found. AreOffered (lent_by
+        ⟦<Completers as CandidateSources>⟧.may_complete
+        ⟦<Completers as CandidateSources>⟧.may_list sources.now.completers.now
+        (P.finds sources.now.paths.now))
+        command.now position lists.now word.now found.items) }
 {
     let arguments = command.get_arguments();
-    let mut found = children(alloc, offer.children, command, word, lenders)?;
+    let mut found = children(alloc, lists.children, command, word, sources)?;
     let positional = positional_at(arguments, position);
-    let mut values = positional_values(alloc, positional, offer.value, word, lenders)?;
-    let mut options = options(alloc, offer.options, arguments, word, lenders)?;
+    let mut values = positional_values(alloc, positional, lists.value, word, sources)?;
+    let mut options = options(alloc, lists.options, arguments, word, sources)?;
     found.append(&mut values)?;
     found.append(&mut options)?;
     Ok(found)

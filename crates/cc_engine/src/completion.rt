@@ -10,24 +10,22 @@ ghost use Rattle.cc_values.specs.Values.{lent_by};
 
 use crate::candidates::offer_candidates;
 use crate::folder_paths::FolderPaths;
-use crate::lenders::{Boxes, Lenders, Lending};
+use crate::sources::Sources;
 use cc_base::Error;
-use cc_candidates::{
-    Completers, CompletionCandidate, FnCandidates, FnCompleter, ValueCandidates, ValueCompleter,
-};
+use cc_candidates::{CandidateSources, Completers, CompletionCandidate};
 use cc_command::Command;
 use cc_flat::Flat;
 use cc_paths::Folder;
+use cc_values::PathSource;
 use cc_walk::line_of;
 use std::alloc::{AllocError, Global};
-use std::marker::PhantomData;
 
 /// The candidates for the word at the index, counted from 0, of a command that is built first.
 ///
 /// The words are those of a command line, the program's name first unless `no_binary_name` is set.
 /// The values of an argument come from its completer, else its list, else its possible values, else
 /// its value hint, which is completed from the folder and the current folder. Completers and lists
-/// are told by their numbers, as are those of the names of other programs.
+/// are named by their numbers, as are those of the names of other programs.
 ///
 /// Where a candidate is visible, hidden ones are left out; of several with one id the first stays;
 /// they are in the order of the first of their tag, and by display order within a tag.
@@ -44,15 +42,8 @@ pub fn complete<D: Folder>(
     completers: &Completers,
 ) -> Result<Vec<CompletionCandidate>, Error>
     ensures candidates { IfOk result (λ found. Completes (lent_by
-        (λ item. (⟦<dyn ValueCompleter as ValueCompleter>⟧ item.vtable).completes item.value)
-        completers.now.completers.items
-        ⟦<FnCompleter as ValueCompleter>⟧.completes completers.now.completer_closures.items
-        (λ item. (⟦<dyn ValueCandidates as ValueCandidates>⟧ item.vtable).lists item.value)
-        completers.now.lists.items
-        ⟦<FnCandidates as ValueCandidates>⟧.lists completers.now.list_closures.items
-        (PathsOf (D.lists folder.now) (D.tells_dir folder.now) (D.tells_file folder.now)
-        (D.tells_executable folder.now) (D.home_path folder.now)
-        (option_copied current_dir.entry)))
+        ⟦<Completers as CandidateSources>⟧.may_complete ⟦<Completers as CandidateSources>⟧.may_list
+        completers.now (PathsOf (D.facts folder.now) (option_copied current_dir.entry)))
         command.new (map string_bytes words.items) index found.items) }
 
     // Two candidates that are returned never share an id.
@@ -70,12 +61,11 @@ pub fn complete<D: Folder>(
         folder,
         current_dir,
     };
-    let lenders = Lending {
+    let sources = Sources {
         completers,
         paths: &paths,
-        boxes: PhantomData::<Boxes>,
     };
-    Ok(complete_in_range(alloc, command, words.as_slice(), index, &lenders)?)
+    Ok(complete_in_range(alloc, command, words.as_slice(), index, &sources)?)
 }
 
 fn names_before(command: &Command) -> usize
@@ -95,22 +85,25 @@ fn in_range(command: &Command, count: usize, index: usize) -> bool
 }
 
 // The candidates of a command that is built, for an index in range.
-fn complete_in_range<L: Lenders>(
+fn complete_in_range<P: PathSource>(
     alloc: Global,
     command: &Command,
     words: &[String],
     index: usize,
-    lenders: &L,
+    sources: &Sources<'_, P>,
 ) -> Result<Vec<CompletionCandidate>, AllocError>
     requires { is_in_range command.now.node (length words.now) index ≡ true }
-    ensures { IfOk result (λ found. Completes (L.lent lenders.now)
+    ensures { IfOk result (λ found. Completes (lent_by
+        ⟦<Completers as CandidateSources>⟧.may_complete
+        ⟦<Completers as CandidateSources>⟧.may_list sources.now.completers.now
+        (P.finds sources.now.paths.now))
         command.now (map string_bytes words.now) index found.items) }
 {
     let flat = Flat::new(alloc, command)?;
     let line = line_of(&flat, words_before(command, words, index));
     let node = flat.command(line.node);
     let word = word_at(words, index);
-    offer_candidates(alloc, node, &line.state, word, lenders)
+    offer_candidates(alloc, node, &line.state, word, sources)
 }
 
 // The words before the index, without the program's name.

@@ -17,9 +17,7 @@ pub(crate) struct FolderPaths<'a, D> {
 }
 
 impl<'a, D: Folder> PathSource for FolderPaths<'a, D> {
-    ghost finds = { λ paths. PathsOf (D.lists paths.folder.now) (D.tells_dir paths.folder.now)
-        (D.tells_file paths.folder.now) (D.tells_executable paths.folder.now)
-        (D.home_path paths.folder.now) (option_copied paths.current_dir) };
+    ghost finds = { λ paths. PathsOf (D.facts paths.folder.now) (option_copied paths.current_dir) };
 
     fn find(
         &self,

@@ -5,7 +5,7 @@ mod asking;
 mod candidates;
 mod completion;
 mod folder_paths;
-mod lenders;
-mod offer;
+mod open_lists;
+mod sources;
 
 pub use crate::completion::complete;

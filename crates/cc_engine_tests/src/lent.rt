@@ -97,7 +97,7 @@ pub(crate) fn two_completers(alloc: Global) -> Result<Completers, AllocError> {
     completers.push(Box::new(alloc, Asked)?)?;
     let mut lists: Vec<Box<dyn ValueCandidates>> = Vec::new(alloc);
     lists.push(Box::new(alloc, Programs)?)?;
-    Ok(Completers::new(alloc, completers, lists))
+    Completers::new(alloc, completers, lists)
 }
 
 /// What the command offers for the last of the words, with the completers `Auto` and `Asked` and a
@@ -113,13 +113,11 @@ pub(crate) fn find_with_lent(
         alloc,
         |alloc: Global| candidates_named(alloc, &["left", "right"]),
     )?;
-    let mut completers = Vec::new(alloc);
-    completers.push(FnCompleter::new(twice))?;
-    let mut lists = Vec::new(alloc);
-    lists.push(FnCandidates::new(sides))?;
-    let lent = two_completers(alloc)?.with_closures(completers, lists);
+    let mut completers = two_completers(alloc)?;
+    completers.add_completer_closure(FnCompleter::new(twice))?;
+    completers.add_list_closure(FnCandidates::new(sides))?;
     let folder = MemoryFolder::new(&[], &[]);
-    find_last(alloc, command, words, None, &folder, &lent)
+    find_last(alloc, command, words, None, &folder, &completers)
 }
 
 /// The same with a completer and a list that are out of memory.
@@ -128,13 +126,11 @@ pub(crate) fn find_without_memory(
     command: &mut Command,
     words: &[&str],
 ) -> Result<Vec<CompletionCandidate>, Error> {
-    let mut completers: Vec<Box<dyn ValueCompleter>> = Vec::new(alloc);
-    completers.push(Box::new(alloc, OutOfMemory)?)?;
-    let mut lists: Vec<Box<dyn ValueCandidates>> = Vec::new(alloc);
-    lists.push(Box::new(alloc, OutOfMemory)?)?;
-    let lent = Completers::new(alloc, completers, lists);
+    let mut completers = Completers::none(alloc);
+    completers.add_completer(Box::new(alloc, OutOfMemory)?)?;
+    completers.add_list(Box::new(alloc, OutOfMemory)?)?;
     let folder = MemoryFolder::new(&[], &[]);
-    find_last(alloc, command, words, None, &folder, &lent)
+    find_last(alloc, command, words, None, &folder, &completers)
 }
 
 fn twice(alloc: Global, text: &str) -> Result<Vec<CompletionCandidate>, AllocError> {

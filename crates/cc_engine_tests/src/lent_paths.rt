@@ -7,7 +7,7 @@ use crate::offered::{find_last, text_of};
 use crate::paths::{other, work};
 use cc_arg::ValueRange;
 use cc_base::Error;
-use cc_candidates::{Completers, CompletionCandidate, ValueCompleter};
+use cc_candidates::{Completers, CompletionCandidate};
 use cc_paths::{Folder, MemoryFolder, PathCompleter, PathTest, RealFolder};
 use std::alloc::Global;
 use std::process::Abort;
@@ -17,7 +17,7 @@ use std::process::Abort;
 struct BeginsWithFoo;
 
 impl<D: Folder> PathTest<D> for BeginsWithFoo {
-    ghost tells = { λ _ _ _ _. ⊤ };
+    ghost may_return = { λ _ _ _ _. ⊤ };
 
     fn passes(&self, _folder: &D, path: &str) -> bool {
         path.contains("/foo")
@@ -29,19 +29,19 @@ fn path_completers(alloc: Global) -> Result<Completers, Error> {
     let files = PathCompleter::file(work()).current_dir(String::from_str(alloc, "/w")?);
     let own = PathCompleter::with_test(other(), BeginsWithFoo);
     let own = own.current_dir(String::from_str(alloc, "/o")?);
-    let mut completers: Vec<Box<dyn ValueCompleter>> = Vec::new(alloc);
-    completers.push(Box::new(alloc, files)?)?;
-    completers.push(Box::new(alloc, own)?)?;
-    Ok(Completers::new(alloc, completers, Vec::new(alloc)))
+    let mut completers = Completers::none(alloc);
+    completers.add_completer(Box::new(alloc, files)?)?;
+    completers.add_completer(Box::new(alloc, own)?)?;
+    Ok(completers)
 }
 
 // The completer of all paths of the system.
 fn system_completer(rt: &HostRuntime) -> Result<Completers, Error> {
     let alloc = rt.alloc();
     let all = PathCompleter::any(RealFolder::new(*rt, None));
-    let mut completers: Vec<Box<dyn ValueCompleter>> = Vec::new(alloc);
-    completers.push(Box::new(alloc, all)?)?;
-    Ok(Completers::new(alloc, completers, Vec::new(alloc)))
+    let mut completers = Completers::none(alloc);
+    completers.add_completer(Box::new(alloc, all)?)?;
+    Ok(completers)
 }
 
 // What an argument of this completer offers for a word, where the paths of hints have no folder.

@@ -3,8 +3,6 @@
 #![tactic(auto)]
 
 #[cfg(test)]
-mod candidates;
-#[cfg(test)]
 mod completers;
 #[cfg(test)]
 mod fixtures;

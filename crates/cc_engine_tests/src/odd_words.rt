@@ -41,23 +41,6 @@ fn offers_for<R: Abort + AllocGlobal>(
     assert_eq!(rt; text_of(rt, found).as_str(), wanted);
 }
 
-#[test]
-fn hyphens_and_what_no_option_is(rt: HostRuntime) {
-    offers(&rt, "--", ALL);
-    offers(&rt, "---x", "");
-    offers(&rt, "-=", "-=c -=v -=h ");
-    offers(&rt, "--=x", "");
-    offers(&rt, "-é", "-éc -év -éh ");
-    offers(&rt, "x", "");
-}
-
-#[test]
-fn what_no_option_is_leaves_nothing_open(rt: HostRuntime) {
-    let words = ["app", "", "-", "---x", "-=", "--=x", "-é", ""];
-    let shown = candidates_for(&rt, COLORED, words.as_slice());
-    assert_eq!(rt; shown.as_str(), ALL);
-}
-
 // The program, this word so many times, and an empty word.
 fn repeat(alloc: Global, word: &str, times: usize) -> Result<Vec<String>, AllocError> {
     let mut words = Vec::new(alloc);

@@ -11,48 +11,15 @@ use std::alloc::{AllocError, Global};
 use std::process::Abort;
 
 /// The values that the command of a tree file offers for the last of the words, each with a space
-/// after it.
+/// after it, where there are no folders.
 pub(crate) fn candidates_for<R: Abort + AllocGlobal>(rt: &R, tree: &str, words: &[&str]) -> String {
+    let alloc = rt.alloc();
     let folder = MemoryFolder::new(&[], &[]);
-    candidates_in(rt, tree, words, None, &folder)
-}
-
-/// The same where the program runs in a folder.
-pub(crate) fn candidates_in<R: Abort + AllocGlobal, D: Folder>(
-    rt: &R,
-    tree: &str,
-    words: &[&str],
-    current_dir: Option<&str>,
-    folder: &D,
-) -> String {
-    let index = words.len().saturating_sub(1);
-    let found = find_at(rt.alloc(), tree, words, index, current_dir, folder);
-    text_of(rt, found)
-}
-
-/// What is found for the word at an index.
-pub(crate) fn find_at<D: Folder>(
-    alloc: Global,
-    tree: &str,
-    words: &[&str],
-    index: usize,
-    current_dir: Option<&str>,
-    folder: &D,
-) -> Result<Vec<CompletionCandidate>, Error> {
-    let mut command = read(alloc, tree)?;
-    let words = to_strings(alloc, words)?;
-    let lent = Completers::none(alloc);
-    let found = complete(
-        alloc,
-        &mut command,
-        words,
-        index,
-        current_dir,
-        folder,
-        &lent,
-    );
+    let completers = Completers::none(alloc);
+    let mut command = read(alloc, tree).expect(rt, "no command");
+    let found = find_last(alloc, &mut command, words, None, &folder, &completers);
     drop(command);
-    found
+    text_of(rt, found)
 }
 
 /// What a command offers for the last of the words.

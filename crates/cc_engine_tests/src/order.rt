@@ -62,8 +62,8 @@ fn debug_shows_every_field(rt: HostRuntime) {
     let text = format!(in rt.alloc(); "{candidate:?}").expect(&rt, "no text");
     assert_eq!(rt;
         text.as_str(),
-        "CompletionCandidate { value: Text { inner: \"a\" }, help: None, id: None, \
-         tag: Some(Text { inner: \"t\" }), display_order: None, hidden: false }"
+        "CompletionCandidate { value: \"a\", help: None, id: None, tag: Some(\"t\"), \
+         display_order: None, hidden: false }"
     );
 }
 

@@ -1,12 +1,11 @@
 -- What indexes count as, and replies as shells are sent them.
-use Rattle.std.proofs.Common.{◌≡◌, ◌++◌, ◌==◌, ℕ, Bool, true, false, not, List, [], ◌∷◌, Some, None, arith, codes, refl}
-use Rattle.std.proofs.lemmas.Bool.{and_parts}
-use Rattle.std.specs.List.{list_all}
+use Rattle.std.proofs.Common.{◌≡◌, ◌++◌, ℕ, true, false, List, [], ◌∷◌, Some, None, arith, codes, refl}
 use Rattle.cc_candidates.specs.Candidate.{new_candidate}
 use Rattle.cc_candidates.specs.declared.candidate.CompletionCandidate.{CompletionCandidate}
 use Rattle.cc_env.specs.Environment.{IsIndex}
-use Rattle.cc_env.specs.Reply.{AreSendable, IsWithout, colon_help, first_line, lines_reply, shown_line}
-use Rattle.cc_env.specs.Reply.{tab_help, values_reply, without_return, zsh_item, zsh_reply}
+use Rattle.cc_env.specs.Reply.{are_readable_lines, are_readable_values, are_readable_zsh_items, colon_help, first_line, lines_reply, shown_line}
+use Rattle.cc_env.specs.Reply.{tab_help, values_read, values_reply, without_return, zsh_item, zsh_reply}
+use Rattle.cc_env.proofs.ReplyReadings.{values_back}
 use Rattle.cc_registrations.specs.Found.{after, cut_at, with_front}
 
 -- ---- indexes
@@ -91,82 +90,46 @@ three_fish_row : lines_reply three
 unfolding shown_line tab_help after cut_at with_front first_line without_return
 three_fish_row = refl
 
--- a test of each byte
-is_without : (special : ℕ) (text : List ℕ) → list_all (λ byte. not (byte == special)) text ≡ true → IsWithout special text
-is_without special [] h = tt
-is_without special (byte ∷ text) h =
-    let parts = and_parts (not (byte == special)) (list_all (λ byte. not (byte == special)) text) h in
-    (by_test (byte == special) parts.0, is_without special text parts.1)
-  where
-    by_test : (q : Bool) → not q ≡ true → q ≡ false
-    by_test true e = cc
-    by_test false e = refl
+-- their replies are read back, with either separator that shells set
+three_values_row : are_readable_values 11 three ≡ true
+three_values_row = refl
 
--- with either separator they may be sent
-three_lines_row : AreSendable 10 three
+three_zsh_items_row : are_readable_zsh_items 10 three ≡ true
 unfolding after cut_at with_front first_line without_return
-three_lines_row = (
-  record {
-    some = λ e. cc;
-    value = is_without 10 (codes "t") refl;
-    help = tt;
-    one_line = is_without 10 (codes "t") refl;
-    help_line = tt;
-    no_tab = is_without 9 (codes "t") refl;
-  },
-  (
-    record {
-      some = λ e. cc;
-      value = is_without 10 (codes "help") refl;
-      help = is_without 10 (codes "Print this message or the help of the given subcommand(s)") refl;
-      one_line = is_without 10 (codes "help") refl;
-      help_line = is_without 10 (codes "Print this message or the help of the given subcommand(s)") refl;
-      no_tab = is_without 9 (codes "help") refl;
-    },
-    (
-      record {
-        some = λ e. cc;
-        value = is_without 10 (codes "--help") refl;
-        help = is_without 10 (codes "Print help") refl;
-        one_line = is_without 10 (codes "--help") refl;
-        help_line = is_without 10 (codes "Print help") refl;
-        no_tab = is_without 9 (codes "--help") refl;
-      },
-      tt,
-    ),
-  ),
-)
+three_zsh_items_row = refl
 
-three_values_row : AreSendable 11 three
+three_lines_row : are_readable_lines three ≡ true
+three_lines_row = refl
+
+-- a help with the separator in its first line, and a value with a tab
+abbrev spread : List CompletionCandidate
+spread = helped (codes "a\tb") (codes "x" ++ 11 ∷ codes "y\nz") ∷ []
+
+-- bash and Elvish are sent no help, and a tab is between no values
+spread_values_row : values_read 11 (values_reply (11 ∷ []) spread) ≡ codes "a\tb" ∷ []
+spread_values_row = values_back 11 spread refl
+
+-- zsh is sent the help
+spread_zsh_items_row : are_readable_zsh_items 11 spread ≡ false
 unfolding after cut_at with_front first_line without_return
-three_values_row = (
-  record {
-    some = λ e. cc;
-    value = is_without 11 (codes "t") refl;
-    help = tt;
-    one_line = is_without 10 (codes "t") refl;
-    help_line = tt;
-    no_tab = is_without 9 (codes "t") refl;
-  },
-  (
-    record {
-      some = λ e. cc;
-      value = is_without 11 (codes "help") refl;
-      help = is_without 11 (codes "Print this message or the help of the given subcommand(s)") refl;
-      one_line = is_without 10 (codes "help") refl;
-      help_line = is_without 10 (codes "Print this message or the help of the given subcommand(s)") refl;
-      no_tab = is_without 9 (codes "help") refl;
-    },
-    (
-      record {
-        some = λ e. cc;
-        value = is_without 11 (codes "--help") refl;
-        help = is_without 11 (codes "Print help") refl;
-        one_line = is_without 10 (codes "--help") refl;
-        help_line = is_without 10 (codes "Print help") refl;
-        no_tab = is_without 9 (codes "--help") refl;
-      },
-      tt,
-    ),
-  ),
-)
+spread_zsh_items_row = refl
+
+-- with a line feed between items that help is in one piece
+spread_zsh_row : are_readable_zsh_items 10 spread ≡ true
+unfolding after cut_at with_front first_line without_return
+spread_zsh_row = refl
+
+-- in a line a tab ends the value
+spread_lines_row : are_readable_lines spread ≡ false
+spread_lines_row = refl
+
+-- items of zsh have colons and backslashes of their own
+colon_between_row : are_readable_zsh_items 58 three ≡ false
+colon_between_row = refl
+
+-- an empty value is none, but a line may be empty before its help
+empty_value_row : are_readable_values 10 (new_candidate [] ∷ []) ≡ false
+empty_value_row = refl
+
+empty_line_row : are_readable_lines (helped [] (codes "Print") ∷ []) ≡ true
+empty_line_row = refl

@@ -1,7 +1,7 @@
 -- Replies: the candidates as a shell reads them, and how a reply is read.
-use Rattle.std.specs.Prelude.{⊤, ◌≡◌, ◌≢◌, ◌⊎◌, ℕ, true, false, List, [], ◌∷◌, ◌++◌, ◌==◌, Option, Some, None, map, flat_map, option_map, codes}
-use Rattle.std.specs.List.{AllByRecursion}
-use Rattle.cc_base.specs.Bytes.{colon, line_feed, tab}
+use Rattle.std.specs.Prelude.{◌≡◌, ◌&&◌, ℕ, Bool, true, false, not, IsTrue, List, [], ◌∷◌, ◌++◌, ◌==◌, Option, Some, None, length, map, flat_map, option_map, codes}
+use Rattle.std.specs.List.{list_all}
+use Rattle.cc_base.specs.Bytes.{backslash, colon, line_feed, tab}
 use Rattle.cc_base.specs.Joined.{joined}
 use Rattle.cc_quote.specs.ZshQuote.{Mark, marks, unmarked}
 use Rattle.cc_quote.specs.ZshQuote.Mark.{kept, escaped, unended}
@@ -11,9 +11,6 @@ use Rattle.cc_candidates.specs.declared.candidate.CompletionCandidate.{Completio
 
 abbrev carriage_return : ℕ
 carriage_return = 13
-
-abbrev vertical_tab : ℕ
-vertical_tab = 11
 
 -- a line without a carriage return at its end
 unfoldable pub without_return : List ℕ → List ℕ
@@ -125,47 +122,58 @@ lines_read text = map line_shown (lines_from [] text)
 -- ---- what replies are read as
 
 -- none of a text's bytes is this one
-abbrev pub IsWithout : ℕ → List ℕ → Type 0
-IsWithout special text = AllByRecursion (λ byte. (byte == special) ≡ false) text
+abbrev pub is_without : ℕ → List ℕ → Bool
+is_without special text = list_all (λ byte. not (byte == special)) text
 
-abbrev pub IsHelpWithout : ℕ → Option (List ℕ) → Type 0
-IsHelpWithout special None = ⊤
-IsHelpWithout special (Some help) = IsWithout special help
+abbrev pub is_help_without : ℕ → Option (List ℕ) → Bool
+is_help_without special None = true
+is_help_without special (Some help) = is_without special help
 
--- a value with a byte, and neither it nor the first line of its help has the separator; nor has the
--- value a line feed or a tab, nor that line a line feed
-pub record IsSendable (separator : ℕ) (item : Shown) : Type 0 where
-  pub some : item.value ≢ []
-  pub value : IsWithout separator item.value
-  pub help : IsHelpWithout separator item.help
-  pub one_line : IsWithout line_feed item.value
-  pub help_line : IsHelpWithout line_feed item.help
-  pub no_tab : IsWithout tab item.value
+-- the value has a byte, and none that is the separator
+abbrev pub is_readable_value : ℕ → List ℕ → Bool
+is_readable_value separator value = not (length value == 0) && is_without separator value
 
-abbrev pub AreSendable : ℕ → List CompletionCandidate → Type 0
-AreSendable separator candidates =
-    AllByRecursion (λ candidate. IsSendable separator (shown candidate)) candidates
+-- so has each of these
+abbrev pub are_readable_values : ℕ → List CompletionCandidate → Bool
+are_readable_values separator candidates =
+    list_all (λ candidate. is_readable_value separator candidate.value) candidates
+
+-- so has the value, and the first line of the help does not have the separator
+abbrev pub is_readable_zsh_item : ℕ → Shown → Bool
+is_readable_zsh_item separator item =
+    is_readable_value separator item.value && is_help_without separator item.help
+
+-- the separator is neither the colon nor the backslash of such items, and each of these is so
+abbrev pub are_readable_zsh_items : ℕ → List CompletionCandidate → Bool
+are_readable_zsh_items separator candidates =
+    not (separator == colon) && not (separator == backslash)
+    && list_all (λ candidate. is_readable_zsh_item separator (shown candidate)) candidates
+
+-- the value has neither a line feed nor a tab
+abbrev pub is_readable_line : List ℕ → Bool
+is_readable_line value = is_without line_feed value && is_without tab value
+
+-- so it is of each of these
+abbrev pub are_readable_lines : List CompletionCandidate → Bool
+are_readable_lines candidates = list_all (λ candidate. is_readable_line candidate.value) candidates
 
 -- ---- the laws
 
--- a line feed, or a vertical tab, is between values
-abbrev pub IsSeparator : ℕ → Type 0
-IsSeparator byte = (byte ≡ line_feed) ⊎ (byte ≡ vertical_tab)
-
--- the reply is read as the values
+-- with one byte between values, the reply is read as the values
 abbrev pub ValuesRead : List ℕ → List CompletionCandidate → Type 0
 ValuesRead between candidates =
-    (byte : ℕ) → IsSeparator byte → between ≡ byte ∷ [] → AreSendable byte candidates
-    → values_read byte (values_reply between candidates)
+    (separator : ℕ) → between ≡ separator ∷ [] → IsTrue (are_readable_values separator candidates)
+    → values_read separator (values_reply between candidates)
     ≡ map (λ candidate. candidate.value) candidates
 
--- the reply is read as the values and the first lines of the helps
+-- with one byte between items, the reply is read as the values and the first lines of the helps
 abbrev pub ZshReplyRead : List ℕ → List CompletionCandidate → Type 0
 ZshReplyRead between candidates =
-    (byte : ℕ) → IsSeparator byte → between ≡ byte ∷ [] → AreSendable byte candidates
-    → zsh_read byte (zsh_reply between candidates)
+    (separator : ℕ) → between ≡ separator ∷ []
+    → IsTrue (are_readable_zsh_items separator candidates)
+    → zsh_read separator (zsh_reply between candidates)
     ≡ map (λ candidate. Some (shown candidate)) candidates
 
 abbrev pub LinesRead : List CompletionCandidate → Type 0
-LinesRead candidates =
-    AreSendable line_feed candidates → lines_read (lines_reply candidates) ≡ map shown candidates
+LinesRead candidates = IsTrue (are_readable_lines candidates)
+    → lines_read (lines_reply candidates) ≡ map shown candidates

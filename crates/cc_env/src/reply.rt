@@ -139,7 +139,7 @@ fn put_tab_help<W: Sink>(help: Option<&str>, sink: &mut W) -> Result<(), ErrorKi
 }
 
 // What is before the first line feed, and before a carriage return right before it.
-fn first_line(text: &str) -> &str
+pub(crate) fn first_line(text: &str) -> &str
     ensures { result.now ≡ first_line text.now }
 {
     match text.split_once('\n') {

@@ -8,6 +8,8 @@ mod fixtures;
 #[cfg(test)]
 mod names;
 #[cfg(test)]
+mod readable;
+#[cfg(test)]
 mod registrations;
 #[cfg(test)]
 mod replied;

@@ -7,6 +7,7 @@ use Rattle.std.specs.Str.{bytes_eq}
 use Rattle.std.specs.Cmp.Lexicographic.{slice_cmp, texts_ties}
 use Rattle.std.specs.BTreeSet.{BTreeSet, contains}
 use Rattle.std.specs.BTreeMap.{BTreeMap, get}
+use Rattle.std.proofs.Math.Bool.{or-false}
 use Rattle.std.proofs.lemmas.Bool.{cases_Bool}
 use Rattle.std.proofs.lemmas.List.{take_more, take-append-drop, length-take-le}
 use Rattle.std.proofs.lemmas.List.Elements.{filter_agree}
@@ -16,17 +17,13 @@ use Rattle.cc_gather.specs.Finished.{share, first_of_ids, has_tag, rank_of}
 use Rattle.cc_gather.specs.Seen.{is_seen, select, first_rank}
 use Rattle.cc_gather.proofs.Ranks.{same_tags, tag_itself}
 
-or_false : (b : Bool) → (b || false) ≡ b
-or_false true = refl
-or_false false = refl
-
 or_true : (b : Bool) → (b || true) ≡ true
 or_true true = refl
 or_true false = refl
 
 by_test : (b x : Bool) → cond b true x ≡ (x || b)
 by_test true x = sym (or_true x)
-by_test false x = sym (or_false x)
+by_test false x = sym (or-false x)
 
 -- an id that is kept is seen from then on
 pub seen_more : (before after : BTreeSet (List ℕ)) (id : List ℕ) →

@@ -8,7 +8,7 @@ use Rattle.std.proofs.lemmas.Bool.{cases_Bool, cases_order}
 use Rattle.std.proofs.lemmas.List.Elements.{filter-append}
 use Rattle.std.proofs.lemmas.List.Folds.{list_any-append}
 use Rattle.cc_base.specs.Sorting.{in_order}
-use Rattle.cc_base.proofs.Members.{AllByRecursion-IsIn, AllByRecursion-from_IsIn}
+use Rattle.cc_base.proofs.Members.{AllByRecursion-IsIn, AllByRecursion-append, AllByRecursion-from_IsIn}
 use Rattle.cc_base.proofs.Sorted.{AllByRecursion-in_order, in_order-IsIn, in_order-sorted, stable-in_order, up-in_order, apart}
 use Rattle.cc_candidates.specs.declared.candidate.CompletionCandidate.{CompletionCandidate}
 use Rattle.cc_gather.specs.Finished.{is_shown, shown_or_all, share, has_tag, rank_of, first_of_ids, comes_before, group, finish, SharesNone, ShareNone, Differ, AreGrouped, AreShown}
@@ -41,10 +41,6 @@ has_back a v t h = list_any-append (has_tag t) a v ∙ or_right (list_any (has_t
 
 has_front : (a v : Candidates) (t : Tag) → Has a t → Has (a ++ v) t
 has_front a v t h = list_any-append (has_tag t) a v ∙ or_left (list_any (has_tag t) a) (list_any (has_tag t) v) h
-
-all_both : {X : Type 0} (P : X → Type 0) (xs ys : List X) → AllByRecursion P xs → AllByRecursion P ys → AllByRecursion P (xs ++ ys)
-all_both P [] ys h k = k
-all_both P (x ∷ xs) ys h k = (h.0, all_both P xs ys h.1 k)
 
 -- a test that passes in a list passes in the list in order
 none_any : {X : Type 0} (p : X → Bool) (xs : List X) → AllByRecursion (λ x. p x ≡ false) xs → list_any p xs ≡ false
@@ -133,7 +129,7 @@ module _ (a v : Candidates) where
   alike x y hx hy = ap (λ r. is_lt (ordering_then r (option_cmp nat_cmp x.display_order y.display_order))) (compare x.tag y.tag hx hy)
 
   members : AllByRecursion (λ c. Has whole c.tag) twice
-  members = all_both (λ c. Has whole c.tag) a sorted (all_have whole a (λ t h. has_front a v t h))
+  members = AllByRecursion-append (λ c. Has whole c.tag) a sorted (all_have whole a (λ t h. has_front a v t h))
       (AllByRecursion-in_order (comes_before v) (λ c. Has whole c.tag) v (all_have whole v (λ t h. has_back a v t h)))
 
   -- two members that one order tells apart the other does, too

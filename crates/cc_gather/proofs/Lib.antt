@@ -7,7 +7,6 @@ pub mod InOrder
 pub mod InTurn
 pub mod Law
 pub mod LongNames
-pub mod NumberParts
 pub mod Ranks
 pub mod WordKinds
 pub mod Zips

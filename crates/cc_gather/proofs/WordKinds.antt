@@ -12,10 +12,7 @@ use Rattle.cc_gather.specs.Lookup.{has_own_long}
 use Rattle.cc_gather.specs.Options.{longs, shorts}
 use Rattle.cc_gather.specs.Rows.{Listed, flag_row, long_row, short_row, after_equals, value_asked_after, without_end, after_one_dash, after_two_dashes, row_of}
 use Rattle.cc_walk.specs.Words.{EndsWith, before_equals}
-
-empty : (s : List ℕ) → (length s == 0) ≡ true → s ≡ []
-empty [] e = refl
-empty (c ∷ s) e = let n : length (c ∷ s) ≡ 0 = eqb-true (length (c ∷ s)) 0 e in absurd (omega (arith, n))
+use Rattle.cc_walk.proofs.Forms.{empty, no_equals_tail}
 
 -- THE KINDS OF WORDS
 
@@ -58,10 +55,6 @@ unfolding row_of
 row_long arguments w s t e f h = ap (row_of arguments) (e ∙ ap (λ x. 45 ∷ x) f) ∙ two_long arguments t h
 
 -- THE FIRST `=`
-
-no_equals_tail : (c : ℕ) (s : List ℕ) → ((i : ℕ) → i < length (c ∷ s) → get_or (c ∷ s) i 0 ≡ 61 → ⊥) →
-    (i : ℕ) → i < length s → get_or s i 0 ≡ 61 → ⊥
-no_equals_tail c s h i below e = h (suc i) (omega arith) e
 
 pub after_none : (s : List ℕ) → ((i : ℕ) → i < length s → get_or s i 0 ≡ 61 → ⊥) → after_equals s ≡ None
 after_none [] h = refl

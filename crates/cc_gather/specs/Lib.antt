@@ -1,7 +1,6 @@
 pub mod Children
 pub mod Finished
 pub mod Lookup
-pub mod NumberParts
 pub mod Numbers
 pub mod OptionRows
 pub mod Options

@@ -1,7 +1,7 @@
 -- What the code finds for a word, as a row.
-use Rattle.cc_gather.specs.declared.option_rows.OptionRow.{OptionRow}
-use Rattle.cc_gather.specs.declared.option_rows.OptionRow.TheVariants.{Listed, ValuesOf}
-use Rattle.cc_gather.specs.declared.option_rows.ValuesAsked.{ValuesAsked}
+use Rattle.cc_gather.specs.declared.options.OptionRow.{OptionRow}
+use Rattle.cc_gather.specs.declared.options.OptionRow.TheVariants.{Listed, ValuesOf}
+use Rattle.cc_gather.specs.declared.options.ValuesAsked.{ValuesAsked}
 use Rattle.cc_gather.specs.Rows.{Asked, Row}
 
 abbrev pub asked_of : ValuesAsked → Asked

@@ -1,15 +1,12 @@
 //! What completion gathers for a word, and how the list is finished.
 #![tactic(auto)]
 
-mod children;
 mod finishing;
-mod longs;
-mod lookup;
-mod numbers;
-mod option_rows;
+mod negative_numbers;
+mod option_names;
 mod options;
-mod shorts;
+mod subcommands;
 
-pub use crate::children::subcommand_candidates;
 pub use crate::finishing::{finish, finish_after};
-pub use crate::option_rows::{OptionRow, ValuesAsked, all_with_prefix, option_row};
+pub use crate::options::{OptionRow, ValuesAsked, all_with_prefix, option_row};
+pub use crate::subcommands::subcommand_candidates;

@@ -1,34 +1,225 @@
-//! A candidate for an argument.
+//! What a word asks of the options.
 
-ghost use Rattle.std.specs.Prelude.{◌≡◌, IfOk};
-ghost use Rattle.std.specs.Option.{option_map};
+ghost use Rattle.std.specs.Prelude.{◌≡◌, ◌++◌, [], ◌==◌, map, codes, find, length, IfOk, if◌then◌else◌};
 ghost use Rattle.std.specs.String.{string_bytes};
-ghost use Rattle.cc_gather.specs.Options.{option_candidate};
+ghost use Rattle.cc_gather.specs.Lookup.{has_own_long};
+ghost use Rattle.cc_gather.specs.OptionRows.{asked_of, row_given};
+ghost use Rattle.cc_gather.specs.Options.{longs, shorts};
+ghost use Rattle.cc_gather.specs.Rows.{after_equals, value_asked_after, flag_row, long_row, with_prefix, row_of, short_row, without_end};
+ghost use Rattle.cc_walk.specs.Words.{EndsWith};
 
+use crate::negative_numbers::is_number;
+use crate::option_names::{longs, longs_beginning, shorts, with_own_long};
 use cc_arg::Arg;
+use cc_base::{Text, TextRef};
 use cc_candidates::CompletionCandidate;
+use cc_walk::{ValueCharacter, value_character};
 use std::alloc::{AllocError, Global};
 
-// A candidate with this value and help; the other fields are the argument's.
-pub(crate) fn option_candidate(
+/// What a word asks of the options of a command.
+#[derive(Drop)]
+pub enum OptionRow<'a> {
+    /// These candidates.
+    Listed(Vec<CompletionCandidate>),
+    /// Values of an argument.
+    ValuesOf(ValuesAsked<'a>),
+}
+
+/// Values that are asked for. A candidate for the word is a value with the text before it.
+#[derive(Drop)]
+pub struct ValuesAsked<'a> {
+    /// The argument.
+    pub argument: &'a Arg,
+    /// What the word has before the value: a flag with its `=`, or a dash and shorts.
+    pub before: Text,
+    /// The text to complete.
+    pub text: TextRef<'a>,
+}
+
+/// What a word asks of the options. Fails where memory runs out.
+pub fn option_row<'a>(
     alloc: Global,
-    argument: &Arg,
-    value: String,
-    help: Option<String>,
-    hidden: bool,
-) -> Result<CompletionCandidate, AllocError>
-    ensures { IfOk result (λ candidate. candidate ≡ option_candidate argument.now
-        (option_map string_bytes help) hidden (string_bytes value)) }
+    arguments: &'a [Arg],
+    word: &'a str,
+) -> Result<OptionRow<'a>, AllocError>
+    ensures { IfOk result (λ row. row_given row ≡ row_of arguments.now word.now) }
 {
-    let mut id = String::from_str(alloc, "arg::")?;
-    id.push_str(argument.get_id())?;
-    let tag = String::from_str(alloc, argument.get_help_heading().unwrap_or("Options"))?;
-    Ok(
-        CompletionCandidate::new(value)
-            .help(help)
-            .id(Some(id))
-            .tag(Some(tag))
-            .display_order(Some(argument.get_display_order()))
-            .hide(hidden),
-    )
+    let Some(rest) = word.strip_prefix('-') else {
+        return Ok(OptionRow::Listed(without_dash(alloc, arguments, word)?));
+    };
+    if rest.is_empty() {
+        return Ok(OptionRow::Listed(shorts_then_longs(alloc, arguments)?));
+    }
+    let Some(long) = rest.strip_prefix('-') else {
+        return short_options(alloc, arguments, word, rest);
+    };
+    if long.is_empty() {
+        return Ok(OptionRow::Listed(longs(alloc, arguments)?));
+    }
+    long_options(alloc, arguments, long)
+}
+
+/// The candidates, with a text before the value of each. Fails where memory runs out.
+pub fn all_with_prefix(
+    alloc: Global,
+    candidates: Vec<CompletionCandidate>,
+    before: &str,
+) -> Result<Vec<CompletionCandidate>, AllocError>
+    ensures { IfOk result (λ found. found.items ≡ map (with_prefix before.now) candidates.items) }
+{
+    let mut found = Vec::new(alloc);
+    for candidate in candidates {
+        found.push(candidate.with_prefix(alloc, before)?)?;
+    }
+    Ok(found)
+}
+
+fn without_dash(
+    alloc: Global,
+    arguments: &[Arg],
+    word: &str,
+) -> Result<Vec<CompletionCandidate>, AllocError>
+    ensures { IfOk result (λ found. found.items
+        ≡ (if length word.now == 0 then longs arguments.now ++ shorts (codes "-") arguments.now
+        else [])) }
+{
+    if word.is_empty() {
+        return longs_then_shorts(alloc, arguments);
+    }
+    Ok(Vec::new(alloc))
+}
+
+fn longs_then_shorts(
+    alloc: Global,
+    arguments: &[Arg],
+) -> Result<Vec<CompletionCandidate>, AllocError>
+    ensures { IfOk result (λ found. found.items ≡ longs arguments.now
+        ++ shorts (codes "-") arguments.now) }
+{
+    let mut found = longs(alloc, arguments)?;
+    found.append(&mut shorts(alloc, arguments, "-")?)?;
+    Ok(found)
+}
+
+fn shorts_then_longs(
+    alloc: Global,
+    arguments: &[Arg],
+) -> Result<Vec<CompletionCandidate>, AllocError>
+    ensures { IfOk result (λ found. found.items ≡ shorts (codes "-") arguments.now
+        ++ longs arguments.now) }
+{
+    let mut found = shorts(alloc, arguments, "-")?;
+    found.append(&mut longs(alloc, arguments)?)?;
+    Ok(found)
+}
+
+// For a word `--x..`.
+fn long_options<'a>(
+    alloc: Global,
+    arguments: &'a [Arg],
+    long: &'a str,
+) -> Result<OptionRow<'a>, AllocError>
+    ensures { IfOk result
+        (λ row. row_given row ≡ long_row arguments.now long.now (after_equals long.now)) }
+{
+    match long.split_once('=') {
+        None => Ok(OptionRow::Listed(longs_beginning(alloc, arguments, long)?)),
+        Some((flag, text)) => flag_values(alloc, arguments, flag, text),
+    }
+}
+
+fn flag_values<'a>(
+    alloc: Global,
+    arguments: &'a [Arg],
+    flag: &str,
+    text: &'a str,
+) -> Result<OptionRow<'a>, AllocError>
+    ensures { IfOk result (λ row. row_given row
+        ≡ flag_row (find (has_own_long flag.now) arguments.now) flag.now text.now) }
+{
+    let Some(argument) = with_own_long(arguments, flag) else {
+        return Ok(OptionRow::Listed(Vec::new(alloc)));
+    };
+    let before = flag_before(alloc, flag)?;
+    Ok(OptionRow::ValuesOf(ValuesAsked {
+        argument,
+        before,
+        text: TextRef::new(text),
+    }))
+}
+
+fn flag_before(alloc: Global, flag: &str) -> Result<Text, AllocError>
+    ensures { IfOk result (λ before. before ≡ codes "--" ++ flag.now ++ codes "=") }
+{
+    let mut before = String::from_str(alloc, "--")?;
+    before.push_str(flag)?;
+    before.push_str("=")?;
+    Ok(Text::from(before))
+}
+
+// For a word `-x..`.
+fn short_options<'a>(
+    alloc: Global,
+    arguments: &'a [Arg],
+    word: &str,
+    rest: &'a str,
+) -> Result<OptionRow<'a>, AllocError>
+    requires { word.now ≡ codes "-" ++ rest.now }
+    ensures { IfOk result (λ row. row_given row ≡ short_row arguments.now rest.now) }
+{
+    if is_number(rest) {
+        return Ok(OptionRow::Listed(Vec::new(alloc)));
+    }
+    match value_character(arguments, rest) {
+        Some(found) => Ok(OptionRow::ValuesOf(character_values(alloc, word, found)?)),
+        None => Ok(OptionRow::Listed(shorts(alloc, arguments, word)?)),
+    }
+}
+
+// What a value character of a word asks for.
+fn character_values<'a>(
+    alloc: Global,
+    word: &str,
+    found: ValueCharacter<'a, 'a>,
+) -> Result<ValuesAsked<'a>, AllocError>
+    requires { EndsWith word.now found.after }
+    ensures { IfOk result (λ asked. asked_of asked
+        ≡ value_asked_after found.entry.argument (without_end word.now found.entry.after)
+        found.entry.after) }
+{
+    let after = found.after.as_str();
+    let before = String::from_str(alloc, without_end(word, after))?;
+    value_asked_after(found.argument.get(), before, after)
+}
+
+// What is in a text before an end of it.
+fn without_end<'a>(text: &'a str, end: &str) -> &'a str
+    requires { EndsWith text.now end.now }
+    ensures { result.now ≡ without_end text.now end.now }
+{
+    &text[..text.len() - end.len()]
+}
+
+// A `=` in front of a value belongs to what is before it.
+fn value_asked_after<'a>(
+    argument: &'a Arg,
+    mut before: String,
+    rest: &'a str,
+) -> Result<ValuesAsked<'a>, AllocError>
+    ensures { IfOk result (λ asked. asked_of asked
+        ≡ value_asked_after argument.now (string_bytes before) rest.now) }
+{
+    let Some(text) = rest.strip_prefix('=') else {
+        return Ok(ValuesAsked {
+            argument,
+            before: Text::from(before),
+            text: TextRef::new(rest),
+        });
+    };
+    before.push_str("=")?;
+    Ok(ValuesAsked {
+        argument,
+        before: Text::from(before),
+        text: TextRef::new(text),
+    })
 }

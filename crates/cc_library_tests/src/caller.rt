@@ -1,11 +1,15 @@
 //! What the callers of `cc_caller` write.
 
-use crate::checks::same;
+use crate::checks::{is, same};
 use crate::fixtures::tree;
 use crate::written::script;
-use cc_caller::{write_bash_if_quiet, write_if_plain};
+use cc_caller::{
+    WordList, same_action, same_hint, same_range, same_shell, write_bash_if_quiet, write_if_plain,
+};
 use cc_fixtures::trees;
-use clap_complete::aot::{Bash, Collected, Elvish};
+use clap_complete::Shell;
+use clap_complete::aot::{Bash, Collected, Elvish, Generator};
+use clap_complete::command::{ArgAction, ValueHint, ValueRange};
 use std::process::Abort;
 
 // `app` with an option `--to`, which may be `a b`.
@@ -59,4 +63,23 @@ fn a_plain_command_with_a_value_that_is_not_quiet_is_not_written_for_bash(rt: Ho
     bash_ends(&rt, BLANK, "app", false, "");
     bash_ends(&rt, trees::QUOTED, "app", false, "");
     bash_ends(&rt, trees::COLORED, "a--b", false, "");
+}
+
+#[test]
+fn a_generator_outside_the_library_writes_its_script(rt: HostRuntime) {
+    let wanted = "--verbose\n--out\n--help\n";
+    is(&rt, script(&rt, WordList, trees::APP), wanted);
+    is(&rt, WordList.file_name(rt.alloc(), "app"), "app.words");
+}
+
+#[test]
+fn values_are_equal_where_they_are_one(rt: HostRuntime) {
+    same(&rt, same_shell(Shell::Zsh, Shell::Zsh), true);
+    same(&rt, same_shell(Shell::Zsh, Shell::Bash), false);
+    same(&rt, same_hint(ValueHint::Url, ValueHint::Other), false);
+    same(&rt, same_action(ArgAction::Set, ArgAction::Set), true);
+    same(&rt, same_action(ArgAction::Set, ArgAction::Append), false);
+    let range = ValueRange::new(1, 2);
+    same(&rt, same_range(range, ValueRange::new(1, 2)), true);
+    same(&rt, same_range(range, ValueRange::new(1, 3)), false);
 }

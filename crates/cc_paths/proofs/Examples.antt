@@ -7,7 +7,7 @@ use Rattle.std.specs.Str.{bytes_eq}
 use Rattle.cc_base.specs.Sorting.{in_order, insert}
 use Rattle.cc_candidates.specs.Candidate.{new_candidate}
 use Rattle.cc_paths.specs.PathCandidates.{groups, stdio_candidate}
-use Rattle.cc_paths.proofs.ToldByFunctions.{candidates_by}
+use Rattle.cc_paths.proofs.FixedFolder.{candidates_by}
 use Rattle.cc_paths.specs.PathTexts.{search_root, word_name, word_prefix}
 use Rattle.cc_candidates.specs.declared.candidate.CompletionCandidate.{CompletionCandidate}
 

@@ -1,14 +1,15 @@
 -- What files and folders in memory say of a path.
-use Rattle.std.specs.Prelude.{ℕ, List, map, length, ◌-◌, take, Bool, if◌then◌else◌, Option}
+use Rattle.std.specs.Prelude.{ℕ, List, map, length, ◌-◌, ◌&&◌, nat_lt, take, Bool, if◌then◌else◌, Option}
 use Rattle.std.specs.Borrow.{Bor}
 use Rattle.std.specs.List.{find, list_any}
 use Rattle.std.specs.Option.{option_map}
 use Rattle.std.specs.Str.{bytes_eq}
 use Rattle.cc_paths.specs.PathTexts.{ends_in_slash}
 
--- the path without one slash at its end
+-- the path without one slash at its end; `/` as it is
 abbrev pub without_slash : List ℕ → List ℕ
-without_slash path = if ends_in_slash path then take (length path - 1) path else path
+without_slash path =
+    if nat_lt 1 (length path) && ends_in_slash path then take (length path - 1) path else path
 
 -- the texts that are referred to
 abbrev pub texts_of : List (Bor (List ℕ)) → List (List ℕ)

@@ -1,3 +1,4 @@
+pub mod Folders
 pub mod InMemory
 pub mod PathCandidates
 pub mod PathTexts

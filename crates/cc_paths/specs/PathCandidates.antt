@@ -5,6 +5,7 @@ use Rattle.std.specs.Path.{cur_dir, dot, path_join, slash}
 use Rattle.cc_base.specs.Sorting.{in_order}
 use Rattle.cc_candidates.specs.Candidate.{comes_before, new_candidate}
 use Rattle.cc_candidates.specs.declared.candidate.CompletionCandidate.{CompletionCandidate}
+use Rattle.cc_paths.specs.Folders.{FolderFacts}
 use Rattle.cc_paths.specs.PathTexts.{search_root, word_name, word_prefix}
 use Rattle.cc_paths.specs.declared.entry.Entry.{Entry}
 
@@ -53,8 +54,8 @@ begins start name = starts_with nat_eq name start
 abbrev pub entry_name : Entry → List ℕ
 entry_name entry = entry.name
 
--- the entry holds what the folder and the test may say of the path of its name
-pub record IsTold (tells_dir passes : List ℕ → Bool → Type 0) (root : List ℕ)
+-- the entry holds what the folder and the test may return for the path of its name
+pub record IsEntry (tells_dir passes : List ℕ → Bool → Type 0) (root : List ℕ)
     (entry : Entry) : Type 0 where
   pub folder : tells_dir (path_join root entry.name) entry.is_folder
   pub test : passes (path_join root entry.name) entry.passes
@@ -66,25 +67,23 @@ MayList lists names =
 
 -- the candidates for a word from the names that may be listed at the root, of which those that
 -- begin as the word does are looked at
-pub record AreCandidatesAt (lists : List ℕ → Option (List (List ℕ)) → Type 0)
-    (tells_dir passes : List ℕ → Bool → Type 0) (word root : List ℕ)
-    (candidates : List CompletionCandidate) : Type 0 where
+pub record AreCandidatesAt (facts : FolderFacts) (passes : List ℕ → Bool → Type 0)
+    (word root : List ℕ) (candidates : List CompletionCandidate) : Type 0 where
   pub names : List (List ℕ)
-  pub listed : MayList (lists root) names
+  pub listed : MayList (facts.names root) names
   pub entries : List Entry
   pub named : map entry_name entries ≡ filter (begins (word_name word)) names
-  pub told : AllByRecursion (IsTold tells_dir passes root) entries
+  pub are_entries : AllByRecursion (IsEntry facts.is_dir passes root) entries
   pub root_passes : Bool
-  pub root_told : word ≡ [] → passes root root_passes
+  pub root_test : word ≡ [] → passes root root_passes
   pub is : candidates ≡ grouped_candidates word root_passes entries
 
 -- the candidates for a word: none where it needs a home folder or a current folder that is missing
-abbrev pub ArePathCandidates : (List ℕ → Option (List (List ℕ)) → Type 0)
-    → (List ℕ → Bool → Type 0) → (List ℕ → Bool → Type 0) → Option (List ℕ) → Option (List ℕ)
-    → List ℕ → List CompletionCandidate → Type 0
-ArePathCandidates lists tells_dir passes home current word candidates =
-    MatchOption (search_root home current (word_prefix word)) (candidates ≡ [])
-    (λ root. AreCandidatesAt lists tells_dir passes word root candidates)
+abbrev pub ArePathCandidates : FolderFacts → (List ℕ → Bool → Type 0) → Option (List ℕ) → List ℕ
+    → List CompletionCandidate → Type 0
+ArePathCandidates facts passes current word candidates =
+    MatchOption (search_root facts.home current (word_prefix word)) (candidates ≡ [])
+    (λ root. AreCandidatesAt facts passes word root candidates)
 
 -- the candidate `-`, standard input or output, for an empty word
 abbrev pub stdio_candidate : List ℕ → Bool → List CompletionCandidate

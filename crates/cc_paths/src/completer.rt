@@ -64,7 +64,7 @@ impl<D> PathCompleter<D, IsDir> {
 
 impl<D, T> PathCompleter<D, T> {
     /// A completer of the paths that pass a test, which may be of a type of the caller's own. With
-    /// a test that holds no boxed closure it can be lent in `Completers`.
+    /// a test that holds no boxed closure it can be added to `Completers`.
     pub fn with_test(folder: D, test: T) -> PathCompleter<D, T>
         ensures { result ≡ record {
           folder = folder;
@@ -99,10 +99,11 @@ impl<D: Drop, T: Drop> PathCompleter<D, T> {
         self
     }
 
-    /// Replaces the test by a closure, which may be called with any text. It is given the path of
-    /// each listed name that begins as the word does, and for an empty word the current folder's.
+    /// Replaces the test by a closure, which may be called with any text. It is called with the
+    /// path of each listed name that begins as the word does, and for an empty word the current
+    /// folder's.
     /// This is for calls of `complete` and `complete_at` themselves: no trait object is made of a
-    /// type that holds a boxed closure, so what is to be lent in `Completers` is made by
+    /// type that holds a boxed closure, so what is to be added to `Completers` is made by
     /// `with_test`.
     pub fn filter(self, test: TextTest) -> PathCompleter<D, FnTest>
         requires { TextTest.IsAlwaysCallable test }
@@ -122,8 +123,7 @@ impl<D: Drop, T: Drop> PathCompleter<D, T> {
 
 impl<D: Folder + Drop, T: PathTest<D> + Drop> ValueCompleter for PathCompleter<D, T> {
     ghost completes = { λ completer _ word found. WithStdio
-        (ArePathCandidates (D.lists completer.folder) (D.tells_dir completer.folder)
-        (T.tells completer.test completer.folder) (D.home_path completer.folder)
+        (ArePathCandidates (D.facts completer.folder) (T.may_return completer.test completer.folder)
         completer.current_dir word)
         completer.stdio word found };
 

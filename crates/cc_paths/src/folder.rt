@@ -1,7 +1,8 @@
 //! Folders whose names can be listed.
 
-ghost use Rattle.std.specs.Prelude.{◌≡◌, ℕ, Bool, List, map, string_bytes, Err, IfOk, Option, Some, None};
+ghost use Rattle.std.specs.Prelude.{◌≡◌, map, string_bytes, Err, IfOk, Some, None};
 ghost use Rattle.std.specs.Option.{option_copied};
+ghost use Rattle.cc_paths.specs.Folders.{FolderFacts};
 
 use std::alloc::{AllocError, AllocFailed, Global};
 use thiserror::Error as ThisError;
@@ -39,56 +40,39 @@ impl<T: Drop> From<AllocFailed<T>> for FolderError {
 
 /// Files and folders by their paths.
 ///
-/// What it says of a path is stated by relations, since a file system may say something else each
-/// time that it is asked.
+/// What its calls return is stated by relations, since a file system may say something else of a
+/// path at each call.
 pub trait Folder {
-    // the names that may be listed at a path; none where it can't be read
-    ghost lists: { Self → List ℕ → Option (List (List ℕ)) → Type 0 };
-
-    // what may be said of a path: whether it is a folder's, a file's, an executable file's
-    ghost tells_dir: { Self → List ℕ → Bool → Type 0 };
-
-    ghost tells_file: { Self → List ℕ → Bool → Type 0 };
-
-    ghost tells_executable: { Self → List ℕ → Bool → Type 0 };
-
-    // the home folder of the user
-    ghost home_path: { Self → Option (List ℕ) };
+    // what the calls may return
+    ghost facts: { Self → FolderFacts };
 
     /// The names in the folder at a path, in any order. Fails with `Unreadable` where the path
     /// isn't that of a folder that can be read, and with `Memory` where memory runs out.
     fn names(&self, alloc: Global, path: &str) -> Result<Vec<String>, FolderError>
         ensures ok { IfOk result
-            (λ names. lists self.now path.now (Some (map string_bytes names.items))) }
-        ensures unreadable { result ≡ Err FolderError.Unreadable → lists self.now path.now None };
+            (λ names. (facts self.now).names path.now (Some (map string_bytes names.items))) }
+        ensures unreadable { result ≡ Err FolderError.Unreadable →
+            (facts self.now).names path.now None };
 
     /// Whether the path is that of a folder.
     fn is_dir(&self, path: &str) -> bool
-        ensures { tells_dir self.now path.now result };
+        ensures { (facts self.now).is_dir path.now result };
 
     /// Whether the path is that of a file.
     fn is_file(&self, path: &str) -> bool
-        ensures { tells_file self.now path.now result };
+        ensures { (facts self.now).is_file path.now result };
 
     /// Whether the path is that of a file that can be run.
     fn is_executable(&self, path: &str) -> bool
-        ensures { tells_executable self.now path.now result };
+        ensures { (facts self.now).is_executable path.now result };
 
     /// The home folder of the user, where it is known.
     fn home(&self) -> Option<&str>
-        ensures { option_copied result ≡ home_path self.now };
+        ensures { option_copied result ≡ (facts self.now).home };
 }
 
 impl<D: Folder> Folder for &D {
-    ghost lists = { λ folder. D.lists folder.now };
-
-    ghost tells_dir = { λ folder. D.tells_dir folder.now };
-
-    ghost tells_file = { λ folder. D.tells_file folder.now };
-
-    ghost tells_executable = { λ folder. D.tells_executable folder.now };
-
-    ghost home_path = { λ folder. D.home_path folder.now };
+    ghost facts = { λ folder. D.facts folder.now };
 
     fn names(&self, alloc: Global, path: &str) -> Result<Vec<String>, FolderError> {
         (**self).names(alloc, path)

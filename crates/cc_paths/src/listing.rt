@@ -4,7 +4,7 @@ ghost use Rattle.std.specs.Prelude.{◌≡◌, ◌==◌, ◌++◌, [], Bool, map
 ghost use Rattle.std.specs.List.{AllByRecursion};
 ghost use Rattle.std.specs.Option.{option_copied};
 ghost use Rattle.std.specs.Path.{dot};
-ghost use Rattle.cc_paths.specs.PathCandidates.{ArePathCandidates, AreCandidatesAt, IsTold, MayList, begins};
+ghost use Rattle.cc_paths.specs.PathCandidates.{ArePathCandidates, AreCandidatesAt, IsEntry, MayList, begins};
 ghost use Rattle.cc_paths.specs.PathCandidates.{dot_candidate, entry_name, folder_mark, groups, is_unwanted_folder, is_wanted};
 ghost use Rattle.cc_paths.specs.PathCandidates.{path_candidate};
 
@@ -33,9 +33,9 @@ pub fn path_candidates<D: Folder, T: PathTest<D>>(
     current_dir: Option<&str>,
     word: &str,
 ) -> Result<Vec<CompletionCandidate>, AllocError>
-    ensures { IfOk result (λ candidates. ArePathCandidates (D.lists folder.now)
-        (D.tells_dir folder.now) (T.tells test.now folder.now) (D.home_path folder.now)
-        (option_copied current_dir.entry) word.now candidates.items) }
+    ensures { IfOk result (λ candidates. ArePathCandidates (D.facts folder.now)
+        (T.may_return test.now folder.now) (option_copied current_dir.entry) word.now
+        candidates.items) }
 {
     match search_root(alloc, folder.home(), current_dir, word_prefix(word))? {
         Some(root) => candidates_at(alloc, folder, test, root.as_str(), word),
@@ -51,19 +51,18 @@ fn candidates_at<D: Folder, T: PathTest<D>>(
     root: &str,
     word: &str,
 ) -> Result<Vec<CompletionCandidate>, AllocError>
-    ensures { IfOk result (λ candidates. AreCandidatesAt (D.lists folder.now)
-        (D.tells_dir folder.now) (T.tells test.now folder.now) word.now root.now
-        candidates.items) }
+    ensures { IfOk result (λ candidates. AreCandidatesAt (D.facts folder.now)
+        (T.may_return test.now folder.now) word.now root.now candidates.items) }
 {
     let dot = dot_candidate(alloc, folder, test, root, word)?;
     let names = names_at(alloc, folder, root)?;
-    let entries = ask_all(alloc, folder, test, root, word_name(word), names)?;
+    let entries = inspect_all(alloc, folder, test, root, word_name(word), names)?;
     in_groups(alloc, dot, word_prefix(word), entries.as_slice())
 }
 
 // The names at the root; none where it can't be read.
 fn names_at<D: Folder>(alloc: Global, folder: &D, root: &str) -> Result<Vec<String>, AllocError>
-    ensures { IfOk result (λ names. MayList (D.lists folder.now root.now)
+    ensures { IfOk result (λ names. MayList ((D.facts folder.now).names root.now)
         (map string_bytes names.items)) }
 {
     match folder.names(alloc, root) {
@@ -73,9 +72,9 @@ fn names_at<D: Folder>(alloc: Global, folder: &D, root: &str) -> Result<Vec<Stri
     }
 }
 
-// What the folder and the test say of the names that begin with the start. The folder is asked
-// about each of these once, and about no others.
-fn ask_all<D: Folder, T: PathTest<D>>(
+// What the folder and the test return for the names that begin with the start, each of which is
+// looked at once, and no others.
+fn inspect_all<D: Folder, T: PathTest<D>>(
     alloc: Global,
     folder: &D,
     test: &T,
@@ -85,21 +84,22 @@ fn ask_all<D: Folder, T: PathTest<D>>(
 ) -> Result<Vec<Entry>, AllocError>
     ensures named { IfOk result (λ entries.
         map entry_name entries.items ≡ filter (begins start.now) (map string_bytes names.items)) }
-    ensures told { IfOk result (λ entries. AllByRecursion
-        (IsTold (D.tells_dir folder.now) (T.tells test.now folder.now) root.now) entries.items) }
+    ensures entries { IfOk result (λ entries. AllByRecursion
+        (IsEntry (D.facts folder.now).is_dir (T.may_return test.now folder.now) root.now)
+        entries.items) }
 {
     let mut entries = Vec::new(alloc);
     for name in names {
         if !begins_with(name.as_str(), start) {
             continue;
         }
-        entries.push(ask(alloc, folder, test, root, name)?)?;
+        entries.push(inspect(alloc, folder, test, root, name)?)?;
     }
     Ok(entries)
 }
 
-// What the folder and the test say of a name.
-fn ask<D: Folder, T: PathTest<D>>(
+// What the folder and the test return for a name.
+fn inspect<D: Folder, T: PathTest<D>>(
     alloc: Global,
     folder: &D,
     test: &T,
@@ -107,8 +107,8 @@ fn ask<D: Folder, T: PathTest<D>>(
     name: String,
 ) -> Result<Entry, AllocError>
     ensures name { IfOk result (λ entry. entry.name ≡ string_bytes name) }
-    ensures told { IfOk result
-        (IsTold (D.tells_dir folder.now) (T.tells test.now folder.now) root.now) }
+    ensures entry { IfOk result
+        (IsEntry (D.facts folder.now).is_dir (T.may_return test.now folder.now) root.now) }
 {
     let path = join(alloc, root, name.as_str())?;
     let is_folder = folder.is_dir(path.as_str());
@@ -121,7 +121,7 @@ fn ask<D: Folder, T: PathTest<D>>(
 }
 
 // The candidate `.`, where the word is empty and the root passes. For another word the test isn't
-// asked.
+// called.
 fn dot_candidate<D: Folder, T: PathTest<D>>(
     alloc: Global,
     folder: &D,
@@ -130,7 +130,7 @@ fn dot_candidate<D: Folder, T: PathTest<D>>(
     word: &str,
 ) -> Result<Vec<CompletionCandidate>, AllocError>
     ensures { IfOk result (λ found. (root_passes : Bool)
-        × (word.now ≡ [] → T.tells test.now folder.now root.now root_passes)
+        × (word.now ≡ [] → T.may_return test.now folder.now root.now root_passes)
         × (found.items ≡ dot_candidate word.now root_passes)) }
 {
     let mut found = Vec::new(alloc);

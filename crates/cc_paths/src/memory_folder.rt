@@ -9,7 +9,7 @@ use crate::path_texts::ends_in_slash;
 use std::alloc::{AllocError, Global};
 
 /// Files and folders in memory, for tests. Every file counts as executable. One slash at the end of
-/// a path makes no difference.
+/// a path makes no difference, but in `/`, the path of the root.
 #[derive(Drop)]
 pub struct MemoryFolder {
     folders: &'static [(&'static str, &'static [&'static str])],
@@ -20,7 +20,7 @@ pub struct MemoryFolder {
 
 impl MemoryFolder {
     /// Folders, each by its path and with the names in it, and the paths of files. None of these
-    /// paths ends in a slash.
+    /// paths but `/` ends in a slash.
     pub fn new(
         folders: &'static [(&'static str, &'static [&'static str])],
         files: &'static [&'static str],
@@ -59,19 +59,13 @@ impl MemoryFolder {
 }
 
 impl Folder for MemoryFolder {
-    ghost lists = { λ folder path listing. listing
-        ≡ names_in folder.folders.now (without_slash path) };
-
-    ghost tells_dir = { λ folder path told.
-        told ≡ is_some (folder_at folder.folders.now (without_slash path)) };
-
-    ghost tells_file = { λ folder path told. told ≡ has_file folder.files.now
-        (without_slash path) };
-
-    ghost tells_executable = { λ folder path told.
-        told ≡ has_file folder.files.now (without_slash path) };
-
-    ghost home_path = { λ folder. option_copied folder.home };
+    ghost facts = { λ folder. record {
+      names = λ path listing. listing ≡ names_in folder.folders.now (without_slash path);
+      is_dir = λ path is. is ≡ is_some (folder_at folder.folders.now (without_slash path));
+      is_file = λ path is. is ≡ has_file folder.files.now (without_slash path);
+      is_executable = λ path is. is ≡ has_file folder.files.now (without_slash path);
+      home = option_copied folder.home;
+    } };
 
     fn names(&self, alloc: Global, path: &str) -> Result<Vec<String>, FolderError> {
         if self.fails {
@@ -100,11 +94,11 @@ impl Folder for MemoryFolder {
     }
 }
 
-// The path without one slash at its end.
+// The path without one slash at its end; `/` as it is.
 fn without_slash(path: &str) -> &str
     ensures { result.now ≡ without_slash path.now }
 {
-    if ends_in_slash(path) {
+    if path.len() > 1 && ends_in_slash(path) {
         &path[..path.len() - 1]
     } else {
         path

@@ -7,18 +7,18 @@ use crate::folder::Folder;
 
 /// A test of the paths in a folder.
 pub trait PathTest<D: Folder> {
-    // what may be said of a path in the folder
-    ghost tells: { Self → D → List ℕ → Bool → Type 0 };
+    // what may be returned for a path in the folder
+    ghost may_return: { Self → D → List ℕ → Bool → Type 0 };
 
     /// Whether a path passes.
     fn passes(&self, folder: &D, path: &str) -> bool
-        ensures { tells self.now folder.now path.now result };
+        ensures { may_return self.now folder.now path.now result };
 
-    /// Whether a path passes, where the folder was already asked whether the path is a folder's.
-    /// A test that needs nothing else returns `is_dir`, so that the folder isn't asked twice.
+    /// Whether a path passes, where it is known whether the path is a folder's.
+    /// A test that needs nothing else returns `is_dir`, so that the folder isn't read twice.
     fn passes_known(&self, folder: &D, path: &str, is_dir: bool) -> bool
-        requires { D.tells_dir folder.now path.now is_dir }
-        ensures { tells self.now folder.now path.now result }
+        requires { (D.facts folder.now).is_dir path.now is_dir }
+        ensures { may_return self.now folder.now path.now result }
     {
         self.passes(folder, path)
     }
@@ -29,7 +29,7 @@ pub trait PathTest<D: Folder> {
 pub struct EveryPath;
 
 impl<D: Folder> PathTest<D> for EveryPath {
-    ghost tells = { λ _ _ _ told. told ≡ true };
+    ghost may_return = { λ _ _ _ passes. passes ≡ true };
 
     fn passes(&self, _folder: &D, _path: &str) -> bool {
         true
@@ -41,7 +41,7 @@ impl<D: Folder> PathTest<D> for EveryPath {
 pub struct IsFile;
 
 impl<D: Folder> PathTest<D> for IsFile {
-    ghost tells = { λ _ folder. D.tells_file folder };
+    ghost may_return = { λ _ folder. (D.facts folder).is_file };
 
     fn passes(&self, folder: &D, path: &str) -> bool {
         folder.is_file(path)
@@ -53,7 +53,7 @@ impl<D: Folder> PathTest<D> for IsFile {
 pub struct IsDir;
 
 impl<D: Folder> PathTest<D> for IsDir {
-    ghost tells = { λ _ folder. D.tells_dir folder };
+    ghost may_return = { λ _ folder. (D.facts folder).is_dir };
 
     fn passes(&self, folder: &D, path: &str) -> bool {
         folder.is_dir(path)
@@ -69,14 +69,14 @@ impl<D: Folder> PathTest<D> for IsDir {
 pub struct IsExecutable;
 
 impl<D: Folder> PathTest<D> for IsExecutable {
-    ghost tells = { λ _ folder. D.tells_executable folder };
+    ghost may_return = { λ _ folder. (D.facts folder).is_executable };
 
     fn passes(&self, folder: &D, path: &str) -> bool {
         folder.is_executable(path)
     }
 }
 
-/// A boxed closure that tells whether a path passes.
+/// A boxed closure that returns whether a path passes.
 pub type TextTest = Box<dyn Fn(&str) -> bool>;
 
 /// The paths for which a closure returns `true` pass.
@@ -97,7 +97,7 @@ impl FnTest {
 }
 
 impl<D: Folder> PathTest<D> for FnTest {
-    ghost tells = { λ asked _ path told. FnReturnsAt TextTest.Fn asked.test path told };
+    ghost may_return = { λ test _ path passes. FnReturnsAt TextTest.Fn test.test path passes };
 
     fn passes(&self, _folder: &D, path: &str) -> bool {
         (self.test)(path)

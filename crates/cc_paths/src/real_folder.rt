@@ -12,9 +12,9 @@ use std::rt::Files;
 use std::{fs, io};
 
 /// The files and folders of the operating system. Every file counts as executable. An entry that
-/// can't be read is left out of the names; a path that can't be asked about is neither a folder nor
-/// a file. What the system says is not known beforehand, so of it the contracts of `Folder` say
-/// nothing here.
+/// can't be read is left out of the names; a path of which the system says nothing is neither a
+/// folder nor a file. What the system says is not known beforehand, so of it the contracts of
+/// `Folder` say nothing here.
 #[derive(Drop)]
 pub struct RealFolder<R> {
     files: R,
@@ -35,15 +35,13 @@ impl<R: Files + Drop> RealFolder<R> {
 }
 
 impl<R: Files + Drop> Folder for RealFolder<R> {
-    ghost lists = { λ _ _ _. ⊤ };
-
-    ghost tells_dir = { λ _ _ _. ⊤ };
-
-    ghost tells_file = { λ _ _ _. ⊤ };
-
-    ghost tells_executable = { λ _ _ _. ⊤ };
-
-    ghost home_path = { λ folder. folder.home };
+    ghost facts = { λ folder. record {
+      names = λ _ _. ⊤;
+      is_dir = λ _ _. ⊤;
+      is_file = λ _ _. ⊤;
+      is_executable = λ _ _. ⊤;
+      home = folder.home;
+    } };
 
     fn names(&self, alloc: Global, path: &str) -> Result<Vec<String>, FolderError> {
         let entries = fs::read_dir(&(&self.files, alloc), path).map_err(|error| reason(&error))?;

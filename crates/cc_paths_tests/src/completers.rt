@@ -3,7 +3,7 @@
 use crate::folders::Unlisted;
 use crate::shown::{other, returns, text, work};
 use cc_candidates::ValueCompleter;
-use cc_paths::PathCompleter;
+use cc_paths::{MemoryFolder, PathCompleter};
 
 #[test]
 fn folders_follow_files(rt: HostRuntime) {
@@ -42,6 +42,12 @@ fn slashes_and_dots_at_the_end_of_a_word(rt: HostRuntime) {
     returns(&rt, PathCompleter::any(work()), "/w//s", "/w/src/\n");
     let other = PathCompleter::any(other()).current_dir(text(&rt, "/o"));
     returns(&rt, other, "foo/.", "foo/\nfoobar\n");
+}
+
+#[test]
+fn the_root_is_a_folder(rt: HostRuntime) {
+    let root = MemoryFolder::new(&[("/", &["etc", "init"]), ("/etc", &[])], &["/init"]);
+    returns(&rt, PathCompleter::any(root), "/e", "/etc/\n");
 }
 
 #[test]

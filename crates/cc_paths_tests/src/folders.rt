@@ -14,15 +14,13 @@ pub(crate) struct Unlisted;
 impl Folder for Unlisted {
     ghost use Rattle.std.specs.Prelude.{◌≡◌, None, true, false};
 
-    ghost lists = { λ _ _ listing. listing ≡ None };
-
-    ghost tells_dir = { λ _ _ told. told ≡ true };
-
-    ghost tells_file = { λ _ _ told. told ≡ false };
-
-    ghost tells_executable = { λ _ _ told. told ≡ false };
-
-    ghost home_path = { λ _. None };
+    ghost facts = { λ _. record {
+      names = λ _ listing. listing ≡ None;
+      is_dir = λ _ is. is ≡ true;
+      is_file = λ _ is. is ≡ false;
+      is_executable = λ _ is. is ≡ false;
+      home = None;
+    } };
 
     fn names(&self, _alloc: Global, _path: &str) -> Result<Vec<String>, FolderError> {
         Err(FolderError::Unreadable)

@@ -1,13 +1,13 @@
 -- fish's escapes go byte by byte.
-use Rattle.std.proofs.Common.{◌≡◌, ◌∙◌, ℕ, true, false, List, [], ◌∷◌, ◌++◌, sym, ap, arith, codes}
+use Rattle.std.proofs.Common.{◌≡◌, ◌∙◌, ℕ, true, false, List, [], ◌∷◌, ◌++◌, refl, sym, ap, arith, codes}
 use Rattle.std.proofs.lemmas.List.Folds.{flat_map-map}
 use Rattle.std.proofs.lemmas.List.Concat.{flat_map-append}
 use Rattle.std.proofs.lemmas.Bool.Decides.{nat_tests}
 use Rattle.memchr.specs.Find.{is_byte3}
 use Rattle.cc_quote.specs.QuotedWord.{space_for_line_feed, line_feeds_as_spaces}
 use Rattle.cc_quote.specs.Escapes.{escaped_byte, escaped_by, marked_byte}
-use Rattle.cc_quote.specs.FishQuote.{description_replacement, is_single_marked, single_escaped, is_double_marked, double_escaped, single_quoted, fish_escaped, is_fish_safe_word, fish_quoted, fish_quoted_for_eval, fish_help_for_eval_of}
-use Rattle.cc_quote.proofs.FishWords.{IsSafe, safe_bytes, safe_double_escaped}
+use Rattle.cc_quote.specs.FishQuote.{description_replacement, is_single_marked, single_escaped, is_double_marked, double_escaped, single_quoted, fish_escaped, is_fish_safe, is_fish_safe_word, fish_quoted, fish_quoted_for_eval, fish_help_for_eval_of}
+use Rattle.cc_quote.proofs.FishWords.{IsSafe, safe_is_not, safe_bytes, safe_double_escaped}
 use Rattle.cc_quote.specs.FishEscapes.{eval_byte, help_byte, is_eval_byte, is_help_byte}
 use Rattle.cc_quote.proofs.ByteEscapes.{composed, same_bytes}
 
@@ -19,6 +19,17 @@ unfolding fish_escaped
 fish_escaped_composed text =
     same_bytes (escaped_byte (is_byte3 92 39 10) description_replacement) (λ byte. marked_byte is_single_marked (space_for_line_feed byte)) description_byte text
     ∙ sym (flat_map-map (marked_byte is_single_marked) space_for_line_feed text)
+
+-- no byte that needs no quotes is escaped in a description
+safe_description : (byte : ℕ) → is_fish_safe byte ≡ true → escaped_byte (is_byte3 92 39 10) description_replacement byte ≡ byte ∷ []
+unfolding is_fish_safe
+safe_description byte h = rw (safe_is_not byte 92 h refl, safe_is_not byte 39 h refl, safe_is_not byte 10 h refl)
+
+-- so a text of such bytes is its own escape
+pub safe_escaped : (text : List ℕ) → IsSafe text → fish_escaped text ≡ text
+unfolding fish_escaped
+safe_escaped [] h = refl
+safe_escaped (byte ∷ text) (h, hs) = ap (λ bytes. bytes ++ fish_escaped text) (safe_description byte h) ∙ ap (λ bytes. byte ∷ bytes) (safe_escaped text hs)
 
 -- a text within both quotes
 abbrev eval_escaped : List ℕ → List ℕ

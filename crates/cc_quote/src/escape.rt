@@ -1,13 +1,13 @@
 //! Escapes by runs: what needs no escape is passed on unchanged, up to the next escape.
 
-ghost use Rattle.std.specs.Prelude.{◌≡◌, ◌<◌, ◌++◌, ℕ, List, Bool, IfErr, IfOk, IsSome, OnOk, MatchOption};
+ghost use Rattle.std.specs.Prelude.{◌≡◌, ◌<◌, ◌++◌, ℕ, List, Bool, IfOk, IsSome, OnOk, MatchOption};
 ghost use Rattle.std.specs.Option.{option_copied};
 ghost use Rattle.std.specs.String.{string_bytes};
-ghost use Rattle.cc_base.specs.Writes.{IsWrite, Writes, as_write};
+ghost use Rattle.cc_base.specs.Writes.{Writes, as_write};
 ghost use Rattle.cc_quote.specs.Escapes.{IsFirstEscape, escaped_by, replacement_by};
 ghost use Rattle.memchr.specs.Find.{IsFirstByte, is_byte};
 
-use cc_base::{Error, Sink, put_piece};
+use cc_base::{Sink, put_piece};
 use memchr::memchr;
 use std::alloc::{AllocError, Global};
 use std::io::ErrorKind;
@@ -90,34 +90,22 @@ impl ByteEscape for Replace {
     }
 }
 
-/// Writes the escaped text. Allocates nothing, and fails with `Write` where a put failed.
-pub fn put_escaped<E: Escape, S: Sink>(escape: &E, text: &str, sink: &mut S) -> Result<(), Error>
-    ensures written { Writes S.taken S.failed result sink.old sink.new
-        (E.escaped escape.now text.now) }
-    ensures write_only { IfErr result IsWrite }
-{
-    match put_escaped_piece(escape, text, sink) {
-        Ok(()) => Ok(()),
-        Err(kind) => Err(Error::Write(kind)),
-    }
-}
-
-/// Writes the escaped text as a piece: the error is the kind of the put that failed.
-pub fn put_escaped_piece<E: Escape, S: Sink>(
+/// Puts the escaped text. Allocates nothing, and fails with the kind of the put that failed.
+pub fn put_escaped<E: Escape, S: Sink>(
+    sink: &mut S,
     escape: &E,
     text: &str,
-    sink: &mut S,
 ) -> Result<(), ErrorKind>
     ensures { Writes S.taken S.failed (as_write result) sink.old sink.new
         (E.escaped escape.now text.now) }
 {
     let mut rest = text;
     while let Some((run, replacement, next)) = escape.split(rest) {
-        put_piece(sink, run.as_bytes())?;
-        put_piece(sink, replacement.as_bytes())?;
+        put_piece(sink, run)?;
+        put_piece(sink, replacement)?;
         rest = next;
     }
-    put_piece(sink, rest.as_bytes())
+    put_piece(sink, rest)
 }
 
 /// Appends the escaped text. Fails where memory runs out.

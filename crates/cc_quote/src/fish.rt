@@ -22,7 +22,7 @@ ghost use Rattle.cc_quote.specs.FishQuote.{
 };
 ghost use Rattle.cc_quote.specs.QuotedWord.{line_feeds_as_spaces};
 
-use crate::escape::{ByteEscape, Escape, escape_text, push_escaped, put_escaped_piece};
+use crate::escape::{ByteEscape, Escape, escape_text, push_escaped, put_escaped};
 use cc_base::{Error, Sink, put_piece};
 use memchr::{memchr2, memchr3};
 use std::alloc::{AllocError, Global};
@@ -228,33 +228,33 @@ pub fn fish_escape(alloc: Global, text: &str) -> Result<String, Error>
     Ok(escape_text(alloc, &FishEscape, text)?)
 }
 
-/// Writes what `fish_quote_for_eval` makes of the text. Fails with the kind of the put that failed.
+/// Puts what `fish_quote_for_eval` makes of the text. Fails with the kind of the put that failed.
 #[tactic(auto, using(crate::proofs::FishEscaped::eval_safe, crate::proofs::FishEscaped::eval_unsafe_text))]
-pub fn put_fish_quoted_for_eval<W: Sink>(text: &str, sink: &mut W) -> Result<(), ErrorKind>
+pub fn put_fish_quoted_for_eval<W: Sink>(sink: &mut W, text: &str) -> Result<(), ErrorKind>
     ensures { Writes W.taken W.failed (as_write result) sink.old sink.new
         (fish_quoted_for_eval text.now) }
 {
     if is_safe_word(text) {
-        return put_piece(sink, text.as_bytes());
+        return put_piece(sink, text);
     }
-    put_in_quotes(&EvalEscape, text, sink)
+    put_in_quotes(sink, &EvalEscape, text)
 }
 
-/// Writes what `fish_help_for_eval` makes of the help. Fails with the kind of the put that failed.
+/// Puts what `fish_help_for_eval` makes of the help. Fails with the kind of the put that failed.
 #[tactic(auto, using(crate::proofs::FishEscaped::help_text))]
-pub fn put_fish_help_for_eval<W: Sink>(help: &str, sink: &mut W) -> Result<(), ErrorKind>
+pub fn put_fish_help_for_eval<W: Sink>(sink: &mut W, help: &str) -> Result<(), ErrorKind>
     ensures { Writes W.taken W.failed (as_write result) sink.old sink.new
         (fish_help_for_eval_of help.now) }
 {
-    put_in_quotes(&HelpEscape, help, sink)
+    put_in_quotes(sink, &HelpEscape, help)
 }
 
-// Writes an escaped text between two `'`.
-fn put_in_quotes<E: Escape, W: Sink>(escape: &E, text: &str, sink: &mut W) -> Result<(), ErrorKind>
+// Puts an escaped text between two `'`.
+fn put_in_quotes<E: Escape, W: Sink>(sink: &mut W, escape: &E, text: &str) -> Result<(), ErrorKind>
     ensures { Writes W.taken W.failed (as_write result) sink.old sink.new
         (codes "'" ++ E.escaped escape.now text.now ++ codes "'") }
 {
-    put_piece(sink, "'".as_bytes())?;
-    put_escaped_piece(escape, text, sink)?;
-    put_piece(sink, "'".as_bytes())
+    put_piece(sink, "'")?;
+    put_escaped(sink, escape, text)?;
+    put_piece(sink, "'")
 }

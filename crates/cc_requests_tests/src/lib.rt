@@ -6,8 +6,6 @@ mod refusals;
 #[cfg(test)]
 mod registrations;
 #[cfg(test)]
-mod requests;
-#[cfg(test)]
 mod tried;
 #[cfg(test)]
 mod writers;

@@ -20,15 +20,3 @@ pub(crate) fn is_twice<E: Debug + Drop>(rt: &impl Abort, text: Result<String, E>
     let text = text.expect(rt, "no text");
     same(rt, text.as_str().strip_prefix(wanted), Some(wanted));
 }
-
-/// Fails unless a text was made that holds this part.
-pub(crate) fn has<E: Debug + Drop>(rt: &impl Abort, text: Result<String, E>, part: &str) {
-    let text = text.expect(rt, "no text");
-    assert!(rt; text.as_str().contains(part), "{part:?} is not in {text}");
-}
-
-/// Fails unless a text was made that ends so.
-pub(crate) fn ends<E: Debug + Drop>(rt: &impl Abort, text: Result<String, E>, end: &str) {
-    let text = text.expect(rt, "no text");
-    assert!(rt; text.as_str().ends_with(end), "{end:?} does not end {text}");
-}

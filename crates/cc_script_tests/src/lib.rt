@@ -1,28 +1,20 @@
-//! Tests of what the script of each shell holds. They need no crate above the shells, so that they
-//! can be proved early.
+//! Tests of scripts that no case of `cc_cases` can say: texts of any character, a chain of commands
+//! that nests deeper than a tree file, methods, and memory.
 #![tactic(auto)]
 
 #[cfg(test)]
-mod bash;
+mod chains;
 #[cfg(test)]
 mod characters;
 #[cfg(test)]
 mod checks;
 #[cfg(test)]
-mod elvish;
-#[cfg(test)]
-mod fish;
-#[cfg(test)]
 mod fixtures;
 #[cfg(test)]
 mod memory;
 #[cfg(test)]
-mod nushell;
+mod methods;
 #[cfg(test)]
-mod odd_texts;
-#[cfg(test)]
-mod powershell;
+mod words;
 #[cfg(test)]
 mod written;
-#[cfg(test)]
-mod zsh;

@@ -11,7 +11,7 @@ use crate::tables::{Frame, Named, write_tables};
 use cc_base::{Error, Sink, TextRef, put_around, put_piece};
 use cc_command::Command;
 use cc_generator::Generator;
-use cc_quote::{ElvishEscape, put_escaped_piece};
+use cc_quote::{ElvishEscape, put_escaped};
 use std::alloc::Global;
 use std::io::ErrorKind;
 
@@ -102,7 +102,7 @@ impl Generator for Elvish {
         command: &Command,
         sink: &mut W,
     ) -> Result<(), Error> {
-        write_tables(alloc, command, &frame(), self, sink)
+        write_tables(alloc, sink, command, &frame(), self)
     }
 }
 
@@ -113,11 +113,11 @@ impl Rows for Elvish {
 
     #[tactic(auto, unfolding(crate::specs::ElvishScript::offer_text, crate::specs::ElvishScript::row_text, crate::specs::ElvishScript::text_begin, crate::specs::ElvishScript::row_end))]
     #[inline(always)]
-    fn write_row<W: Sink>(&self, offer: &Offer<'_>, sink: &mut W) -> Result<(), ErrorKind> {
+    fn write_row<W: Sink>(&self, sink: &mut W, offer: &Offer<'_>) -> Result<(), ErrorKind> {
         let name = offer.name.as_str();
-        put_around(row_begin(offer.kind), name, " '", sink)?;
-        put_escaped_piece(&ElvishEscape, shown_text(offer), sink)?;
-        put_piece(sink, "'".as_bytes())
+        put_around(sink, row_begin(offer.kind), name, " '")?;
+        put_escaped(sink, &ElvishEscape, shown_text(offer))?;
+        put_piece(sink, "'")
     }
 }
 

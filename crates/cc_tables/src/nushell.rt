@@ -14,7 +14,7 @@ use crate::tables::{Frame, TableRows, write_tables};
 use cc_base::{Error, Sink, TextRef, put_around, put_piece};
 use cc_command::Command;
 use cc_generator::Generator;
-use cc_quote::{Replace, put_escaped_piece};
+use cc_quote::{Replace, put_escaped};
 use std::alloc::Global;
 use std::io::ErrorKind;
 
@@ -84,7 +84,7 @@ impl Generator for Nushell {
         command: &Command,
         sink: &mut W,
     ) -> Result<(), Error> {
-        write_tables(alloc, command, &frame(), self, sink)
+        write_tables(alloc, sink, command, &frame(), self)
     }
 }
 
@@ -98,19 +98,19 @@ impl TableRows for Nushell {
     ghost text = { λ _. line_text };
 
     #[tactic(auto, using(crate::proofs::NushellTexts::lines_of_node))]
-    fn write_rows<W: Sink>(&self, command: &Command, sink: &mut W) -> Result<(), ErrorKind> {
-        write_lines(command, sink)
+    fn write_rows<W: Sink>(&self, sink: &mut W, command: &Command) -> Result<(), ErrorKind> {
+        write_lines(sink, command)
     }
 }
 
 // Writes the lines of the options, then those of the flags.
-fn write_lines<W: Sink>(command: &Command, sink: &mut W) -> Result<(), ErrorKind>
+fn write_lines<W: Sink>(sink: &mut W, command: &Command) -> Result<(), ErrorKind>
     ensures { Writes W.taken W.failed (as_write result) sink.old sink.new
         (flat_map (offer_text true) (flat_map argument_offers (options command.now.node))
         ++ flat_map (offer_text false) (flat_map argument_offers (flags command.now.node))) }
 {
-    write_arguments(&Lines { takes_value: true }, command.get_opts(), sink)?;
-    write_arguments(&Lines { takes_value: false }, command.get_flags(), sink)
+    write_arguments(sink, &Lines { takes_value: true }, command.get_opts())?;
+    write_arguments(sink, &Lines { takes_value: false }, command.get_flags())
 }
 
 // The lines of options, which take a value, or of flags.
@@ -125,32 +125,32 @@ impl Rows for Lines {
 
     #[tactic(auto, unfolding(crate::specs::NushellScript::offer_text, crate::specs::NushellScript::line_text, crate::specs::NushellScript::content))]
     #[inline(always)]
-    fn write_row<W: Sink>(&self, offer: &Offer<'_>, sink: &mut W) -> Result<(), ErrorKind> {
+    fn write_row<W: Sink>(&self, sink: &mut W, offer: &Offer<'_>) -> Result<(), ErrorKind> {
         let name = offer.name.as_str();
         let shown_type = type_text(self.takes_value);
-        put_around(line_begin(offer.kind), name, shown_type, sink)?;
-        write_help(offer, sink)?;
-        put_piece(sink, "\n".as_bytes())
+        put_around(sink, line_begin(offer.kind), name, shown_type)?;
+        write_help(sink, offer)?;
+        put_piece(sink, "\n")
     }
 }
 
 // Writes the help where there is one.
 #[tactic(auto, unfolding(crate::specs::NushellScript::help_text, crate::specs::NushellScript::help_begin))]
-fn write_help<W: Sink>(offer: &Offer<'_>, sink: &mut W) -> Result<(), ErrorKind>
+fn write_help<W: Sink>(sink: &mut W, offer: &Offer<'_>) -> Result<(), ErrorKind>
     ensures { Writes W.taken W.failed (as_write result) sink.old sink.new
         (help_text offer.now.description) }
 {
     match &offer.description {
         Some(help) => {
-            put_piece(sink, " # ".as_bytes())?;
-            put_one_line(help.as_str(), sink)
+            put_piece(sink, " # ")?;
+            put_one_line(sink, help.as_str())
         }
         None => Ok(()),
     }
 }
 
 // Writes a text on one line: each line feed as a space.
-fn put_one_line<W: Sink>(text: &str, sink: &mut W) -> Result<(), ErrorKind>
+fn put_one_line<W: Sink>(sink: &mut W, text: &str) -> Result<(), ErrorKind>
     ensures { Writes W.taken W.failed (as_write result) sink.old sink.new
         (line_feeds_as_spaces text.now) }
 {
@@ -158,5 +158,5 @@ fn put_one_line<W: Sink>(text: &str, sink: &mut W) -> Result<(), ErrorKind>
         byte: b'\n',
         by: " ",
     };
-    put_escaped_piece(&escape, text, sink)
+    put_escaped(sink, &escape, text)
 }

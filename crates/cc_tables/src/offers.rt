@@ -53,7 +53,7 @@ pub trait Rows {
     ///
     /// An impl inlines it where the offer is made: its kind is known there, and with it the fixed
     /// texts.
-    fn write_row<W: Sink>(&self, offer: &Offer<'_>, sink: &mut W) -> Result<(), ErrorKind>
+    fn write_row<W: Sink>(&self, sink: &mut W, offer: &Offer<'_>) -> Result<(), ErrorKind>
         ensures { Writes W.taken W.failed (as_write result) sink.old sink.new
             (row_text self.now offer.now) };
 }
@@ -70,51 +70,51 @@ impl<R: Rows> TableRows for R {
     ghost text = { R.row_text };
 
     #[tactic(auto, unfolding(crate::specs::Offers::node_offers))]
-    fn write_rows<W: Sink>(&self, command: &Command, sink: &mut W) -> Result<(), ErrorKind> {
-        write_arguments(self, command.get_opts(), sink)?;
-        write_arguments(self, command.get_flags(), sink)?;
-        write_children(self, command.get_subcommands(), sink)
+    fn write_rows<W: Sink>(&self, sink: &mut W, command: &Command) -> Result<(), ErrorKind> {
+        write_arguments(sink, self, command.get_opts())?;
+        write_arguments(sink, self, command.get_flags())?;
+        write_children(sink, self, command.get_subcommands())
     }
 }
 
 /// Writes a row for each shown name of the arguments. Fails with the kind of the put that failed.
 pub fn write_arguments<R: Rows, W: Sink>(
+    sink: &mut W,
     rows: &R,
     arguments: Arguments<'_>,
-    sink: &mut W,
 ) -> Result<(), ErrorKind>
     ensures { Writes W.taken W.failed (as_write result) sink.old sink.new
         (flat_map (R.row_text rows.now)
         (flat_map argument_offers (arguments_left arguments.entry))) }
 {
     for argument in arguments {
-        write_argument(rows, argument, sink)?;
+        write_argument(sink, rows, argument)?;
     }
     Ok(())
 }
 
 // Writes a row for each name of an argument that is shown.
-fn write_argument<R: Rows, W: Sink>(rows: &R, argument: &Arg, sink: &mut W) -> Result<(), ErrorKind>
+fn write_argument<R: Rows, W: Sink>(sink: &mut W, rows: &R, argument: &Arg) -> Result<(), ErrorKind>
     ensures { Writes W.taken W.failed (as_write result) sink.old sink.new
         (flat_map (R.row_text rows.now) (argument_offers argument.now)) }
 {
     for name in shown_names(argument) {
-        write_name(rows, argument, name, sink)?;
+        write_name(sink, rows, argument, name)?;
     }
     Ok(())
 }
 
 fn write_name<R: Rows, W: Sink>(
+    sink: &mut W,
     rows: &R,
     argument: &Arg,
     name: ShownName<'_>,
-    sink: &mut W,
 ) -> Result<(), ErrorKind>
     ensures { Writes W.taken W.failed (as_write result) sink.old sink.new
         (R.row_text rows.now (argument_offer argument.now name.entry)) }
 {
     match name {
-        ShownName::Short(short) => write_short(rows, argument, short, sink),
+        ShownName::Short(short) => write_short(sink, rows, argument, short),
         ShownName::Long(long) => {
             let fallback = TextRef::new(argument.get_long().unwrap_or(long.as_str()));
             let description = help_of(argument.get_help());
@@ -124,16 +124,16 @@ fn write_name<R: Rows, W: Sink>(
                 description,
                 fallback,
             };
-            rows.write_row(&offer, sink)
+            rows.write_row(sink, &offer)
         }
     }
 }
 
 fn write_short<R: Rows, W: Sink>(
+    sink: &mut W,
     rows: &R,
     argument: &Arg,
     short: char,
-    sink: &mut W,
 ) -> Result<(), ErrorKind>
     ensures { Writes W.taken W.failed (as_write result) sink.old sink.new
         (R.row_text rows.now (short_offer argument.now short)) }
@@ -147,7 +147,7 @@ fn write_short<R: Rows, W: Sink>(
         description: help_of(argument.get_help()),
         fallback: TextRef::new(own.encode_utf8(&mut fallback)),
     };
-    rows.write_row(&offer, sink)
+    rows.write_row(sink, &offer)
 }
 
 fn help_of<'a>(help: Option<&'a str>) -> Option<TextRef<'a>>
@@ -160,35 +160,35 @@ fn help_of<'a>(help: Option<&'a str>) -> Option<TextRef<'a>>
 }
 
 fn write_children<R: Rows, W: Sink>(
+    sink: &mut W,
     rows: &R,
     children: &[Command],
-    sink: &mut W,
 ) -> Result<(), ErrorKind>
     ensures { Writes W.taken W.failed (as_write result) sink.old sink.new
         (flat_map (R.row_text rows.now) (children_offers (forest_of children.now))) }
 {
     for child in children {
-        write_child(rows, child, sink)?;
+        write_child(sink, rows, child)?;
     }
     Ok(())
 }
 
 // Writes a row for each visible name of a child.
-fn write_child<R: Rows, W: Sink>(rows: &R, child: &Command, sink: &mut W) -> Result<(), ErrorKind>
+fn write_child<R: Rows, W: Sink>(sink: &mut W, rows: &R, child: &Command) -> Result<(), ErrorKind>
     ensures { Writes W.taken W.failed (as_write result) sink.old sink.new
         (flat_map (R.row_text rows.now) (child_offers child.now.node)) }
 {
     for name in child.get_name_and_visible_aliases() {
-        write_child_name(rows, child, name, sink)?;
+        write_child_name(sink, rows, child, name)?;
     }
     Ok(())
 }
 
 fn write_child_name<R: Rows, W: Sink>(
+    sink: &mut W,
     rows: &R,
     child: &Command,
     name: &str,
-    sink: &mut W,
 ) -> Result<(), ErrorKind>
     ensures { Writes W.taken W.failed (as_write result) sink.old sink.new
         (R.row_text rows.now (child_offer child.now.node name.now)) }
@@ -199,5 +199,5 @@ fn write_child_name<R: Rows, W: Sink>(
         description: help_of(child.get_about()),
         fallback: TextRef::new(name),
     };
-    rows.write_row(&offer, sink)
+    rows.write_row(sink, &offer)
 }

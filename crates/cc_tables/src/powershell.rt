@@ -13,7 +13,7 @@ use crate::tables::{Frame, Named, write_tables};
 use cc_base::{Error, Sink, TextRef, put_around, put_piece};
 use cc_command::Command;
 use cc_generator::Generator;
-use cc_quote::{PowershellEscape, put_escaped_piece};
+use cc_quote::{PowershellEscape, put_escaped};
 use std::alloc::Global;
 use std::io::ErrorKind;
 
@@ -137,7 +137,7 @@ impl Generator for PowerShell {
         command: &Command,
         sink: &mut W,
     ) -> Result<(), Error> {
-        write_tables(alloc, command, &frame(), self, sink)
+        write_tables(alloc, sink, command, &frame(), self)
     }
 }
 
@@ -148,25 +148,25 @@ impl Rows for PowerShell {
 
     #[tactic(auto, unfolding(crate::specs::PowershellScript::offer_text, crate::specs::PowershellScript::row_text, crate::specs::PowershellScript::words_text, crate::specs::PowershellScript::details_text, crate::specs::PowershellScript::row_end))]
     #[inline(always)]
-    fn write_row<W: Sink>(&self, offer: &Offer<'_>, sink: &mut W) -> Result<(), ErrorKind> {
-        write_words(offer, sink)?;
-        put_escaped_piece(&PowershellEscape, shown_text(offer), sink)?;
-        put_piece(sink, "')".as_bytes())
+    fn write_row<W: Sink>(&self, sink: &mut W, offer: &Offer<'_>) -> Result<(), ErrorKind> {
+        write_words(sink, offer)?;
+        put_escaped(sink, &PowershellEscape, shown_text(offer))?;
+        put_piece(sink, "')")
     }
 }
 
 // Writes a row up to what describes it. What is typed is written twice: lists show it too.
 #[inline(always)]
-fn write_words<W: Sink>(offer: &Offer<'_>, sink: &mut W) -> Result<(), ErrorKind>
+fn write_words<W: Sink>(sink: &mut W, offer: &Offer<'_>) -> Result<(), ErrorKind>
     ensures { Writes W.taken W.failed (as_write result) sink.old sink.new
         (row_begin ++ word offer.now ++ list_begin ++ word offer.now
         ++ (capital_space offer.now.kind offer.now.name ++ kind_begin
         ++ kind_text (result_kind offer.now.kind) ++ text_begin)) }
 {
     let name = offer.name.as_str();
-    put_around(row_begin(offer.kind), name, list_begin(offer.kind), sink)?;
-    put_piece(sink, name.as_bytes())?;
-    put_piece(sink, details_begin(offer.kind, name).as_bytes())
+    put_around(sink, row_begin(offer.kind), name, list_begin(offer.kind))?;
+    put_piece(sink, name)?;
+    put_piece(sink, details_begin(offer.kind, name))
 }
 
 // The help or the about where there is one and it is not empty, else the fallback.

@@ -4,7 +4,7 @@ ghost use Rattle.std.specs.Prelude.{◌≡◌, ◌++◌, flat_map};
 ghost use Rattle.cc_base.specs.Writes.{Writes, as_write};
 ghost use Rattle.cc_tables.specs.Script.{head_text, named_text, node_text, tree_script};
 
-use cc_base::{Error, Sink, Text, TextRef, as_error, put_all, put_around, put_piece};
+use cc_base::{Error, Sink, Text, TextRef, put_around, put_piece};
 use cc_command::{Command, full_name};
 use cc_flat::Flat;
 use cc_visits::{Joined, Keys, TableVisits};
@@ -66,7 +66,7 @@ pub trait TableRows {
     ghost text: { Self → Self.Row → List ℕ };
 
     /// Writes the rows at a node. Fails with the kind of the put that failed.
-    fn write_rows<W: Sink>(&self, command: &Command, sink: &mut W) -> Result<(), ErrorKind>
+    fn write_rows<W: Sink>(&self, sink: &mut W, command: &Command) -> Result<(), ErrorKind>
         ensures { Writes W.taken W.failed (as_write result) sink.old sink.new
             (flat_map (text self.now) (rows self.now command.now)) };
 }
@@ -75,10 +75,10 @@ pub trait TableRows {
 /// `Memory`.
 pub fn write_tables<R: TableRows, W: Sink>(
     alloc: Global,
+    sink: &mut W,
     command: &Command,
     frame: &Frame<'_>,
     rows: &R,
-    sink: &mut W,
 ) -> Result<(), Error>
     ensures { Writes W.taken W.failed result sink.old sink.new
         (tree_script frame.now (R.text rows.now) (R.rows rows.now) command.now) }
@@ -86,80 +86,80 @@ pub fn write_tables<R: TableRows, W: Sink>(
     let flat = Flat::new(alloc, command)?;
     let bin_name = full_name(command);
     let visits = TableVisits::new(alloc, &flat, bin_name, frame)?;
-    write_frame(alloc, bin_name, visits, frame, rows, sink)
+    write_frame(alloc, sink, bin_name, visits, frame, rows)
 }
 
 // Writes the frame, and in it a table for each visit.
 fn write_frame<R: TableRows, W: Sink>(
     alloc: Global,
+    sink: &mut W,
     bin_name: &str,
     visits: TableVisits<'_, '_, Frame<'_>>,
     frame: &Frame<'_>,
     rows: &R,
-    sink: &mut W,
 ) -> Result<(), Error>
     ensures { Writes W.taken W.failed result sink.old sink.new (head_text frame.now bin_name.now
         ++ flat_map (λ visit. node_text frame.now (R.text rows.now) (R.rows rows.now) visit.key
         visit.tree) visits.entry ++ frame.now.tail) }
 {
-    write_head(frame, bin_name, sink)?;
-    write_visits(alloc, visits, frame, rows, sink)?;
-    put_all(sink, frame.tail.as_str().as_bytes())
+    write_head(sink, frame, bin_name)?;
+    write_visits(alloc, sink, visits, frame, rows)?;
+    Ok(put_piece(sink, frame.tail.as_str())?)
 }
 
 // Writes the frame up to the tables.
 #[tactic(auto, unfolding(crate::specs::Script::head_text, crate::specs::Script::named_text))]
-fn write_head<W: Sink>(frame: &Frame<'_>, bin_name: &str, sink: &mut W) -> Result<(), Error>
+fn write_head<W: Sink>(sink: &mut W, frame: &Frame<'_>, bin_name: &str) -> Result<(), Error>
     ensures { Writes W.taken W.failed result sink.old sink.new
         (head_text frame.now bin_name.now) }
 {
-    put_all(sink, frame.head.as_str().as_bytes())?;
+    put_piece(sink, frame.head.as_str())?;
     match &frame.named {
-        Some(named) => write_named(named, bin_name, sink),
+        Some(named) => write_named(sink, named, bin_name),
         None => Ok(()),
     }
 }
 
 // Writes what names the program.
-fn write_named<W: Sink>(named: &Named<'_>, bin_name: &str, sink: &mut W) -> Result<(), Error>
+fn write_named<W: Sink>(sink: &mut W, named: &Named<'_>, bin_name: &str) -> Result<(), Error>
     ensures { Writes W.taken W.failed result sink.old sink.new
         (bin_name.now ++ named.now.between ++ bin_name.now ++ named.now.completions) }
 {
     let between = named.between.as_str();
-    as_error(put_around(bin_name, between, bin_name, sink))?;
-    put_all(sink, named.completions.as_str().as_bytes())
+    put_around(sink, bin_name, between, bin_name)?;
+    Ok(put_piece(sink, named.completions.as_str())?)
 }
 
 // Writes a table for each visit that is left.
 fn write_visits<R: TableRows, W: Sink>(
     alloc: Global,
+    sink: &mut W,
     mut visits: TableVisits<'_, '_, Frame<'_>>,
     frame: &Frame<'_>,
     rows: &R,
-    sink: &mut W,
 ) -> Result<(), Error>
     ensures { Writes W.taken W.failed result sink.old sink.new
         (flat_map (λ visit. node_text frame.now (R.text rows.now) (R.rows rows.now) visit.key
         visit.tree) visits.entry) }
 {
     while let Some(visit) = visits.next(alloc)? {
-        as_error(write_table(visit.key.as_str(), visit.command, frame, rows, sink))?;
+        write_table(sink, visit.key.as_str(), visit.command, frame, rows)?;
     }
     Ok(())
 }
 
 #[tactic(auto, unfolding(crate::specs::Script::node_text, crate::specs::Script::table_text))]
 fn write_table<R: TableRows, W: Sink>(
+    sink: &mut W,
     key: &str,
     command: &Command,
     frame: &Frame<'_>,
     rows: &R,
-    sink: &mut W,
 ) -> Result<(), ErrorKind>
     ensures { Writes W.taken W.failed (as_write result) sink.old sink.new
         (node_text frame.now (R.text rows.now) (R.rows rows.now) key.now command.now) }
 {
-    put_around(frame.key_begin.as_str(), key, frame.key_end.as_str(), sink)?;
-    rows.write_rows(command, sink)?;
-    put_piece(sink, frame.table_end.as_str().as_bytes())
+    put_around(sink, frame.key_begin.as_str(), key, frame.key_end.as_str())?;
+    rows.write_rows(sink, command)?;
+    put_piece(sink, frame.table_end.as_str())
 }

@@ -11,7 +11,6 @@ use Rattle.cc_arg.specs.Printed.{printed}
 use Rattle.cc_candidates.specs.Beginning.{begins}
 use Rattle.cc_candidates.specs.declared.candidate.CompletionCandidate.{CompletionCandidate}
 use Rattle.cc_candidates.specs.Candidate.{comes_before, new_candidate}
-use Rattle.cc_candidates.specs.Lent.{ReturnsAt}
 use Rattle.cc_candidates.specs.declared.numbers.ArgValueCandidates.{ArgValueCandidates}
 use Rattle.cc_candidates.specs.declared.numbers.ArgValueCompleter.{ArgValueCompleter}
 use Rattle.cc_values.specs.Parts.{front, part}
@@ -30,18 +29,14 @@ pub record Lent : Type 1 where
   pub lists : ℕ → List CompletionCandidate → Type 0
   pub finds : ValueHint → List ℕ → List CompletionCandidate → Type 0
 
--- what is lent: completers and closures, lists and closures, each by its index, and a source of
--- paths
-abbrev pub lent_by : {C F L G : Type 0}
-    → (C → ℕ → List ℕ → List CompletionCandidate → Type 0) → List C
-    → (F → ℕ → List ℕ → List CompletionCandidate → Type 0) → List F
-    → (L → List CompletionCandidate → Type 0) → List L → (G → List CompletionCandidate → Type 0)
-    → List G
+-- what completers and lists, and a source of paths, may return
+abbrev pub lent_by : {C : Type 0}
+    → (C → ℕ → ℕ → List ℕ → List CompletionCandidate → Type 0)
+    → (C → ℕ → List CompletionCandidate → Type 0) → C
     → (ValueHint → List ℕ → List CompletionCandidate → Type 0) → Lent
-lent_by Completes completers ClosureCompletes closures Lists lists ClosureLists list_closures Finds = record {
-  completes = λ which number text. ReturnsAt (λ item. Completes item number text) completers
-      (λ closure. ClosureCompletes closure number text) closures which;
-  lists = λ which. ReturnsAt Lists lists ClosureLists list_closures which;
+lent_by may_complete may_list completers Finds = record {
+  completes = may_complete completers;
+  lists = may_list completers;
   finds = Finds;
 }
 

@@ -1,4 +1,4 @@
-//! The values of an argument for a word, over what a caller lends, possible values and paths.
+//! The values of an argument for a word, from completers, lists, possible values and paths.
 #![tactic(auto)]
 
 mod parts;

@@ -5,7 +5,7 @@ ghost use Rattle.cc_values.specs.Parts.{front, last_position, part, through};
 
 /// A word up to the end of its last delimiter, and what follows. Without a delimiter all follows.
 #[tactic(auto, unfolding(crate::specs::Parts::front_length))]
-pub(crate) fn cut(word: &str, delimiter: Option<char>) -> (&str, &str)
+pub(crate) fn split_at_delimiter(word: &str, delimiter: Option<char>) -> (&str, &str)
     ensures front { result.0.now ≡ front delimiter word.now }
     ensures part { result.1.now ≡ part delimiter word.now }
 {
@@ -13,11 +13,11 @@ pub(crate) fn cut(word: &str, delimiter: Option<char>) -> (&str, &str)
         return ("", word);
     };
     let mut buffer = [0; 4];
-    cut_after(word, delimiter.encode_utf8(&mut buffer))
+    split_after_last(word, delimiter.encode_utf8(&mut buffer))
 }
 
 // A text up to the end of the last occurrence of another, and what follows.
-fn cut_after<'a>(text: &'a str, sought: &str) -> (&'a str, &'a str)
+fn split_after_last<'a>(text: &'a str, sought: &str) -> (&'a str, &'a str)
     requires { 0 < length sought.now }
     ensures front { result.0.now
         ≡ take (through sought.now (last_position sought.now text.now)) text.now }

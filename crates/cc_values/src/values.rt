@@ -6,12 +6,11 @@ ghost use Rattle.cc_candidates.specs.declared.candidate.CompletionCandidate.{Com
 ghost use Rattle.cc_values.specs.Values.{Gathers, ArgumentValues, as_value, is_path, lent_by, sorted};
 ghost use Rattle.cc_arg.specs.Printed.{printed};
 
-use crate::parts::cut;
+use crate::parts::split_at_delimiter;
 use crate::possible::candidates_beginning;
 use cc_arg::{Arg, ValueHint, possible_values};
 use cc_candidates::{
-    Completers, CompletionCandidate, FnCandidates, FnCompleter, ValueCandidates, ValueCompleter,
-    retain_beginning_with, sort_candidates,
+    CandidateSources, Completers, CompletionCandidate, retain_beginning_with, sort_candidates,
 };
 use std::alloc::{AllocError, Global};
 
@@ -43,16 +42,11 @@ pub fn arg_values<P: PathSource>(
     paths: &P,
 ) -> Result<Vec<CompletionCandidate>, AllocError>
     ensures { IfOk result (λ found. ArgumentValues (lent_by
-        (λ item. (⟦<dyn ValueCompleter as ValueCompleter>⟧ item.vtable).completes item.value)
-        completers.now.completers.items
-        ⟦<FnCompleter as ValueCompleter>⟧.completes completers.now.completer_closures.items
-        (λ item. (⟦<dyn ValueCandidates as ValueCandidates>⟧ item.vtable).lists item.value)
-        completers.now.lists.items
-        ⟦<FnCandidates as ValueCandidates>⟧.lists completers.now.list_closures.items
-        (P.finds paths.now))
+        ⟦<Completers as CandidateSources>⟧.may_complete ⟦<Completers as CandidateSources>⟧.may_list
+        completers.now (P.finds paths.now))
         argument.now word.now number found.items) }
 {
-    let (before, part) = cut(word, argument.get_value_delimiter());
+    let (before, part) = split_at_delimiter(word, argument.get_value_delimiter());
     let found = gather(alloc, argument, part, number, completers, paths)?;
     as_values(alloc, argument, before, found)
 }
@@ -67,13 +61,8 @@ fn gather<P: PathSource>(
     paths: &P,
 ) -> Result<Vec<CompletionCandidate>, AllocError>
     ensures { IfOk result (λ found. Gathers (lent_by
-        (λ item. (⟦<dyn ValueCompleter as ValueCompleter>⟧ item.vtable).completes item.value)
-        completers.now.completers.items
-        ⟦<FnCompleter as ValueCompleter>⟧.completes completers.now.completer_closures.items
-        (λ item. (⟦<dyn ValueCandidates as ValueCandidates>⟧ item.vtable).lists item.value)
-        completers.now.lists.items
-        ⟦<FnCandidates as ValueCandidates>⟧.lists completers.now.list_closures.items
-        (P.finds paths.now))
+        ⟦<Completers as CandidateSources>⟧.may_complete ⟦<Completers as CandidateSources>⟧.may_list
+        completers.now (P.finds paths.now))
         argument.now number part.now found.items) }
 {
     if let Some(completer) = argument.get_completer() {
@@ -145,7 +134,7 @@ fn as_value(
 ) -> Result<CompletionCandidate, AllocError>
     ensures { IfOk result (λ value. value ≡ as_value before.now form.now candidate) }
 {
-    let candidate = after(alloc, before, candidate)?;
+    let candidate = after_earlier_values(alloc, before, candidate)?;
     if candidate.get_tag().is_some() {
         return Ok(candidate);
     }
@@ -155,7 +144,7 @@ fn as_value(
 
 // The candidate after the earlier values of its word. Mostly there are none, and then its value
 // isn't copied.
-fn after(
+fn after_earlier_values(
     alloc: Global,
     before: &str,
     candidate: CompletionCandidate,

@@ -1,14 +1,11 @@
-//! Tests of what the program is made of: its command line, and carrying out what that asks for.
+//! Tests of what the program is made of that no case of `cc_cases` can say: plans, files that are no
+//! text or very large, memory, and writers that fail.
 #![tactic(auto)]
 
-#[cfg(test)]
-mod candidates;
 #[cfg(test)]
 mod checks;
 #[cfg(test)]
 mod lines;
-#[cfg(test)]
-mod registrations;
 #[cfg(test)]
 mod runs;
 #[cfg(test)]

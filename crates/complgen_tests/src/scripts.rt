@@ -1,6 +1,6 @@
 //! What a script's plan writes, and how carrying it out fails.
 
-use crate::checks::{has, is, same};
+use crate::checks::{has, same};
 use crate::runs::{fails, output_of, script};
 use cc_paths::MemoryFolder;
 use clap_complete::aot::Collected;
@@ -8,17 +8,6 @@ use complgen_command_line::Refusal;
 use complgen_run::run;
 use std::alloc::{AllocError, Global};
 use std::convert::AsStr;
-
-#[test]
-fn reports_a_shell_before_the_tree(rt: HostRuntime) {
-    fails(
-        &rt,
-        rt.alloc(),
-        script(rt.alloc(), "tcsh"),
-        None,
-        "invalid variant: tcsh\n",
-    );
-}
 
 // A tree with a child.
 const PARENT: &str = "{\"name\": \"app\", \"disable_help_flag\": true, \"subcommands\": [
@@ -51,41 +40,6 @@ fn writes_nothing_without_memory(rt: HostRuntime) {
     }
 }
 
-const BARE: &str = "{\"name\": \"app\", \"disable_help_flag\": true}";
-
-// The Elvish script of a command without arguments, whole.
-const BARE_SCRIPT: &str = "
-use builtin;
-use str;
-
-set edit:completion:arg-completer[app] = {|@words|
-    fn spaces {|n|
-        builtin:repeat $n ' ' | str:join ''
-    }
-    fn cand {|text desc|
-        edit:complex-candidate $text &display=$text' '(spaces (- 14 (wcswidth $text)))$desc
-    }
-    var command = 'app'
-    for word $words[1..-1] {
-        if (str:has-prefix $word '-') {
-            break
-        }
-        set command = $command';'$word
-    }
-    var completions = [
-        &'app'= {
-        }
-    ]
-    $completions[$command]
-}
-";
-
-#[test]
-fn writes_the_whole_script(rt: HostRuntime) {
-    let script = script_of(rt.alloc(), "elvish", BARE.as_bytes());
-    is(&rt, script, BARE_SCRIPT);
-}
-
 #[test]
 fn writes_the_keys_of_a_child(rt: HostRuntime) {
     let script = script_of(rt.alloc(), "elvish", PARENT.as_bytes()).expect(&rt, "no script");
@@ -96,46 +50,14 @@ fn writes_the_keys_of_a_child(rt: HostRuntime) {
 }
 
 #[test]
-fn writes_for_powershell(rt: HostRuntime) {
-    let head = "Register-ArgumentCompleter -Native -CommandName 'app'";
-    has(
-        &rt,
-        script_of(rt.alloc(), "powershell", PARENT.as_bytes()),
-        head,
-    );
-    has(
-        &rt,
-        script_of(rt.alloc(), "powershell", PARENT.as_bytes()),
-        "'app;r' {",
-    );
-}
-
-#[test]
-fn reports_a_file_that_is_not_there(rt: HostRuntime) {
+fn reports_a_file_that_is_not_utf8(rt: HostRuntime) {
     fails(
         &rt,
         rt.alloc(),
         script(rt.alloc(), "elvish"),
-        None,
-        "tree: unreadable\n",
+        Some(b"{\"name\":\"\xff\"}"),
+        "tree: not JSON\n",
     );
-}
-
-// A brace left open, an empty file, bytes that are not UTF-8, and a number too large for a
-// float.
-const NOT_JSON: [&[u8]; 4] = [b"{", b"", b"{\"name\":\"\xff\"}", b"{\"name\":1e999}"];
-
-#[test]
-fn reports_a_file_that_is_not_json(rt: HostRuntime) {
-    for bytes in NOT_JSON {
-        fails(
-            &rt,
-            rt.alloc(),
-            script(rt.alloc(), "elvish"),
-            Some(bytes),
-            "tree: not JSON\n",
-        );
-    }
 }
 
 // The first bytes of a file that ends with its last brace, but never all of them.
@@ -187,42 +109,4 @@ fn writes_the_script_of_the_deepest_tree(rt: HostRuntime) {
     let text = deepest(rt.alloc()).expect(&rt, "no text");
     let script = script_of(rt.alloc(), "elvish", text.as_bytes());
     has(&rt, script, "&'app;a;a;a'= {");
-}
-
-// In bash `a-b` has the label of `b` below `a`.
-const CLASH: &str = "{\"name\": \"app\", \"subcommands\": [
-    {\"name\": \"a-b\"}, {\"name\": \"a\", \"subcommands\": [{\"name\": \"b\"}]}]}";
-
-#[test]
-fn reports_two_commands_with_one_label(rt: HostRuntime) {
-    let wanted = "two commands share the label app__subcmd__a__subcmd__b\n";
-    fails(
-        &rt,
-        rt.alloc(),
-        script(rt.alloc(), "bash"),
-        Some(CLASH.as_bytes()),
-        wanted,
-    );
-}
-
-// A name that is no text, a mark that is no truth value, a key that there is not, and a range whose
-// bounds are exchanged.
-const BAD_FORMS: [&str; 4] = [
-    r#"{"name": 1.5}"#,
-    r#"{"name": "app", "args": [{"id": "a", "hide": 1}]}"#,
-    r#"{"name": "app", "colour": true}"#,
-    r#"{"name": "app", "args": [{"id": "a", "num_args": [2, 1]}]}"#,
-];
-
-#[test]
-fn reports_a_file_of_another_form(rt: HostRuntime) {
-    for text in BAD_FORMS {
-        fails(
-            &rt,
-            rt.alloc(),
-            script(rt.alloc(), "elvish"),
-            Some(text.as_bytes()),
-            "tree: bad form\n",
-        );
-    }
 }

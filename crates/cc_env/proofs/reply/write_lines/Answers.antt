@@ -2,4 +2,4 @@ use Rattle.cc_env.proofs.ReplyReadings.{lines_back}
 use Rattle.cc_env.proofs.reply.write_lines.Goals as goal
 
 pub returns-clause-read_back : goal.returns-clause-read_back
-returns-clause-read_back g c = lines_back 10 c.args.candidates.now
+returns-clause-read_back g c = lines_back c.args.candidates.now

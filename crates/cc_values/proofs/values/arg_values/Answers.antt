@@ -8,7 +8,7 @@ pub returns : goal.returns
 returns g c =
     IfOk-map c.as_values.result
     (λ made is. argument_values _ c.args.argument.now c.args.number c.args.word.now _ _ c.in_ok-found.found.items made.items
-    (c.cut.ensures.front ∙ ap (λ delimiter. front delimiter c.args.word.now) c.get_value_delimiter.ensures)
-    (c.cut.ensures.part ∙ ap (λ delimiter. part delimiter c.args.word.now) c.get_value_delimiter.ensures)
+    (c.split_at_delimiter.ensures.front ∙ ap (λ delimiter. front delimiter c.args.word.now) c.get_value_delimiter.ensures)
+    (c.split_at_delimiter.ensures.part ∙ ap (λ delimiter. part delimiter c.args.word.now) c.get_value_delimiter.ensures)
     c.in_ok-found.ensures is)
     c.as_values.ensures

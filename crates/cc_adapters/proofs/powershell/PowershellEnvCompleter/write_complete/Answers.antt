@@ -14,4 +14,4 @@ returns-clause-reply g c =
     c.reply_at.ensures
 
 pub returns-clause-read_back : goal.returns-clause-read_back
-returns-clause-read_back g c = lines_back 10
+returns-clause-read_back g c = lines_back

@@ -1,0 +1,26 @@
+-- The script of a generator outside the library, and what it reads to: a line for each long of a command.
+use Rattle.std.specs.Prelude.{◌≡◌, ℕ, ◌==◌, if◌then◌else◌, List, [], ◌∷◌, ◌++◌, codes, flat_map, map}
+use Rattle.clap_complete.specs.ArgumentNames.{all_longs, long_word}
+use Rattle.clap_complete.specs.Tree.{Tree}
+
+-- a long as it is typed, and a line feed
+abbrev pub line : List ℕ → List ℕ
+line long = long_word long ++ codes "\n"
+
+-- a line for each long of the command's own arguments
+abbrev pub word_list : Tree → List ℕ
+word_list tree = flat_map line (all_longs tree.node.arguments)
+
+-- one byte more at the beginning of the first line, where there is a whole line
+abbrev pub with_byte : ℕ → List (List ℕ) → List (List ℕ)
+with_byte byte [] = []
+with_byte byte (first ∷ lines) = (byte ∷ first) ∷ lines
+
+-- the lines of a text, each cut before its line feed
+abbrev pub lines_of : List ℕ → List (List ℕ)
+lines_of [] = []
+lines_of (byte ∷ bytes) = if byte == 10 then [] ∷ lines_of bytes else with_byte byte (lines_of bytes)
+
+-- the lines of the script are the longs as they are typed
+abbrev pub ListsLongs : Tree → Type 0
+ListsLongs tree = lines_of (word_list tree) ≡ map long_word (all_longs tree.node.arguments)

@@ -1,0 +1,8 @@
+use Rattle.std.proofs.Common.{arith}
+use Rattle.cc_candidates.proofs.AddedLast.{added_last}
+use Rattle.cc_candidates.proofs.completers.Completers.add_completer.Goals as goal
+
+pub returns-clause-added : goal.returns-clause-added
+returns-clause-added g c = λ number text.
+    added_last _ _ c.args.self.now.completers.items c.args.self.now.added_completers.items _ _ _
+    c.in_ok-push.ensures.items (omega (arith, c.len.ensures, c.len-2.ensures))

@@ -1,0 +1,174 @@
+//! A document with cases: Markdown with trees and command lines in fenced blocks.
+//!
+//! - A block that begins with ```` ```json NAME ```` is a tree file of that name.
+//! - A block that begins with ```` ```console ```` has cases: a line `$ COMMAND`, perhaps a line
+//!   `? STATUS`, and then what is printed. A line `...` stands for any lines, `[..]` for any text,
+//!   and a last line `(no-eol)` says that the line before it has no line feed.
+//! - A line that begins with `#` outside blocks is the title of the cases after it.
+
+use std::alloc::{AllocError, Global};
+
+/// What a document holds.
+#[derive(Drop)]
+pub(crate) struct Document {
+    alloc: Global,
+    title: String,
+    place: Place,
+    /// The tree files, in order.
+    pub trees: Vec<TreeFile>,
+    /// The cases, in order.
+    pub cases: Vec<Case>,
+}
+
+/// A tree file.
+#[derive(Drop)]
+pub(crate) struct TreeFile {
+    /// Its name on command lines.
+    pub name: String,
+    /// What it holds.
+    pub text: String,
+}
+
+/// A command line, and what it has to print.
+#[derive(Drop)]
+pub(crate) struct Case {
+    /// The title above it.
+    pub title: String,
+    /// The command line.
+    pub command: String,
+    /// The exit status.
+    pub status: u8,
+    /// What is printed, each line with a line feed on both sides, cut where any text may stand.
+    pub wanted: Vec<String>,
+}
+
+// Where a line of a document stands.
+#[derive(Clone, Copy, PartialEq, Eq)]
+enum Place {
+    Prose,
+    Tree,
+    Console,
+}
+
+impl Document {
+    /// Reads a document. Fails where memory runs out.
+    pub(crate) fn read(alloc: Global, text: &str) -> Result<Document, AllocError> {
+        let mut document = Document {
+            alloc,
+            title: String::new(alloc),
+            place: Place::Prose,
+            trees: Vec::new(alloc),
+            cases: Vec::new(alloc),
+        };
+        for line in text.lines() {
+            document.push(line)?;
+        }
+        Ok(document)
+    }
+
+    /// The bytes of the tree file of this name, if there is one.
+    pub(crate) fn tree(&self, name: &str) -> Option<&[u8]> {
+        for tree in &self.trees {
+            if tree.name.as_str() == name {
+                return Some(tree.text.as_bytes());
+            }
+        }
+        None
+    }
+
+    fn push(&mut self, line: &str) -> Result<(), AllocError> {
+        match self.place {
+            Place::Prose => self.push_prose(line),
+            _ if line == "```" => {
+                self.place = Place::Prose;
+                Ok(())
+            }
+            Place::Tree => self.push_to_tree(line),
+            Place::Console => self.push_to_console(line),
+        }
+    }
+
+    fn push_prose(&mut self, line: &str) -> Result<(), AllocError> {
+        if let Some(name) = line.strip_prefix("```json ") {
+            self.place = Place::Tree;
+            return self.push_tree(name);
+        }
+        if line == "```console" {
+            self.place = Place::Console;
+        }
+        if line.starts_with("#") {
+            self.title = String::from_str(self.alloc, line)?;
+        }
+        Ok(())
+    }
+
+    fn push_tree(&mut self, name: &str) -> Result<(), AllocError> {
+        let name = String::from_str(self.alloc, name)?;
+        let text = String::new(self.alloc);
+        self.trees.push(TreeFile { name, text })?;
+        Ok(())
+    }
+
+    fn push_to_tree(&mut self, line: &str) -> Result<(), AllocError> {
+        if let Some(tree) = self.trees.last_mut() {
+            tree.text.push_str(line)?;
+            tree.text.push('\n')?;
+        }
+        Ok(())
+    }
+
+    fn push_to_console(&mut self, line: &str) -> Result<(), AllocError> {
+        if let Some(command) = line.strip_prefix("$ ") {
+            return self.push_case(command);
+        }
+        match self.cases.last_mut() {
+            Some(case) => case.push(self.alloc, line),
+            None => Ok(()),
+        }
+    }
+
+    fn push_case(&mut self, command: &str) -> Result<(), AllocError> {
+        let title = self.title.clone()?;
+        let command = String::from_str(self.alloc, command)?;
+        let mut wanted = Vec::new(self.alloc);
+        wanted.push(String::new(self.alloc))?;
+        self.cases.push(Case {
+            title,
+            command,
+            status: 0,
+            wanted,
+        })?;
+        Ok(())
+    }
+}
+
+impl Case {
+    // Adds a line after the command.
+    fn push(&mut self, alloc: Global, line: &str) -> Result<(), AllocError> {
+        if let Some(status) = line.strip_prefix("? ") {
+            self.status = status.parse::<u8>().unwrap_or(u8::MAX);
+            return Ok(());
+        }
+        if line == "..." {
+            self.wanted.push(String::new(alloc))?;
+            return Ok(());
+        }
+        self.push_text("\n")?;
+        let mut parts = line.split("[..]");
+        if let Some(first) = parts.next() {
+            self.push_text(first)?;
+        }
+        for part in parts {
+            self.wanted.push(String::from_str(alloc, part)?)?;
+        }
+        self.push_text("\n")
+    }
+
+    // Adds a text to the last piece of what is wanted.
+    fn push_text(&mut self, text: &str) -> Result<(), AllocError> {
+        match self.wanted.last_mut() {
+            Some(piece) => piece.push_str(text),
+            None => Ok(()),
+        }
+    }
+}

@@ -1,0 +1,68 @@
+//! Runs the cases that documents hold: a command line, and what it has to print.
+//!
+//! The arguments are the names of documents. Printed is, for each document, how many of its cases
+//! there are and how many failed, and before that what each that failed has printed instead. The
+//! status is 0 where none failed.
+#![tactic(auto)]
+
+mod document;
+mod matching;
+mod programs;
+
+use crate::document::{Case, Document};
+use crate::matching::holds;
+use crate::programs::run_line;
+use clap_complete::Error;
+use std::env::{self, Env};
+use std::process::ExitCode;
+use std::rt::Files;
+use std::{fs, io};
+
+fn main(rt: HostRuntime) -> ExitCode {
+    match failures(&rt) {
+        Ok(0) => ExitCode::SUCCESS,
+        _ => ExitCode::FAILURE,
+    }
+}
+
+// Runs the cases of each document that an argument names, and returns how many failed.
+fn failures<R: Env + Files + Print + AllocGlobal>(rt: &R) -> io::Result<usize> {
+    let mut all = 0;
+    for name in env::args(rt)?.skip(1) {
+        let text = fs::read_to_string(rt, name.as_str())?;
+        let document = Document::read(rt.alloc(), text.as_str())?;
+        let failed = failures_in(rt, &document)?;
+        let count = document.cases.len();
+        println!(rt; "{name}: {count} cases, {failed} failed")?;
+        all = usize::saturating_add(all, failed);
+    }
+    Ok(all)
+}
+
+// Runs the cases of a document, and returns how many failed.
+fn failures_in<R: Print + AllocGlobal>(rt: &R, document: &Document) -> io::Result<usize> {
+    let mut failed: usize = 0;
+    for case in &document.cases {
+        if !is_kept(rt, document, case)? {
+            failed = failed.saturating_add(1);
+        }
+    }
+    Ok(failed)
+}
+
+// Runs a case, prints what was printed instead where it fails, and returns whether it did not.
+fn is_kept<R: Print + AllocGlobal>(rt: &R, document: &Document, case: &Case) -> io::Result<bool> {
+    let alloc = rt.alloc();
+    let Ok(outcome) = run_line(alloc, document, case.command.as_str()) else {
+        println!(rt; "{}: {}\nout of memory", case.title, case.command)?;
+        return Ok(false);
+    };
+    if outcome.status == case.status && holds(alloc, case.wanted.as_slice(), &outcome.text)? {
+        return Ok(true);
+    }
+    println!(rt;
+        "{}\n$ {}\n? {}\n{}",
+        case.title, case.command, outcome.status, outcome.text
+    )?;
+    Ok(false)
+}

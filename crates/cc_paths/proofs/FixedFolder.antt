@@ -1,0 +1,97 @@
+-- The candidates of a folder and a test that always return the same for a path.
+use Rattle.std.proofs.Common.{◌==◌, suc, length, false, ne_eqb, ◌≡◌, ◌∙◌, ap, ap₂, refl, ℕ, List, [], ◌∷◌, map, filter, Bool, Option, Some, None, MatchOption}
+use Rattle.std.specs.List.{AllByRecursion}
+use Rattle.std.specs.Option.{option_map_or}
+use Rattle.std.specs.Path.{path_join}
+use Rattle.std.specs.Prelude.{unwrap_or, ⊤}
+use Rattle.cc_paths.specs.Folders.{FolderFacts}
+use Rattle.cc_paths.specs.PathCandidates.{ArePathCandidates, AreCandidatesAt, IsEntry, grouped_candidates, begins, entry_name}
+use Rattle.cc_paths.specs.PathTexts.{search_root, word_name, word_prefix}
+use Rattle.cc_candidates.specs.declared.candidate.CompletionCandidate.{CompletionCandidate}
+use Rattle.cc_paths.specs.declared.entry.Entry.{Entry}
+
+-- the entries of these names, by functions of their paths
+abbrev pub entries_by : (List ℕ → Bool) → (List ℕ → Bool) → List ℕ → List (List ℕ) → List Entry
+entries_by is_dir passes root names =
+    map (λ name. record {
+      name = name;
+      is_folder = is_dir (path_join root name);
+      passes = passes (path_join root name);
+    }) names
+
+-- the candidates where functions return the names in a folder, and which paths are folders' and pass
+abbrev pub candidates_by : (List ℕ → List (List ℕ)) → (List ℕ → Bool) → (List ℕ → Bool)
+    → Option (List ℕ) → Option (List ℕ) → List ℕ → List CompletionCandidate
+candidates_by names is_dir passes home current word =
+    option_map_or
+    (λ root. grouped_candidates word (passes root)
+    (entries_by is_dir passes root (filter (begins (word_name word)) (names root))))
+    (search_root home current (word_prefix word)) []
+
+module _ (names : List ℕ → List (List ℕ)) (is_dir passes : List ℕ → Bool) where
+  -- what may be returned for a path is what the function returns
+  abbrev Returns : (List ℕ → Bool) → List ℕ → Bool → Type 0
+  Returns f path is = is ≡ f path
+
+  entry_is : (root : List ℕ) (entry : Entry) → IsEntry (Returns is_dir) (Returns passes) root entry
+      → entry ≡ record {
+        name = entry.name;
+        is_folder = is_dir (path_join root entry.name);
+        passes = passes (path_join root entry.name);
+      }
+  entry_is root entry is =
+      ap₂ (λ a b. record { name = entry.name; is_folder = a; passes = b }) is.folder is.test
+
+  entries_are : (root : List ℕ) (entries : List Entry)
+      → AllByRecursion (IsEntry (Returns is_dir) (Returns passes) root) entries
+      → entries ≡ entries_by is_dir passes root (map entry_name entries)
+  entries_are root [] is = refl
+  entries_are root (entry ∷ entries) is =
+      ap₂ (λ e es. e ∷ es) (entry_is root entry is.0) (entries_are root entries is.1)
+
+  -- whether the root passes counts for the empty word alone
+  root_counts : (word root : List ℕ) (is : Bool) (entries : List Entry)
+      → (word ≡ [] → is ≡ passes root)
+      → grouped_candidates word is entries ≡ grouped_candidates word (passes root) entries
+  root_counts [] root is entries h = ap (λ b. grouped_candidates [] b entries) (h refl)
+  root_counts (byte ∷ word) root is entries h =
+      let some : (length (byte ∷ word) == 0) ≡ false =
+      ne_eqb (length (byte ∷ word)) 0 (λ (e : suc (length word) ≡ 0). cc) in
+      rw some
+
+  -- the folder of these functions
+  abbrev Facts : Option (List ℕ) → FolderFacts
+  Facts home = record {
+    names = λ path listing. unwrap_or listing [] ≡ names path;
+    is_dir = Returns is_dir;
+    is_file = λ path is. ⊤;
+    is_executable = λ path is. ⊤;
+    home = home;
+  }
+
+  candidates_at : (home : Option (List ℕ)) (word root : List ℕ)
+      (candidates : List CompletionCandidate)
+      → AreCandidatesAt (Facts home) (Returns passes) word root candidates
+      → candidates ≡ grouped_candidates word (passes root)
+      (entries_by is_dir passes root (filter (begins (word_name word)) (names root)))
+  candidates_at home word root candidates h =
+      h.is ∙ root_counts word root h.root_passes h.entries h.root_test
+      ∙ ap (grouped_candidates word (passes root)) (entries_are root h.entries h.are_entries
+      ∙ ap (entries_by is_dir passes root) (h.named
+      ∙ ap (filter (begins (word_name word))) (h.listed.2 ∙ h.listed.1)))
+
+  by_root : (home : Option (List ℕ)) (word : List ℕ) (candidates : List CompletionCandidate) (found : Option (List ℕ))
+      → MatchOption found (candidates ≡ [])
+      (λ root. AreCandidatesAt (Facts home) (Returns passes) word root candidates)
+      → candidates ≡ option_map_or
+      (λ root. grouped_candidates word (passes root)
+      (entries_by is_dir passes root (filter (begins (word_name word)) (names root)))) found []
+  by_root home word candidates None h = h
+  by_root home word candidates (Some root) h = candidates_at home word root candidates h
+
+  pub candidates_are : (home current : Option (List ℕ)) (word : List ℕ)
+      (candidates : List CompletionCandidate)
+      → ArePathCandidates (Facts home) (Returns passes) current word candidates
+      → candidates ≡ candidates_by names is_dir passes home current word
+  candidates_are home current word candidates h =
+      by_root home word candidates (search_root home current (word_prefix word)) h
