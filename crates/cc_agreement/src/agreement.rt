@@ -29,9 +29,10 @@ use std::alloc::Global;
 /// candidates for the word at the index, as `complete` does.
 ///
 /// Where the command and the bin name are plain, and none of the words before the index is a hidden
-/// alias, the two agree: over these words the cases that are read from the script lead to the label
-/// of the very command whose candidates are returned, and the arm at that label is that command's.
-/// `Command::is_plain`, `is_plain_name` and `has_no_hidden_alias` test this before the call.
+/// alias at the command where it is read, the two agree: over these words the cases that are read
+/// from the script lead to the label of the very command whose candidates are returned, and the arm
+/// at that label is that command's. `Command::is_plain`, `is_plain_name` and `has_no_hidden_alias`
+/// test this before the call.
 ///
 /// Fails with `Write` where the sink failed; with `LabelClash`, before anything is written, where
 /// two commands share a label; with `NoCompletion`, after the script, where no word, or the

@@ -1,47 +1,56 @@
 //! Whether words are hidden aliases.
 
-ghost use Rattle.std.specs.Prelude.{◌≡◌, map, not, string_bytes};
-ghost use Rattle.std.specs.List.{list_any};
-ghost use Rattle.cc_command.specs.Names.{contains_name};
-ghost use Rattle.cc_command.specs.Tree.{forest_of};
-ghost use Rattle.cc_walk.specs.Visible.{is_hidden_alias};
+ghost use Rattle.std.specs.Prelude.{◌≡◌, None, Some, if◌then◌else◌, map, string_bytes, unwrap_or};
+ghost use Rattle.std.specs.Option.{option_copied};
+ghost use Rattle.cc_command.specs.Names.{contains_name, find_child, visible_names};
+ghost use Rattle.cc_walk.specs.Visible.{has_no_hidden_alias, shows};
 
+use cc_base::Text;
 use cc_command::Command;
 
-/// Whether none of the words is an alias, of a command below this one, that is not shown.
+/// Whether none of the words is a hidden alias at the command where it is read. The words are read
+/// from this command on: each that names a child, by its name or an alias, leads to the child, and
+/// is a hidden alias where the child does not show it as a name.
 ///
 /// Where none is, live completion goes down the tree by the names that scripts show. The command
 /// may be built or not. Allocates nothing.
 pub fn has_no_hidden_alias(command: &Command, words: &[String]) -> bool
-    ensures { result
-        ≡ not (list_any (is_hidden_alias command.now.children) (map string_bytes words.now)) }
+    ensures { result ≡ has_no_hidden_alias command.now (map string_bytes words.now) }
 {
-    let children = command.get_subcommands();
+    let mut reached = command;
     for word in words {
-        if is_hidden_alias(children, word.as_str()) {
+        let Some(next) = shown_step(reached, word.as_str()) else {
             return false;
-        }
+        };
+        reached = next;
     }
     true
 }
 
-// One of the siblings, or a command below one, has the word as an alias that is not shown.
-fn is_hidden_alias(siblings: &[Command], word: &str) -> bool
-    ensures { result ≡ is_hidden_alias (forest_of siblings.now) word.now }
+// The child that the word names, else the command itself. There is none where the child does not
+// show the word.
+fn shown_step<'c>(command: &'c Command, word: &str) -> Option<&'c Command>
+    ensures { option_copied result
+        ≡ (if shows (find_child command.now.children word.now) word.now
+        then Some (unwrap_or (find_child command.now.children word.now) command.now) else None) }
 {
-    for sibling in siblings {
-        if has_hidden_alias(sibling, word) || is_hidden_alias(sibling.get_subcommands(), word) {
-            return true;
-        }
+    let Some(child) = command.find_subcommand(word) else {
+        return Some(command);
+    };
+    if !shows(child, word) {
+        return None;
     }
-    false
+    Some(child)
 }
 
-fn has_hidden_alias(command: &Command, word: &str) -> bool
-    ensures { result ≡ contains_name command.now.node.aliases word.now }
+fn shows(command: &Command, word: &str) -> bool
+    ensures { result ≡ contains_name (visible_names command.now.node) word.now }
 {
-    command
-        .get_aliases()
-        .iter()
-        .any(|alias| alias.as_str() == word)
+    command.get_name() == word || contains_text(command.get_visible_aliases(), word)
+}
+
+fn contains_text(texts: &[Text], wanted: &str) -> bool
+    ensures { result ≡ contains_name texts.now wanted.now }
+{
+    texts.iter().any(|text| text.as_str() == wanted)
 }

@@ -37,11 +37,14 @@ fn has_none<R: Abort + AllocGlobal>(rt: &R, text: &str, words: &[&str], wanted: 
 }
 
 #[test]
-fn a_hidden_alias_of_a_command_below_is_found(rt: HostRuntime) {
+fn a_hidden_alias_is_found_where_it_is_read(rt: HostRuntime) {
     has_none(&rt, CALLED, &[], true);
     has_none(&rt, CALLED, &["run", "r", "job", "--out", "a"], true);
     has_none(&rt, CALLED, &["go"], false);
     has_none(&rt, CALLED, &["run", "j", "job"], false);
+    has_none(&rt, CALLED, &["j"], true);
+    has_none(&rt, CALLED, &["run", "job", "j", "go"], true);
+    has_none(&rt, CALLED, &["j", "--flag", "go"], false);
 }
 
 // What the call returns under the bin name `app`, with nothing lent and no folders.
@@ -155,6 +158,12 @@ fn script_and_candidates_are_of_one_command(rt: HostRuntime) {
     );
     let job = "app__subcmd__run__subcmd__job: --deep; --deep";
     leads(&rt, &["--flag", "run", "--out", "job"], true, job);
+}
+
+// At the root the alias of a command below `run` is a word like any other.
+#[test]
+fn a_hidden_alias_elsewhere_leads_nowhere(rt: HostRuntime) {
+    leads(&rt, &["j"], true, "app: run r; r");
 }
 
 // The cases know no hidden alias.

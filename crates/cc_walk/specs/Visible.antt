@@ -1,8 +1,7 @@
 -- The walk by visible names.
-use Rattle.std.specs.Prelude.{ℕ, List, [], ◌∷◌, ◌≡◌, ◌||◌, Bool, false, unwrap_or}
-use Rattle.std.specs.List.{list_any}
-use Rattle.cc_command.specs.Tree.{Forest, none, more, Tree}
-use Rattle.cc_command.specs.Names.{contains_name, visible_child}
+use Rattle.std.specs.Prelude.{ℕ, List, [], ◌∷◌, ◌≡◌, ◌&&◌, Bool, true, Option, Some, None, unwrap_or}
+use Rattle.cc_command.specs.Tree.{Tree}
+use Rattle.cc_command.specs.Names.{contains_name, find_child, visible_child, visible_names}
 
 -- the node that is reached when each word that names a visible child leads to it, and no other word
 -- counts
@@ -11,12 +10,18 @@ visible_end tree [] = tree
 visible_end tree (word ∷ words) =
     visible_end (unwrap_or (visible_child tree.children word) tree) words
 
--- one of the nodes has the word as an alias that is not shown
-abbrev pub is_hidden_alias : Forest → List ℕ → Bool
-is_hidden_alias none word = false
-is_hidden_alias (more node below rest) word =
-    contains_name node.aliases word || is_hidden_alias below word || is_hidden_alias rest word
+-- the child that the word names, where there is one, shows it; else the word is a hidden alias
+abbrev pub shows : Option Tree → List ℕ → Bool
+shows None word = true
+shows (Some child) word = contains_name (visible_names child.node) word
 
--- none of the words is an alias below the root that is not shown
+-- none of the words is a hidden alias at the command where it is read: each that names a child
+-- leads to it, by a name that the child shows
+abbrev pub has_no_hidden_alias : Tree → List (List ℕ) → Bool
+has_no_hidden_alias tree [] = true
+has_no_hidden_alias tree (word ∷ words) =
+    shows (find_child tree.children word) word
+    && has_no_hidden_alias (unwrap_or (find_child tree.children word) tree) words
+
 abbrev pub HasNoHiddenAlias : Tree → List (List ℕ) → Type 0
-HasNoHiddenAlias root words = list_any (is_hidden_alias root.children) words ≡ false
+HasNoHiddenAlias tree words = has_no_hidden_alias tree words ≡ true

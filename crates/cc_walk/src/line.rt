@@ -33,7 +33,8 @@ pub fn line_of<'a>(flat: &Flat<'a>, words: &[String]) -> Line<'a>
     ensures only { IsOnlyLine (tree_at flat.now 0) (map string_bytes words.now)
         (tree_at flat.now result.node) result.state }
 
-    // Where no word is a hidden alias, the visible names lead to the same node.
+    // Where no word is a hidden alias of a child of the node at which it is read, the visible
+    // names lead to the same node.
     ensures visible { HasNoHiddenAlias (tree_at flat.now 0) (map string_bytes words.now) →
         tree_at flat.now result.node
         ≡ visible_end (tree_at flat.now 0) (map string_bytes words.now) }
