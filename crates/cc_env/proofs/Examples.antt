@@ -7,7 +7,7 @@ use Rattle.cc_candidates.specs.declared.candidate.CompletionCandidate.{Completio
 use Rattle.cc_env.specs.Environment.{IsIndex}
 use Rattle.cc_env.specs.Reply.{AreSendable, IsWithout, colon_help, first_line, lines_reply, shown_line}
 use Rattle.cc_env.specs.Reply.{tab_help, values_reply, without_return, zsh_item, zsh_reply}
-use Rattle.cc_registrations.specs.Found.{after, cut_at, with_front}
+use Rattle.cc_base.specs.Found.{after, cut_at, with_front}
 
 -- ---- indexes
 

@@ -12,10 +12,10 @@ use Rattle.cc_quote.specs.ZshQuote.Mark.{kept, escaped}
 use Rattle.cc_quote.specs.ZshReply.{is_reply_value_marked, is_reply_help_marked, zsh_replied_value, zsh_replied_help}
 use Rattle.cc_quote.proofs.ZshWords.{mark_of, marks-marked}
 use Rattle.cc_quote.proofs.ZshReplies.{help_unescaped}
-use Rattle.cc_registrations.specs.Found.{after, with_front, cut_at}
+use Rattle.cc_base.specs.Found.{after, with_front, cut_at}
 use Rattle.cc_env.specs.Reply.{Shown, shown, values_reply, colon_help, zsh_item, zsh_reply, tab_help, shown_line, lines_reply, pieces_from, values_read, shown_from, zsh_read, lines_from, line_shown, lines_read, IsWithout, IsHelpWithout, IsSendable, AreSendable}
 use Rattle.cc_candidates.specs.declared.candidate.CompletionCandidate.{CompletionCandidate}
-use Rattle.cc_registrations.proofs.Finding.{Lacks, past_lacking}
+use Rattle.cc_base.proofs.Finding.{Lacks, past_lacking}
 
 abbrev choose : {A : Type 0} → Bool → A → A → A
 choose test first second = elim test [ true ↦ first | false ↦ second ]
