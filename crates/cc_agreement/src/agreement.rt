@@ -8,7 +8,7 @@ ghost use Rattle.cc_base.specs.Writes.{CountsWrite};
 ghost use Rattle.cc_bash.specs.Script.{bash_script};
 ghost use Rattle.cc_command.specs.Built.{built_under};
 ghost use Rattle.cc_command.specs.Plain.{is_plain_tree};
-ghost use Rattle.cc_command.specs.PlainName.{is_plain_name};
+ghost use Rattle.cc_quote.specs.PlainName.{is_plain_name};
 ghost use Rattle.cc_engine.specs.Completion.{words_before};
 ghost use Rattle.cc_engine.specs.Paths.{PathsOf};
 ghost use Rattle.cc_values.specs.Values.{lent_by};

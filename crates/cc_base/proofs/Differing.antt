@@ -4,6 +4,7 @@ use Rattle.std.specs.Bool.{Decides}
 use Rattle.std.specs.List.{AllByRecursion, IsDistinct}
 use Rattle.std.specs.List.Sorted.{IsPermutation}
 use Rattle.std.proofs.lemmas.Map.Keys.{IsDistinct-IsPermutation}
+use Rattle.std.proofs.lemmas.Bool.{false_from_ne_true}
 use Rattle.cc_base.specs.Differ.{AllDifferBy}
 use Rattle.cc_base.proofs.Members.{IsIn, IsIn-append, AllByRecursion-IsIn, AllByRecursion-from_IsIn, AllByRecursion-map, AllByRecursion-weaker}
 
@@ -40,15 +41,10 @@ module _ {A B : Type 0} (value : A → B) (same : B → B → Bool) (decides : (
   abbrev test : A → A → Bool
   test x y = same (value x) (value y)
 
-  is_false : (b : Bool) → (IsTrue b → ⊥) → b ≡ false
-  is_false true h = absurd (h refl)
-  is_false false h = refl
-
   both_ways : (a b : Bool) → (IsTrue a → IsTrue b) → (IsTrue b → IsTrue a) → a ≡ b
-  both_ways true true h k = refl
   both_ways true false h k = sym (h refl)
   both_ways false true h k = k refl
-  both_ways false false h k = refl
+  both_ways a b h k = refl
 
   flips : (x y : A) → test x y ≡ test y x
   flips x y = both_ways (test x y) (test y x)
@@ -59,7 +55,7 @@ module _ {A B : Type 0} (value : A → B) (same : B → B → Bool) (decides : (
   unfolding IsDistinct
   to_distinct [] h = tt
   to_distinct (x ∷ xs) h = (
-    AllByRecursion-weaker (λ y. value x ≢ value y) (λ y. test x y ≡ false) (λ y differ. is_false (test x y) (λ h. differ ((decides (value x) (value y)).0 h))) xs h.0,
+    AllByRecursion-weaker (λ y. value x ≢ value y) (λ y. test x y ≡ false) (λ y differ. false_from_ne_true (test x y) (λ h. differ ((decides (value x) (value y)).0 h))) xs h.0,
     to_distinct xs h.1,
   )
 

@@ -1,6 +1,8 @@
 pub mod Booleans
+pub mod Cases
 pub mod Differing
 pub mod FailureExamples
+pub mod Finding
 pub mod JoinedTexts
 pub mod Lines
 pub mod Lists

@@ -1,9 +1,9 @@
 -- What a stable sort returns is the list in order, and what is in a list in order.
-use Rattle.std.proofs.Common.{◌≡◌, ℕ, zero, suc, ◌+◌, ◌<◌, ◌≤◌, Bool, true, false, cond, not, ◌&&◌, List, [], ◌∷◌, map, length, get_or, filter, inl, inr, refl, sym, ap, ◌∙◌, arith}
+use Rattle.std.proofs.Common.{◌≡◌, ℕ, zero, suc, ◌+◌, ◌<◌, ◌≤◌, Bool, true, false, cond, not, List, [], ◌∷◌, map, length, get_or, filter, inl, inr, refl, sym, ap, ◌∙◌, arith}
 use Rattle.std.specs.Cmp.{IsStrictWeakOrder}
 use Rattle.std.specs.List.{AllByRecursion}
 use Rattle.std.specs.List.Sorted.{IsSortedBy, IsStableBy, ties}
-use Rattle.std.proofs.lemmas.Bool.{cases_Bool}
+use Rattle.std.proofs.lemmas.Bool.{cases_Bool, and_parts, not-true}
 use Rattle.std.proofs.lemmas.List.Sorted.{sorted_far}
 use Rattle.cc_base.specs.Sorting.{insert, in_order}
 use Rattle.cc_base.proofs.Members.{IsIn, AllByRecursion-IsIn, AllByRecursion-from_IsIn}
@@ -62,18 +62,10 @@ module _ {X : Type 0} (lt : X → X → Bool) (o : IsStrictWeakOrder lt) where
   -- where one of two elements is below the other, they do not both tie with z
   pub apart : (z x y : X) → lt y x ≡ true → ties lt z x ≡ true → ties lt z y ≡ true → ⊥
   apart z x y below one other =
-      let a = both (not (lt z x)) (not (lt x z)) one in
-      let b = both (not (lt z y)) (not (lt y z)) other in
-      let no : lt y x ≡ false = o.chain y z x (none (lt y z) b.1) (none (lt z x) a.0) in
+      let a = and_parts (not (lt z x)) (not (lt x z)) one in
+      let b = and_parts (not (lt z y)) (not (lt y z)) other in
+      let no : lt y x ≡ false = o.chain y z x (not-true (lt y z) b.1) (not-true (lt z x) a.0) in
       cc
-    where
-      both : (p q : Bool) → (p && q) ≡ true → (p ≡ true) × (q ≡ true)
-      both true q e = (refl, e)
-      both false q e = cc
-
-      none : (p : Bool) → not p ≡ true → p ≡ false
-      none true e = cc
-      none false e = refl
 
   stable-insert : (z x : X) (ys : List X) →
       filter (ties lt z) (insert lt x ys) ≡ filter (ties lt z) (x ∷ ys)
@@ -159,12 +151,11 @@ module _ {X : Type 0} (lt : X → X → Bool) (o : IsStrictWeakOrder lt) where
   ]
 
   up_sorted : (xs : List X) → Up lt xs → IsSortedBy lt xs
-  up_sorted [] h k d from below = absurd (omega arith)
-  up_sorted (x ∷ []) h k d from below = absurd (omega arith)
   up_sorted (x ∷ y ∷ xs) h zero d from below = h.0.0
   up_sorted (x ∷ y ∷ xs) h (suc k) d from below =
       let next : suc k + 1 ≡ suc (k + 1) = omega arith in
       rw next (up_sorted (y ∷ xs) h.1 k d (omega arith) (omega arith))
+  up_sorted xs h k d from below = absurd (omega arith)
 
   -- what is in order is sorted
   pub in_order-sorted : (xs : List X) → IsSortedBy lt (in_order lt xs)

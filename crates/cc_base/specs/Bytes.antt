@@ -1,5 +1,5 @@
 -- Bytes by name.
-use Rattle.std.specs.Prelude.{ℕ, List, [], ◌∷◌}
+use Rattle.std.specs.Prelude.{ℕ, Bool, ◌||◌, ◌==◌, List, [], ◌∷◌}
 
 abbrev pub tab : ℕ
 tab = 9
@@ -95,3 +95,7 @@ right_quote_third = 153
 -- all three
 abbrev pub right_quote : List ℕ
 right_quote = right_quote_first ∷ right_quote_second ∷ right_quote_third ∷ []
+
+-- a space, a tab or a line feed
+abbrev pub is_blank : ℕ → Bool
+is_blank byte = byte == space || byte == tab || byte == line_feed

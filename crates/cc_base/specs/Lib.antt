@@ -3,6 +3,7 @@ pub mod Collected
 pub mod Counted
 pub mod Differ
 pub mod ErrorText
+pub mod Found
 pub mod Held
 pub mod Joined
 pub mod Sink

@@ -1,6 +1,7 @@
 -- The case table of a tree takes any words along the labels of the walk by visible names.
-use Rattle.std.proofs.Common.{◌≡◌, ◌⊎◌, ℕ, suc, IsTrue, List, [], ◌∷◌, ◌++◌, length, map, flat_map, Option, Some, None, inl, inr, refl, sym, ap, ◌∙◌, subst}
+use Rattle.std.proofs.Common.{◌≡◌, ℕ, suc, IsTrue, List, [], ◌∷◌, ◌++◌, length, map, flat_map, Some, None, inl, inr, refl, sym, ap, ◌∙◌, subst}
 use Rattle.cc_base.specs.Sorting.{in_order}
+use Rattle.cc_base.proofs.Cases.{option_cases}
 use Rattle.cc_base.proofs.Members.{IsIn, IsIn-map, map-IsIn, IsIn-flat_map, flat_map-IsIn}
 use Rattle.cc_base.proofs.Sorted.{IsIn-in_order, in_order-IsIn}
 use Rattle.cc_command.specs.Names.{visible_names, visible_child}
@@ -113,10 +114,6 @@ found_child position word child e = rw (next_position, e)
 found_none : (position : Position) (word : List ℕ) → visible_child position.tree.children word ≡ None →
     next_position position word ≡ position
 found_none position word e = rw (next_position, e)
-
-option_cases : (o : Option Tree) → ((x : Tree) × (o ≡ Some x)) ⊎ (o ≡ None)
-option_cases None = inr refl
-option_cases (Some x) = inl (x, refl)
 
 pub length-more : (path : List (List ℕ)) (name : List ℕ) →
     suc (length path) ≡ length (path ++ name ∷ [])

@@ -1,23 +1,25 @@
 -- The arms of a plain tree with quiet values can be read.
-use Rattle.std.proofs.Common.{◌≡◌, ℕ, Bool, false, IsTrue, List, [], ◌∷◌, ◌++◌, flat_map, map, filter, not, codes, encode_utf8, Option, Some, None, unwrap_or, refl, sym, subst, arith}
+use Rattle.std.proofs.Common.{◌≡◌, ◌==◌, ◌||◌, ℕ, Bool, false, IsTrue, List, [], ◌∷◌, ◌++◌, flat_map, map, filter, not, codes, encode_utf8, Option, Some, None, unwrap_or, refl, sym, subst, arith}
 use Rattle.std.specs.Prelude.{bytes_eq}
 use Rattle.std.specs.Char.{is_ascii_alphanumeric}
 use Rattle.std.specs.List.{AllByRecursion}
 use Rattle.std.proofs.lemmas.Bool.Decides.{nat_tests}
 use Rattle.std.proofs.lemmas.Str.{encode_ascii}
+use Rattle.std.proofs.lemmas.Bool.{or_left}
 use Rattle.cc_arg.specs.declared.parts.ArgParts.{ArgParts as Arg}
 use Rattle.cc_arg.specs.declared.possible_value.PossibleValue.{PossibleValue}
 use Rattle.cc_arg.specs.declared.value_hint.ValueHint.{ValueHint}
-use Rattle.cc_arg.specs.declared.value_hint.ValueHint.TheVariants.{Unknown, Other, AnyPath, FilePath, DirPath, ExecutablePath, CommandName, CommandString, CommandWithArguments, Username, Hostname, Url, EmailAddress}
+use Rattle.cc_arg.specs.declared.value_hint.ValueHint.TheVariants.{Unknown}
 use Rattle.cc_arg.specs.Arguments.{is_positional, possible_values}
 use Rattle.cc_arg.specs.ShownNames.{shown_longs, shown_shorts, with_aliases}
+use Rattle.cc_base.specs.Bytes.{dash, underscore}
 use Rattle.cc_base.proofs.Booleans.{each_passes}
 use Rattle.cc_base.proofs.Members.{AllByRecursion-both, AllByRecursion-weaker, AllByRecursion-append, AllByRecursion-map, AllByRecursion-flat_map, AllByRecursion-filter}
 use Rattle.cc_command.specs.declared.node.Node.{Node}
 use Rattle.cc_command.specs.ArgumentLists.{is_option, options, positionals}
 use Rattle.cc_command.specs.Names.{visible_names}
 use Rattle.cc_command.specs.Plain.{is_plain_forest, is_plain_node, passes_if_some}
-use Rattle.cc_command.specs.PlainName.{is_plain_name}
+use Rattle.cc_quote.specs.PlainName.{is_plain_name}
 use Rattle.cc_command.specs.Tree.{Forest, none, more, Tree}
 use Rattle.cc_command.proofs.PlainParts.{IsPlainName, IsPlainShort, IsPlainArgument, IsPlainBelow, plain_node, plain_more}
 use Rattle.cc_generator.specs.ArgumentNames.{aliases_then, long_word, short_word}
@@ -25,7 +27,8 @@ use Rattle.cc_quote.proofs.PosixCutting.{IsWord}
 use Rattle.cc_generator.specs.Subcommands.{sibling_names}
 use Rattle.cc_bash.specs.Arms.{arm_of, detail_of, details_at, long_words, names_of_shown, names_of_values, offered_by, offered_for, option_details, option_words, short_words, value_names, words_at}
 use Rattle.cc_command.specs.Quiet.{are_quiet_values, is_quiet_argument, is_quiet_node, is_quiet_value}
-use Rattle.cc_bash.proofs.PlainBytes.{IsPlainText, alphanumeric_byte, bytes_of, decimal_word, joiner_byte, no_paren_of, plain_text, quiet_word, word_of}
+use Rattle.cc_bash.proofs.PlainBytes.{IsPlainByte, IsPlainText, bytes_of, no_paren_of, plain_text, quiet_word, word_byte_plain, word_of}
+use Rattle.cc_quote.proofs.Digits.{decimal_word}
 use Rattle.cc_bash.proofs.ReadsArms.{IsReadableArm}
 use Rattle.cc_bash.proofs.ReadsDetails.{IsReadableDetail, IsReadableOffer}
 
@@ -38,18 +41,15 @@ encoded_short short h = sym (encode_ascii short (grind (arith, nat_tests)))
 abbrev IsTyped : List ℕ → Type 0
 IsTyped word = IsPlainText word × (bytes_eq word (codes "*") ≡ false)
 
+dash_plain : IsPlainByte dash
+dash_plain = word_byte_plain dash refl
+
 short_typed : (short : ℕ) → IsPlainShort short → IsTyped (short_word short)
-short_typed short h = subst (λ text. IsTyped (45 ∷ text)) (encoded_short short h)
-    ((joiner_byte 45 refl, (alphanumeric_byte short h, tt)), refl)
+short_typed short h = subst (λ text. IsTyped (dash ∷ text)) (encoded_short short h)
+    ((dash_plain, (word_byte_plain short (or_left (is_ascii_alphanumeric short) (short == dash || short == underscore) h), tt)), refl)
 
 long_typed : (name : List ℕ) → IsPlainName name → IsTyped (long_word name)
-long_typed name h = (
-  (
-    joiner_byte 45 refl,
-    (joiner_byte 45 refl, bytes_of name (plain_text name h)),
-  ),
-  refl,
-)
+long_typed name h = ((dash_plain, (dash_plain, bytes_of name (plain_text name h))), refl)
 
 -- the names of an argument, in either order
 aliases_plain : {A : Type 0} (P : A → Type 0) (test : A → Bool) →
@@ -105,18 +105,7 @@ shown_words possible h =
 
 hint_readable : (hint : ValueHint) → IsReadableOffer (offered_for None hint)
 hint_readable Unknown = tt
-hint_readable Other = tt
-hint_readable AnyPath = tt
-hint_readable FilePath = tt
-hint_readable DirPath = tt
-hint_readable ExecutablePath = tt
-hint_readable CommandName = tt
-hint_readable CommandString = tt
-hint_readable CommandWithArguments = tt
-hint_readable Username = tt
-hint_readable Hostname = tt
-hint_readable Url = tt
-hint_readable EmailAddress = tt
+hint_readable hint = tt
 
 offer_readable : (argument : Arg) → IsQuietArgument argument → IsReadableOffer (offered_by argument)
 offer_readable argument h = by (possible_values argument) h

@@ -1,17 +1,16 @@
 -- What the reader asks of the bytes of plain names, of labels and of quiet values.
-use Rattle.std.proofs.Common.{◌≡◌, ◌≢◌, ℕ, zero, suc, ◌%◌, ◌/◌, ◌<◌, Bool, true, false, cond, ◌==◌, ◌||◌, IsTrue, List, [], ◌∷◌, ◌++◌, codes, decimal, refl, arith}
+use Rattle.std.proofs.Common.{◌≡◌, ◌≢◌, ℕ, Bool, true, false, cond, ◌==◌, ◌||◌, IsTrue, List, [], ◌∷◌, ◌++◌, codes, refl, arith}
 use Rattle.std.specs.Char.{is_ascii_alphanumeric}
-use Rattle.std.specs.Fmt.{digits, digits_onto, digit_glyph}
-use Rattle.std.specs.List.{AllByRecursion}
+use Rattle.std.specs.List.{AllByRecursion, list_all}
 use Rattle.std.proofs.lemmas.Bool.Decides.{nat_tests}
-use Rattle.cc_base.specs.Bytes.{dash, comma, close_parenthesis}
+use Rattle.cc_base.specs.Bytes.{dash, underscore, comma, close_parenthesis}
 use Rattle.cc_base.proofs.Booleans.{each_passes}
 use Rattle.cc_base.proofs.Members.{AllByRecursion-weaker, AllByRecursion-append}
-use Rattle.cc_command.specs.PlainName.{letter, joiner, foreign, name_byte, is_joined, is_plain_name}
+use Rattle.cc_quote.specs.PlainName.{foreign, name_byte, is_joined, is_plain_name}
 use Rattle.cc_command.specs.Tree.{Tree}
 use Rattle.cc_command.specs.Names.{full_name}
 use Rattle.cc_command.specs.Plain.{is_plain_tree}
-use Rattle.cc_command.proofs.NameBytes.{plain_bytes}
+use Rattle.cc_quote.proofs.NameBytes.{plain_bytes, letter_or_joiner}
 use Rattle.cc_command.proofs.PlainParts.{IsPlainName, plain_full_name}
 use Rattle.cc_quote.specs.PosixTokens.{sign}
 use Rattle.cc_quote.specs.PosixTokens.Sign.{other}
@@ -22,38 +21,28 @@ use Rattle.cc_command.specs.Quiet.{is_quiet_byte, is_quiet_value}
 use Rattle.cc_bash.proofs.WordsRead.{Lacks}
 
 -- what the reader asks of a byte
-abbrev IsPlainByte : ℕ → Type 0
+abbrev pub IsPlainByte : ℕ → Type 0
 IsPlainByte byte = (sign byte ≡ other byte)
     × (((byte == close_parenthesis) ≡ false) × ((byte == comma) ≡ false))
 
-pub alphanumeric_byte : (byte : ℕ) → IsTrue (is_ascii_alphanumeric byte) → IsPlainByte byte
+-- a letter, a digit, a `-` or a `_`
+abbrev pub is_word_byte : ℕ → Bool
+is_word_byte byte = is_ascii_alphanumeric byte || (byte == dash || byte == underscore)
+
+pub word_byte_plain : (byte : ℕ) → IsTrue (is_word_byte byte) → IsPlainByte byte
 unfolding sign
-alphanumeric_byte byte h = (
+word_byte_plain byte h = (
   grind (arith, nat_tests),
   (grind (arith, nat_tests), grind (arith, nat_tests)),
 )
-
-pub joiner_byte : (byte : ℕ) → IsTrue (byte == 45 || byte == 95) → IsPlainByte byte
-unfolding sign
-joiner_byte byte h = (
-  grind (arith, nat_tests),
-  (grind (arith, nat_tests), grind (arith, nat_tests)),
-)
-
-name_byte_plain : (byte : ℕ) → name_byte byte ≢ foreign → IsPlainByte byte
-unfolding name_byte
-name_byte_plain byte h = by_tests (is_ascii_alphanumeric byte) (byte == 45 || byte == 95)
-    refl refl h
-  where
-    by_tests : (a j : Bool) → is_ascii_alphanumeric byte ≡ a → (byte == 45 || byte == 95) ≡ j →
-        cond a letter (cond j joiner foreign) ≢ foreign → IsPlainByte byte
-    by_tests true j e f k = alphanumeric_byte byte e
-    by_tests false true e f k = joiner_byte byte f
-    by_tests false false e f k = absurd (k refl)
 
 -- each byte is such
 abbrev pub ArePlainBytes : List ℕ → Type 0
 ArePlainBytes text = AllByRecursion IsPlainByte text
+
+pub words_plain : (text : List ℕ) → IsTrue (list_all is_word_byte text) → ArePlainBytes text
+words_plain text h = AllByRecursion-weaker (λ b. IsTrue (is_word_byte b)) IsPlainByte
+    word_byte_plain text (each_passes is_word_byte text h)
 
 -- such a text with a first byte
 abbrev pub IsPlainText : List ℕ → Type 0
@@ -64,8 +53,8 @@ IsPlainText (byte ∷ text) = ArePlainBytes (byte ∷ text)
 pub plain_text : (name : List ℕ) → IsPlainName name → IsPlainText name
 unfolding is_plain_name is_joined
 plain_text [] h = cc
-plain_text (byte ∷ name) h = AllByRecursion-weaker (λ b. name_byte b ≢ foreign)
-    IsPlainByte name_byte_plain (byte ∷ name) (plain_bytes (byte ∷ name) h)
+plain_text (byte ∷ name) h = AllByRecursion-weaker (λ b. name_byte b ≢ foreign) IsPlainByte
+    (λ b k. word_byte_plain b (letter_or_joiner b k)) (byte ∷ name) (plain_bytes (byte ∷ name) h)
 
 pub bytes_of : (text : List ℕ) → IsPlainText text → ArePlainBytes text
 bytes_of [] h = absurd h
@@ -117,79 +106,22 @@ replace_byte_text byte by (b ∷ text) h k =
     one true rest = text_append by (replace_byte byte by text) h rest
     one false rest = (k.0, rest)
 
--- the bytes that occur in labels beside those of names
-underscores_plain : IsPlainText (codes "__")
-underscores_plain = (joiner_byte 95 refl, (joiner_byte 95 refl, tt))
-
-subcmd_plain : IsPlainText (codes "__subcmd__")
-subcmd_plain = (
-  joiner_byte 95 refl,
-  (
-    joiner_byte 95 refl,
-    (
-      alphanumeric_byte 115 refl,
-      (
-        alphanumeric_byte 117 refl,
-        (
-          alphanumeric_byte 98 refl,
-          (
-            alphanumeric_byte 99 refl,
-            (
-              alphanumeric_byte 109 refl,
-              (alphanumeric_byte 100 refl, (joiner_byte 95 refl, (joiner_byte 95 refl, tt))),
-            ),
-          ),
-        ),
-      ),
-    ),
-  ),
-)
+-- what occurs in labels beside names
+subcmd_plain : ArePlainBytes (codes "__subcmd__")
+subcmd_plain = words_plain (codes "__subcmd__") refl
 
 pub root_plain : (tree : Tree) → IsTrue (is_plain_tree tree) → IsPlainText (root_label tree)
-root_plain tree h = replace_byte_text dash (codes "__") (full_name tree.node) underscores_plain
+root_plain tree h = replace_byte_text dash (codes "__") (full_name tree.node)
+    (words_plain (codes "__") refl)
     (plain_text (full_name tree.node) (plain_full_name tree h))
 
 pub child_plain : (parent name : List ℕ) → IsPlainText parent → IsPlainText name →
     IsPlainText (child_label parent name)
 child_plain parent name h k =
     text_append (parent ++ codes "__subcmd__") (replace_byte dash (codes "__subcmd__") name)
-    (text_append parent (codes "__subcmd__") h (bytes_of (codes "__subcmd__") subcmd_plain))
-    (replace_byte_plain dash (codes "__subcmd__") name (bytes_of (codes "__subcmd__") subcmd_plain)
+    (text_append parent (codes "__subcmd__") h subcmd_plain)
+    (replace_byte_plain dash (codes "__subcmd__") name subcmd_plain
     (bytes_of name k))
-
--- ---- numbers
-
-digit_other : (digit : ℕ) → digit < 10 →
-    sign (digit_glyph false digit) ≡ other (digit_glyph false digit)
-unfolding sign
-digit_other digit h = grind (arith, nat_tests)
-
-digits_word : (k n b : ℕ) (after : List ℕ) → IsOther (b ∷ after) →
-    IsWord (digits_onto k 10 false n (b ∷ after))
-digits_word zero n b after h = h
-digits_word (suc k) n b after h = one (n / 10 == 0)
-    (digits_word k (n / 10) (digit_glyph false (n % 10)) (b ∷ after)
-    (digit_other (n % 10) (omega arith), h))
-  where
-    one : (last : Bool) → IsWord (digits_onto k 10 false (n / 10)
-        (digit_glyph false (n % 10) ∷ b ∷ after)) →
-        IsWord (cond last (digit_glyph false (n % 10) ∷ b ∷ after)
-        (digits_onto k 10 false (n / 10) (digit_glyph false (n % 10) ∷ b ∷ after)))
-    one true rest = (digit_other (n % 10) (omega arith), h)
-    one false rest = rest
-
--- a number is a word
-pub decimal_word : (n : ℕ) → IsWord (decimal n)
-unfolding digits
-decimal_word n = one (n / 10 == 0) (digits_word 63 (n / 10) (digit_glyph false (n % 10)) []
-    (digit_other (n % 10) (omega arith), tt))
-  where
-    one : (last : Bool) → IsWord (digits_onto 63 10 false (n / 10)
-        (digit_glyph false (n % 10) ∷ [])) →
-        IsWord (cond last (digit_glyph false (n % 10) ∷ [])
-        (digits_onto 63 10 false (n / 10) (digit_glyph false (n % 10) ∷ [])))
-    one true rest = (digit_other (n % 10) (omega arith), tt)
-    one false rest = rest
 
 -- ---- values
 

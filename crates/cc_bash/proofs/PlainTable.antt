@@ -1,8 +1,8 @@
 -- The bash script of a plain tree reads to the tree's cases, and with quiet values to its arms.
 use Rattle.std.proofs.Common.{◌≡◌, ℕ, suc, ◌&&◌, IsTrue, List, [], flat_map, Some, None, ap, ◌∙◌}
 use Rattle.std.specs.List.{AllByRecursion}
+use Rattle.std.proofs.lemmas.Bool.{and_parts}
 use Rattle.cc_base.specs.Sorting.{in_order}
-use Rattle.cc_base.proofs.Booleans.{both_true}
 use Rattle.cc_base.proofs.Members.{AllByRecursion-both, AllByRecursion-weaker, AllByRecursion-append, AllByRecursion-map, AllByRecursion-flat_map}
 use Rattle.cc_base.proofs.Sorted.{AllByRecursion-in_order}
 use Rattle.cc_command.specs.Names.{full_name, visible_names}
@@ -95,8 +95,8 @@ quiet_labelled : (label : List ℕ) (level : ℕ) (forest : Forest) → IsTrue (
     AllByRecursion (λ node. IsQuietNode node.tree.node) (labelled_under label level forest)
 quiet_labelled label level none h = tt
 quiet_labelled label level (more node below rest) h =
-    let a = both_true (is_quiet_node node) (is_quiet_forest below && is_quiet_forest rest) h in
-    let b = both_true (is_quiet_forest below) (is_quiet_forest rest) a.1 in (
+    let a = and_parts (is_quiet_node node) (is_quiet_forest below && is_quiet_forest rest) h in
+    let b = and_parts (is_quiet_forest below) (is_quiet_forest rest) a.1 in (
       quiet_node node a.0,
       AllByRecursion-append (λ n. IsQuietNode n.tree.node)
           (labelled_under (child_label label node.name) (suc level) below)
@@ -109,7 +109,7 @@ arms_readable : (tree : Tree) → IsTrue (is_plain_tree tree) → IsTrue (is_qui
     AllByRecursion IsReadableArm (tree_arms tree)
 unfolding tree_arms
 arms_readable tree h quiet =
-    let q = both_true (is_quiet_node tree.node) (is_quiet_forest tree.children) quiet in
+    let q = and_parts (is_quiet_node tree.node) (is_quiet_forest tree.children) quiet in
     let both = λ (node : Labelled). IsPlainLabelled node × IsQuietNode node.tree.node in (
       arm_readable (root_label tree) 1 tree (root_plain tree h) (plain_tree tree h).below
           (quiet_node tree.node q.0),

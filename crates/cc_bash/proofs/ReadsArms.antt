@@ -1,16 +1,16 @@
 -- The arms of a bash script are read back.
 use Rattle.std.proofs.Common.{◌≡◌, ℕ, Bool, List, [], ◌∷◌, ◌++◌, flat_map, Some, codes, refl, ap, ◌∙◌}
 use Rattle.std.specs.List.{AllByRecursion}
-use Rattle.cc_base.specs.Bytes.{close_parenthesis}
+use Rattle.cc_base.specs.Bytes.{close_parenthesis, line_feed}
 use Rattle.cc_base.proofs.Lines.{IsLine}
 use Rattle.cc_base.proofs.Lines.IsLine.{line}
-use Rattle.cc_generator.proofs.ReadInTurn.{in_parts, in_turn, lines}
+use Rattle.cc_generator.proofs.ReadInTurn.{in_parts, in_turn, items_begin}
 use Rattle.cc_quote.specs.PosixTokens.{sign, byte_of, cut, double}
 use Rattle.cc_quote.specs.Tokens.{Token, is_word}
 use Rattle.cc_quote.specs.Tokens.Piece.{bare}
 use Rattle.cc_quote.specs.PosixTokens.QuoteState.{between, in_double}
 use Rattle.cc_quote.proofs.PosixCutting.{IsWord, tokens_from, bare_word, double_run}
-use Rattle.cc_bash.specs.Arms.{Detail, Arm}
+use Rattle.cc_bash.specs.Arms.{Arm}
 use Rattle.cc_bash.specs.Reader.{Table, pattern_of, assigned, bare_text, with_arm, new_arm, next, read}
 use Rattle.cc_bash.specs.Reader.State.{between_arms, at_words, after_words, at_level, between_details}
 use Rattle.cc_bash.specs.Script.{detail_text, arm_text}
@@ -64,7 +64,7 @@ module _ (whole : Bool) where
       ≡ reading whole (between_details table (record arm { level = level })) between rest
   unfolding arm_details sign byte_of cut is_word bare_text next read
   details_open table arm level rest h (line tail) =
-      ap (read whole (at_level table arm)) (bare_word level (arm_details ++ 10 ∷ tail) h)
+      ap (read whole (at_level table arm)) (bare_word level (arm_details ++ line_feed ∷ tail) h)
 
   -- an arm ends
   arm_closes : (table : Table) (arm : Arm) (rest : List ℕ) → IsLine rest →
@@ -112,7 +112,7 @@ module _ (whole : Bool) where
       (words_open table (new_arm arm.label) arm.words h.words)
       ∙ level_read table worded level
       ∙ details_open table worded arm.level details h.level
-      (lines detail_text detail_line arm.details ended (ends_line rest))
+      (items_begin IsLine detail_text detail_line arm.details ended (ends_line rest))
       ∙ details_read whole table levelled arm.details ended h.details (ends_line rest)
       ∙ arm_closes table arm rest l
 

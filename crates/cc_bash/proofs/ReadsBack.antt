@@ -3,7 +3,7 @@ use Rattle.std.proofs.Common.{◌≡◌, ℕ, Bool, true, false, List, [], ◌�
 use Rattle.std.specs.List.{AllByRecursion}
 use Rattle.cc_base.proofs.Lines.{IsLine}
 use Rattle.cc_base.proofs.Lines.IsLine.{line}
-use Rattle.cc_generator.proofs.ReadInTurn.{in_parts, lines}
+use Rattle.cc_generator.proofs.ReadInTurn.{in_parts, items_begin}
 use Rattle.cc_quote.specs.PosixTokens.{sign, byte_of, cut, posix_tokens, double}
 use Rattle.cc_quote.specs.Tokens.{Token, is_word}
 use Rattle.cc_quote.specs.Tokens.Piece.{bare}
@@ -96,10 +96,10 @@ bash_reads_back label bin cases arms h k m =
     ap (reading true begins between) (in_parts (head_text label)
     (flat_map case_text cases ∷ arms_begin ∷ flat_map arm_text arms ∷ []) (tail_text label bin))
     ∙ head_reads true label (flat_map case_text cases ++ (arms_begin ++ armed)) h
-    (lines case_text case_line cases (arms_begin ++ armed) (begin_line armed))
+    (items_begin IsLine case_text case_line cases (arms_begin ++ armed) (begin_line armed))
     ∙ cases_read true (new_table label) cases (arms_begin ++ armed) k (begin_line armed)
     ∙ arms_open (record { root = label; cases = cases; arms = [] }) armed
-    (lines arm_text arm_line arms tail (tail_line label bin))
+    (items_begin IsLine arm_text arm_line arms tail (tail_line label bin))
     ∙ arms_read true (record { root = label; cases = cases; arms = [] }) arms tail m
     (tail_line label bin)
     ∙ tail_reads (record { root = label; cases = cases; arms = arms }) label bin
@@ -127,6 +127,6 @@ bash_cases_back label bin cases arms h k =
     ap (reading false begins between) (in_parts (head_text label)
     (flat_map case_text cases ∷ arms_begin ∷ flat_map arm_text arms ∷ []) (tail_text label bin))
     ∙ head_reads false label (flat_map case_text cases ++ (arms_begin ++ armed)) h
-    (lines case_text case_line cases (arms_begin ++ armed) (begin_line armed))
+    (items_begin IsLine case_text case_line cases (arms_begin ++ armed) (begin_line armed))
     ∙ cases_read false (new_table label) cases (arms_begin ++ armed) k (begin_line armed)
     ∙ cases_close (record { root = label; cases = cases; arms = [] }) armed

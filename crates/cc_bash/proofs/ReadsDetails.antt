@@ -2,7 +2,7 @@
 use Rattle.std.proofs.Common.{◌≡◌, ℕ, Bool, false, List, [], ◌∷◌, ◌++◌, flat_map, Option, Some, None, codes, refl, ap, ◌∙◌, append_assoc}
 use Rattle.std.specs.Prelude.{bytes_eq}
 use Rattle.std.specs.List.{AllByRecursion}
-use Rattle.cc_base.specs.Bytes.{close_parenthesis}
+use Rattle.cc_base.specs.Bytes.{close_parenthesis, line_feed}
 use Rattle.cc_base.proofs.Lines.{IsLine}
 use Rattle.cc_base.proofs.Lines.IsLine.{line}
 use Rattle.cc_generator.proofs.ReadInTurn.{in_parts, in_turn}
@@ -38,8 +38,7 @@ moded_line : (mode : Option Mode) (offered : Offered) (rest : List ℕ) →
 unfolding moded_text reply_text reply_begins keep_separator
 moded_line None offered rest = line _
 moded_line (Some filenames) offered rest = line _
-moded_line (Some plusdirs) offered rest = line _
-moded_line (Some nospace) offered rest = line _
+moded_line (Some mode) offered rest = line _
 
 -- a detail begins a line
 pub detail_line : (detail : Detail) (rest : List ℕ) → IsLine (detail_text detail ++ rest)
@@ -66,13 +65,13 @@ module _ (whole : Bool) where
   reply_reads table arm word typed rest h (line tail) = refl
   reply_reads table arm word nothing rest h (line tail) = refl
   reply_reads table arm word (values names) rest h (line tail) =
-      let after : List ℕ = values_end ++ (reply_ends ++ 10 ∷ tail) in
+      let after : List ℕ = values_end ++ (reply_ends ++ line_feed ∷ tail) in
       ap (reading whole (at_reply table arm (new_detail word)) between)
       (let e : ((reply_begins ++ ((values_begin ++ words_text names) ++ values_end)) ++ reply_ends)
-      ++ 10 ∷ tail
+      ++ line_feed ∷ tail
       ≡ reply_begins ++ (values_begin ++ (words_text names ++ after)) =
       regroup_values reply_begins values_begin (words_text names) values_end reply_ends
-      (10 ∷ tail) in e)
+      (line_feed ∷ tail) in e)
       ∙ ap (read whole (at_values table arm (new_detail word)))
       (double_run (words_text names) after [] [] (IsKept-words names h))
       ∙ ap (λ s. read whole s (tokens_from between (codes " -- \"${cur}\"))\n" ++ tail)))
@@ -89,8 +88,7 @@ module _ (whole : Bool) where
       ≡ reading whole (after_reply table arm (record detail { mode = Some mode })) between rest
   unfolding mode_text mode_word mode_begins mode_ends sign byte_of cut is_word bare_text mode_named next read
   mode_reads table arm detail filenames rest (line tail) = refl
-  mode_reads table arm detail plusdirs rest (line tail) = refl
-  mode_reads table arm detail nospace rest (line tail) = refl
+  mode_reads table arm detail mode rest (line tail) = refl
 
   separator_read : (table : Table) (arm : Arm) (detail : Detail) (rest : List ℕ) → IsLine rest →
       reading whole (at_reply table arm detail) between (keep_separator ++ rest)

@@ -1,17 +1,13 @@
 -- Tests of arguments that hold of all arguments of a built tree where they hold of those given.
 use Rattle.std.proofs.Common.{◌≡◌, ℕ, List, [], ◌∷◌, ◌++◌, Bool, true, false, cond, not, ◌&&◌, IsTrue, Some, is_some, map, refl, ap, sym, subst, ◌∙◌}
 use Rattle.std.specs.List.{list_all}
-use Rattle.cc_base.proofs.Booleans.{both_true}
+use Rattle.std.proofs.lemmas.Bool.{and_parts, and_from}
 use Rattle.cc_arg.specs.declared.parts.ArgParts.{ArgParts as Arg}
 use Rattle.cc_arg.specs.Arguments.{filled}
 use Rattle.cc_command.specs.declared.node.Node.{Node}
 use Rattle.cc_command.specs.Names.{has_id}
 use Rattle.cc_command.specs.Generated.{help_argument, version_argument, generated_help, generated_version, generated_arguments}
 use Rattle.cc_command.specs.Built.{with_missing, lacks_index, with_index, next_index, indexed, inherited_by, given_arguments, globals, propagated, built_arguments}
-
-pub both : (a b : Bool) → IsTrue a → IsTrue b → IsTrue (a && b)
-both true b h k = k
-both false b h k = cc
 
 -- filling in and numbering leave the test of an argument as it was, and the flags that building adds
 -- pass it
@@ -41,19 +37,19 @@ all_indexed test kept position (x ∷ xs) =
 all_append : (test : Arg → Bool) (xs ys : List Arg) → IsTrue (list_all test xs) → IsTrue (list_all test ys) → IsTrue (list_all test (xs ++ ys))
 all_append test [] ys h k = k
 all_append test (x ∷ xs) ys h k =
-    let a = both_true (test x) (list_all test xs) h in
-    both (test x) (list_all test (xs ++ ys)) a.0 (all_append test xs ys a.1 k)
+    let a = and_parts (test x) (list_all test xs) h in
+    and_from (test x) (list_all test (xs ++ ys)) a.0 (all_append test xs ys a.1 k)
 
 all_with_missing : (test : Arg → Bool) (xs others : List Arg) → IsTrue (list_all test xs) → IsTrue (list_all test others) →
     IsTrue (list_all test (with_missing xs others))
 all_with_missing test xs [] h k = h
 all_with_missing test xs (other ∷ others) h k =
-    let a = both_true (test other) (list_all test others) k in
+    let a = and_parts (test other) (list_all test others) k in
     all_with_missing test (cond (has_id xs other.id) xs (xs ++ other ∷ [])) others (stepped (has_id xs other.id) a.0) a.1
   where
     stepped : (b : Bool) → IsTrue (test other) → IsTrue (list_all test (cond b xs (xs ++ other ∷ [])))
     stepped true p = h
-    stepped false p = all_append test xs (other ∷ []) h (both (test other) true p refl)
+    stepped false p = all_append test xs (other ∷ []) h (and_from (test other) true p refl)
 
 all_generated : (test : Arg → Bool) → IsKept test → (node : Node) → IsTrue (list_all test (generated_arguments node))
 all_generated test kept node =
@@ -62,10 +58,10 @@ all_generated test kept node =
   where
     of_help : (b : Bool) → IsTrue (list_all test (cond b [] (help_argument ∷ [])))
     of_help true = refl
-    of_help false = both (test help_argument) true kept.of_help refl
+    of_help false = and_from (test help_argument) true kept.of_help refl
 
     of_version : (b : Bool) → IsTrue (list_all test (cond b (version_argument ∷ []) []))
-    of_version true = both (test version_argument) true kept.of_version refl
+    of_version true = and_from (test version_argument) true kept.of_version refl
     of_version false = refl
 
 all_given : (test : Arg → Bool) (inherited : List Arg) (node : Node) → IsTrue (list_all test inherited) → IsTrue (list_all test node.arguments) →
@@ -79,12 +75,12 @@ all_given test inherited node above own = all_with_missing test node.arguments (
 all_globals : (test : Arg → Bool) (xs : List Arg) → IsTrue (list_all test xs) → IsTrue (list_all test (globals xs))
 all_globals test [] h = h
 all_globals test (x ∷ xs) h =
-    let a = both_true (test x) (list_all test xs) h in
+    let a = and_parts (test x) (list_all test xs) h in
     among x.global a.0 (all_globals test xs a.1)
   where
     among : (b : Bool) → IsTrue (test x) → IsTrue (list_all test (globals xs)) →
         IsTrue (list_all test (cond b (x ∷ globals xs) (globals xs)))
-    among true p q = both (test x) (list_all test (globals xs)) p q
+    among true p q = and_from (test x) (list_all test (globals xs)) p q
     among false p q = q
 
 -- what a node propagates passes the test

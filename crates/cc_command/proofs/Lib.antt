@@ -3,9 +3,7 @@ pub mod BuiltArguments
 pub mod BuiltExamples
 pub mod DifferentNames
 pub mod Forests
-pub mod NameBytes
 pub mod PlainBuilt
-pub mod PlainNames
 pub mod PlainParts
 pub mod PutIn
 pub mod QuietBuilt

@@ -4,18 +4,18 @@ use Rattle.std.specs.List.{list_all}
 use Rattle.std.specs.Str.{bytes_eq}
 use Rattle.std.proofs.lemmas.Bool.Decides.{Decides-like, same_from_decides}
 use Rattle.std.proofs.lemmas.Slice.Eq.{bytes_eq-Decides}
-use Rattle.cc_base.proofs.Booleans.{both_true}
+use Rattle.std.proofs.lemmas.Bool.{and_parts, and_from}
 use Rattle.cc_arg.specs.declared.parts.ArgParts.{ArgParts as Arg}
 use Rattle.cc_command.specs.declared.node.Node.{Node}
 use Rattle.cc_command.specs.Tree.{Forest, none, more, join, Tree}
 use Rattle.cc_command.specs.Names.{contains_name, has_name, has_child, full_name, joined_name}
-use Rattle.cc_command.specs.PlainName.{name_byte, is_joined, is_plain_name}
+use Rattle.cc_quote.specs.PlainName.{name_byte, is_joined, is_plain_name}
 use Rattle.cc_command.specs.Plain.{is_plain_tree, is_plain_forest, is_plain_node, is_plain_argument, siblings_differ, passes_if_some, all_differ, names_of, names_of_all}
 use Rattle.cc_command.specs.Texts.{help_name, help_about, version_name, last_order}
 use Rattle.cc_command.specs.Generated.{help_argument, version_argument, generated_node, copies, help_command, needs_help_child, help_child}
 use Rattle.cc_command.specs.Built.{propagated, built_arguments, built_node, built_forest, built_under}
 use Rattle.cc_command.proofs.BuiltAgain.{helped, join-none, has_child-built}
-use Rattle.cc_command.proofs.BuiltArguments.{IsKept, all_built, all_propagated, both}
+use Rattle.cc_command.proofs.BuiltArguments.{IsKept, all_built, all_propagated}
 use Rattle.cc_command.proofs.DifferentNames.{all_differ_append, contains_name-names_of_all}
 use Rattle.cc_command.proofs.PlainParts.{plain_more, plain_tree}
 use Rattle.cc_command.proofs.SiblingNames.{first_differs}
@@ -43,9 +43,9 @@ plain_propagated : (inherited : List Arg) (node : Node) → IsTrue (list_all is_
     IsTrue (list_all is_plain_argument (propagated inherited node))
 plain_propagated inherited node above h =
     let arguments = list_all is_plain_argument node.arguments in
-    let a = both_true (is_plain_name node.name) (list_all is_plain_name node.visible_aliases && (list_all is_plain_name node.aliases && arguments)) h in
-    let b = both_true (list_all is_plain_name node.visible_aliases) (list_all is_plain_name node.aliases && arguments) a.1 in
-    let c = both_true (list_all is_plain_name node.aliases) arguments b.1 in
+    let a = and_parts (is_plain_name node.name) (list_all is_plain_name node.visible_aliases && (list_all is_plain_name node.aliases && arguments)) h in
+    let b = and_parts (list_all is_plain_name node.visible_aliases) (list_all is_plain_name node.aliases && arguments) a.1 in
+    let c = and_parts (list_all is_plain_name node.aliases) arguments b.1 in
     all_propagated is_plain_argument inherited node above c.1
 
 -- ---- nodes
@@ -66,7 +66,7 @@ plain_built_node inherited bin_name node above h =
 -- a generated node has a name and no other
 plain_generated : (name bin_name : List ℕ) (about : Option (List ℕ)) (order : ℕ) (hide : Bool) → IsTrue (is_plain_name name) →
     IsTrue (is_plain_node (generated_node name bin_name about order hide))
-plain_generated name bin_name about order hide h = both (is_plain_name name) true h refl
+plain_generated name bin_name about order hide h = and_from (is_plain_name name) true h refl
 
 -- ---- names of siblings
 
@@ -95,8 +95,8 @@ copies_differ : (parent : List ℕ) (order : ℕ) (forest : Forest) → IsTrue (
 copies_differ parent order none h = refl
 copies_differ parent order (more node below rest) h =
     let d = first_differs node below rest h in
-    let a = both_true (not (has_child rest node.name)) (list_all (λ name. not (has_child rest name)) (node.visible_aliases ++ node.aliases)) d.apart in
-    both (not (contains_name (names_of_all (copies parent (suc order) rest)) node.name)) (all_differ (names_of_all (copies parent (suc order) rest)))
+    let a = and_parts (not (has_child rest node.name)) (list_all (λ name. not (has_child rest name)) (node.visible_aliases ++ node.aliases)) d.apart in
+    and_from (not (contains_name (names_of_all (copies parent (suc order) rest)) node.name)) (all_differ (names_of_all (copies parent (suc order) rest)))
     (subst (λ b. IsTrue (not b)) (sym (contains_name-names_of_all (copies parent (suc order) rest) node.name)) (copies_lack parent (suc order) rest node.name a.0))
     (copies_differ parent (suc order) rest d.later)
 
@@ -107,7 +107,7 @@ apart_from_one : (names : List (List ℕ)) (word : List ℕ) → IsTrue (not (co
 apart_from_one [] word h = refl
 apart_from_one (name ∷ names) word h =
     let a = each_not (bytes_eq name word) (contains_name names word) h in
-    both (not (bytes_eq word name || false)) (list_all (λ name. not (contains_name (word ∷ []) name)) names)
+    and_from (not (bytes_eq word name || false)) (list_all (λ name. not (contains_name (word ∷ []) name)) names)
     (neither (bytes_eq word name) false (subst (λ b. IsTrue (not b)) (bytes_eq-turned name word) a.0) refl)
     (apart_from_one names word a.1)
 
@@ -115,8 +115,8 @@ apart_from_one (name ∷ names) word h =
 one_more_differs : (names : List (List ℕ)) (word : List ℕ) → IsTrue (all_differ names) → IsTrue (not (contains_name names word)) → IsTrue (all_differ (names ++ word ∷ []))
 one_more_differs names word h k =
     subst IsTrue (sym (all_differ_append names (word ∷ [])))
-    (both (all_differ names) (list_all (λ name. not (contains_name (word ∷ []) name)) names && true) h
-    (both (list_all (λ name. not (contains_name (word ∷ []) name)) names) true (apart_from_one names word k) refl))
+    (and_from (all_differ names) (list_all (λ name. not (contains_name (word ∷ []) name)) names && true) h
+    (and_from (list_all (λ name. not (contains_name (word ∷ []) name)) names) true (apart_from_one names word k) refl))
 
 -- ---- what building adds below a node
 
@@ -126,21 +126,21 @@ plain_copies parent order none h = refl
 plain_copies parent order (more node below rest) h =
     let p = plain_more node below rest h in
     let name : List ℕ = joined_name parent node.name in
-    let a = both_true (is_plain_name node.name) (list_all is_plain_name node.visible_aliases && (list_all is_plain_name node.aliases && list_all is_plain_argument node.arguments)) p.first.node in
-    both (is_plain_node (generated_node node.name name node.about order node.hide)) (siblings_differ (copies name 0 below) && (is_plain_forest (copies name 0 below) && is_plain_forest (copies parent (suc order) rest)))
+    let a = and_parts (is_plain_name node.name) (list_all is_plain_name node.visible_aliases && (list_all is_plain_name node.aliases && list_all is_plain_argument node.arguments)) p.first.node in
+    and_from (is_plain_node (generated_node node.name name node.about order node.hide)) (siblings_differ (copies name 0 below) && (is_plain_forest (copies name 0 below) && is_plain_forest (copies parent (suc order) rest)))
     (plain_generated node.name name node.about order node.hide a.0)
-    (both (siblings_differ (copies name 0 below)) (is_plain_forest (copies name 0 below) && is_plain_forest (copies parent (suc order) rest))
+    (and_from (siblings_differ (copies name 0 below)) (is_plain_forest (copies name 0 below) && is_plain_forest (copies parent (suc order) rest))
     (copies_differ name 0 below p.first.differ)
-    (both (is_plain_forest (copies name 0 below)) (is_plain_forest (copies parent (suc order) rest))
+    (and_from (is_plain_forest (copies name 0 below)) (is_plain_forest (copies parent (suc order) rest))
     (plain_copies name 0 below p.first.children) (plain_copies parent (suc order) rest p.later)))
 
 plain_join : (a b : Forest) → IsTrue (is_plain_forest a) → IsTrue (is_plain_forest b) → IsTrue (is_plain_forest (join a b))
 plain_join none b h k = k
 plain_join (more node below rest) b h k =
     let p = plain_more node below rest h in
-    both (is_plain_node node) (siblings_differ below && (is_plain_forest below && is_plain_forest (join rest b))) p.first.node
-    (both (siblings_differ below) (is_plain_forest below && is_plain_forest (join rest b)) p.first.differ
-    (both (is_plain_forest below) (is_plain_forest (join rest b)) p.first.children (plain_join rest b p.later k)))
+    and_from (is_plain_node node) (siblings_differ below && (is_plain_forest below && is_plain_forest (join rest b))) p.first.node
+    (and_from (siblings_differ below) (is_plain_forest below && is_plain_forest (join rest b)) p.first.differ
+    (and_from (is_plain_forest below) (is_plain_forest (join rest b)) p.first.children (plain_join rest b p.later k)))
 
 -- siblings that differ, and after them one of a name that none of them has
 last_differs : (forest last : Forest) (word : List ℕ) → IsTrue (all_differ (names_of_all forest)) → IsTrue (not (has_child forest word)) →
@@ -161,9 +161,9 @@ none_differ = refl
 -- a generated `help` over plain siblings that differ is plain
 plain_help : (parent : List ℕ) (children : Forest) → IsTrue (siblings_differ children) → IsTrue (is_plain_forest children) → IsTrue (is_plain_forest (help_command parent children))
 plain_help parent children differ h =
-    both (is_plain_node (generated_node help_name (joined_name parent help_name) (Some help_about) last_order false)) (siblings_differ children && (is_plain_forest children && true))
+    and_from (is_plain_node (generated_node help_name (joined_name parent help_name) (Some help_about) last_order false)) (siblings_differ children && (is_plain_forest children && true))
     (plain_generated help_name (joined_name parent help_name) (Some help_about) last_order false help_name_plain)
-    (both (siblings_differ children) (is_plain_forest children && true) differ (both (is_plain_forest children) true h refl))
+    (and_from (siblings_differ children) (is_plain_forest children && true) differ (and_from (is_plain_forest children) true h refl))
 
 -- where no child has the name `help`, so is the one that building adds
 plain_helped : (parent : List ℕ) (forest : Forest) → IsTrue (not (has_child forest help_name)) → IsTrue (siblings_differ forest) → IsTrue (is_plain_forest forest) →
@@ -185,7 +185,7 @@ siblings_built_differ inherited parent forest differ = built_differ inherited pa
 -- where building adds a `help` no child has that name
 lacks_help : (node : Node) (forest : Forest) → needs_help_child node forest ≡ true → IsTrue (not (has_child forest help_name))
 lacks_help node none is = refl
-lacks_help node (more child below rest) is = (both_true (not node.disable_help_subcommand) (not (has_child (more child below rest) help_name)) is).1
+lacks_help node (more child below rest) is = (and_parts (not node.disable_help_subcommand) (not (has_child (more child below rest) help_name)) is).1
 
 -- the children of a built node: they differ, and they are plain
 record ArePlainChildren (children : Forest) : Type 0 where
@@ -219,10 +219,10 @@ plain_built_forest inherited parent (more node below rest) above h =
     let children : Forest = join (built_forest children_inherit name below) (help_child name node below) in
     let c = with_help children_inherit name node below p.first.differ p.first.children
     (plain_built_forest children_inherit name below (plain_propagated inherited node above p.first.node) p.first.children) in
-    both (is_plain_node built) (siblings_differ children && (is_plain_forest children && is_plain_forest (built_forest inherited parent rest)))
+    and_from (is_plain_node built) (siblings_differ children && (is_plain_forest children && is_plain_forest (built_forest inherited parent rest)))
     (plain_built_node inherited (Some name) node above p.first.node)
-    (both (siblings_differ children) (is_plain_forest children && is_plain_forest (built_forest inherited parent rest)) c.differ
-    (both (is_plain_forest children) (is_plain_forest (built_forest inherited parent rest)) c.plain (plain_built_forest inherited parent rest above p.later)))
+    (and_from (siblings_differ children) (is_plain_forest children && is_plain_forest (built_forest inherited parent rest)) c.differ
+    (and_from (is_plain_forest children) (is_plain_forest (built_forest inherited parent rest)) c.plain (plain_built_forest inherited parent rest above p.later)))
 
 -- under a plain bin name, or without one, a plain tree builds to a plain tree
 pub plain_built_under : (bin_name : Option (List ℕ)) (tree : Tree) → IsTrue (passes_if_some is_plain_name bin_name) → IsTrue (is_plain_tree tree) →
@@ -234,7 +234,7 @@ plain_built_under bin_name tree named h =
     let children : Forest = join (built_forest children_inherit name tree.children) (help_child name tree.node tree.children) in
     let c = with_help children_inherit name tree.node tree.children p.below.differ p.below.children
     (plain_built_forest children_inherit name tree.children (plain_propagated [] tree.node refl p.below.node) p.below.children) in
-    both (passes_if_some is_plain_name bin_name) (is_plain_node (built_node [] bin_name tree.node) && (siblings_differ children && is_plain_forest children)) named
-    (both (is_plain_node (built_node [] bin_name tree.node)) (siblings_differ children && is_plain_forest children)
+    and_from (passes_if_some is_plain_name bin_name) (is_plain_node (built_node [] bin_name tree.node) && (siblings_differ children && is_plain_forest children)) named
+    (and_from (is_plain_node (built_node [] bin_name tree.node)) (siblings_differ children && is_plain_forest children)
     (plain_built_node [] bin_name tree.node refl p.below.node)
-    (both (siblings_differ children) (is_plain_forest children) c.differ c.plain))
+    (and_from (siblings_differ children) (is_plain_forest children) c.differ c.plain))

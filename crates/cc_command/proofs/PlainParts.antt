@@ -2,7 +2,8 @@
 use Rattle.std.proofs.Common.{ℕ, Bool, ◌&&◌, IsTrue, List, Option, Some, None, unwrap_or, inl, inr, subst}
 use Rattle.std.specs.Char.{is_ascii_alphanumeric}
 use Rattle.std.specs.List.{AllByRecursion, list_all}
-use Rattle.cc_base.proofs.Booleans.{both_true, each_passes}
+use Rattle.std.proofs.lemmas.Bool.{and_parts}
+use Rattle.cc_base.proofs.Booleans.{each_passes}
 use Rattle.cc_base.proofs.Members.{AllByRecursion-weaker, AllByRecursion-filter}
 use Rattle.cc_arg.specs.declared.parts.ArgParts.{ArgParts as Arg}
 use Rattle.cc_arg.specs.ShownNames.{with_aliases}
@@ -10,7 +11,7 @@ use Rattle.cc_command.specs.declared.node.Node.{Node}
 use Rattle.cc_command.specs.Tree.{Forest, none, more, Tree, IsSibling}
 use Rattle.cc_command.specs.ArgumentLists.{is_option, is_flag, options, flags}
 use Rattle.cc_command.specs.Names.{full_name, visible_names}
-use Rattle.cc_command.specs.PlainName.{is_plain_name}
+use Rattle.cc_quote.specs.PlainName.{is_plain_name}
 use Rattle.cc_command.specs.Plain.{is_plain_tree, is_plain_forest, is_plain_node, is_plain_argument, siblings_differ, passes_if_some, has_no_quote}
 
 -- the name is plain
@@ -51,13 +52,13 @@ plain_argument argument h =
     let shorts = list_all is_ascii_alphanumeric argument.visible_short_aliases && hidden in
     let short = passes_if_some is_ascii_alphanumeric argument.short && shorts in
     let names = list_all has_no_quote argument.value_names && short in
-    let a = both_true (has_no_quote argument.id) names h in
-    let b = both_true (list_all has_no_quote argument.value_names) short a.1 in
-    let c = both_true (passes_if_some is_ascii_alphanumeric argument.short) shorts b.1 in
-    let d = both_true (list_all is_ascii_alphanumeric argument.visible_short_aliases) hidden c.1 in
-    let e = both_true (list_all is_ascii_alphanumeric argument.short_aliases) long d.1 in
-    let f = both_true (passes_if_some is_plain_name argument.long) longs e.1 in
-    let g = both_true (list_all is_plain_name argument.visible_aliases) (list_all is_plain_name argument.aliases) f.1 in
+    let a = and_parts (has_no_quote argument.id) names h in
+    let b = and_parts (list_all has_no_quote argument.value_names) short a.1 in
+    let c = and_parts (passes_if_some is_ascii_alphanumeric argument.short) shorts b.1 in
+    let d = and_parts (list_all is_ascii_alphanumeric argument.visible_short_aliases) hidden c.1 in
+    let e = and_parts (list_all is_ascii_alphanumeric argument.short_aliases) long d.1 in
+    let f = and_parts (passes_if_some is_plain_name argument.long) longs e.1 in
+    let g = and_parts (list_all is_plain_name argument.visible_aliases) (list_all is_plain_name argument.aliases) f.1 in
     record {
       id = a.0;
       value_names = each_passes has_no_quote argument.value_names b.0;
@@ -81,9 +82,9 @@ pub plain_node : (node : Node) → IsTrue (is_plain_node node) → IsPlainNode n
 plain_node node h =
     let arguments = list_all is_plain_argument node.arguments in
     let aliases = list_all is_plain_name node.aliases && arguments in
-    let a = both_true (is_plain_name node.name) (list_all is_plain_name node.visible_aliases && aliases) h in
-    let b = both_true (list_all is_plain_name node.visible_aliases) aliases a.1 in
-    let c = both_true (list_all is_plain_name node.aliases) arguments b.1 in
+    let a = and_parts (is_plain_name node.name) (list_all is_plain_name node.visible_aliases && aliases) h in
+    let b = and_parts (list_all is_plain_name node.visible_aliases) aliases a.1 in
+    let c = and_parts (list_all is_plain_name node.aliases) arguments b.1 in
     let each = AllByRecursion-weaker (λ argument. IsTrue (is_plain_argument argument)) IsPlainArgument plain_argument node.arguments (each_passes is_plain_argument node.arguments c.1) in
     record {
       names = (a.0, each_passes is_plain_name node.visible_aliases b.0);
@@ -106,9 +107,9 @@ pub record IsPlainMore (node : Node) (below rest : Forest) : Type 0 where
 
 pub plain_more : (node : Node) (below rest : Forest) → IsTrue (is_plain_forest (more node below rest)) → IsPlainMore node below rest
 plain_more node below rest h =
-    let a = both_true (is_plain_node node) (siblings_differ below && (is_plain_forest below && is_plain_forest rest)) h in
-    let b = both_true (siblings_differ below) (is_plain_forest below && is_plain_forest rest) a.1 in
-    let c = both_true (is_plain_forest below) (is_plain_forest rest) b.1 in
+    let a = and_parts (is_plain_node node) (siblings_differ below && (is_plain_forest below && is_plain_forest rest)) h in
+    let b = and_parts (siblings_differ below) (is_plain_forest below && is_plain_forest rest) a.1 in
+    let c = and_parts (is_plain_forest below) (is_plain_forest rest) b.1 in
     record { first = record { node = a.0; differ = b.0; children = c.0 }; later = c.1 }
 
 -- one of plain siblings is plain, with all below it
@@ -124,9 +125,9 @@ pub record IsPlainTree (tree : Tree) : Type 0 where
 
 pub plain_tree : (tree : Tree) → IsTrue (is_plain_tree tree) → IsPlainTree tree
 plain_tree tree h =
-    let a = both_true (passes_if_some is_plain_name tree.node.bin_name) (is_plain_node tree.node && (siblings_differ tree.children && is_plain_forest tree.children)) h in
-    let b = both_true (is_plain_node tree.node) (siblings_differ tree.children && is_plain_forest tree.children) a.1 in
-    let c = both_true (siblings_differ tree.children) (is_plain_forest tree.children) b.1 in
+    let a = and_parts (passes_if_some is_plain_name tree.node.bin_name) (is_plain_node tree.node && (siblings_differ tree.children && is_plain_forest tree.children)) h in
+    let b = and_parts (is_plain_node tree.node) (siblings_differ tree.children && is_plain_forest tree.children) a.1 in
+    let c = and_parts (siblings_differ tree.children) (is_plain_forest tree.children) b.1 in
     record { bin_name = a.0; below = record { node = b.0; differ = c.0; children = c.1 } }
 
 -- a plain tree is called by a plain name

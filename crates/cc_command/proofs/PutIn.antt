@@ -2,7 +2,7 @@
 use Rattle.std.proofs.Common.{◌≡◌, ℕ, suc, ◌+◌, ◌<◌, ◌≤◌, List, [], ◌∷◌, ◌++◌, length, get_or, take, drop, map, Option, Some, true, refl, ap, ◌∙◌, sym, subst, add-one, append_assoc, append-nil, arith}
 use Rattle.std.proofs.Math.Seq.{drop-cons}
 use Rattle.std.proofs.Math.ListN.{set}
-use Rattle.std.proofs.lemmas.List.{take-append-drop, take_more_set, drop-set-lt}
+use Rattle.std.proofs.lemmas.List.{take_all, take_more_set, drop-set-lt}
 use Rattle.std.proofs.Math.ListN.{drop_of_length-le}
 use Rattle.cc_arg.specs.declared.parts.ArgParts.{ArgParts as Arg}
 use Rattle.cc_arg.specs.Arguments.{filled}
@@ -10,8 +10,8 @@ use Rattle.cc_command.specs.declared.node.Node.{Node}
 use Rattle.cc_command.specs.declared.command.build.additions.Addition.{Addition}
 use Rattle.cc_command.specs.Tree.{Forest, none, more, join, Tree, forest_of}
 use Rattle.cc_command.specs.Names.{full_name, joined_name}
-use Rattle.cc_command.specs.Generated.{generated_arguments, help_child}
-use Rattle.cc_command.specs.Built.{with_missing, given_arguments, globals, propagated, indexed, built_node, built_forest, built_below, built_tree}
+use Rattle.cc_command.specs.Generated.{generated_arguments}
+use Rattle.cc_command.specs.Built.{given_arguments, globals, propagated, indexed, built_node, built_forest, built_tree}
 use Rattle.cc_command.specs.Additions.{sibling_count, HasRoom, IsAddition, Between, AreAdditions, AreOfTree, AreAfter, AreOfTreeAfter, Suit, SuitTree, AreBuiltBy, IsBuiltBy}
 use Rattle.cc_command.proofs.BuiltAgain.{built_below-again, join-none, globals-with_missing, AreLocal-generated}
 use Rattle.cc_command.proofs.Forests.{forest_of-append}
@@ -128,9 +128,6 @@ AreOfTreeAfter-leaf inherited bin_name tree addition before after own leaf pushe
 }
 
 -- ---- putting it in
-
-pub take_all : {A : Type 0} → (count : ℕ) (xs : List A) → length xs ≤ count → take count xs ≡ xs
-take_all count xs le = sym (append-nil (take count xs)) ∙ ap (λ rest. take count xs ++ rest) (sym (drop_of_length-le xs le)) ∙ take-append-drop count xs
 
 -- a list that was replaced in full
 pub refilled : {A : Type 0} → (count : ℕ) (old new : List A) → length old ≡ count → length new ≡ count → take count (new ++ drop (length new) old) ≡ new

@@ -7,7 +7,6 @@ pub mod Made
 pub mod Marked
 pub mod Names
 pub mod Plain
-pub mod PlainName
 pub mod Quiet
 pub mod Texts
 pub mod Tree

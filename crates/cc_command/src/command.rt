@@ -18,7 +18,6 @@ pub use crate::command::builders::{add_argument, add_child};
 pub use crate::command::conflicts::first_with_id;
 pub use crate::command::getters::{full_name, has_name};
 pub use crate::command::iterators::{Arguments, NameAndVisibleAliases};
-pub use crate::command::plain::is_plain_name;
 use crate::node::Node;
 use cc_base::Text;
 use std::alloc::Global;

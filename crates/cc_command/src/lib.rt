@@ -6,6 +6,6 @@ mod node;
 
 pub use crate::command::{
     Arguments, Command, NameAndVisibleAliases, add_argument, add_child, build_as, first_with_id,
-    from_node, full_name, has_name, is_plain_name,
+    from_node, full_name, has_name,
 };
 pub use crate::node::Node;

@@ -6,7 +6,7 @@ use Rattle.cc_env.specs.Environment.{IsIndex}
 use Rattle.cc_env.specs.Reply.{are_readable_lines, are_readable_values, are_readable_zsh_items, colon_help, first_line, lines_reply, shown_line}
 use Rattle.cc_env.specs.Reply.{tab_help, values_read, values_reply, without_return, zsh_item, zsh_reply}
 use Rattle.cc_env.proofs.ReplyReadings.{values_back}
-use Rattle.cc_registrations.specs.Found.{after, cut_at, with_front}
+use Rattle.cc_base.specs.Found.{after, cut_at, with_front}
 
 -- ---- indexes
 

@@ -4,15 +4,14 @@ use Rattle.std.specs.List.{AllByRecursion}
 use Rattle.std.proofs.lemmas.Bool.{ne_eqb, cases_Bool}
 use Rattle.std.proofs.lemmas.Bool.Decides.{Decides-eqb}
 use Rattle.std.proofs.Common.{inl, inr}
-use Rattle.cc_registrations.specs.Found.{after, with_front, cut_at}
+use Rattle.cc_base.specs.Found.{after, with_front, cut_at}
 use Rattle.cc_env.specs.Reply.{without_return, first_line}
-use Rattle.cc_registrations.proofs.Finding.{Cut, Lacks, after-none, cut_at-none, past_lacking}
+use Rattle.cc_base.proofs.Finding.{Cut, Lacks, after-none, cut_at-none, past_lacking}
 
 pub return_off : (line : List ℕ) → without_return (line ++ 13 ∷ []) ≡ line
 unfolding without_return
-return_off [] = refl
-return_off (byte ∷ []) = refl
 return_off (byte ∷ next ∷ line) = ap (λ t. byte ∷ t) (return_off (next ∷ line))
+return_off _ = refl
 
 pub no_return : (line : List ℕ) → ((front : List ℕ) → line ≢ front ++ 13 ∷ []) → without_return line ≡ line
 unfolding without_return

@@ -13,11 +13,11 @@ use Rattle.cc_quote.specs.ZshQuote.Mark.{kept, escaped}
 use Rattle.cc_quote.specs.ZshReply.{is_reply_value_marked, is_reply_help_marked, zsh_replied_value, zsh_replied_help}
 use Rattle.cc_quote.proofs.ZshWords.{mark_of, marks-marked}
 use Rattle.cc_quote.proofs.ZshReplies.{help_unescaped}
-use Rattle.cc_registrations.specs.Found.{after, with_front, cut_at}
+use Rattle.cc_base.specs.Found.{after, with_front, cut_at}
 use Rattle.cc_env.specs.Reply.{Shown, shown, first_line, values_reply, colon_help, zsh_item, zsh_reply, tab_help, shown_line, lines_reply, pieces_from, values_read, shown_from, zsh_read, lines_from, line_shown, lines_read, is_without, is_help_without, is_readable_value, is_readable_zsh_item, is_readable_line, are_readable_values, are_readable_zsh_items, are_readable_lines}
 use Rattle.cc_env.proofs.FirstLines.{IsWithout, first_line_without, other_side}
 use Rattle.cc_candidates.specs.declared.candidate.CompletionCandidate.{CompletionCandidate}
-use Rattle.cc_registrations.proofs.Finding.{Lacks, past_lacking}
+use Rattle.cc_base.proofs.Finding.{Lacks, past_lacking}
 
 abbrev choose : {A : Type 0} → Bool → A → A → A
 choose test first second = elim test [ true ↦ first | false ↦ second ]

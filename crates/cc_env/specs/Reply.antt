@@ -6,7 +6,7 @@ use Rattle.cc_base.specs.Joined.{joined}
 use Rattle.cc_quote.specs.ZshQuote.{Mark, marks, unmarked}
 use Rattle.cc_quote.specs.ZshQuote.Mark.{kept, escaped, unended}
 use Rattle.cc_quote.specs.ZshReply.{zsh_replied_help, zsh_replied_value}
-use Rattle.cc_registrations.specs.Found.{cut_at}
+use Rattle.cc_base.specs.Found.{cut_at}
 use Rattle.cc_candidates.specs.declared.candidate.CompletionCandidate.{CompletionCandidate}
 
 abbrev carriage_return : ℕ

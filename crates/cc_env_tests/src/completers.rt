@@ -5,9 +5,9 @@ use cc_adapters::{Builtin, EnvCompleter};
 use cc_base::{Collected, Error};
 use cc_fixtures::words::{after, word};
 use cc_quote::{
-    bash_double_word, elvish_word, fish_double, fish_word, posix_word, powershell_word,
+    bash_double_word, elvish_word, fish_double, fish_word, is_plain_path, posix_word,
+    powershell_word,
 };
-use cc_registrations::is_plain_path;
 use std::alloc::Global;
 use std::process::Abort;
 

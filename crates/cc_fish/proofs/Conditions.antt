@@ -1,18 +1,19 @@
 -- The condition of a path is read back.
-use Rattle.std.proofs.Common.{◌≡◌, ℕ, true, false, List, [], ◌∷◌, ◌++◌, eqb, refl, ap, ◌∙◌, sym, append_assoc, append-nil, inl, inr, Option, Some, None, map, codes, Bool, cond, reverse, flat_map, option_map}
-use Rattle.std.proofs.lemmas.Bool.Decides.{eqb_tells}
+use Rattle.std.proofs.Common.{◌≡◌, ℕ, true, false, List, [], ◌∷◌, ◌++◌, eqb, refl, ap, ◌∙◌, sym, append_assoc, append-nil, Option, Some, None, map, codes, Bool, cond, reverse, flat_map, option_map}
 use Rattle.std.proofs.lemmas.List.{reverse-append, reverse-reverse}
 use Rattle.std.proofs.lemmas.List.Folds.{list_all-append}
 use Rattle.std.specs.List.{list_all, AllByRecursion}
-use Rattle.cc_base.specs.Bytes.{dash, semicolon}
+use Rattle.cc_base.specs.Bytes.{dash, semicolon, space}
+use Rattle.cc_base.specs.Found.{after, before_ending, pieces_from}
 use Rattle.cc_command.specs.Tree.{Forest, none, more}
 use Rattle.cc_base.specs.Bytes as ascii
+use Rattle.cc_base.proofs.Members.{AllByRecursion-append}
 use Rattle.cc_quote.specs.FishQuote.{is_fish_safe}
 use Rattle.cc_quote.proofs.FishWords.{IsSafe, safe_is_not, safe_bytes}
 use Rattle.cc_fish.specs.Script.{seen_text, spaced_name, not_seen, excluded_text}
 use Rattle.cc_generator.specs.Subcommands.{sibling_names}
 use Rattle.cc_fish.specs.Table.{function_name, function_begin, condition_at}
-use Rattle.cc_fish.specs.Reader.{pieces_from, without_semicolon, after_beginning, seen_function, a_name, nothing, asked, condition_from, condition_of_pieces, condition_of}
+use Rattle.cc_fish.specs.Reader.{without_semicolon, seen_function, a_name, nothing, asked, condition_from, condition_of_pieces, condition_of}
 use Rattle.cc_fish.specs.Records.{Condition}
 use Rattle.cc_fish.proofs.RecordWords.{is_kept, IsKept}
 
@@ -25,22 +26,21 @@ path_condition bin_name (first ∷ names) children =
 
 -- ---- pieces
 
-not_space : (byte : ℕ) → is_fish_safe byte ≡ true → eqb byte ascii.space ≡ false
+not_space : (byte : ℕ) → is_fish_safe byte ≡ true → eqb byte space ≡ false
 unfolding is_fish_safe
-not_space byte h = safe_is_not byte ascii.space h refl
+not_space byte h = safe_is_not byte space h refl
 
 not_semicolon : (byte : ℕ) → is_fish_safe byte ≡ true → eqb byte semicolon ≡ false
 unfolding is_fish_safe
 not_semicolon byte h = safe_is_not byte semicolon h refl
 
-pieces_safe : (text piece rest : List ℕ) → IsSafe text → pieces_from piece (text ++ rest) ≡ pieces_from (piece ++ text) rest
+pieces_safe : (text piece rest : List ℕ) → IsSafe text → pieces_from space piece (text ++ rest) ≡ pieces_from space (piece ++ text) rest
 pieces_safe [] piece rest h = rw append-nil
 pieces_safe (byte ∷ text) piece rest (h, hs) = rw (pieces_from, not_space byte h) (rw append_assoc at (pieces_safe text (piece ++ byte ∷ []) rest hs))
 
 semicolon_off : (text : List ℕ) → without_semicolon (text ++ semicolon ∷ []) ≡ text
-semicolon_off [] = refl
-semicolon_off (byte ∷ []) = refl
 semicolon_off (byte ∷ next ∷ text) = ap (λ bytes. byte ∷ bytes) (semicolon_off (next ∷ text))
+semicolon_off text = refl
 
 safe_stays : (text : List ℕ) → IsSafe text → without_semicolon text ≡ text
 safe_stays [] h = refl
@@ -49,7 +49,7 @@ safe_stays (byte ∷ next ∷ text) (h, hs) = ap (λ bytes. byte ∷ bytes) (saf
 
 -- the pieces of a text, without their semicolons
 abbrev cut_pieces : List ℕ → List ℕ → List (List ℕ)
-cut_pieces piece text = map without_semicolon (pieces_from piece text)
+cut_pieces piece text = map without_semicolon (pieces_from space piece text)
 
 -- names after spaces
 names_pieces : (names : List (List ℕ)) (piece : List ℕ) → IsSafe piece → AllByRecursion IsSafe names → cut_pieces piece (flat_map spaced_name names) ≡ piece ∷ names
@@ -94,8 +94,7 @@ names_read function (next ∷ names) children path name h (k, ks) hs =
 -- ---- the first piece
 
 pub safe_append : (a b : List ℕ) → IsSafe a → IsSafe b → IsSafe (a ++ b)
-safe_append [] b h k = k
-safe_append (byte ∷ a) b (h, hs) k = (h, safe_append a b hs k)
+safe_append a b h k = AllByRecursion-append (λ byte. is_fish_safe byte ≡ true) a b h k
 
 pub function_safe : (bin_name : List ℕ) → IsSafe bin_name → IsSafe (function_name bin_name)
 unfolding is_fish_safe
@@ -122,9 +121,9 @@ function_reversed bin_name ending =
 
 -- what the ending of the first piece tells, from the piece backwards
 abbrev chosen : List ℕ → List (List ℕ) → Option Condition
-chosen backwards pieces = elim (option_map reverse (after_beginning (reverse (codes "_using_subcommand")) backwards)) as (λ x. Option Condition) [
+chosen backwards pieces = elim (option_map (λ front. reverse front) (after (reverse (codes "_using_subcommand")) backwards)) as (λ x. Option Condition) [
   | Some function ↦ condition_from a_name (asked function) pieces
-  | None ↦ elim (option_map reverse (after_beginning (reverse (codes "_needs_command")) backwards)) as (λ x. Option Condition) [
+  | None ↦ elim (option_map (λ front. reverse front) (after (reverse (codes "_needs_command")) backwards)) as (λ x. Option Condition) [
     | Some function ↦ condition_from nothing (asked function) pieces
     | None ↦ None
   ]
@@ -136,11 +135,13 @@ function_found bin_name =
     reverse-append (reverse (function_name bin_name)) (reverse (codes "__fish_")) ∙ ap (λ t. codes "__fish_" ++ t) (reverse-reverse (function_name bin_name))
 
 needs_read : (bin_name : List ℕ) → condition_of_pieces (function_of bin_name (codes "_needs_command") ∷ []) ≡ Some (asked (function_begin bin_name))
+unfolding before_ending after
 needs_read bin_name =
     ap (λ t. chosen t []) (function_reversed bin_name (codes "_needs_command")) ∙ ap (λ function. Some (asked function)) (function_found bin_name)
 
 using_read : (bin_name : List ℕ) (pieces : List (List ℕ)) → condition_of_pieces (function_of bin_name (codes "_using_subcommand") ∷ pieces)
     ≡ condition_from a_name (asked (function_begin bin_name)) pieces
+unfolding before_ending after
 using_read bin_name pieces =
     ap (λ t. chosen t pieces) (function_reversed bin_name (codes "_using_subcommand")) ∙ ap (λ function. condition_from a_name (asked function) pieces) (function_found bin_name)
 
@@ -156,23 +157,23 @@ condition_read bin_name [] (more node below rest) text b p hs e =
     let same : text ≡ function = cc in
     let is : IsSafe function = function_of_safe bin_name (codes "_needs_command") b refl in
     ap condition_of same
-    ∙ ap (λ pieces. condition_of_pieces (map without_semicolon pieces)) (ap (pieces_from []) (sym (append-nil function)) ∙ pieces_safe function [] [] is)
+    ∙ ap (λ pieces. condition_of_pieces (map without_semicolon pieces)) (ap (pieces_from space []) (sym (append-nil function)) ∙ pieces_safe function [] [] is)
     ∙ ap (λ t. condition_of_pieces (t ∷ [])) (safe_stays function is)
     ∙ needs_read bin_name
 condition_read bin_name (first ∷ names) children text b (h, ks) hs e =
     let tail : List ℕ = flat_map seen_text names ++ excluded_text children in
     let function : List ℕ = function_of bin_name (codes "_using_subcommand") in
     let is : IsSafe function = function_of_safe bin_name (codes "_using_subcommand") b refl in
-    let same : text ≡ function ++ ascii.space ∷ (first ++ tail) = cc (regrouped (function_name bin_name) (first ++ tail)) in
+    let same : text ≡ function ++ space ∷ (first ++ tail) = cc (regrouped (function_name bin_name) (first ++ tail)) in
     ap condition_of same
-    ∙ ap (λ pieces. condition_of_pieces (map without_semicolon pieces)) (pieces_safe function [] (ascii.space ∷ (first ++ tail)) is)
+    ∙ ap (λ pieces. condition_of_pieces (map without_semicolon pieces)) (pieces_safe function [] (space ∷ (first ++ tail)) is)
     ∙ ap (λ t. condition_of_pieces (t ∷ cut_pieces [] (first ++ tail))) (safe_stays function is)
     ∙ using_read bin_name (cut_pieces [] (first ++ tail))
     ∙ ap (λ pieces. condition_from a_name (asked (function_begin bin_name)) (map without_semicolon pieces)) (pieces_safe first [] tail h)
     ∙ names_read (function_begin bin_name) names children [] first h ks hs
   where
-    regrouped : (function t : List ℕ) → codes "__fish_" ++ (function ++ (codes "_using_subcommand " ++ t)) ≡ (codes "__fish_" ++ (function ++ codes "_using_subcommand")) ++ ascii.space ∷ t
-    regrouped function t = ap (λ x. codes "__fish_" ++ x) (sym (append_assoc function (codes "_using_subcommand") (ascii.space ∷ t)))
+    regrouped : (function t : List ℕ) → codes "__fish_" ++ (function ++ (codes "_using_subcommand " ++ t)) ≡ (codes "__fish_" ++ (function ++ codes "_using_subcommand")) ++ space ∷ t
+    regrouped function t = ap (λ x. codes "__fish_" ++ x) (sym (append_assoc function (codes "_using_subcommand") (space ∷ t)))
 
 -- ---- and all its bytes stand for themselves between `"`
 

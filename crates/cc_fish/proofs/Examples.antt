@@ -6,6 +6,7 @@ use Rattle.cc_arg.specs.declared.action.ArgAction.TheVariants.{SetTrue}
 use Rattle.cc_arg.specs.declared.parts.ArgParts.{ArgParts as Arg}
 use Rattle.cc_arg.specs.Arguments.{new_arg}
 use Rattle.cc_arg.specs.PossibleValues.{new_possible_value}
+use Rattle.cc_base.specs.Found.{after, before_ending}
 use Rattle.cc_command.specs.Built.{built_under}
 use Rattle.cc_command.specs.Generated.{help_argument, version_argument}
 use Rattle.cc_command.specs.Made.{new_tree, with_argument, with_child}
@@ -51,7 +52,7 @@ and_not_read : records
     ∷ record (only_at (at (codes "and" ∷ codes "not" ∷ []) [])) { shorts = codes "v" ∷ [] }
     ∷ record (only_at (at (codes "not" ∷ codes "and" ∷ []) (codes "and" ∷ []))) { longs = codes "not" ∷ [] }
     ∷ [])
-unfolding fish_sign fish_commands
+unfolding fish_sign fish_commands after before_ending
 and_not_read = refl
 
 -- a comment, a command of another name, and a record three levels deep, with names, a help and
@@ -68,7 +69,7 @@ deep_read : records
       marks = record { required = true; no_files = Bool.false; files = true };
     }
     ∷ [])
-unfolding fish_sign fish_commands
+unfolding fish_sign fish_commands after before_ending
 deep_read = refl
 
 -- values that hold quotes, `$`, backslashes and a line feed, and a help that holds them too
@@ -124,7 +125,7 @@ unread : list_any (λ script. is_some (records script))
     ∷ line (codes "complete -c app -l o -r -f -a \"'open\"")
     ∷ [])
     ≡ false
-unfolding fish_sign fish_commands
+unfolding fish_sign fish_commands after before_ending
 unread = refl
 
 -- ---- texts and tables of trees

@@ -1,19 +1,19 @@
 -- The names of a plain tree need no quotes in fish.
-use Rattle.std.proofs.Common.{◌≡◌, ◌≢◌, ℕ, Bool, true, false, ◌||◌, ◌==◌, cond, IsTrue, List, [], ◌∷◌, ◌++◌, Option, Some, None, encode_utf8, refl, ap, sym, subst, arith}
+use Rattle.std.proofs.Common.{◌≡◌, ◌≢◌, ℕ, true, IsTrue, List, [], ◌∷◌, encode_utf8, refl, ap, sym, subst, arith}
 use Rattle.std.specs.Char.{is_ascii_alphanumeric}
 use Rattle.std.specs.List.{AllByRecursion}
 use Rattle.std.proofs.lemmas.Bool.Decides.{nat_tests}
 use Rattle.std.proofs.lemmas.Str.{encode_ascii}
-use Rattle.cc_base.specs.Bytes.{dash, underscore}
-use Rattle.cc_base.proofs.Members.{AllByRecursion-weaker}
+use Rattle.cc_base.specs.Bytes.{dash}
+use Rattle.cc_base.proofs.Members.{AllByRecursion-weaker, AllByRecursion-append}
 use Rattle.cc_arg.specs.declared.parts.ArgParts.{ArgParts as Arg}
-use Rattle.cc_arg.specs.ShownNames.{with_aliases, shown_shorts, shown_longs}
+use Rattle.cc_arg.specs.ShownNames.{shown_shorts, shown_longs}
 use Rattle.cc_command.specs.Names.{visible_names}
-use Rattle.cc_command.specs.Plain.{passes_if_some, is_plain_forest}
-use Rattle.cc_command.specs.PlainName.{letter, joiner, foreign, name_byte, is_joined, is_plain_name}
+use Rattle.cc_command.specs.Plain.{is_plain_forest}
+use Rattle.cc_quote.specs.PlainName.{foreign, name_byte, is_joined, is_plain_name}
 use Rattle.cc_command.specs.Tree.{Forest, none, more}
-use Rattle.cc_command.proofs.NameBytes.{plain_bytes}
-use Rattle.cc_command.proofs.PlainParts.{IsPlainName, IsPlainShort, IsPlainArgument, plain_node, plain_more}
+use Rattle.cc_quote.proofs.NameBytes.{plain_bytes, fish_safe}
+use Rattle.cc_command.proofs.PlainParts.{IsPlainName, IsPlainShort, IsPlainArgument, plain_node, plain_more, shown_plain}
 use Rattle.cc_quote.specs.FishQuote.{begins_word, is_fish_safe}
 use Rattle.cc_quote.proofs.FishWords.{IsSafe, safe_sign, safe_bare}
 use Rattle.cc_quote.proofs.FishCutting.{Spells}
@@ -39,23 +39,14 @@ pub letter_safe : (byte : ℕ) → is_ascii_alphanumeric byte ≡ true → is_fi
 unfolding is_fish_safe
 letter_safe byte h = rw h
 
-pub joiner_safe : (byte : ℕ) → (byte == dash || byte == underscore) ≡ true → is_fish_safe byte ≡ true
+pub dash_safe : is_fish_safe dash ≡ true
 unfolding is_fish_safe
-joiner_safe byte h = grind (arith, nat_tests)
-
-byte_safe : (byte : ℕ) → name_byte byte ≢ foreign → is_fish_safe byte ≡ true
-unfolding name_byte
-byte_safe byte h = by_tests (is_ascii_alphanumeric byte) (byte == dash || byte == underscore) refl refl h
-  where
-    by_tests : (a j : Bool) → is_ascii_alphanumeric byte ≡ a → (byte == dash || byte == underscore) ≡ j → cond a letter (cond j joiner foreign) ≢ foreign → is_fish_safe byte ≡ true
-    by_tests true j e f k = letter_safe byte e
-    by_tests false true e f k = joiner_safe byte f
-    by_tests false false e f k = absurd (k refl)
+dash_safe = refl
 
 pub plain_name : (name : List ℕ) → IsPlainName name → IsName name
 unfolding is_plain_name is_joined
 plain_name [] h = cc
-plain_name (byte ∷ bytes) h = AllByRecursion-weaker (λ b. name_byte b ≢ foreign) (λ b. is_fish_safe b ≡ true) byte_safe (byte ∷ bytes) (plain_bytes (byte ∷ bytes) h)
+plain_name (byte ∷ bytes) h = AllByRecursion-weaker (λ b. name_byte b ≢ foreign) (λ b. is_fish_safe b ≡ true) fish_safe (byte ∷ bytes) (plain_bytes (byte ∷ bytes) h)
 
 pub plain_names : (names : List (List ℕ)) → AllByRecursion IsPlainName names → AllByRecursion IsName names
 plain_names names h = AllByRecursion-weaker IsPlainName IsName plain_name names h
@@ -69,34 +60,22 @@ IsShortName short = IsName (encode_utf8 short)
 plain_short : (short : ℕ) → IsPlainShort short → IsShortName short
 plain_short short h = subst IsName (sym (encode_ascii short (grind (arith, nat_tests)))) (letter_safe short h, tt)
 
-shown_short_names : (short : Option ℕ) (aliases : List ℕ) → IsTrue (passes_if_some is_ascii_alphanumeric short) → AllByRecursion IsPlainShort aliases → AllByRecursion IsShortName (with_aliases short aliases)
-shown_short_names None aliases h k = tt
-shown_short_names (Some short) aliases h k = (plain_short short h, AllByRecursion-weaker IsPlainShort IsShortName plain_short aliases k)
-
-shown_long_names : (long : Option (List ℕ)) (aliases : List (List ℕ)) → IsTrue (passes_if_some is_plain_name long) → AllByRecursion IsPlainName aliases → AllByRecursion IsName (with_aliases long aliases)
-shown_long_names None aliases h k = tt
-shown_long_names (Some long) aliases h k = (plain_name long h, plain_names aliases k)
-
 pub plain_shorts : (argument : Arg) → IsPlainArgument argument → AllByRecursion IsShortName (shown_shorts argument)
-plain_shorts argument is = shown_short_names argument.short argument.visible_short_aliases is.short is.shorts
+plain_shorts argument is =
+    AllByRecursion-weaker IsPlainShort IsShortName plain_short (shown_shorts argument)
+    (shown_plain is_ascii_alphanumeric argument.short argument.visible_short_aliases is.short is.shorts)
 
 pub plain_longs : (argument : Arg) → IsPlainArgument argument → AllByRecursion IsName (shown_longs argument)
-plain_longs argument is = shown_long_names argument.long argument.visible_aliases is.long is.longs
+plain_longs argument is =
+    plain_names (shown_longs argument) (shown_plain is_plain_name argument.long argument.visible_aliases is.long is.longs)
 
--- ---- the names of children
+-- ---- the names of paths and of children
 
-safe_names : (names : List (List ℕ)) → AllByRecursion IsPlainName names → AllByRecursion IsSafe names
+pub safe_names : (names : List (List ℕ)) → AllByRecursion IsPlainName names → AllByRecursion IsSafe names
 safe_names names h = AllByRecursion-weaker IsPlainName IsSafe (λ name plain. name_safe name (plain_name name plain)) names h
-
-all_append : (xs ys : List (List ℕ)) → AllByRecursion IsSafe xs → AllByRecursion IsSafe ys → AllByRecursion IsSafe (xs ++ ys)
-all_append [] ys h k = k
-all_append (x ∷ xs) ys h k = (h.0, all_append xs ys h.1 k)
-
-pub path_safe : (path : List (List ℕ)) → AllByRecursion IsPlainName path → AllByRecursion IsSafe path
-path_safe path h = safe_names path h
 
 pub children_safe : (children : Forest) → IsTrue (is_plain_forest children) → AllByRecursion IsSafe (sibling_names children)
 children_safe none h = tt
 children_safe (more node below rest) h =
     let plain = plain_more node below rest h in
-    all_append (visible_names node) (sibling_names rest) (safe_names (visible_names node) (plain_node node plain.first.node).names) (children_safe rest plain.later)
+    AllByRecursion-append IsSafe (visible_names node) (sibling_names rest) (safe_names (visible_names node) (plain_node node plain.first.node).names) (children_safe rest plain.later)

@@ -8,7 +8,7 @@ use Rattle.cc_base.specs.Bytes.{dash}
 use Rattle.cc_arg.specs.declared.parts.ArgParts.{ArgParts as Arg}
 use Rattle.cc_arg.specs.declared.possible_value.PossibleValue.{PossibleValue}
 use Rattle.cc_arg.specs.declared.value_hint.ValueHint.{ValueHint}
-use Rattle.cc_arg.specs.declared.value_hint.ValueHint.TheVariants.{Unknown, Other, AnyPath, FilePath, DirPath, ExecutablePath, CommandName, CommandString, CommandWithArguments, Username, Hostname, Url, EmailAddress}
+use Rattle.cc_arg.specs.declared.value_hint.ValueHint.TheVariants.{Unknown, AnyPath, FilePath, DirPath, ExecutablePath, CommandName, CommandString, Username, Hostname}
 use Rattle.cc_arg.specs.Arguments.{possible_values}
 use Rattle.cc_arg.specs.ShownNames.{shown_shorts, shown_longs}
 use Rattle.cc_command.proofs.PlainParts.{IsPlainArgument}
@@ -16,7 +16,7 @@ use Rattle.cc_base.specs.Bytes as ascii
 use Rattle.cc_base.specs.Joined.{separator, joined, joined_after}
 use Rattle.cc_quote.specs.QuotedWord.{line_feeds_as_spaces}
 use Rattle.cc_quote.specs.Escapes.{marked_byte}
-use Rattle.cc_quote.specs.FishQuote.{fish_sign, advance, begins_word, begins_with_word, is_fish_safe, is_double_marked, double_escaped, single_quoted, fish_quoted, fish_quoted_for_eval, fish_help_for_eval_of, fish_escaped}
+use Rattle.cc_quote.specs.FishQuote.{fish_sign, advance, begins_word, begins_with_word, is_fish_safe, is_double_marked, double_escaped, single_quoted, fish_quoted, fish_quoted_for_eval, fish_help_for_eval_of}
 use Rattle.cc_quote.specs.FishQuote.FishState.{bare, in_double}
 use Rattle.cc_quote.specs.FishTokens.{between, in_word, commands_from, fish_commands}
 use Rattle.cc_quote.proofs.FishEscaped.{fish_escaped_composed}
@@ -25,7 +25,7 @@ use Rattle.cc_quote.proofs.FishCutting.{Spells, word_read, Adds, adds_none, adds
 use Rattle.cc_fish.specs.Script.{condition_text, short_text, long_text, help_text, value_text, value_lines, list_begin, listed_text, hint_text, value_part, values_text, names_text, front_text}
 use Rattle.cc_fish.specs.Table.{value_word}
 use Rattle.cc_fish.specs.Reader.{joined_words, offered_of}
-use Rattle.cc_fish.proofs.Names.{IsName, letter_safe, joiner_safe, name_safe, name_spelled, IsShortName, plain_shorts, plain_longs}
+use Rattle.cc_fish.proofs.Names.{IsName, letter_safe, dash_safe, name_safe, name_spelled, IsShortName, plain_shorts, plain_longs}
 
 -- ---- words in `"`
 
@@ -61,7 +61,7 @@ adds_operand option text word is h = adds_append (ascii.space ∷ option) (ascii
 
 -- an option is a letter after `-`
 option_spelled : (letter : ℕ) → is_ascii_alphanumeric letter ≡ true → Spells (dash ∷ letter ∷ []) (dash ∷ letter ∷ [])
-option_spelled letter h = name_spelled (dash ∷ letter ∷ []) (joiner_safe dash refl, (letter_safe letter h, tt))
+option_spelled letter h = name_spelled (dash ∷ letter ∷ []) (dash_safe, (letter_safe letter h, tt))
 
 -- ---- the condition
 
@@ -242,10 +242,7 @@ hint_adds CommandString = command_adds
 hint_adds CommandName = command_adds
 hint_adds Username = adds_offer (codes "\"(__fish_complete_users)\"") _ (in_doubles (codes "(__fish_complete_users)") _ refl)
 hint_adds Hostname = adds_offer (codes "\"(__fish_print_hostnames)\"") _ (in_doubles (codes "(__fish_print_hostnames)") _ refl)
-hint_adds Other = no_files_adds
-hint_adds CommandWithArguments = no_files_adds
-hint_adds Url = no_files_adds
-hint_adds EmailAddress = no_files_adds
+hint_adds hint = no_files_adds
 
 -- the values of a list that are shown
 abbrev pub shown_of : List PossibleValue → List PossibleValue

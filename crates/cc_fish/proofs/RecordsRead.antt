@@ -4,7 +4,7 @@ use Rattle.std.specs.List.{AllByRecursion}
 use Rattle.cc_arg.specs.declared.parts.ArgParts.{ArgParts as Arg}
 use Rattle.cc_arg.specs.declared.possible_value.PossibleValue.{PossibleValue}
 use Rattle.cc_arg.specs.declared.value_hint.ValueHint.{ValueHint}
-use Rattle.cc_arg.specs.declared.value_hint.ValueHint.TheVariants.{Unknown, Other, AnyPath, FilePath, DirPath, ExecutablePath, CommandName, CommandString, CommandWithArguments, Username, Hostname, Url, EmailAddress}
+use Rattle.cc_arg.specs.declared.value_hint.ValueHint.TheVariants.{Unknown}
 use Rattle.cc_arg.specs.Arguments.{possible_values}
 use Rattle.cc_arg.specs.ShownNames.{shown_shorts, shown_longs}
 use Rattle.cc_command.specs.ArgumentLists.{options, flags}
@@ -99,18 +99,7 @@ hint_read : (hint : ValueHint) (bin_name : List ℕ) (when : Option Condition) (
     → record_from an_option (flag_record bin_name when argument) (hint_words hint) ≡ Some (record (flag_record bin_name when argument) { marks = hint_marks hint; offered = hint_offers hint })
 unfolding fish_sign fish_commands
 hint_read Unknown bin_name when argument = refl
-hint_read Other bin_name when argument = refl
-hint_read AnyPath bin_name when argument = refl
-hint_read FilePath bin_name when argument = refl
-hint_read DirPath bin_name when argument = refl
-hint_read ExecutablePath bin_name when argument = refl
-hint_read CommandName bin_name when argument = refl
-hint_read CommandString bin_name when argument = refl
-hint_read CommandWithArguments bin_name when argument = refl
-hint_read Username bin_name when argument = refl
-hint_read Hostname bin_name when argument = refl
-hint_read Url bin_name when argument = refl
-hint_read EmailAddress bin_name when argument = refl
+hint_read hint bin_name when argument = refl
 
 -- a record with what is offered, where that was read
 abbrev offering : Record → List (List ℕ) → Option (List (List ℕ)) → Option Record

@@ -22,7 +22,7 @@ use Rattle.cc_fish.specs.Script.{seen_text, excluded_text, fish_key, key_conditi
 use Rattle.cc_fish.specs.Table.{function_name, condition_at, has_positionals, option_record, flag_record, child_record, child_records, node_records, table, tables}
 use Rattle.cc_fish.specs.Reader.{records}
 use Rattle.cc_fish.specs.Records.{Condition, Record, condition_path, record_path}
-use Rattle.cc_fish.proofs.Names.{IsName, plain_name, path_safe, children_safe}
+use Rattle.cc_fish.proofs.Names.{IsName, plain_name, safe_names, children_safe}
 use Rattle.cc_fish.proofs.Conditions.{path_condition}
 use Rattle.cc_fish.proofs.RecordsRead.{Yields, yields_append, yields_flat_map, path_front, node_yields}
 use Rattle.cc_fish.proofs.HeadRead.{head_yields}
@@ -74,7 +74,7 @@ by_paths bin_name root =
 
 visit_yields : (bin_name : List ℕ) → IsName bin_name → (visit : Keyed (List (List ℕ))) → IsPlainVisit visit → Yields (path_text bin_name visit) (table bin_name visit)
 visit_yields bin_name named visit is =
-    node_yields bin_name visit.key visit.tree (record { command = named; names = path_safe visit.key is.names; excluded = children_safe visit.tree.children is.tree.children }) is.tree
+    node_yields bin_name visit.key visit.tree (record { command = named; names = safe_names visit.key is.names; excluded = children_safe visit.tree.children is.tree.children }) is.tree
 
 records_read : (root : Tree) → IsTrue (is_plain_tree root) → records (fish_script root) ≡ Some (tables root)
 unfolding script_text fish_commands

@@ -1,18 +1,11 @@
 -- How a fish script is read: each command whose first word is `complete` is a record.
-use Rattle.std.specs.Prelude.{ℕ, List, [], ◌∷◌, ◌++◌, ◌==◌, true, false, Option, Some, None, if◌then◌else◌, codes, bytes_eq, map, reverse, option_map}
+use Rattle.std.specs.Prelude.{ℕ, List, [], ◌∷◌, ◌++◌, ◌==◌, true, false, Option, Some, None, if◌then◌else◌, codes, bytes_eq, map, option_map}
 use Rattle.cc_base.specs.Bytes.{space, semicolon}
+use Rattle.cc_base.specs.Found.{before_ending, pieces_from}
 use Rattle.cc_quote.specs.FishTokens.{fish_commands}
 use Rattle.cc_fish.specs.Records.{Condition, Record}
 
 -- ---- the text of a condition
-
--- the pieces of a text that is cut at spaces, after the piece that is open
-abbrev pub pieces_from : List ℕ → List ℕ → List (List ℕ)
-pieces_from piece [] = piece ∷ []
-pieces_from piece (byte ∷ bytes) = elim (byte == space) [
-  | true ↦ piece ∷ pieces_from [] bytes
-  | false ↦ pieces_from (piece ++ byte ∷ []) bytes
-]
 
 -- a piece without the `;` at its end
 abbrev pub without_semicolon : List ℕ → List ℕ
@@ -21,19 +14,6 @@ without_semicolon (byte ∷ bytes) = elim bytes [
   | [] ↦ if byte == semicolon then [] else byte ∷ []
   | _ ∷ _ ↦ byte ∷ without_semicolon bytes
 ]
-
--- what follows a beginning of a text; none where the text begins otherwise
-abbrev pub after_beginning : List ℕ → List ℕ → Option (List ℕ)
-after_beginning [] text = Some text
-after_beginning (byte ∷ bytes) [] = None
-after_beginning (byte ∷ bytes) (first ∷ text) = elim (byte == first) [
-  | true ↦ after_beginning bytes text
-  | false ↦ None
-]
-
--- what is before an ending of a text; none where the text ends otherwise
-abbrev pub before_ending : List ℕ → List ℕ → Option (List ℕ)
-before_ending ending text = option_map reverse (after_beginning (reverse ending) (reverse text))
 
 -- the function that tells whether a name was seen
 abbrev pub seen_function : List ℕ
@@ -102,7 +82,7 @@ condition_of_pieces (piece ∷ pieces) = elim (before_ending (codes "_using_subc
 
 -- what the text of `-n` says
 abbrev pub condition_of : List ℕ → Option Condition
-condition_of text = condition_of_pieces (map without_semicolon (pieces_from [] text))
+condition_of text = condition_of_pieces (map without_semicolon (pieces_from space [] text))
 
 -- ---- the words of a record
 

@@ -1,5 +1,5 @@
 -- What fish is told of a command tree: the records of each visible path.
-use Rattle.std.specs.Prelude.{ℕ, List, [], ◌∷◌, ◌++◌, ◌==◌, if◌then◌else◌, Bool, true, false, not, Option, Some, None, codes, encode_utf8, filter, flat_map, map, option_map, unwrap_or}
+use Rattle.std.specs.Prelude.{ℕ, List, [], ◌∷◌, ◌++◌, Bool, true, false, not, Option, Some, None, codes, encode_utf8, filter, flat_map, map, option_map, unwrap_or}
 use Rattle.std.specs.List.{list_any}
 use Rattle.cc_arg.specs.declared.parts.ArgParts.{ArgParts as Arg}
 use Rattle.cc_arg.specs.declared.possible_value.PossibleValue.{PossibleValue}

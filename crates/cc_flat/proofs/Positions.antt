@@ -116,9 +116,8 @@ module _ (flat : List Entry) (number parent : ℕ)
 -- nothing comes after the root and all below it
 pub none_later : (flat : List Entry) (level number : ℕ) → (entry_at flat number).parent ≡ None →
     path_start flat level number ≡ Some 0 → later_nodes flat level number ≡ []
-none_later flat zero number root starts = refl
-none_later flat (suc zero) number root starts = refl
 none_later flat (suc (suc level)) number root starts =
     let P : Option ℕ → Type 0 =
     λ parent. option_and_then (path_start flat (suc level)) parent ≡ Some 0 in
     let nothing : P None = subst P root starts in cc
+none_later flat level number root starts = refl

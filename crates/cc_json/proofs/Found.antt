@@ -16,35 +16,27 @@ use Rattle.json.specs.Json as borrowed_json
 use Rattle.json.specs.Value as views
 use Rattle.json.specs.declared.value.Value.{Value}
 use Rattle.serde_json.specs.Data.{Data, Num, float, negative, Members, member, no_members, put}
-use Rattle.serde_json.specs.Find.{as_array, as_bool, as_null, as_number, as_object, as_str, as_u64, get, get_member}
+use Rattle.serde_json.specs.Find.{as_bool, as_null, as_number, as_object, as_str, as_u64, get, get_member}
 use Rattle.serde_json.specs.Read.{is_integer, number_from, number_of}
 use Rattle.serde_json.proofs.Views.{get_member-put, get_member-put_other}
 use Rattle.cc_json.specs.Keys.{is_one_of, keys_in}
-use Rattle.cc_json.specs.Seen.{data_of, each_data_of, number_seen, members_put, members_view, view}
+use Rattle.cc_json.specs.Seen.{data_of, number_seen, members_put, members_view, view}
 
 no_text : (o : Option Num) → as_str (number_seen o) ≡ None
 no_text None = refl
 no_text (Some n) = refl
 
 pub text_seen : (j : borrowed_json.Json) → borrowed.as_str j ≡ as_str (data_of j)
-text_seen borrowed_json.null = refl
-text_seen (borrowed_json.boolean b) = refl
 text_seen (borrowed_json.number text) = sym (no_text (number_of text))
-text_seen (borrowed_json.string text) = refl
-text_seen (borrowed_json.array js) = refl
-text_seen (borrowed_json.object ms) = refl
+text_seen j = refl
 
 no_boolean : (o : Option Num) → as_bool (number_seen o) ≡ None
 no_boolean None = refl
 no_boolean (Some n) = refl
 
 pub boolean_seen : (j : borrowed_json.Json) → borrowed.as_bool j ≡ as_bool (data_of j)
-boolean_seen borrowed_json.null = refl
-boolean_seen (borrowed_json.boolean b) = refl
 boolean_seen (borrowed_json.number text) = sym (no_boolean (number_of text))
-boolean_seen (borrowed_json.string text) = refl
-boolean_seen (borrowed_json.array js) = refl
-boolean_seen (borrowed_json.object ms) = refl
+boolean_seen j = refl
 
 unsigned_seen : (o : Option Num)
     → option_and_then as_u64 o ≡ option_and_then as_u64 (as_number (number_seen o))
@@ -54,12 +46,8 @@ unsigned_seen (Some n) = refl
 pub whole_seen : (j : borrowed_json.Json)
     → option_and_then (λ text. option_and_then as_u64 (number_of text)) (borrowed.as_number j)
     ≡ option_and_then as_u64 (as_number (data_of j))
-whole_seen borrowed_json.null = refl
-whole_seen (borrowed_json.boolean b) = refl
 whole_seen (borrowed_json.number text) = unsigned_seen (number_of text)
-whole_seen (borrowed_json.string text) = refl
-whole_seen (borrowed_json.array js) = refl
-whole_seen (borrowed_json.object ms) = refl
+whole_seen j = refl
 
 abbrev is_null_seen : Data → Bool
 is_null_seen d = is_some (as_null d)
@@ -69,38 +57,12 @@ no_null None = refl
 no_null (Some n) = refl
 
 pub null_seen : (j : borrowed_json.Json) → borrowed.is_null j ≡ is_some (as_null (data_of j))
-null_seen borrowed_json.null = refl
-null_seen (borrowed_json.boolean b) = refl
 null_seen (borrowed_json.number text) = no_null (number_of text)
-null_seen (borrowed_json.string text) = refl
-null_seen (borrowed_json.array js) = refl
-null_seen (borrowed_json.object ms) = refl
-
-no_array : (o : Option Num) → as_array (number_seen o) ≡ None
-no_array None = refl
-no_array (Some n) = refl
-
-pub array_seen : (j : borrowed_json.Json)
-    → option_map each_data_of (borrowed.as_array j) ≡ as_array (data_of j)
-array_seen borrowed_json.null = refl
-array_seen (borrowed_json.boolean b) = refl
-array_seen (borrowed_json.number text) = sym (no_array (number_of text))
-array_seen (borrowed_json.string text) = refl
-array_seen (borrowed_json.array js) = refl
-array_seen (borrowed_json.object ms) = refl
+null_seen j = refl
 
 no_object : (o : Option Num) → as_object (number_seen o) ≡ None
 no_object None = refl
 no_object (Some n) = refl
-
-pub object_seen : (j : borrowed_json.Json)
-    → option_map (λ ms. members_put ms no_members) (borrowed.as_object j) ≡ as_object (data_of j)
-object_seen borrowed_json.null = refl
-object_seen (borrowed_json.boolean b) = refl
-object_seen (borrowed_json.number text) = sym (no_object (number_of text))
-object_seen (borrowed_json.string text) = refl
-object_seen (borrowed_json.array js) = refl
-object_seen (borrowed_json.object ms) = refl
 
 -- ---- the value at a key
 
@@ -150,13 +112,10 @@ nothing_at name (Some n) = refl
 
 pub member_seen : (name : List ℕ) (j : borrowed_json.Json)
     → option_map data_of (borrowed.get name j) ≡ get name (data_of j)
-member_seen name borrowed_json.null = refl
-member_seen name (borrowed_json.boolean b) = refl
 member_seen name (borrowed_json.number text) = sym (nothing_at name (number_of text))
-member_seen name (borrowed_json.string text) = refl
-member_seen name (borrowed_json.array js) = refl
 member_seen name (borrowed_json.object ms) =
     sym (members_found name ms no_members ∙ or_none (option_map data_of (borrowed.get_member name ms)))
+member_seen name j = refl
 
 -- ---- the keys
 

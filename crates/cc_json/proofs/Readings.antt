@@ -45,14 +45,12 @@ same_rest rest seen (Some d) same = same d
 mutual
   pub value_read : (j : borrowed.Json)
       → of_json j ≡ (if is_in_range j then Some (data_of j) else None)
-  value_read borrowed.null = refl
-  value_read (borrowed.boolean b) = refl
   value_read (borrowed.number text) = number_read (number_of text)
-  value_read (borrowed.string text) = refl
   value_read (borrowed.array js) =
       ap (option_map array) (items_read js) ∙ within array (each_data_of js) (are_in_range js)
   value_read (borrowed.object ms) = ap (option_map object) (members_read ms no_members)
       ∙ within object (members_put ms no_members) (members_are_in_range ms)
+  value_read j = refl
 
   items_read : (js : borrowed.Items)
       → of_items js ≡ (if are_in_range js then Some (each_data_of js) else None)

@@ -1,21 +1,20 @@
 -- How the reader of a text between two `"` of bash goes on by one character.
-use Rattle.std.specs.Prelude.{⊤}
 use Rattle.std.proofs.Common.{◌≡◌, ◌≢◌, ℕ, true, false, List, [], ◌∷◌, ◌++◌, map, Some, None, unwrap_or, encode_utf8, refl, sym, subst, ◌∙◌, ap, append_assoc, append-nil}
+use Rattle.cc_base.specs.Bytes as ascii
 use Rattle.cc_quote.specs.BashDouble.{bash_double_from, bash_double_of, bash_double_signs, closes_double}
 use Rattle.cc_quote.specs.PosixTokens.{Sign, sign, byte_of}
-use Rattle.cc_quote.specs.PosixTokens.Sign.{blank, line_feed, single_quote, double_quote, backslash, special, other}
+use Rattle.cc_quote.specs.PosixTokens.Sign.{double_quote, backslash, other}
 use Rattle.cc_quote.specs.PosixQuote.{next_state, word_after}
 use Rattle.cc_quote.specs.declared.posix.QuoteState.{QuoteState}
-use Rattle.cc_quote.specs.declared.posix.QuoteState.TheVariants.{Before, BeforeEscaped, Bare, BareEscaped, InSingle, InDouble, InDoubleEscaped}
+use Rattle.cc_quote.specs.declared.posix.QuoteState.TheVariants.{Before, InDouble, InDoubleEscaped}
 use Rattle.cc_quote.proofs.Characters.{AreHigh, IsCharacter, character}
 use Rattle.cc_quote.proofs.Characters.IsCharacter.{low, high}
 use Rattle.cc_quote.proofs.PosixWords.{byte_of-sign, bytes-signs, high_sign, same-word}
 
 -- between the two `"`
-abbrev pub IsWithin : QuoteState → Type 0
-IsWithin InDouble = ⊤
-IsWithin InDoubleEscaped = ⊤
-IsWithin _ = ⊥
+pub data IsWithin : QuoteState → Type 0 where
+  between : IsWithin InDouble
+  escaped : IsWithin InDoubleEscaped
 
 -- ---- one byte
 
@@ -24,18 +23,7 @@ closes : (state : QuoteState) (s : Sign) (rest : List Sign) (word : List ℕ) �
     → bash_double_from state word (s ∷ rest) ≡ Some (word, map byte_of rest)
 unfolding closes_double bash_double_from next_state
 closes InDouble double_quote rest word e = refl
-closes InDouble (blank _) rest word e = cc
-closes InDouble line_feed rest word e = cc
-closes InDouble single_quote rest word e = cc
-closes InDouble backslash rest word e = cc
-closes InDouble (special _) rest word e = cc
-closes InDouble (other _) rest word e = cc
-closes InDoubleEscaped s rest word e = cc
-closes Before s rest word e = cc
-closes BeforeEscaped s rest word e = cc
-closes Bare s rest word e = cc
-closes BareEscaped s rest word e = cc
-closes InSingle s rest word e = cc
+closes state s rest word e = cc
 
 -- the state after any other
 abbrev next_within : QuoteState → Sign → QuoteState
@@ -44,49 +32,24 @@ next_within _ _ = InDouble
 
 next_is : (state : QuoteState) (s : Sign) → IsWithin state → closes_double state s ≡ false → next_state state s ≡ Some (next_within state s)
 unfolding closes_double next_state
-next_is InDouble (blank _) h e = refl
-next_is InDouble line_feed h e = refl
-next_is InDouble single_quote h e = refl
-next_is InDouble double_quote h e = cc
-next_is InDouble backslash h e = refl
-next_is InDouble (special _) h e = refl
-next_is InDouble (other _) h e = refl
-next_is InDoubleEscaped s h e = refl
-next_is Before s h e = absurd h
-next_is BeforeEscaped s h e = absurd h
-next_is Bare s h e = absurd h
-next_is BareEscaped s h e = absurd h
-next_is InSingle s h e = absurd h
+next_is state double_quote between e = cc
+next_is state s between e = refl
+next_is state s escaped e = refl
 
 -- any other byte
 goes_on : (state : QuoteState) (s : Sign) (rest : List Sign) (word : List ℕ) → IsWithin state → closes_double state s ≡ false
     → bash_double_from state word (s ∷ rest) ≡ bash_double_from (next_within state s) (word_after state s word (byte_of s ∷ [])) rest
 unfolding closes_double bash_double_from next_state
-goes_on InDouble (blank _) rest word h e = refl
-goes_on InDouble line_feed rest word h e = refl
-goes_on InDouble single_quote rest word h e = refl
-goes_on InDouble double_quote rest word h e = cc
-goes_on InDouble backslash rest word h e = refl
-goes_on InDouble (special _) rest word h e = refl
-goes_on InDouble (other _) rest word h e = refl
-goes_on InDoubleEscaped s rest word h e = refl
-goes_on Before s rest word h e = absurd h
-goes_on BeforeEscaped s rest word h e = absurd h
-goes_on Bare s rest word h e = absurd h
-goes_on BareEscaped s rest word h e = absurd h
-goes_on InSingle s rest word h e = absurd h
+goes_on state double_quote rest word between e = cc
+goes_on state s rest word between e = refl
+goes_on state s rest word escaped e = refl
 
 -- ---- one character
 
 never_closes : (state : QuoteState) (byte : ℕ) → closes_double state (other byte) ≡ false
 unfolding closes_double
 never_closes Before byte = refl
-never_closes BeforeEscaped byte = refl
-never_closes Bare byte = refl
-never_closes BareEscaped byte = refl
-never_closes InSingle byte = refl
-never_closes InDouble byte = refl
-never_closes InDoubleEscaped byte = refl
+never_closes state byte = refl
 
 -- bytes from 128 on
 high_run : (bytes rest word : List ℕ) → AreHigh bytes
@@ -101,23 +64,13 @@ high_run (byte ∷ bytes) rest word h =
 -- the word after a first such byte, and more of them
 more : (state : QuoteState) (first : ℕ) (word run bytes : List ℕ) → word_after state (other first) word run ++ bytes ≡ word_after state (other first) word (run ++ bytes)
 unfolding word_after
-more Before first word run bytes = append_assoc word run bytes
-more BeforeEscaped first word run bytes = append_assoc word run bytes
-more Bare first word run bytes = append_assoc word run bytes
-more BareEscaped first word run bytes = append_assoc word run bytes
-more InSingle first word run bytes = append_assoc word run bytes
-more InDouble first word run bytes = append_assoc word run bytes
-more InDoubleEscaped first word run bytes = append_assoc (word ++ 92 ∷ []) run bytes
+more InDoubleEscaped first word run bytes = append_assoc (word ++ ascii.backslash ∷ []) run bytes
+more state first word run bytes = append_assoc word run bytes
 
 -- where such a byte leads
 other_within : (state : QuoteState) (byte : ℕ) → next_within state (other byte) ≡ InDouble
 other_within Before byte = refl
-other_within BeforeEscaped byte = refl
-other_within Bare byte = refl
-other_within BareEscaped byte = refl
-other_within InSingle byte = refl
-other_within InDouble byte = refl
-other_within InDoubleEscaped byte = refl
+other_within state byte = refl
 
 -- the quote that closes is one byte
 pub character_closes : (state : QuoteState) (c : ℕ) (rest word : List ℕ) → closes_double state (sign c) ≡ true
@@ -157,19 +110,9 @@ character_read state next c rest word within e is =
 
 -- the reader stays between the two `"`
 within_next : (state : QuoteState) (s : Sign) → IsWithin state → IsWithin (next_within state s)
-within_next InDouble (blank _) h = tt
-within_next InDouble line_feed h = tt
-within_next InDouble single_quote h = tt
-within_next InDouble double_quote h = tt
-within_next InDouble backslash h = tt
-within_next InDouble (special _) h = tt
-within_next InDouble (other _) h = tt
-within_next InDoubleEscaped s h = tt
-within_next Before s h = absurd h
-within_next BeforeEscaped s h = absurd h
-within_next Bare s h = absurd h
-within_next BareEscaped s h = absurd h
-within_next InSingle s h = absurd h
+within_next state backslash between = escaped
+within_next state s between = between
+within_next state s escaped = between
 
 pub stays_within : (state next : QuoteState) (c : ℕ) → IsWithin state → closes_double state (sign c) ≡ false → next_state state (sign c) ≡ Some next → IsWithin next
 stays_within state next c h e is = subst IsWithin (same_state (next_within state (sign c)) next (sym (next_is state (sign c) h e) ∙ is)) (within_next state (sign c) h)
@@ -181,7 +124,7 @@ pub never_stops : (state : QuoteState) (c : ℕ) → IsWithin state → closes_d
 never_stops state c h e is = let wrong : Some (next_within state (sign c)) ≡ None = sym (next_is state (sign c) h e) ∙ is in cc
 
 -- a text that does not begin with `"`
-pub double_none : (text : List ℕ) → ((rest : List ℕ) → text ≢ 34 ∷ rest) → bash_double_of text ≡ None
+pub double_none : (text : List ℕ) → ((rest : List ℕ) → text ≢ ascii.double_quote ∷ rest) → bash_double_of text ≡ None
 unfolding bash_double_of bash_double_signs byte_of
 double_none [] h = refl
 double_none (byte ∷ rest) h = by (sign byte) refl
@@ -190,15 +133,10 @@ double_none (byte ∷ rest) h = by (sign byte) refl
     is_quote byte e = sym (byte_of-sign byte) ∙ ap byte_of e
 
     by : (s : Sign) → sign byte ≡ s → bash_double_signs (s ∷ map sign rest) ≡ None
-    by (blank _) e = refl
-    by line_feed e = refl
-    by single_quote e = refl
     by double_quote e = absurd (h rest (ap (λ b. b ∷ rest) (is_quote byte e)))
-    by backslash e = refl
-    by (special _) e = refl
-    by (other _) e = refl
+    by s e = refl
 
 -- one that does
-pub double_some : (text inside : List ℕ) → text ≡ 34 ∷ inside → bash_double_of text ≡ bash_double_from InDouble [] (map sign inside)
+pub double_some : (text inside : List ℕ) → text ≡ ascii.double_quote ∷ inside → bash_double_of text ≡ bash_double_from InDouble [] (map sign inside)
 unfolding bash_double_of bash_double_signs sign
 double_some text inside e = ap bash_double_of e

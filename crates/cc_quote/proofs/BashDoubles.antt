@@ -2,10 +2,11 @@
 use Rattle.std.specs.Prelude.{⊤}
 use Rattle.std.proofs.Common.{subst, ◌≡◌, ◌==◌, ℕ, Bool, true, false, cond, List, [], ◌∷◌, ◌++◌, map, Some, codes, refl, sym, ◌∙◌, ap, arith, append_assoc, append-nil}
 use Rattle.std.proofs.lemmas.Bool.Decides.{Decides-eqb, nat_tests}
+use Rattle.cc_base.specs.Bytes as ascii
 use Rattle.cc_quote.specs.BashDouble.{bash_double_from, bash_double_signs, bash_double_of, is_double_marked, bash_doubled}
 use Rattle.cc_quote.specs.Escapes.{marked_byte}
 use Rattle.cc_quote.specs.PosixTokens.{Sign, sign, byte_of}
-use Rattle.cc_quote.specs.PosixTokens.Sign.{blank, line_feed, single_quote, double_quote, backslash, special, other}
+use Rattle.cc_quote.specs.PosixTokens.Sign.{double_quote, backslash, special}
 use Rattle.cc_quote.specs.PosixQuote.{next_state, word_after, ended, posix_word_from, posix_word_of}
 use Rattle.cc_quote.specs.declared.posix.QuoteState.TheVariants.{InDouble}
 use Rattle.cc_quote.proofs.PosixWords.{byte_of-sign, bytes-signs}
@@ -22,10 +23,7 @@ unfolding sign
 kept byte h double_quote e = grind (arith, nat_tests)
 kept byte h backslash e = grind (arith, nat_tests)
 kept byte h (special b) e = grind (arith, nat_tests)
-kept byte h (blank b) e = tt
-kept byte h line_feed e = tt
-kept byte h single_quote e = tt
-kept byte h (other b) e = tt
+kept byte h s e = tt
 
 -- ---- by the reader of a word
 
@@ -33,35 +31,29 @@ kept byte h (other b) e = tt
 kept_word : (s : Sign) (rest : List Sign) (word : List ℕ) → IsKept s
     → posix_word_from InDouble word (s ∷ rest) ≡ posix_word_from InDouble (word ++ byte_of s ∷ []) rest
 unfolding posix_word_from next_state word_after
-kept_word (blank b) rest word h = refl
-kept_word line_feed rest word h = refl
-kept_word single_quote rest word h = refl
-kept_word (other b) rest word h = refl
 kept_word double_quote rest word h = absurd h
 kept_word backslash rest word h = absurd h
 kept_word (special b) rest word h = absurd h
+kept_word s rest word h = refl
 
 -- such a byte between `"`, by the reader of these
 kept_double : (s : Sign) (rest : List Sign) (word : List ℕ) → IsKept s
     → bash_double_from InDouble word (s ∷ rest) ≡ bash_double_from InDouble (word ++ byte_of s ∷ []) rest
 unfolding bash_double_from next_state word_after
-kept_double (blank b) rest word h = refl
-kept_double line_feed rest word h = refl
-kept_double single_quote rest word h = refl
-kept_double (other b) rest word h = refl
 kept_double double_quote rest word h = absurd h
 kept_double backslash rest word h = absurd h
 kept_double (special b) rest word h = absurd h
+kept_double s rest word h = refl
 
 -- the bytes that are marked
 marked_cases : (byte : ℕ) (P : ℕ → Type 0) → is_double_marked byte ≡ true → P 92 → P 34 → P 36 → P 96 → P byte
-marked_cases byte P h a b c d = by_tests (byte == 92) (byte == 34) (byte == 36) (byte == 96) refl refl refl refl
+marked_cases byte P h a b c d = by_tests (byte == ascii.backslash) (byte == ascii.double_quote) (byte == ascii.dollar) (byte == ascii.backtick) refl refl refl refl
   where
-    by_tests : (p q r s : Bool) → (byte == 92) ≡ p → (byte == 34) ≡ q → (byte == 36) ≡ r → (byte == 96) ≡ s → P byte
-    by_tests true q r s e f g i = subst P (sym ((Decides-eqb byte 92).0 e)) a
-    by_tests false true r s e f g i = subst P (sym ((Decides-eqb byte 34).0 f)) b
-    by_tests false false true s e f g i = subst P (sym ((Decides-eqb byte 36).0 g)) c
-    by_tests false false false true e f g i = subst P (sym ((Decides-eqb byte 96).0 i)) d
+    by_tests : (p q r s : Bool) → (byte == ascii.backslash) ≡ p → (byte == ascii.double_quote) ≡ q → (byte == ascii.dollar) ≡ r → (byte == ascii.backtick) ≡ s → P byte
+    by_tests true q r s e f g i = subst P (sym ((Decides-eqb byte ascii.backslash).0 e)) a
+    by_tests false true r s e f g i = subst P (sym ((Decides-eqb byte ascii.double_quote).0 f)) b
+    by_tests false false true s e f g i = subst P (sym ((Decides-eqb byte ascii.dollar).0 g)) c
+    by_tests false false false true e f g i = subst P (sym ((Decides-eqb byte ascii.backtick).0 i)) d
     by_tests false false false false e f g i = absurd (grind (arith, nat_tests))
 
 -- an escaped byte
@@ -71,8 +63,8 @@ unfolding posix_word_from next_state word_after sign byte_of
 doubled_word_byte byte rest word = by_test (is_double_marked byte) refl
   where
     by_test : (q : Bool) → is_double_marked byte ≡ q
-        → posix_word_from InDouble word (map sign (cond q (92 ∷ byte ∷ []) (byte ∷ []) ++ rest)) ≡ posix_word_from InDouble (word ++ byte ∷ []) (map sign rest)
-    by_test true e = marked_cases byte (λ b. posix_word_from InDouble word (map sign (92 ∷ b ∷ rest)) ≡ posix_word_from InDouble (word ++ b ∷ []) (map sign rest)) e refl refl refl refl
+        → posix_word_from InDouble word (map sign (cond q (ascii.backslash ∷ byte ∷ []) (byte ∷ []) ++ rest)) ≡ posix_word_from InDouble (word ++ byte ∷ []) (map sign rest)
+    by_test true e = marked_cases byte (λ b. posix_word_from InDouble word (map sign (ascii.backslash ∷ b ∷ rest)) ≡ posix_word_from InDouble (word ++ b ∷ []) (map sign rest)) e refl refl refl refl
     by_test false e = kept_word (sign byte) (map sign rest) word (kept byte e (sign byte) refl) ∙ ap (λ b. posix_word_from InDouble (word ++ b ∷ []) (map sign rest)) (byte_of-sign byte)
 
 doubled_byte : (byte : ℕ) (rest word : List ℕ)
@@ -81,8 +73,8 @@ unfolding bash_double_from next_state word_after sign byte_of
 doubled_byte byte rest word = by_test (is_double_marked byte) refl
   where
     by_test : (q : Bool) → is_double_marked byte ≡ q
-        → bash_double_from InDouble word (map sign (cond q (92 ∷ byte ∷ []) (byte ∷ []) ++ rest)) ≡ bash_double_from InDouble (word ++ byte ∷ []) (map sign rest)
-    by_test true e = marked_cases byte (λ b. bash_double_from InDouble word (map sign (92 ∷ b ∷ rest)) ≡ bash_double_from InDouble (word ++ b ∷ []) (map sign rest)) e refl refl refl refl
+        → bash_double_from InDouble word (map sign (cond q (ascii.backslash ∷ byte ∷ []) (byte ∷ []) ++ rest)) ≡ bash_double_from InDouble (word ++ byte ∷ []) (map sign rest)
+    by_test true e = marked_cases byte (λ b. bash_double_from InDouble word (map sign (ascii.backslash ∷ b ∷ rest)) ≡ bash_double_from InDouble (word ++ b ∷ []) (map sign rest)) e refl refl refl refl
     by_test false e = kept_double (sign byte) (map sign rest) word (kept byte e (sign byte) refl) ∙ ap (λ b. bash_double_from InDouble (word ++ b ∷ []) (map sign rest)) (byte_of-sign byte)
 
 -- ---- an escaped text
@@ -106,12 +98,12 @@ doubled (byte ∷ text) rest word =
 -- between `"`, whatever follows
 pub doubled_reads : (text rest : List ℕ) → bash_double_of (codes "\"" ++ (bash_doubled text ++ (codes "\"" ++ rest))) ≡ Some (text, rest)
 unfolding bash_double_of bash_double_signs bash_double_from next_state word_after sign
-doubled_reads text rest = doubled text (34 ∷ rest) [] ∙ ap (λ r. Some (text, r)) (bytes-signs rest)
+doubled_reads text rest = doubled text (ascii.double_quote ∷ rest) [] ∙ ap (λ r. Some (text, r)) (bytes-signs rest)
 
 -- as a word, before a space
-pub doubled_is_word : (text rest : List ℕ) → posix_word_of (codes "\"" ++ (bash_doubled text ++ (codes "\"" ++ (32 ∷ rest)))) ≡ Some (text, 32 ∷ rest)
+pub doubled_is_word : (text rest : List ℕ) → posix_word_of (codes "\"" ++ (bash_doubled text ++ (codes "\"" ++ (ascii.space ∷ rest)))) ≡ Some (text, ascii.space ∷ rest)
 unfolding posix_word_of posix_word_from next_state word_after ended sign byte_of
-doubled_is_word text rest = doubled_word text (34 ∷ 32 ∷ rest) [] ∙ ap (λ r. Some (text, 32 ∷ r)) (bytes-signs rest)
+doubled_is_word text rest = doubled_word text (ascii.double_quote ∷ ascii.space ∷ rest) [] ∙ ap (λ r. Some (text, ascii.space ∷ r)) (bytes-signs rest)
 
 pub doubled_reads_back : (text : List ℕ) → bash_double_of (codes "\"" ++ bash_doubled text ++ codes "\"") ≡ Some (text, [])
 doubled_reads_back text = doubled_reads text []

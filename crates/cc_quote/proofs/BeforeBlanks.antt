@@ -3,7 +3,10 @@ use Rattle.std.proofs.Common.{◌≡◌, ◌≢◌, ℕ, Bool, true, false, cond
 use Rattle.std.specs.List.{list_all}
 use Rattle.std.proofs.lemmas.Bool.{and_parts, cases_Bool}
 use Rattle.std.proofs.lemmas.Bool.Decides.{nat_tests}
-use Rattle.cc_quote.specs.Signs.{is_blank, sign as quoting_sign}
+use Rattle.cc_quote.specs.Signs.{sign as quoting_sign}
+use Rattle.cc_base.specs.Bytes.{is_blank, single_quote, line_feed, space, right_quote_first, right_quote_second, right_quote_third}
+use Rattle.cc_base.specs.Found.{without_blanks}
+use Rattle.cc_base.proofs.Finding.{no_blank_first}
 use Rattle.cc_quote.specs.PosixTokens.{sign, byte_of}
 use Rattle.cc_quote.specs.PosixTokens.Sign.{other}
 use Rattle.cc_quote.specs.PosixQuote.{next_state, word_after, ended, posix_word_from, posix_word_of, is_posix_safe, is_posix_safe_word, posix_escaped, posix_quoted}
@@ -25,66 +28,56 @@ abbrev pub BeginsBare : List ℕ → Type 0
 BeginsBare [] = ⊥
 BeginsBare (byte ∷ text) = is_blank byte ≡ false
 
+pub bare_first : (text : List ℕ) → BeginsBare text → without_blanks text ≡ text
+bare_first [] h = absurd h
+bare_first (byte ∷ text) h = no_blank_first byte text h
+
 -- ---- posix shells
 
 posix_safe_not_blank : (byte : ℕ) → is_posix_safe byte ≡ true → is_blank byte ≡ false
 unfolding is_posix_safe
 posix_safe_not_blank byte h = grind (arith, nat_tests)
 
-safe_word : (text rest : List ℕ) → is_posix_safe_word text ≡ true → BeginsBare (text ++ 32 ∷ rest) × (posix_word_of (text ++ 32 ∷ rest) ≡ Some (text, 32 ∷ rest))
-unfolding posix_word_of is_posix_safe_word next_state word_after posix_word_from ended sign byte_of
-safe_word [] rest h = cc
-safe_word (byte ∷ text) rest h =
-    let parts = and_parts (is_posix_safe byte) (list_all is_posix_safe text) h in
-    let is : sign byte ≡ other byte = safe_sign byte parts.0 in (
-      posix_safe_not_blank byte parts.0,
-      goes_on Before Bare byte (map sign (text ++ 32 ∷ rest)) [] (ap (next_state Before) is)
-          ∙ ap (λ s. posix_word_from Bare (word_after Before s [] (byte ∷ [])) (map sign (text ++ 32 ∷ rest))) is
-          ∙ bare_run text (32 ∷ rest) (byte ∷ []) parts.1
-          ∙ ap (λ r. Some (byte ∷ text, 32 ∷ r)) (bytes-signs rest),
-    )
+-- a word that is quoted where it must be, before a byte at which it ends
+module _ (end : ℕ) (rest : List ℕ)
+    (ends : (word : List ℕ) → posix_word_from Bare word (map sign (end ∷ rest)) ≡ Some (word, end ∷ rest)) where
+  abbrev IsBefore : List ℕ → List ℕ → Type 0
+  IsBefore spelled text = BeginsBare (spelled ++ end ∷ rest) × (posix_word_of (spelled ++ end ∷ rest) ≡ Some (text, end ∷ rest))
 
-quoted_word : (text rest : List ℕ) → posix_word_of (codes "'" ++ (posix_escaped text ++ (codes "'" ++ 32 ∷ rest))) ≡ Some (text, 32 ∷ rest)
-unfolding posix_word_of posix_word_from next_state word_after ended sign byte_of
-quoted_word text rest = escaped_text text (39 ∷ 32 ∷ rest) [] ∙ ap (λ r. Some (text, 32 ∷ r)) (bytes-signs rest)
+  safe_word : (text : List ℕ) → is_posix_safe_word text ≡ true → IsBefore text text
+  unfolding posix_word_of is_posix_safe_word next_state word_after
+  safe_word [] h = cc
+  safe_word (byte ∷ text) h =
+      let parts = and_parts (is_posix_safe byte) (list_all is_posix_safe text) h in
+      let is : sign byte ≡ other byte = safe_sign byte parts.0 in (
+        posix_safe_not_blank byte parts.0,
+        goes_on Before Bare byte (map sign (text ++ end ∷ rest)) [] (ap (next_state Before) is)
+            ∙ ap (λ s. posix_word_from Bare (word_after Before s [] (byte ∷ [])) (map sign (text ++ end ∷ rest))) is
+            ∙ bare_run text (end ∷ rest) (byte ∷ []) parts.1
+            ∙ ends (byte ∷ text),
+      )
+
+  quoted_word : (text : List ℕ) → posix_word_of (codes "'" ++ (posix_escaped text ++ (codes "'" ++ end ∷ rest))) ≡ Some (text, end ∷ rest)
+  unfolding posix_word_of posix_word_from next_state word_after sign byte_of
+  quoted_word text = escaped_text text (single_quote ∷ end ∷ rest) [] ∙ ends text
+
+  before : (text : List ℕ) → IsBefore (posix_quoted text) text
+  unfolding posix_quoted
+  before text = by_test (is_posix_safe_word text) refl
+    where
+      by_test : (safe : Bool) → is_posix_safe_word text ≡ safe → IsBefore (cond safe text (codes "'" ++ posix_escaped text ++ codes "'")) text
+      by_test true is = safe_word text is
+      by_test false is = (refl, ap (λ t. posix_word_of (single_quote ∷ t)) (append_assoc (posix_escaped text) (codes "'") (end ∷ rest)) ∙ quoted_word text)
 
 -- a quoted word begins with no blank, and is read up to the space
-pub posix_before_space : (text rest : List ℕ) → BeginsBare (posix_quoted text ++ 32 ∷ rest) × (posix_word_of (posix_quoted text ++ 32 ∷ rest) ≡ Some (text, 32 ∷ rest))
-unfolding posix_quoted
-posix_before_space text rest = by_test (is_posix_safe_word text) refl
-  where
-    by_test : (safe : Bool) → is_posix_safe_word text ≡ safe
-        → BeginsBare (cond safe text (codes "'" ++ posix_escaped text ++ codes "'") ++ 32 ∷ rest) × (posix_word_of (cond safe text (codes "'" ++ posix_escaped text ++ codes "'") ++ 32 ∷ rest) ≡ Some (text, 32 ∷ rest))
-    by_test true is = safe_word text rest is
-    by_test false is = (refl, ap (λ t. posix_word_of (39 ∷ t)) (append_assoc (posix_escaped text) (codes "'") (32 ∷ rest)) ∙ quoted_word text rest)
+pub posix_before_space : (text rest : List ℕ) → BeginsBare (posix_quoted text ++ space ∷ rest) × (posix_word_of (posix_quoted text ++ space ∷ rest) ≡ Some (text, space ∷ rest))
+unfolding posix_word_from next_state ended sign byte_of
+posix_before_space text rest = before space rest (λ word. ap (λ r. Some (word, space ∷ r)) (bytes-signs rest)) text
 
--- ---- the same before a line feed
-
-safe_line : (text rest : List ℕ) → is_posix_safe_word text ≡ true → BeginsBare (text ++ 10 ∷ rest) × (posix_word_of (text ++ 10 ∷ rest) ≡ Some (text, 10 ∷ rest))
-unfolding posix_word_of is_posix_safe_word next_state word_after posix_word_from ended sign byte_of
-safe_line [] rest h = cc
-safe_line (byte ∷ text) rest h =
-    let parts = and_parts (is_posix_safe byte) (list_all is_posix_safe text) h in
-    let is : sign byte ≡ other byte = safe_sign byte parts.0 in (
-      posix_safe_not_blank byte parts.0,
-      goes_on Before Bare byte (map sign (text ++ 10 ∷ rest)) [] (ap (next_state Before) is)
-          ∙ ap (λ s. posix_word_from Bare (word_after Before s [] (byte ∷ [])) (map sign (text ++ 10 ∷ rest))) is
-          ∙ bare_run text (10 ∷ rest) (byte ∷ []) parts.1
-          ∙ ap (λ r. Some (byte ∷ text, 10 ∷ r)) (bytes-signs rest),
-    )
-
-quoted_line : (text rest : List ℕ) → posix_word_of (codes "'" ++ (posix_escaped text ++ (codes "'" ++ 10 ∷ rest))) ≡ Some (text, 10 ∷ rest)
-unfolding posix_word_of posix_word_from next_state word_after ended sign byte_of
-quoted_line text rest = escaped_text text (39 ∷ 10 ∷ rest) [] ∙ ap (λ r. Some (text, 10 ∷ r)) (bytes-signs rest)
-
-pub posix_before_line_feed : (text rest : List ℕ) → BeginsBare (posix_quoted text ++ 10 ∷ rest) × (posix_word_of (posix_quoted text ++ 10 ∷ rest) ≡ Some (text, 10 ∷ rest))
-unfolding posix_quoted
-posix_before_line_feed text rest = by_test (is_posix_safe_word text) refl
-  where
-    by_test : (safe : Bool) → is_posix_safe_word text ≡ safe
-        → BeginsBare (cond safe text (codes "'" ++ posix_escaped text ++ codes "'") ++ 10 ∷ rest) × (posix_word_of (cond safe text (codes "'" ++ posix_escaped text ++ codes "'") ++ 10 ∷ rest) ≡ Some (text, 10 ∷ rest))
-    by_test true is = safe_line text rest is
-    by_test false is = (refl, ap (λ t. posix_word_of (39 ∷ t)) (append_assoc (posix_escaped text) (codes "'") (10 ∷ rest)) ∙ quoted_line text rest)
+-- and up to a line feed
+pub posix_before_line_feed : (text rest : List ℕ) → BeginsBare (posix_quoted text ++ line_feed ∷ rest) × (posix_word_of (posix_quoted text ++ line_feed ∷ rest) ≡ Some (text, line_feed ∷ rest))
+unfolding posix_word_from next_state ended sign byte_of
+posix_before_line_feed text rest = before line_feed rest (λ word. ap (λ r. Some (word, line_feed ∷ r)) (bytes-signs rest)) text
 
 -- ---- fish
 
@@ -100,12 +93,12 @@ fish_begins (byte ∷ text) rest = elim (cases_Bool (list_all is_fish_safe (byte
   | inr unsafe ↦ rw unsafe (refl, refl)
 ]
 
-pub fish_before_space : (text rest : List ℕ) → BeginsBare (fish_quoted text ++ 32 ∷ rest) × (fish_word_of (fish_quoted text ++ 32 ∷ rest) ≡ Some (text, 32 ∷ rest))
+pub fish_before_space : (text rest : List ℕ) → BeginsBare (fish_quoted text ++ space ∷ rest) × (fish_word_of (fish_quoted text ++ space ∷ rest) ≡ Some (text, space ∷ rest))
 unfolding fish_sign
 fish_before_space text rest = (
-  (fish_begins text (32 ∷ rest)).0,
-  ap (λ b. cond b (fish_word_from (bare []) (fish_quoted text ++ 32 ∷ rest)) None) (fish_begins text (32 ∷ rest)).1
-      ∙ word_goes_on (fish_quoted text) (bare []) (bare text) (32 ∷ rest) (fish_quoted_read text []),
+  (fish_begins text (space ∷ rest)).0,
+  ap (λ b. cond b (fish_word_from (bare []) (fish_quoted text ++ space ∷ rest)) None) (fish_begins text (space ∷ rest)).1
+      ∙ word_goes_on (fish_quoted text) (bare []) (bare text) (space ∷ rest) (fish_quoted_read text []),
 )
 
 -- ---- Elvish and PowerShell
@@ -124,7 +117,7 @@ first_byte : (a b : ℕ) (xs ys : List ℕ) → a ∷ xs ≡ b ∷ ys → a ≡ 
 first_byte a b xs ys h = cc
 
 -- a word that needs no quotes of a posix shell is a bare word of Elvish
-pub elvish_before_space : (text rest : List ℕ) → is_posix_safe_word text ≡ true → BeginsBare (text ++ 32 ∷ rest) × (elvish_word_of (text ++ 32 ∷ rest) ≡ Some (text, 32 ∷ rest))
+pub elvish_before_space : (text rest : List ℕ) → is_posix_safe_word text ≡ true → BeginsBare (text ++ space ∷ rest) × (elvish_word_of (text ++ space ∷ rest) ≡ Some (text, space ∷ rest))
 unfolding is_posix_safe_word is_posix_safe
 elvish_before_space [] rest h = cc
 elvish_before_space (byte ∷ text) rest h =
@@ -132,11 +125,11 @@ elvish_before_space (byte ∷ text) rest h =
     let clear = safe_clear (byte ∷ text) h in (
       clear.0,
       word_before_space (map quoting_sign) elvish_signs byte text rest
-          (elvish_begins_none (byte ∷ text ++ 32 ∷ rest) (λ more e. safe_no_quote byte 39 parts.0 refl (first_byte byte 39 (text ++ 32 ∷ rest) more e))) clear,
+          (elvish_begins_none (byte ∷ text ++ space ∷ rest) (λ more e. safe_no_quote byte single_quote parts.0 refl (first_byte byte single_quote (text ++ space ∷ rest) more e))) clear,
     )
 
 -- and one of PowerShell
-pub powershell_before_space : (text rest : List ℕ) → is_posix_safe_word text ≡ true → BeginsBare (text ++ 32 ∷ rest) × (powershell_word_of (text ++ 32 ∷ rest) ≡ Some (text, 32 ∷ rest))
+pub powershell_before_space : (text rest : List ℕ) → is_posix_safe_word text ≡ true → BeginsBare (text ++ space ∷ rest) × (powershell_word_of (text ++ space ∷ rest) ≡ Some (text, space ∷ rest))
 unfolding is_posix_safe_word is_posix_safe
 powershell_before_space [] rest h = cc
 powershell_before_space (byte ∷ text) rest h =
@@ -144,7 +137,7 @@ powershell_before_space (byte ∷ text) rest h =
     let clear = safe_clear (byte ∷ text) h in (
       clear.0,
       word_before_space powershell_signs powershell_signs_are byte text rest
-          (powershell_begins_none (byte ∷ text ++ 32 ∷ rest)
-          (λ more e. safe_no_quote byte 39 parts.0 refl (first_byte byte 39 (text ++ 32 ∷ rest) more e))
-          (λ more e. safe_no_quote byte 226 parts.0 refl (first_byte byte 226 (text ++ 32 ∷ rest) (128 ∷ 153 ∷ more) e))) clear,
+          (powershell_begins_none (byte ∷ text ++ space ∷ rest)
+          (λ more e. safe_no_quote byte single_quote parts.0 refl (first_byte byte single_quote (text ++ space ∷ rest) more e))
+          (λ more e. safe_no_quote byte right_quote_first parts.0 refl (first_byte byte right_quote_first (text ++ space ∷ rest) (right_quote_second ∷ right_quote_third ∷ more) e))) clear,
     )

@@ -8,9 +8,9 @@ use Rattle.std.proofs.lemmas.Bool.{cases_lt}
 use Rattle.std.proofs.lemmas.Str.{encode_ascii, NoCharPasses-byte}
 use Rattle.std.proofs.lemmas.Bool.Decides.{nat_tests}
 use Rattle.cc_quote.specs.QuotedWord.{IsCutAtBlank}
-use Rattle.cc_quote.specs.Signs.{is_blank}
+use Rattle.cc_base.specs.Bytes.{is_blank, line_feed, space, tab}
 
-pub blanks_are : (x : ℕ) → char_set_contains (32 ∷ 9 ∷ 10 ∷ []) x ≡ is_blank x
+pub blanks_are : (x : ℕ) → char_set_contains (space ∷ tab ∷ line_feed ∷ []) x ≡ is_blank x
 blanks_are x = grind (arith, nat_tests)
 
 -- a blank is one byte

@@ -1,10 +1,10 @@
 -- The bytes of a character.
-use Rattle.std.proofs.Common.{◌≡◌, ℕ, ◌<◌, ◌≤◌, ◌+◌, ◌/◌, ◌%◌, Bool, true, false, List, [], ◌∷◌, cond, nat_lt, sym, subst, ⊎_elim, arith}
+use Rattle.std.proofs.Common.{◌≡◌, ℕ, ◌<◌, ◌≤◌, ◌+◌, ◌/◌, ◌%◌, Bool, true, false, List, [], ◌∷◌, ◌++◌, length, length-append, cond, nat_lt, ap, ◌∙◌, sym, subst, ⊎_elim, arith}
 use Rattle.std.specs.Char.{encode_utf8}
 use Rattle.std.specs.List.{AllByRecursion}
 use Rattle.std.proofs.lemmas.Bool.{cases_lt}
 use Rattle.std.proofs.lemmas.Bool.Decides.{nat_tests}
-use Rattle.std.proofs.lemmas.Str.{encode_ascii}
+use Rattle.std.proofs.lemmas.Str.{encode_ascii, length-encode, len_utf8_bounds}
 
 -- every byte is 128 or more
 abbrev pub AreHigh : List ℕ → Type 0
@@ -41,3 +41,9 @@ character c =
     by_bytes : (bytes : List ℕ) → 128 ≤ c → IsHigh bytes → IsCharacter c bytes
     by_bytes [] above h = absurd h
     by_bytes (byte ∷ bytes) above h = high c byte bytes above h.0 h.1
+
+-- what follows a character is shorter than with it
+pub shorter : (c : ℕ) (text after : List ℕ) → text ≡ encode_utf8 c ++ after → length after < length text
+shorter c text after whole =
+    let lengths = ap length whole ∙ length-append (encode_utf8 c) after in
+    omega (arith, lengths, length-encode c, len_utf8_bounds c)

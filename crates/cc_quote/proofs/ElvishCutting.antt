@@ -2,13 +2,13 @@
 use Rattle.std.proofs.Common.{◌≡◌, ℕ, Bool, true, false, not, ◌||◌, cond, List, [], ◌∷◌, ◌++◌, map, ◌==◌, IsTrue, refl, sym, ap, ◌∙◌, append_assoc, append-nil, arith}
 use Rattle.std.proofs.lemmas.Bool.Decides.{Decides-eqb}
 use Rattle.std.proofs.lemmas.List.{map-append}
-use Rattle.cc_base.specs.Bytes.{line_feed, space, single_quote}
+use Rattle.cc_base.specs.Bytes.{line_feed, space, single_quote, is_blank}
 use Rattle.cc_quote.specs.ElvishQuote.{elvish_escaped, elvish_replacement}
 use Rattle.cc_quote.specs.Escapes.{escaped_byte as written}
 use Rattle.memchr.specs.Find.{is_byte2}
 use Rattle.cc_quote.specs.ElvishTokens.{is_bare, IsBare, IsBareWord}
 use Rattle.cc_quote.specs.QuotedWord.{space_for_line_feed, line_feeds_as_spaces}
-use Rattle.cc_quote.specs.Signs.{Sign, blank, quote, other, is_blank, sign, HasNoQuote}
+use Rattle.cc_quote.specs.Signs.{Sign, blank, quote, other, sign, HasNoQuote}
 use Rattle.cc_quote.specs.Tokens.{Piece, cut}
 use Rattle.cc_quote.specs.Tokens.QuoteState.{between, in_bare, in_quotes}
 use Rattle.cc_quote.proofs.WithinQuotes.{ReadsQuoted, kept_byte, kept_text, cutting_reads}
@@ -57,13 +57,13 @@ module _ {A : Type 0} (reading : List ℕ → List Sign → A) (reads : ReadsQuo
       by_tests : (q l : Bool) → byte == single_quote ≡ q → byte == line_feed ≡ l
           → reading text (map sign (cond (q || l) (cond q (single_quote ∷ single_quote ∷ []) (space ∷ [])) (byte ∷ []) ++ rest)) ≡ reading (text ++ cond l space byte ∷ []) (map sign rest)
       by_tests true true e f =
-          let as_quote : byte ≡ 39 = (Decides-eqb byte 39).0 e in
+          let as_quote : byte ≡ 39 = (Decides-eqb byte single_quote).0 e in
           let as_line_feed : byte ≡ 10 = (Decides-eqb byte 10).0 f in
           absurd (omega arith)
       by_tests true false e f =
-          reads.of_quotes text (39 ∷ []) (39 ∷ []) (map sign rest)
-          ∙ ap (λ b. reading (text ++ b ∷ []) (map sign rest)) (sym ((Decides-eqb byte 39).0 e))
-      by_tests false true e f = reads.of_blank text (32 ∷ []) (map sign rest)
+          reads.of_quotes text (single_quote ∷ []) (single_quote ∷ []) (map sign rest)
+          ∙ ap (λ b. reading (text ++ b ∷ []) (map sign rest)) (sym ((Decides-eqb byte single_quote).0 e))
+      by_tests false true e f = reads.of_blank text (space ∷ []) (map sign rest)
       by_tests false false e f = kept_byte reading reads byte (map sign rest) text (ap not e)
 
   -- so is the escape of a text

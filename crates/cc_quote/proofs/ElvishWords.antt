@@ -2,10 +2,10 @@
 use Rattle.std.proofs.Common.{◌≡◌, ◌≢◌, ◌==◌, ℕ, suc, ◌<◌, Bool, true, false, cond, List, [], ◌∷◌, ◌++◌, map, flat_map, length, length-append, get_or, codes, Some, refl, ◌∙◌, ap, arith}
 use Rattle.std.proofs.lemmas.Bool.Decides.{Decides-eqb, nat_tests}
 use Rattle.std.proofs.lemmas.List.{map-append}
-use Rattle.cc_base.specs.Bytes.{single_quote}
+use Rattle.cc_base.specs.Bytes.{single_quote, is_blank}
 use Rattle.cc_quote.specs.ElvishQuote.{elvish_escaped, elvish_word_of}
 use Rattle.cc_quote.specs.QuotedWord.{bare, quoted, word_from, line_feeds_as_spaces, IsWithoutQuotes, IsCutAtQuote, BeginsWithQuote, BeginsWithNoQuote}
-use Rattle.cc_quote.specs.Signs.{Sign, blank, quote, other, bytes, is_blank, sign, HasNoQuote}
+use Rattle.cc_quote.specs.Signs.{Sign, blank, quote, other, bytes, sign, HasNoQuote}
 use Rattle.cc_quote.proofs.ElvishCutting.{escaped_reads}
 use Rattle.cc_quote.proofs.WithinQuotes.{word_reads}
 use Rattle.cc_quote.proofs.WordReading.{AreSigns}
@@ -13,7 +13,7 @@ use Rattle.cc_quote.proofs.WordReading.{AreSigns}
 -- what was escaped is read as the text, between two quotes
 pub elvish_reads_back : (text escaped : List ℕ) → escaped ≡ elvish_escaped text → elvish_word_of (codes "'" ++ escaped ++ codes "'") ≡ Some (line_feeds_as_spaces text, [])
 unfolding sign
-elvish_reads_back text escaped e = rw e (escaped_reads (λ w s. word_from (quoted w) s) word_reads text (39 ∷ []) [])
+elvish_reads_back text escaped e = rw e (escaped_reads (λ w s. word_from (quoted w) s) word_reads text (single_quote ∷ []) [])
 
 -- ---- signs
 
@@ -85,16 +85,16 @@ pub elvish_unquoted : (text : List ℕ) → ((k : ℕ) → k < length text → g
 elvish_unquoted text h = record { signs_are = refl; no_quote = none_quoted text h }
 
 -- a text that begins with such a run and then has a quote
-pub elvish_cut : (text run rest : List ℕ) → (text ≡ run ++ 39 ∷ rest) × ((k : ℕ) → k < length run → get_or run k 0 ≢ 39) → IsCutAtQuote (map sign) text run (39 ∷ []) rest
+pub elvish_cut : (text run rest : List ℕ) → (text ≡ run ++ single_quote ∷ rest) × ((k : ℕ) → k < length run → get_or run k 0 ≢ 39) → IsCutAtQuote (map sign) text run (single_quote ∷ []) rest
 unfolding sign
 elvish_cut text run rest parts = record {
-  signs_are = ap (map sign) parts.0 ∙ map-append sign run (39 ∷ rest);
+  signs_are = ap (map sign) parts.0 ∙ map-append sign run (single_quote ∷ rest);
   no_quote = none_quoted run parts.1;
-  shorter = let len = ap length parts.0 ∙ length-append run (39 ∷ rest) in omega (arith, len);
+  shorter = let len = ap length parts.0 ∙ length-append run (single_quote ∷ rest) in omega (arith, len);
 }
 
 -- a text that begins with a quote
-pub elvish_begins : (text rest : List ℕ) → text ≡ 39 ∷ rest → BeginsWithQuote (map sign) text (39 ∷ []) rest
+pub elvish_begins : (text rest : List ℕ) → text ≡ single_quote ∷ rest → BeginsWithQuote (map sign) text (single_quote ∷ []) rest
 unfolding sign
 elvish_begins text rest e = record { whole = e; signs_are = ap (map sign) e }
 
@@ -104,11 +104,11 @@ unfolding sign
 no_quote_sign byte h opening rest signs = by_tests (byte == single_quote) (is_blank byte) refl
   where
     by_tests : (q b : Bool) → byte == single_quote ≡ q → cond q (quote (byte ∷ [])) (cond b (blank (byte ∷ [])) (other (byte ∷ []))) ∷ signs ≢ quote opening ∷ rest
-    by_tests true b is = λ e. h ((Decides-eqb byte 39).0 is)
+    by_tests true b is = λ e. h ((Decides-eqb byte single_quote).0 is)
     by_tests false true is = λ e. cc
     by_tests false false is = λ e. cc
 
 -- a text that begins with none
-pub elvish_begins_none : (text : List ℕ) → ((rest : List ℕ) → text ≢ 39 ∷ rest) → BeginsWithNoQuote (map sign) text
+pub elvish_begins_none : (text : List ℕ) → ((rest : List ℕ) → text ≢ single_quote ∷ rest) → BeginsWithNoQuote (map sign) text
 elvish_begins_none [] h = λ opening rest e. cc
 elvish_begins_none (byte ∷ text) h = λ opening rest e. no_quote_sign byte (λ is. h text (ap (λ b. b ∷ text) is)) opening rest (map sign text) e

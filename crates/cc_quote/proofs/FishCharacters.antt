@@ -1,11 +1,10 @@
 -- How the readers of fish's words go on by one character.
 use Rattle.std.proofs.Common.{◌≡◌, ◌≢◌, ◌==◌, ℕ, ◌≤◌, Bool, true, false, cond, List, [], ◌∷◌, ◌++◌, Option, Some, None, codes, encode_utf8, refl, sym, ◌∙◌, ap, arith, append_assoc, append-nil}
-use Rattle.std.specs.Prelude.{⊤}
 use Rattle.std.proofs.lemmas.Bool.Decides.{Decides-eqb, nat_tests}
 use Rattle.cc_base.specs.Bytes as ascii
 use Rattle.cc_quote.specs.FishStates.{state_at, ends_word, character_state, character_word, is_bare}
 use Rattle.cc_quote.specs.FishQuote.{FishSign, FishState, fish_sign, state_after, advance, spelled, fish_word_from, fish_double_from, fish_double_of}
-use Rattle.cc_quote.specs.FishQuote.FishSign.{blank, line_feed, single, double, backslash, dollar, hash, other}
+use Rattle.cc_quote.specs.FishQuote.FishSign.{blank, line_feed, double, other, backslash}
 use Rattle.cc_quote.specs.FishQuote.FishState.{bare, in_double}
 use Rattle.cc_quote.specs.declared.fish_reader.QuoteState.{QuoteState}
 use Rattle.cc_quote.specs.declared.fish_reader.QuoteState.TheVariants.{Bare, BareEscaped, InSingle, InSingleEscaped, InDouble, InDoubleEscaped}
@@ -28,45 +27,12 @@ step : (state : QuoteState) (s : FishSign) (byte : ℕ) (word : List ℕ) → en
 unfolding ends_word character_state character_word
 step Bare blank byte word h = cc
 step Bare line_feed byte word h = cc
-step Bare single byte word h = refl
-step Bare double byte word h = refl
-step Bare backslash byte word h = refl
-step Bare dollar byte word h = refl
-step Bare hash byte word h = refl
-step Bare other byte word h = refl
 step BareEscaped s byte word h = unescaped_byte byte word (byte == 116) (byte == 110)
 step InSingle blank byte word h = refl
-step InSingle line_feed byte word h = refl
-step InSingle single byte word h = refl
-step InSingle double byte word h = refl
-step InSingle backslash byte word h = refl
-step InSingle dollar byte word h = refl
-step InSingle hash byte word h = refl
-step InSingle other byte word h = refl
 step InSingleEscaped blank byte word h = refl
-step InSingleEscaped line_feed byte word h = refl
-step InSingleEscaped single byte word h = refl
-step InSingleEscaped double byte word h = refl
-step InSingleEscaped backslash byte word h = refl
-step InSingleEscaped dollar byte word h = refl
-step InSingleEscaped hash byte word h = refl
-step InSingleEscaped other byte word h = refl
 step InDouble blank byte word h = refl
-step InDouble line_feed byte word h = refl
-step InDouble single byte word h = refl
-step InDouble double byte word h = refl
-step InDouble backslash byte word h = refl
-step InDouble dollar byte word h = refl
-step InDouble hash byte word h = refl
-step InDouble other byte word h = refl
 step InDoubleEscaped blank byte word h = refl
-step InDoubleEscaped line_feed byte word h = refl
-step InDoubleEscaped single byte word h = refl
-step InDoubleEscaped double byte word h = refl
-step InDoubleEscaped backslash byte word h = refl
-step InDoubleEscaped dollar byte word h = refl
-step InDoubleEscaped hash byte word h = refl
-step InDoubleEscaped other byte word h = refl
+step state s byte word h = refl
 
 -- the reader stops before a byte
 stops : (state : QuoteState) (byte : ℕ) (rest word : List ℕ) → ends_word state (fish_sign byte) ≡ true → fish_word_from (state_at state word) (byte ∷ rest) ≡ Some (word, byte ∷ rest)
@@ -82,17 +48,7 @@ stops state byte rest word e = by state (fish_sign byte) refl e
     by : (state : QuoteState) (s : FishSign) → fish_sign byte ≡ s → ends_word state s ≡ true → fish_word_from (state_at state word) (byte ∷ rest) ≡ Some (word, byte ∷ rest)
     by Bare blank is e = ap at is
     by Bare line_feed is e = ap at is
-    by Bare single is e = cc
-    by Bare double is e = cc
-    by Bare backslash is e = cc
-    by Bare dollar is e = cc
-    by Bare hash is e = cc
-    by Bare other is e = cc
-    by BareEscaped s is e = cc
-    by InSingle s is e = cc
-    by InSingleEscaped s is e = cc
-    by InDouble s is e = cc
-    by InDoubleEscaped s is e = cc
+    by state s is e = cc
 
 -- ---- bytes from 128 on
 
@@ -104,21 +60,13 @@ high_sign byte h = grind (arith, nat_tests)
 never_ends : (state : QuoteState) → ends_word state other ≡ false
 unfolding ends_word
 never_ends Bare = refl
-never_ends BareEscaped = refl
-never_ends InSingle = refl
-never_ends InSingleEscaped = refl
-never_ends InDouble = refl
-never_ends InDoubleEscaped = refl
+never_ends state = refl
 
 -- the state after it is kept by another
 kept : (state : QuoteState) (byte : ℕ) (word : List ℕ) → state_after (state_at (character_state state other) word) other byte ≡ Some (state_at (character_state state other) (word ++ byte ∷ []))
 unfolding character_state
 kept Bare byte word = refl
-kept BareEscaped byte word = refl
-kept InSingle byte word = refl
-kept InSingleEscaped byte word = refl
-kept InDouble byte word = refl
-kept InDoubleEscaped byte word = refl
+kept state byte word = refl
 
 -- and by more of them
 high_run : (state : QuoteState) (word bytes : List ℕ) → AreHigh bytes → advance (Some (state_at (character_state state other) word)) bytes ≡ Some (state_at (character_state state other) (word ++ bytes))
@@ -132,17 +80,15 @@ high_run state word (byte ∷ bytes) h =
 grown : (state : QuoteState) (byte c : ℕ) (run word : List ℕ) → 128 ≤ byte → 128 ≤ c
     → character_word state other byte word (byte ∷ []) ++ run ≡ character_word state other c word (byte ∷ run)
 unfolding character_word
-grown Bare byte c run word h k = append_assoc word (byte ∷ []) run
 grown BareEscaped byte c run word h k =
     let t : byte == 116 ≡ false = grind (arith, nat_tests) in
     let n : byte == 110 ≡ false = grind (arith, nat_tests) in
     let u : c == 116 ≡ false = grind (arith, nat_tests) in
     let m : c == 110 ≡ false = grind (arith, nat_tests) in
     rw (t, n, u, m) (append_assoc word (byte ∷ []) run)
-grown InSingle byte c run word h k = append_assoc word (byte ∷ []) run
 grown InSingleEscaped byte c run word h k = append_assoc (word ++ codes "\\") (byte ∷ []) run
-grown InDouble byte c run word h k = append_assoc word (byte ∷ []) run
 grown InDoubleEscaped byte c run word h k = append_assoc (word ++ codes "\\") (byte ∷ []) run
+grown state byte c run word h k = append_assoc word (byte ∷ []) run
 
 -- ---- one character
 
@@ -186,52 +132,30 @@ character_stops state c rest word e = by_bytes c (encode_utf8 c) (character c) e
 pub ends_bare : (state : QuoteState) (word : List ℕ) → is_bare state ≡ true → fish_word_from (state_at state word) [] ≡ Some (word, [])
 unfolding is_bare
 ends_bare Bare word e = refl
-ends_bare BareEscaped word e = cc
-ends_bare InSingle word e = cc
-ends_bare InSingleEscaped word e = cc
-ends_bare InDouble word e = cc
-ends_bare InDoubleEscaped word e = cc
+ends_bare state word e = cc
 
 pub ends_open : (state : QuoteState) (word : List ℕ) → is_bare state ≡ false → fish_word_from (state_at state word) [] ≡ None
 unfolding is_bare
 ends_open Bare word e = cc
-ends_open BareEscaped word e = refl
-ends_open InSingle word e = refl
-ends_open InSingleEscaped word e = refl
-ends_open InDouble word e = refl
-ends_open InDoubleEscaped word e = refl
+ends_open state word e = refl
 
 -- ---- between `"`
 
-abbrev pub IsWithin : QuoteState → Type 0
-IsWithin InDouble = ⊤
-IsWithin InDoubleEscaped = ⊤
-IsWithin _ = ⊥
+pub data IsWithin : QuoteState → Type 0 where
+  between : IsWithin InDouble
+  escaped : IsWithin InDoubleEscaped
 
 within_goes_on : (state : QuoteState) (s : FishSign) → IsWithin state → ends_word state s ≡ false
 unfolding ends_word
-within_goes_on Bare s h = absurd h
-within_goes_on BareEscaped s h = absurd h
-within_goes_on InSingle s h = absurd h
-within_goes_on InSingleEscaped s h = absurd h
-within_goes_on InDouble s h = refl
-within_goes_on InDoubleEscaped s h = refl
+within_goes_on state s between = refl
+within_goes_on state s escaped = refl
 
 within_next : (state : QuoteState) (s : FishSign) → IsWithin state → is_bare (character_state state s) ≡ false → IsWithin (character_state state s)
 unfolding character_state is_bare
-within_next InDouble blank h e = tt
-within_next InDouble line_feed h e = tt
-within_next InDouble single h e = tt
-within_next InDouble double h e = cc
-within_next InDouble backslash h e = tt
-within_next InDouble dollar h e = tt
-within_next InDouble hash h e = tt
-within_next InDouble other h e = tt
-within_next InDoubleEscaped s h e = tt
-within_next Bare s h e = absurd h
-within_next BareEscaped s h e = absurd h
-within_next InSingle s h e = absurd h
-within_next InSingleEscaped s h e = absurd h
+within_next state double between e = cc
+within_next state backslash between e = escaped
+within_next state s between e = between
+within_next state s escaped e = between
 
 -- the reading from the next state on
 abbrev resumed : Option FishState → List ℕ → Option (List ℕ × List ℕ)
@@ -242,12 +166,12 @@ resumed state rest = elim state [
 ]
 
 -- a text that does not begin with `"`
-pub double_none : (text : List ℕ) → ((rest : List ℕ) → text ≢ 34 ∷ rest) → fish_double_of text ≡ None
+pub double_none : (text : List ℕ) → ((rest : List ℕ) → text ≢ ascii.double_quote ∷ rest) → fish_double_of text ≡ None
 double_none [] h = refl
-double_none (byte ∷ rest) h = by (byte == 34) refl
+double_none (byte ∷ rest) h = by (byte == ascii.double_quote) refl
   where
-    by : (b : Bool) → byte == 34 ≡ b → cond b (fish_double_from (in_double []) rest) None ≡ None
-    by true e = absurd (h rest (ap (λ b. b ∷ rest) ((Decides-eqb byte 34).0 e)))
+    by : (b : Bool) → byte == ascii.double_quote ≡ b → cond b (fish_double_from (in_double []) rest) None ≡ None
+    by true e = absurd (h rest (ap (λ b. b ∷ rest) ((Decides-eqb byte ascii.double_quote).0 e)))
     by false e = refl
 
 -- over bytes from 128 on
@@ -261,12 +185,8 @@ double_run (byte ∷ bytes) rest word h =
 within_run : (state : QuoteState) (bytes rest word : List ℕ) → IsWithin state → AreHigh bytes
     → resumed (Some (state_at (character_state state other) word)) (bytes ++ rest) ≡ resumed (Some (state_at (character_state state other) (word ++ bytes))) rest
 unfolding character_state
-within_run InDouble bytes rest word h k = double_run bytes rest word k
-within_run InDoubleEscaped bytes rest word h k = double_run bytes rest word k
-within_run Bare bytes rest word h k = absurd h
-within_run BareEscaped bytes rest word h k = absurd h
-within_run InSingle bytes rest word h k = absurd h
-within_run InSingleEscaped bytes rest word h k = absurd h
+within_run state bytes rest word between k = double_run bytes rest word k
+within_run state bytes rest word escaped k = double_run bytes rest word k
 
 -- over a character
 double_read : (state : QuoteState) (c : ℕ) (bytes rest word : List ℕ) → IsCharacter c bytes → IsWithin state
@@ -281,20 +201,12 @@ double_read state c bytes rest word (high number byte run above first k) h =
 resumed-bare : (state : QuoteState) (rest word : List ℕ) → is_bare state ≡ true → resumed (Some (state_at state word)) rest ≡ Some (word, rest)
 unfolding is_bare
 resumed-bare Bare rest word e = refl
-resumed-bare BareEscaped rest word e = cc
-resumed-bare InSingle rest word e = cc
-resumed-bare InSingleEscaped rest word e = cc
-resumed-bare InDouble rest word e = cc
-resumed-bare InDoubleEscaped rest word e = cc
+resumed-bare state rest word e = cc
 
 resumed-open : (state : QuoteState) (rest word : List ℕ) → is_bare state ≡ false → resumed (Some (state_at state word)) rest ≡ fish_double_from (state_at state word) rest
 unfolding is_bare
 resumed-open Bare rest word e = cc
-resumed-open BareEscaped rest word e = refl
-resumed-open InSingle rest word e = refl
-resumed-open InSingleEscaped rest word e = refl
-resumed-open InDouble rest word e = refl
-resumed-open InDoubleEscaped rest word e = refl
+resumed-open state rest word e = refl
 
 -- the quote that closes
 pub character_closes : (state : QuoteState) (c : ℕ) (rest word : List ℕ) → IsWithin state → is_bare (character_state state (fish_sign c)) ≡ true

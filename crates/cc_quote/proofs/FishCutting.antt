@@ -3,11 +3,12 @@ use Rattle.std.proofs.Common.{◌≡◌, ℕ, List, [], ◌∷◌, ◌++◌, ref
 use Rattle.std.specs.List.{AllByRecursion}
 use Rattle.cc_base.specs.Bytes as ascii
 use Rattle.cc_quote.specs.FishQuote.{FishSign, FishState, fish_sign, next_state, advance, begins_word, begins_with_word}
-use Rattle.cc_quote.specs.FishQuote.FishSign.{blank, line_feed, single, double, backslash, dollar, hash, other}
+use Rattle.cc_quote.specs.FishQuote.FishSign.{blank, line_feed, hash}
 use Rattle.cc_quote.specs.FishQuote.FishState.{bare}
 use Rattle.cc_quote.specs.FishTokens.{between, in_word, commands_from}
 use Rattle.cc_quote.proofs.FishWords.{IsSafe, safe_bare}
-use Rattle.cc_quote.proofs.FishReaders.{option_cases, advance_none}
+use Rattle.cc_base.proofs.Cases.{option_cases}
+use Rattle.cc_quote.proofs.FishReaders.{advance_none}
 
 -- a text before which a word ends
 abbrev pub EndsWord : List ℕ → Type 0
@@ -46,11 +47,7 @@ word_begins (byte ∷ text) words rest h = by (fish_sign byte) refl h
     by blank e h = cc
     by line_feed e h = cc
     by hash e h = cc
-    by single e h = rw (commands_from, e, next_state, e)
-    by double e h = rw (commands_from, e, next_state, e)
-    by backslash e h = rw (commands_from, e, next_state, e)
-    by dollar e h = rw (commands_from, e, next_state, e)
-    by other e h = rw (commands_from, e, next_state, e)
+    by sign e h = rw (commands_from, e, next_state, e)
 
 -- the text spells the word
 pub record Spells (text word : List ℕ) : Type 0 where

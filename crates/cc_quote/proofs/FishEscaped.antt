@@ -88,10 +88,3 @@ eval_unsafe text h =
 pub help_quoted : (help : List ℕ) → (codes "'" ++ help_escaped help) ++ codes "'" ≡ fish_help_for_eval_of help
 unfolding fish_help_for_eval_of
 help_quoted help = ap (λ bytes. (codes "'" ++ bytes) ++ codes "'") (help_composed help) ∙ sym (double_escaped-single_quoted (line_feeds_as_spaces help))
-
--- the same, as it is written piece by piece
-pub eval_unsafe_text : (text : List ℕ) → is_fish_safe_word text ≡ false → codes "'" ++ eval_escaped text ++ codes "'" ≡ fish_quoted_for_eval text
-eval_unsafe_text text h = eval_unsafe text h
-
-pub help_text : (help : List ℕ) → codes "'" ++ help_escaped help ++ codes "'" ≡ fish_help_for_eval_of help
-help_text help = help_quoted help

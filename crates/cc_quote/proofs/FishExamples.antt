@@ -1,5 +1,6 @@
 -- Worked rows of fish's quoting and of how its scripts are cut.
 use Rattle.std.proofs.Common.{◌≡◌, ◌++◌, ◌∷◌, [], refl, Some, None, codes}
+use Rattle.cc_base.specs.Bytes.{line_feed}
 use Rattle.cc_quote.specs.FishQuote.{fish_sign, fish_word_of, fish_double_of, is_fish_safe, fish_quoted, fish_quoted_for_eval, fish_help_for_eval_of, fish_escaped}
 use Rattle.cc_quote.specs.FishTokens.{fish_commands}
 
@@ -39,7 +40,7 @@ eval_no_help_row : fish_help_for_eval_of [] ≡ codes "''"
 unfolding fish_help_for_eval_of
 eval_no_help_row = refl
 
-escape_row : fish_escaped (codes "it's" ++ 10 ∷ codes "[x]:\\") ≡ codes "it\\'s [x]:\\\\"
+escape_row : fish_escaped (codes "it's" ++ line_feed ∷ codes "[x]:\\") ≡ codes "it\\'s [x]:\\\\"
 unfolding fish_escaped
 escape_row = refl
 
@@ -71,12 +72,12 @@ between_doubles_row : fish_double_of (codes "\"it's \\$x\"more") ≡ Some (codes
 unfolding fish_sign
 between_doubles_row = refl
 
-commands_row : fish_commands (codes "# a comment" ++ 10 ∷ codes "complete -c 'a b' # more" ++ 10 ∷ codes "  end;" ++ 10 ∷ [])
+commands_row : fish_commands (codes "# a comment" ++ line_feed ∷ codes "complete -c 'a b' # more" ++ line_feed ∷ codes "  end;" ++ line_feed ∷ [])
     ≡ Some [] ∷ Some (codes "complete" ∷ codes "-c" ∷ codes "a b" ∷ []) ∷ Some (codes "end;" ∷ []) ∷ Some [] ∷ []
 unfolding fish_sign fish_commands
 commands_row = refl
 
 -- a quote that is open at the end
-open_command_row : fish_commands (codes "end" ++ 10 ∷ codes "complete -d 'open") ≡ Some (codes "end" ∷ []) ∷ None ∷ []
+open_command_row : fish_commands (codes "end" ++ line_feed ∷ codes "complete -d 'open") ≡ Some (codes "end" ∷ []) ∷ None ∷ []
 unfolding fish_sign fish_commands
 open_command_row = refl

@@ -1,18 +1,15 @@
 -- What the readers of fish's words read back.
-use Rattle.std.proofs.Common.{◌≡◌, ℕ, List, [], ◌∷◌, ◌++◌, refl, ap, ◌∙◌, sym, append_assoc, append-nil, inl, inr, ◌⊎◌, Option, Some, None, codes, arith}
+use Rattle.std.proofs.Common.{◌≡◌, ℕ, List, [], ◌∷◌, ◌++◌, refl, ap, ◌∙◌, sym, append_assoc, append-nil, inl, inr, Some, None, codes, arith}
 use Rattle.std.proofs.lemmas.Bool.{cases_Bool}
 use Rattle.std.proofs.lemmas.Bool.Decides.{nat_tests}
 use Rattle.std.specs.List.{list_all}
+use Rattle.cc_base.proofs.Cases.{option_cases}
 use Rattle.cc_quote.specs.QuotedWord.{line_feeds_as_spaces}
 use Rattle.cc_quote.specs.Escapes.{marked_byte}
 use Rattle.cc_quote.specs.FishQuote.{FishState, fish_sign, next_state, advance, fish_word_from, fish_word_of, fish_double_from, fish_double_of, is_fish_safe, is_double_marked, double_escaped, single_quoted, fish_quoted, fish_quoted_for_eval, fish_help_for_eval_of, fish_escaped, ReadsTwice}
 use Rattle.cc_quote.specs.FishQuote.FishState.{bare, in_double}
 use Rattle.cc_quote.proofs.FishEscaped.{fish_escaped_composed}
 use Rattle.cc_quote.proofs.FishWords.{safe_sign, safe_bytes, single_quoted_read, fish_quoted_read}
-
-pub option_cases : {A : Type 0} (option : Option A) → ((value : A) × (option ≡ Some value)) ⊎ (option ≡ None)
-option_cases (Some value) = inl (value, refl)
-option_cases None = inr refl
 
 pub advance_none : (bytes : List ℕ) → advance None bytes ≡ None
 advance_none [] = refl

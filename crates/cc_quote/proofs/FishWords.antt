@@ -3,6 +3,7 @@ use Rattle.std.proofs.Common.{◌≡◌, ℕ, true, false, List, [], ◌∷◌, 
 use Rattle.std.proofs.lemmas.Bool.{cases_Bool, ne_eqb, and_parts}
 use Rattle.std.proofs.lemmas.Bool.Decides.{nat_tests}
 use Rattle.std.specs.List.{list_all, AllByRecursion}
+use Rattle.cc_base.specs.Bytes.{backslash, dollar, double_quote, hash, single_quote, space}
 use Rattle.cc_quote.specs.Escapes.{marked_byte}
 use Rattle.cc_quote.specs.FishQuote.{FishState, fish_sign, next_state, advance, is_fish_safe, is_single_marked, single_escaped, is_double_marked, double_escaped, single_quoted, fish_quoted}
 use Rattle.cc_quote.specs.FishQuote.FishSign.{other}
@@ -20,12 +21,12 @@ safe_is_not byte special h f = ne_eqb byte special (λ e. let k : is_fish_safe s
 
 pub safe_sign : (byte : ℕ) → is_fish_safe byte ≡ true → fish_sign byte ≡ other
 unfolding fish_sign is_fish_safe
-safe_sign byte h = rw (safe_is_not byte 32 h refl, safe_is_not byte 9 h refl, safe_is_not byte 10 h refl, safe_is_not byte 39 h refl, safe_is_not byte 34 h refl, safe_is_not byte 92 h refl, safe_is_not byte 36 h refl, safe_is_not byte 35 h refl)
+safe_sign byte h = rw (safe_is_not byte space h refl, safe_is_not byte 9 h refl, safe_is_not byte 10 h refl, safe_is_not byte single_quote h refl, safe_is_not byte double_quote h refl, safe_is_not byte backslash h refl, safe_is_not byte dollar h refl, safe_is_not byte hash h refl)
 
 -- no byte that needs no quotes is escaped between `"`
 pub safe_double : (byte : ℕ) → is_fish_safe byte ≡ true → marked_byte is_double_marked byte ≡ byte ∷ []
 unfolding is_fish_safe
-safe_double byte h = rw (safe_is_not byte 92 h refl, safe_is_not byte 34 h refl, safe_is_not byte 36 h refl)
+safe_double byte h = rw (safe_is_not byte backslash h refl, safe_is_not byte double_quote h refl, safe_is_not byte dollar h refl)
 
 single_byte_read : (byte : ℕ) (word rest : List ℕ) → advance (Some (in_single word)) (marked_byte is_single_marked byte ++ rest) ≡ advance (Some (in_single (word ++ byte ∷ []))) rest
 unfolding fish_sign

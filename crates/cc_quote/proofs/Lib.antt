@@ -4,6 +4,7 @@ pub mod BeforeBlanks
 pub mod Blanks
 pub mod ByteEscapes
 pub mod Characters
+pub mod Digits
 pub mod ElvishCutting
 pub mod ElvishWords
 mod Examples
@@ -13,6 +14,8 @@ pub mod FishEscaped
 mod FishExamples
 pub mod FishReaders
 pub mod FishWords
+pub mod NameBytes
+pub mod PlainNames
 pub mod PosixCutting
 mod PosixExamples
 pub mod PosixTokenReading

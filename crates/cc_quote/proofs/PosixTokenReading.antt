@@ -21,6 +21,7 @@ use Rattle.std.proofs.Common.{
   append_assoc,
   append-nil,
 }
+use Rattle.cc_base.specs.Bytes as ascii
 use Rattle.cc_quote.specs.PosixQuote.{
   next_state,
   word_after,
@@ -35,7 +36,6 @@ use Rattle.cc_quote.specs.PosixTokens.Sign.{
   single_quote,
   double_quote,
   backslash,
-  special,
   other,
 }
 use Rattle.cc_quote.specs.PosixTokens.QuoteState.{
@@ -54,6 +54,7 @@ use Rattle.cc_quote.specs.PosixTokenWords.{
   ends_token,
   begins_no_token,
   IsFirstToken,
+  IsOpenToken,
   IsTokenRead,
   ReadsFirstToken,
 }
@@ -152,11 +153,16 @@ closed_quoted pieces opening text word h =
 -- or the text ends before that
 open_last : (pieces more : Token) (word : List ℕ)
     → word_of_token pieces ≡ Some word → word_of_token more ≡ None
-    → word_of_token (pieces ++ more) ≡ None
+    → IsOpenToken ((pieces ++ more) ∷ [])
 open_last pieces more word h e =
-    word-append pieces more
-    ∙ ap (λ w. joined w (word_of_token more)) h
-    ∙ ap (joined (Some word)) e
+    record {
+      token = pieces ++ more;
+      whole = refl;
+      no_word =
+          word-append pieces more
+          ∙ ap (λ w. joined w (word_of_token more)) h
+          ∙ ap (joined (Some word)) e;
+    }
 
 -- ---- from state to state
 
@@ -164,13 +170,12 @@ open_last pieces more word h e =
 abbrev reader : QuoteState → WordState
 reader between = Before
 reader between_escaped = BeforeEscaped
-reader (in_bare pieces run) = Bare
 reader (in_bare_escaped pieces run) = BareEscaped
 reader (in_single pieces text) = InSingle
 reader (in_double pieces text) = InDouble
 reader (in_double_escaped pieces text) = InDoubleEscaped
-reader (after_quotes pieces) = Bare
 reader (after_quotes_escaped pieces) = BareEscaped
+reader _ = Bare
 
 -- the word so far of a token that has begun
 abbrev IsSoFar : QuoteState → List ℕ → Type 0
@@ -194,8 +199,6 @@ AgreeOn signs = (p : QuoteState) (word : List ℕ) → IsSoFar p word → Agree 
 -- a text that ends at its state
 at_end : AgreeOn []
 unfolding cut posix_word_from ended posix_tokens word_of_token ends_token
-at_end between word h = absurd h
-at_end between_escaped word h = absurd h
 at_end (in_bare pieces run) word h =
     record {
       token = pieces ++ bare run ∷ [];
@@ -204,38 +207,18 @@ at_end (in_bare pieces run) word h =
       ends = refl;
     }
 at_end (in_bare_escaped pieces run) word h =
-    record {
-      token = pieces ++ bare run ∷ unclosed (92 ∷ []) [] ∷ [];
-      whole = refl;
-      no_word =
-          open_last pieces (bare run ∷ unclosed (92 ∷ []) [] ∷ []) h.before h.spelled refl;
-    }
+    open_last pieces (bare run ∷ unclosed (ascii.backslash ∷ []) [] ∷ []) h.before h.spelled refl
 at_end (in_single pieces text) word h =
-    record {
-      token = pieces ++ unclosed (39 ∷ []) text ∷ [];
-      whole = refl;
-      no_word = open_last pieces (unclosed (39 ∷ []) text ∷ []) h.before h.spelled refl;
-    }
+    open_last pieces (unclosed (ascii.single_quote ∷ []) text ∷ []) h.before h.spelled refl
 at_end (in_double pieces text) word h =
-    record {
-      token = pieces ++ unclosed (34 ∷ []) text ∷ [];
-      whole = refl;
-      no_word = open_last pieces (unclosed (34 ∷ []) text ∷ []) h.before h.spelled refl;
-    }
+    open_last pieces (unclosed (ascii.double_quote ∷ []) text ∷ []) h.before h.spelled refl
 at_end (in_double_escaped pieces text) word h =
-    record {
-      token = pieces ++ unclosed (34 ∷ []) text ∷ [];
-      whole = refl;
-      no_word = open_last pieces (unclosed (34 ∷ []) text ∷ []) h.before h.spelled refl;
-    }
+    open_last pieces (unclosed (ascii.double_quote ∷ []) text ∷ []) h.before h.spelled refl
 at_end (after_quotes pieces) word h =
     record { token = pieces; whole = refl; spells = h; ends = refl }
 at_end (after_quotes_escaped pieces) word h =
-    record {
-      token = pieces ++ unclosed (92 ∷ []) [] ∷ [];
-      whole = refl;
-      no_word = open_last pieces (unclosed (92 ∷ []) [] ∷ []) word h refl;
-    }
+    open_last pieces (unclosed (ascii.backslash ∷ []) [] ∷ []) word h refl
+at_end _ word h = absurd h
 
 -- a token that ends before a blank or a line feed
 ended_token : (s : Sign) (text : List ℕ) (token : Token) (word : List ℕ)
@@ -258,231 +241,86 @@ ended_token s text token word is ends skips spells =
       ends = ap ends_token same ∙ ends;
     }
 
--- the open piece goes on, outside quotes or within them
-bare_on : (signs : List Sign) → AgreeOn signs
-    → (pieces : Token) (run word more : List ℕ) → Holds pieces run word
-    → Agree (in_bare pieces (run ++ more)) (word ++ more) signs
-bare_on signs goes pieces run word more h =
-    goes (in_bare pieces (run ++ more)) (word ++ more) (grown pieces run word more h)
+-- one sign in each state, before a text whose signs agree
+module _ (text : List ℕ) (goes : AgreeOn (map sign text)) where
+  -- between `"` the backslash stays before a byte that it does not escape
+  kept : (pieces : Token) (run word : List ℕ) (byte : ℕ) → Holds pieces run word
+      → Agree (in_double pieces (run ++ ascii.backslash ∷ byte ∷ []))
+      (word ++ ascii.backslash ∷ [] ++ byte ∷ []) (map sign text)
+  kept pieces run word byte h =
+      goes (in_double pieces (run ++ ascii.backslash ∷ byte ∷ []))
+      (word ++ ascii.backslash ∷ [] ++ byte ∷ [])
+      (subst (Holds pieces (run ++ ascii.backslash ∷ byte ∷ []))
+      (sym (append_assoc word (ascii.backslash ∷ []) (byte ∷ [])))
+      (grown pieces run word (ascii.backslash ∷ byte ∷ []) h))
 
-single_on : (signs : List Sign) → AgreeOn signs
-    → (pieces : Token) (run word more : List ℕ) → Holds pieces run word
-    → Agree (in_single pieces (run ++ more)) (word ++ more) signs
-single_on signs goes pieces run word more h =
-    goes (in_single pieces (run ++ more)) (word ++ more) (grown pieces run word more h)
-
-double_on : (signs : List Sign) → AgreeOn signs
-    → (pieces : Token) (run word more : List ℕ) → Holds pieces run word
-    → Agree (in_double pieces (run ++ more)) (word ++ more) signs
-double_on signs goes pieces run word more h =
-    goes (in_double pieces (run ++ more)) (word ++ more) (grown pieces run word more h)
-
--- a byte is the first of a piece outside quotes
-bare_begins : (signs : List Sign) → AgreeOn signs
-    → (pieces : Token) (word : List ℕ) (byte : ℕ) → word_of_token pieces ≡ Some word
-    → Agree (in_bare pieces (byte ∷ [])) (word ++ byte ∷ []) signs
-bare_begins signs goes pieces word byte h =
-    goes (in_bare pieces (byte ∷ [])) (word ++ byte ∷ []) (begun pieces word (byte ∷ []) h)
-
--- between `"` the backslash stays before a byte that it does not escape
-double_kept : (signs : List Sign) → AgreeOn signs
-    → (pieces : Token) (text word : List ℕ) (byte : ℕ) → Holds pieces text word
-    → Agree (in_double pieces (text ++ 92 ∷ byte ∷ [])) (word ++ 92 ∷ [] ++ byte ∷ []) signs
-double_kept signs goes pieces text word byte h =
-    goes
-    (in_double pieces (text ++ 92 ∷ byte ∷ []))
-    (word ++ 92 ∷ [] ++ byte ∷ [])
-    (subst
-    (Holds pieces (text ++ 92 ∷ byte ∷ []))
-    (sym (append_assoc word (92 ∷ []) (byte ∷ [])))
-    (grown pieces text word (92 ∷ byte ∷ []) h))
-
--- quotes open after these pieces
-single_begins : (signs : List Sign) → AgreeOn signs
-    → (pieces : Token) (word : List ℕ) → word_of_token pieces ≡ Some word
-    → Agree (in_single pieces []) word signs
-single_begins signs goes pieces word h =
-    goes (in_single pieces []) word (opened pieces word h)
-
-double_begins : (signs : List Sign) → AgreeOn signs
-    → (pieces : Token) (word : List ℕ) → word_of_token pieces ≡ Some word
-    → Agree (in_double pieces []) word signs
-double_begins signs goes pieces word h =
-    goes (in_double pieces []) word (opened pieces word h)
-
--- one sign in each state
-in_bare_goes : (s : Sign) (text : List ℕ) → sign (byte_of s) ≡ s → AgreeOn (map sign text)
-    → (pieces : Token) (run word : List ℕ) → Holds pieces run word
-    → Agree (in_bare pieces run) word (s ∷ map sign text)
-unfolding cut posix_word_from next_state word_after ended ends_token byte_of
-in_bare_goes (blank b) text is goes pieces run word h =
-    ended_token
-    (blank b)
-    text
-    (pieces ++ bare run ∷ [])
-    word
-    is
-    refl
-    refl
-    (closed_bare pieces run word h)
-in_bare_goes line_feed text is goes pieces run word h =
-    ended_token
-    line_feed
-    text
-    (pieces ++ bare run ∷ [])
-    word
-    is
-    refl
-    refl
-    (closed_bare pieces run word h)
-in_bare_goes single_quote text is goes pieces run word h =
-    let closed = closed_bare pieces run word h in
-    single_begins (map sign text) goes (pieces ++ bare run ∷ []) word closed
-in_bare_goes double_quote text is goes pieces run word h =
-    let closed = closed_bare pieces run word h in
-    double_begins (map sign text) goes (pieces ++ bare run ∷ []) word closed
-in_bare_goes backslash text is goes pieces run word h = goes (in_bare_escaped pieces run) word h
-in_bare_goes (special b) text is goes pieces run word h =
-    bare_on (map sign text) goes pieces run word (b ∷ []) h
-in_bare_goes (other b) text is goes pieces run word h =
-    bare_on (map sign text) goes pieces run word (b ∷ []) h
-
-in_bare_escaped_goes : (s : Sign) (signs : List Sign) → AgreeOn signs
-    → (pieces : Token) (run word : List ℕ) → Holds pieces run word
-    → Agree (in_bare_escaped pieces run) word (s ∷ signs)
-unfolding cut posix_word_from next_state word_after byte_of
-in_bare_escaped_goes (blank b) signs goes pieces run word h =
-    bare_on signs goes pieces run word (b ∷ []) h
-in_bare_escaped_goes line_feed signs goes pieces run word h = goes (in_bare pieces run) word h
-in_bare_escaped_goes single_quote signs goes pieces run word h =
-    bare_on signs goes pieces run word (39 ∷ []) h
-in_bare_escaped_goes double_quote signs goes pieces run word h =
-    bare_on signs goes pieces run word (34 ∷ []) h
-in_bare_escaped_goes backslash signs goes pieces run word h =
-    bare_on signs goes pieces run word (92 ∷ []) h
-in_bare_escaped_goes (special b) signs goes pieces run word h =
-    bare_on signs goes pieces run word (b ∷ []) h
-in_bare_escaped_goes (other b) signs goes pieces run word h =
-    bare_on signs goes pieces run word (b ∷ []) h
-
-in_single_goes : (s : Sign) (signs : List Sign) → AgreeOn signs
-    → (pieces : Token) (text word : List ℕ) → Holds pieces text word
-    → Agree (in_single pieces text) word (s ∷ signs)
-unfolding cut posix_word_from next_state word_after byte_of
-in_single_goes (blank b) signs goes pieces text word h =
-    single_on signs goes pieces text word (b ∷ []) h
-in_single_goes line_feed signs goes pieces text word h =
-    single_on signs goes pieces text word (10 ∷ []) h
-in_single_goes single_quote signs goes pieces text word h =
-    goes
-    (after_quotes (pieces ++ quoted (39 ∷ []) text ∷ []))
-    word
-    (closed_quoted pieces (39 ∷ []) text word h)
-in_single_goes double_quote signs goes pieces text word h =
-    single_on signs goes pieces text word (34 ∷ []) h
-in_single_goes backslash signs goes pieces text word h =
-    single_on signs goes pieces text word (92 ∷ []) h
-in_single_goes (special b) signs goes pieces text word h =
-    single_on signs goes pieces text word (b ∷ []) h
-in_single_goes (other b) signs goes pieces text word h =
-    single_on signs goes pieces text word (b ∷ []) h
-
-in_double_goes : (s : Sign) (signs : List Sign) → AgreeOn signs
-    → (pieces : Token) (text word : List ℕ) → Holds pieces text word
-    → Agree (in_double pieces text) word (s ∷ signs)
-unfolding cut posix_word_from next_state word_after byte_of
-in_double_goes (blank b) signs goes pieces text word h =
-    double_on signs goes pieces text word (b ∷ []) h
-in_double_goes line_feed signs goes pieces text word h =
-    double_on signs goes pieces text word (10 ∷ []) h
-in_double_goes single_quote signs goes pieces text word h =
-    double_on signs goes pieces text word (39 ∷ []) h
-in_double_goes double_quote signs goes pieces text word h =
-    goes
-    (after_quotes (pieces ++ quoted (34 ∷ []) text ∷ []))
-    word
-    (closed_quoted pieces (34 ∷ []) text word h)
-in_double_goes backslash signs goes pieces text word h = goes (in_double_escaped pieces text) word h
-in_double_goes (special b) signs goes pieces text word h =
-    double_on signs goes pieces text word (b ∷ []) h
-in_double_goes (other b) signs goes pieces text word h =
-    double_on signs goes pieces text word (b ∷ []) h
-
-in_double_escaped_goes : (s : Sign) (signs : List Sign) → AgreeOn signs
-    → (pieces : Token) (text word : List ℕ) → Holds pieces text word
-    → Agree (in_double_escaped pieces text) word (s ∷ signs)
-unfolding cut posix_word_from next_state word_after byte_of
-in_double_escaped_goes (blank b) signs goes pieces text word h =
-    double_kept signs goes pieces text word b h
-in_double_escaped_goes line_feed signs goes pieces text word h = goes (in_double pieces text) word h
-in_double_escaped_goes single_quote signs goes pieces text word h =
-    double_kept signs goes pieces text word 39 h
-in_double_escaped_goes double_quote signs goes pieces text word h =
-    double_on signs goes pieces text word (34 ∷ []) h
-in_double_escaped_goes backslash signs goes pieces text word h =
-    double_on signs goes pieces text word (92 ∷ []) h
-in_double_escaped_goes (special b) signs goes pieces text word h =
-    double_on signs goes pieces text word (b ∷ []) h
-in_double_escaped_goes (other b) signs goes pieces text word h =
-    double_kept signs goes pieces text word b h
-
-after_quotes_goes : (s : Sign) (text : List ℕ) → sign (byte_of s) ≡ s → AgreeOn (map sign text)
-    → (pieces : Token) (word : List ℕ) → word_of_token pieces ≡ Some word
-    → Agree (after_quotes pieces) word (s ∷ map sign text)
-unfolding cut posix_word_from next_state word_after ended ends_token byte_of
-after_quotes_goes (blank b) text is goes pieces word h =
-    ended_token (blank b) text pieces word is refl refl h
-after_quotes_goes line_feed text is goes pieces word h =
-    ended_token line_feed text pieces word is refl refl h
-after_quotes_goes single_quote text is goes pieces word h =
-    single_begins (map sign text) goes pieces word h
-after_quotes_goes double_quote text is goes pieces word h =
-    double_begins (map sign text) goes pieces word h
-after_quotes_goes backslash text is goes pieces word h = goes (after_quotes_escaped pieces) word h
-after_quotes_goes (special b) text is goes pieces word h =
-    bare_begins (map sign text) goes pieces word b h
-after_quotes_goes (other b) text is goes pieces word h =
-    bare_begins (map sign text) goes pieces word b h
-
-after_quotes_escaped_goes : (s : Sign) (signs : List Sign) → AgreeOn signs
-    → (pieces : Token) (word : List ℕ) → word_of_token pieces ≡ Some word
-    → Agree (after_quotes_escaped pieces) word (s ∷ signs)
-unfolding cut posix_word_from next_state word_after byte_of
-after_quotes_escaped_goes (blank b) signs goes pieces word h =
-    bare_begins signs goes pieces word b h
-after_quotes_escaped_goes line_feed signs goes pieces word h = goes (after_quotes pieces) word h
-after_quotes_escaped_goes single_quote signs goes pieces word h =
-    bare_begins signs goes pieces word 39 h
-after_quotes_escaped_goes double_quote signs goes pieces word h =
-    bare_begins signs goes pieces word 34 h
-after_quotes_escaped_goes backslash signs goes pieces word h =
-    bare_begins signs goes pieces word 92 h
-after_quotes_escaped_goes (special b) signs goes pieces word h =
-    bare_begins signs goes pieces word b h
-after_quotes_escaped_goes (other b) signs goes pieces word h =
-    bare_begins signs goes pieces word b h
+  one_sign : (p : QuoteState) (s : Sign) (word : List ℕ) → sign (byte_of s) ≡ s → IsSoFar p word
+      → Agree p word (s ∷ map sign text)
+  unfolding cut posix_word_from next_state word_after ended ends_token byte_of
+  one_sign (in_bare pieces run) (blank b) word is h =
+      ended_token (blank b) text (pieces ++ bare run ∷ []) word is refl refl
+      (closed_bare pieces run word h)
+  one_sign (in_bare pieces run) line_feed word is h =
+      ended_token line_feed text (pieces ++ bare run ∷ []) word is refl refl
+      (closed_bare pieces run word h)
+  one_sign (in_bare pieces run) single_quote word is h =
+      let closed : Token = pieces ++ bare run ∷ [] in
+      goes (in_single closed []) word (opened closed word (closed_bare pieces run word h))
+  one_sign (in_bare pieces run) double_quote word is h =
+      let closed : Token = pieces ++ bare run ∷ [] in
+      goes (in_double closed []) word (opened closed word (closed_bare pieces run word h))
+  one_sign (in_bare pieces run) backslash word is h = goes (in_bare_escaped pieces run) word h
+  one_sign (in_bare pieces run) s word is h =
+      let byte : List ℕ = byte_of s ∷ [] in
+      goes (in_bare pieces (run ++ byte)) (word ++ byte) (grown pieces run word byte h)
+  one_sign (in_bare_escaped pieces run) line_feed word is h = goes (in_bare pieces run) word h
+  one_sign (in_bare_escaped pieces run) s word is h =
+      let byte : List ℕ = byte_of s ∷ [] in
+      goes (in_bare pieces (run ++ byte)) (word ++ byte) (grown pieces run word byte h)
+  one_sign (in_single pieces run) single_quote word is h =
+      goes (after_quotes (pieces ++ quoted (ascii.single_quote ∷ []) run ∷ [])) word
+      (closed_quoted pieces (ascii.single_quote ∷ []) run word h)
+  one_sign (in_single pieces run) s word is h =
+      let byte : List ℕ = byte_of s ∷ [] in
+      goes (in_single pieces (run ++ byte)) (word ++ byte) (grown pieces run word byte h)
+  one_sign (in_double pieces run) double_quote word is h =
+      goes (after_quotes (pieces ++ quoted (ascii.double_quote ∷ []) run ∷ [])) word
+      (closed_quoted pieces (ascii.double_quote ∷ []) run word h)
+  one_sign (in_double pieces run) backslash word is h = goes (in_double_escaped pieces run) word h
+  one_sign (in_double pieces run) s word is h =
+      let byte : List ℕ = byte_of s ∷ [] in
+      goes (in_double pieces (run ++ byte)) (word ++ byte) (grown pieces run word byte h)
+  one_sign (in_double_escaped pieces run) (blank b) word is h = kept pieces run word b h
+  one_sign (in_double_escaped pieces run) line_feed word is h = goes (in_double pieces run) word h
+  one_sign (in_double_escaped pieces run) single_quote word is h =
+      kept pieces run word ascii.single_quote h
+  one_sign (in_double_escaped pieces run) (other b) word is h = kept pieces run word b h
+  one_sign (in_double_escaped pieces run) s word is h =
+      let byte : List ℕ = byte_of s ∷ [] in
+      goes (in_double pieces (run ++ byte)) (word ++ byte) (grown pieces run word byte h)
+  one_sign (after_quotes pieces) (blank b) word is h =
+      ended_token (blank b) text pieces word is refl refl h
+  one_sign (after_quotes pieces) line_feed word is h =
+      ended_token line_feed text pieces word is refl refl h
+  one_sign (after_quotes pieces) single_quote word is h =
+      goes (in_single pieces []) word (opened pieces word h)
+  one_sign (after_quotes pieces) double_quote word is h =
+      goes (in_double pieces []) word (opened pieces word h)
+  one_sign (after_quotes pieces) backslash word is h = goes (after_quotes_escaped pieces) word h
+  one_sign (after_quotes pieces) s word is h =
+      let byte : List ℕ = byte_of s ∷ [] in
+      goes (in_bare pieces byte) (word ++ byte) (begun pieces word byte h)
+  one_sign (after_quotes_escaped pieces) line_feed word is h = goes (after_quotes pieces) word h
+  one_sign (after_quotes_escaped pieces) s word is h =
+      let byte : List ℕ = byte_of s ∷ [] in
+      goes (in_bare pieces byte) (word ++ byte) (begun pieces word byte h)
+  one_sign p s word is h = absurd h
 
 -- a token that has begun
 in_token : (text : List ℕ) → AgreeOn (map sign text)
 in_token [] p word h = at_end p word h
-in_token (byte ∷ text) between word h = absurd h
-in_token (byte ∷ text) between_escaped word h = absurd h
-in_token (byte ∷ text) (in_bare pieces run) word h =
-    let is = ap sign (byte_of-sign byte) in
-    in_bare_goes (sign byte) text is (in_token text) pieces run word h
-in_token (byte ∷ text) (in_bare_escaped pieces run) word h =
-    in_bare_escaped_goes (sign byte) (map sign text) (in_token text) pieces run word h
-in_token (byte ∷ text) (in_single pieces run) word h =
-    in_single_goes (sign byte) (map sign text) (in_token text) pieces run word h
-in_token (byte ∷ text) (in_double pieces run) word h =
-    in_double_goes (sign byte) (map sign text) (in_token text) pieces run word h
-in_token (byte ∷ text) (in_double_escaped pieces run) word h =
-    in_double_escaped_goes (sign byte) (map sign text) (in_token text) pieces run word h
-in_token (byte ∷ text) (after_quotes pieces) word h =
-    let is = ap sign (byte_of-sign byte) in
-    after_quotes_goes (sign byte) text is (in_token text) pieces word h
-in_token (byte ∷ text) (after_quotes_escaped pieces) word h =
-    after_quotes_escaped_goes (sign byte) (map sign text) (in_token text) pieces word h
+in_token (byte ∷ text) p word h =
+    one_sign text (in_token text) p (sign byte) word (ap sign (byte_of-sign byte)) h
 
 -- ---- before a token
 
@@ -503,40 +341,12 @@ begins_one : (signs : List Sign) (tokens : List Token) (read : Option (List ℕ 
     → begins_no_token signs ≡ false → IsTokenRead tokens read → Begins signs tokens read
 begins_one signs tokens read e h = record { nothing = λ t. cc; token = λ _. h }
 
--- a token begins with a byte outside quotes, or with a quote
-bare_first : (signs rest : List Sign) (byte : ℕ)
-    → AgreeOn rest → begins_no_token signs ≡ false
-    → Begins
-    signs
-    (cut (in_bare [] (byte ∷ [])) rest)
-    (posix_word_from Bare (byte ∷ []) rest)
-bare_first signs rest byte goes e =
-    begins_one
-    signs
-    (cut (in_bare [] (byte ∷ [])) rest)
-    (posix_word_from Bare (byte ∷ []) rest)
-    e
-    (goes (in_bare [] (byte ∷ [])) (byte ∷ []) (nothing_yet (byte ∷ [])))
-
-single_first : (signs rest : List Sign) → AgreeOn rest → begins_no_token signs ≡ false
-    → Begins signs (cut (in_single [] []) rest) (posix_word_from InSingle [] rest)
-single_first signs rest goes e =
-    begins_one
-    signs
-    (cut (in_single [] []) rest)
-    (posix_word_from InSingle [] rest)
-    e
-    (goes (in_single [] []) [] (nothing_yet []))
-
-double_first : (signs rest : List Sign) → AgreeOn rest → begins_no_token signs ≡ false
-    → Begins signs (cut (in_double [] []) rest) (posix_word_from InDouble [] rest)
-double_first signs rest goes e =
-    begins_one
-    signs
-    (cut (in_double [] []) rest)
-    (posix_word_from InDouble [] rest)
-    e
-    (goes (in_double [] []) [] (nothing_yet []))
+-- a token begins with the sign before this state
+begins_at : (p : QuoteState) (word : List ℕ) (signs rest : List Sign)
+    → AgreeOn rest → begins_no_token signs ≡ false → IsSoFar p word
+    → Begins signs (cut p rest) (posix_word_from (reader p) word rest)
+begins_at p word signs rest goes e h =
+    begins_one signs (cut p rest) (posix_word_from (reader p) word rest) e (goes p word h)
 
 abbrev BeginsOn : List Sign → Type 0
 BeginsOn signs = Begins signs (cut between signs) (posix_word_from Before [] signs)
@@ -552,30 +362,24 @@ BeginsEscapedOn signs =
 escaped_goes : (s : Sign) (signs : List Sign)
     → AgreeOn signs → BeginsOn signs → BeginsEscapedOn (s ∷ signs)
 unfolding cut posix_word_from next_state word_after byte_of begins_no_token ends_token
-escaped_goes (blank b) signs goes begins =
-    bare_first (backslash ∷ blank b ∷ signs) signs b goes refl
 escaped_goes line_feed signs goes begins = record { nothing = begins.nothing; token = begins.token }
-escaped_goes single_quote signs goes begins =
-    bare_first (backslash ∷ single_quote ∷ signs) signs 39 goes refl
-escaped_goes double_quote signs goes begins =
-    bare_first (backslash ∷ double_quote ∷ signs) signs 34 goes refl
-escaped_goes backslash signs goes begins =
-    bare_first (backslash ∷ backslash ∷ signs) signs 92 goes refl
-escaped_goes (special b) signs goes begins =
-    bare_first (backslash ∷ special b ∷ signs) signs b goes refl
-escaped_goes (other b) signs goes begins =
-    bare_first (backslash ∷ other b ∷ signs) signs b goes refl
+escaped_goes s signs goes begins =
+    let byte : List ℕ = byte_of s ∷ [] in
+    begins_at (in_bare [] byte) byte (backslash ∷ s ∷ signs) signs goes refl (nothing_yet byte)
 
 between_goes : (s : Sign) (signs : List Sign)
     → AgreeOn signs → BeginsEscapedOn signs → BeginsOn (s ∷ signs)
 unfolding cut posix_word_from next_state word_after ended byte_of begins_no_token ends_token
 between_goes (blank b) signs goes begins = begins_none (blank b ∷ signs) (cut between signs) refl
 between_goes line_feed signs goes begins = begins_none (line_feed ∷ signs) (cut between signs) refl
-between_goes single_quote signs goes begins = single_first (single_quote ∷ signs) signs goes refl
-between_goes double_quote signs goes begins = double_first (double_quote ∷ signs) signs goes refl
+between_goes single_quote signs goes begins =
+    begins_at (in_single [] []) [] (single_quote ∷ signs) signs goes refl (nothing_yet [])
+between_goes double_quote signs goes begins =
+    begins_at (in_double [] []) [] (double_quote ∷ signs) signs goes refl (nothing_yet [])
 between_goes backslash signs goes begins = record { nothing = begins.nothing; token = begins.token }
-between_goes (special b) signs goes begins = bare_first (special b ∷ signs) signs b goes refl
-between_goes (other b) signs goes begins = bare_first (other b ∷ signs) signs b goes refl
+between_goes s signs goes begins =
+    let byte : List ℕ = byte_of s ∷ [] in
+    begins_at (in_bare [] byte) byte (s ∷ signs) signs goes refl (nothing_yet byte)
 
 -- both, by one induction
 before_token : (text : List ℕ) → BeginsOn (map sign text) × BeginsEscapedOn (map sign text)
@@ -584,10 +388,10 @@ before_token [] = (
   begins_none [] [] refl,
   begins_one
       (backslash ∷ [])
-      ((unclosed (92 ∷ []) [] ∷ []) ∷ [])
+      ((unclosed (ascii.backslash ∷ []) [] ∷ []) ∷ [])
       None
       refl
-      record { token = unclosed (92 ∷ []) [] ∷ []; whole = refl; no_word = refl },
+      record { token = unclosed (ascii.backslash ∷ []) [] ∷ []; whole = refl; no_word = refl },
 )
 before_token (byte ∷ text) =
     let parts = before_token text in (

@@ -5,12 +5,13 @@ use Rattle.std.specs.List.{list_all}
 use Rattle.std.proofs.lemmas.Bool.{and_parts}
 use Rattle.std.proofs.lemmas.Bool.Decides.{Decides-eqb, nat_tests}
 use Rattle.memchr.specs.Find.{is_byte}
+use Rattle.cc_base.specs.Bytes as ascii
 use Rattle.cc_quote.specs.Escapes.{escaped_byte as written}
 use Rattle.cc_quote.specs.PosixTokens.{Sign, sign, byte_of}
-use Rattle.cc_quote.specs.PosixTokens.Sign.{blank, line_feed, single_quote, double_quote, backslash, special, other}
+use Rattle.cc_quote.specs.PosixTokens.Sign.{single_quote, other}
 use Rattle.cc_quote.specs.PosixQuote.{next_state, word_after, ended, posix_word_from, posix_word_of, is_posix_safe, is_posix_safe_word, posix_escaped, posix_quoted}
 use Rattle.cc_quote.specs.declared.posix.QuoteState.{QuoteState}
-use Rattle.cc_quote.specs.declared.posix.QuoteState.TheVariants.{Before, BeforeEscaped, Bare, BareEscaped, InSingle, InDouble, InDoubleEscaped}
+use Rattle.cc_quote.specs.declared.posix.QuoteState.TheVariants.{Before, Bare, InSingle, InDouble, InDoubleEscaped}
 use Rattle.cc_quote.proofs.Characters.{AreHigh, IsCharacter, character}
 use Rattle.cc_quote.proofs.Characters.IsCharacter.{low, high}
 
@@ -64,33 +65,18 @@ after_other _ = Bare
 pub next-other : (state : QuoteState) (byte : ℕ) → next_state state (other byte) ≡ Some (after_other state)
 unfolding next_state
 next-other Before byte = refl
-next-other BeforeEscaped byte = refl
-next-other Bare byte = refl
-next-other BareEscaped byte = refl
-next-other InSingle byte = refl
-next-other InDouble byte = refl
-next-other InDoubleEscaped byte = refl
+next-other state byte = refl
 
 -- two such bytes in a row
 pub more-other : (state : QuoteState) (first byte : ℕ) (word run bytes : List ℕ)
     → word_after (after_other state) (other byte) (word_after state (other first) word run) bytes ≡ word_after state (other first) word (run ++ bytes)
 unfolding word_after
-more-other Before first byte word run bytes = append_assoc word run bytes
-more-other BeforeEscaped first byte word run bytes = append_assoc word run bytes
-more-other Bare first byte word run bytes = append_assoc word run bytes
-more-other BareEscaped first byte word run bytes = append_assoc word run bytes
-more-other InSingle first byte word run bytes = append_assoc word run bytes
-more-other InDouble first byte word run bytes = append_assoc word run bytes
 more-other InDoubleEscaped first byte word run bytes = append_assoc (word ++ codes "\\") run bytes
+more-other state first byte word run bytes = append_assoc word run bytes
 
 after_other-twice : (state : QuoteState) → after_other (after_other state) ≡ after_other state
 after_other-twice Before = refl
-after_other-twice BeforeEscaped = refl
-after_other-twice Bare = refl
-after_other-twice BareEscaped = refl
-after_other-twice InSingle = refl
-after_other-twice InDouble = refl
-after_other-twice InDoubleEscaped = refl
+after_other-twice state = refl
 
 -- such bytes, after a first one
 high_run : (state : QuoteState) (first : ℕ) (run bytes rest word : List ℕ) → AreHigh bytes
@@ -112,12 +98,7 @@ high_run state first run (byte ∷ bytes) rest word h =
 pub same-word : (state : QuoteState) (a b : ℕ) (word bytes : List ℕ) → word_after state (other a) word bytes ≡ word_after state (other b) word bytes
 unfolding word_after
 same-word Before a b word bytes = refl
-same-word BeforeEscaped a b word bytes = refl
-same-word Bare a b word bytes = refl
-same-word BareEscaped a b word bytes = refl
-same-word InSingle a b word bytes = refl
-same-word InDouble a b word bytes = refl
-same-word InDoubleEscaped a b word bytes = refl
+same-word state a b word bytes = refl
 
 -- the reading goes on after a character
 pub character_read : (state next : QuoteState) (c : ℕ) (rest word : List ℕ) → next_state state (sign c) ≡ Some next
@@ -185,22 +166,17 @@ posix_escaped_byte = written (is_byte 39) (λ _. codes "'\\''")
 
 escaped_byte : (byte : ℕ) (rest word : List ℕ) → posix_word_from InSingle word (map sign (posix_escaped_byte byte ++ rest)) ≡ posix_word_from InSingle (word ++ byte ∷ []) (map sign rest)
 unfolding posix_word_from next_state word_after sign byte_of
-escaped_byte byte rest word = by_test (byte == 39) refl
+escaped_byte byte rest word = by_test (byte == ascii.single_quote) refl
   where
-    kept : byte == 39 ≡ false → sign byte ≢ single_quote
+    kept : byte == ascii.single_quote ≡ false → sign byte ≢ single_quote
     kept e = grind (arith, nat_tests)
 
     by_sign : (s : Sign) → s ≢ single_quote → byte_of s ≡ byte → posix_word_from InSingle word (s ∷ map sign rest) ≡ posix_word_from InSingle (word ++ byte ∷ []) (map sign rest)
     by_sign single_quote h e = absurd (h refl)
-    by_sign (blank b) h e = ap (λ x. posix_word_from InSingle (word ++ x ∷ []) (map sign rest)) e
-    by_sign line_feed h e = ap (λ x. posix_word_from InSingle (word ++ x ∷ []) (map sign rest)) e
-    by_sign double_quote h e = ap (λ x. posix_word_from InSingle (word ++ x ∷ []) (map sign rest)) e
-    by_sign backslash h e = ap (λ x. posix_word_from InSingle (word ++ x ∷ []) (map sign rest)) e
-    by_sign (special b) h e = ap (λ x. posix_word_from InSingle (word ++ x ∷ []) (map sign rest)) e
-    by_sign (other b) h e = ap (λ x. posix_word_from InSingle (word ++ x ∷ []) (map sign rest)) e
+    by_sign s h e = ap (λ x. posix_word_from InSingle (word ++ x ∷ []) (map sign rest)) e
 
-    by_test : (q : Bool) → byte == 39 ≡ q → posix_word_from InSingle word (map sign (cond q (codes "'\\''") (byte ∷ []) ++ rest)) ≡ posix_word_from InSingle (word ++ byte ∷ []) (map sign rest)
-    by_test true e = ap (λ b. posix_word_from InSingle (word ++ b ∷ []) (map sign rest)) (sym ((Decides-eqb byte 39).0 e))
+    by_test : (q : Bool) → byte == ascii.single_quote ≡ q → posix_word_from InSingle word (map sign (cond q (codes "'\\''") (byte ∷ []) ++ rest)) ≡ posix_word_from InSingle (word ++ byte ∷ []) (map sign rest)
+    by_test true e = ap (λ b. posix_word_from InSingle (word ++ b ∷ []) (map sign rest)) (sym ((Decides-eqb byte ascii.single_quote).0 e))
     by_test false e = by_sign (sign byte) (kept e) (byte_of-sign byte)
 
 -- an escaped text between `'`
@@ -214,7 +190,7 @@ escaped_text (byte ∷ text) rest word =
 
 pub quoted_reads : (text : List ℕ) → posix_word_of (codes "'" ++ posix_escaped text ++ codes "'") ≡ Some (text, [])
 unfolding posix_word_of posix_word_from next_state word_after ended sign
-quoted_reads text = escaped_text text (39 ∷ []) []
+quoted_reads text = escaped_text text (ascii.single_quote ∷ []) []
 
 -- a text that was quoted is read as the text, and nothing is left
 pub posix_reads_back : (text quoted : List ℕ) → quoted ≡ posix_quoted text → posix_word_of quoted ≡ Some (text, [])

@@ -19,9 +19,9 @@ IsKeptTo text at = powershell_escaped text ≡ take at text ++ powershell_escape
 -- any other byte has no replacement
 not_escaped : (byte : ℕ) (rest : List ℕ) → may_begin byte ≡ false → is_escaped byte rest ≡ false
 not_escaped byte rest other =
-    let feed : byte == 10 ≡ false = grind (arith, nat_tests) in
-    let quote : byte == 39 ≡ false = grind (arith, nat_tests) in
-    let right : byte == 226 ≡ false = grind (arith, nat_tests) in
+    let feed : byte == line_feed ≡ false = grind (arith, nat_tests) in
+    let quote : byte == single_quote ≡ false = grind (arith, nat_tests) in
+    let right : byte == right_quote_first ≡ false = grind (arith, nat_tests) in
     ap (λ b. b || begins_quote byte rest) feed ∙ ap (λ b. b || begins_right_quote byte rest) quote ∙ ap (λ b. b && begins_second rest) right
 
 -- a byte that is not escaped is kept

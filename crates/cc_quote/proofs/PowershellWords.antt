@@ -7,7 +7,7 @@ use Rattle.std.proofs.lemmas.Bool.{or_parts}
 use Rattle.std.proofs.lemmas.Bool.Decides.{Decides-eqb}
 use Rattle.std.proofs.lemmas.List.{append-nil, drop_all, get_or-drop, length-drop, map-append, take_all}
 use Rattle.std.proofs.lemmas.Str.{IsUtf8-drop, IsCharBoundary-past_char, drop_past_char}
-use Rattle.cc_base.specs.Bytes.{line_feed, single_quote, right_quote}
+use Rattle.cc_base.specs.Bytes.{line_feed, single_quote, right_quote, right_quote_first, right_quote_second, right_quote_third}
 use Rattle.cc_quote.specs.PowershellQuote.{begins_right_quote, begins_quote, powershell_escaped, powershell_word_of, sign_before, powershell_signs, is_escaped, IsFirstEscaped, HasNoQuoteBefore, IsFirstQuote}
 use Rattle.cc_quote.specs.QuotedWord.{quoted, word_from, line_feeds_as_spaces, IsWithoutQuotes, IsCutAtQuote}
 use Rattle.cc_quote.specs.Signs.{sign, HasNoQuote}
@@ -52,11 +52,11 @@ module _ (text : List ℕ) (at : ℕ) (within : at < length text) (begins : begi
   -- the text may be cut after it
   pub cut_after : IsUtf8 text → IsCharBoundary text (at + 3)
   cut_after utf8 =
-      let byte : get_or text at 0 ≡ 226 = byte_at (128 ∷ 153 ∷ stands.0) stands.1 in
+      let byte : get_or text at 0 ≡ right_quote_first = byte_at (right_quote_second ∷ right_quote_third ∷ stands.0) stands.1 in
       let here : IsCharBoundary text at = (omega arith, λ _ _. omega arith) in
       IsCharBoundary-past_char text stands.0 at 8217 (omega arith) (IsUtf8-drop text at utf8 here) spelled
     where
-      byte_at : (rest : List ℕ) → drop at text ≡ 226 ∷ rest → get_or text at 0 ≡ 226
+      byte_at : (rest : List ℕ) → drop at text ≡ right_quote_first ∷ rest → get_or text at 0 ≡ right_quote_first
       byte_at rest e = sym (rw add-zero at (get_or-drop at text 0 0)) ∙ ap (λ bs. get_or bs 0 0) e
 
 -- a quote that is no `'` is U+2019
@@ -64,7 +64,7 @@ pub begins_right : (byte : ℕ) (rest : List ℕ) → byte ≢ 39 → begins_quo
 begins_right byte rest no_quote h = by_test (byte == single_quote) refl h
   where
     by_test : (q : Bool) → byte == single_quote ≡ q → q || begins_right_quote byte rest ≡ true → begins_right_quote byte rest ≡ true
-    by_test true e h = absurd (no_quote ((Decides-eqb byte 39).0 e))
+    by_test true e h = absurd (no_quote ((Decides-eqb byte single_quote).0 e))
     by_test false e h = h
 
 -- so is what is escaped and is neither a `'` nor a line feed
@@ -77,11 +77,11 @@ escaped_right byte rest no_quote no_line_feed h = by_test (byte == line_feed) re
 
 -- the escape of a text whose first escaped character is U+2019
 pub escaped_at_right : (text : List ℕ) (at : ℕ) → IsFirstEscaped text at → begins_right_quote (get_or text at 0) (drop (at + 1) text) ≡ true
-    → powershell_escaped text ≡ take at text ++ (39 ∷ right_quote) ++ powershell_escaped (drop (at + 3) text)
+    → powershell_escaped text ≡ take at text ++ (single_quote ∷ right_quote) ++ powershell_escaped (drop (at + 3) text)
 escaped_at_right text at first begins =
     first.before
     ∙ ap (λ bs. take at text ++ powershell_escaped bs) (right_at text at first.within begins)
-    ∙ sym (append_assoc (take at text) (39 ∷ right_quote) (powershell_escaped (drop (at + 3) text)))
+    ∙ sym (append_assoc (take at text) (single_quote ∷ right_quote) (powershell_escaped (drop (at + 3) text)))
 
 -- ---- where the first quote of a text is
 
@@ -127,10 +127,10 @@ without_quotes text at past h = record {
 
 module _ (text : List ℕ) (at : ℕ) (first : IsFirstQuote text at) where
   -- the first quote is a `'`
-  pub cut_at_single : get_or text at 0 ≡ 39 → IsCutAtQuote powershell_signs text (take at text) (39 ∷ []) (drop (at + 1) text)
+  pub cut_at_single : get_or text at 0 ≡ 39 → IsCutAtQuote powershell_signs text (take at text) (single_quote ∷ []) (drop (at + 1) text)
   cut_at_single e =
       let within : at < length text = first.within in
-      let here : drop at text ≡ 39 ∷ drop (at + 1) text = rw add-one (drop-cons text at 0 within) ∙ ap (λ b. b ∷ drop (at + 1) text) e in
+      let here : drop at text ≡ single_quote ∷ drop (at + 1) text = rw add-one (drop-cons text at 0 within) ∙ ap (λ b. b ∷ drop (at + 1) text) e in
       record {
         signs_are = first.before.signs_are ∙ ap (λ s. map sign (take at text) ++ s) (powershell_begins (drop at text) (drop (at + 1) text) here).signs_are;
         no_quote = first.before.no_quote;

@@ -1,8 +1,8 @@
 -- How a text within quotes is read, by any reader that adds what it reads to the text so far.
 use Rattle.std.proofs.Common.{◌≡◌, ℕ, Bool, true, false, not, cond, List, [], ◌∷◌, ◌++◌, map, ◌==◌, IsTrue, refl, sym, ap, ◌∙◌, append_assoc, append-nil}
-use Rattle.cc_base.specs.Bytes.{single_quote}
+use Rattle.cc_base.specs.Bytes.{single_quote, is_blank}
 use Rattle.cc_quote.specs.QuotedWord.{quoted, word_from}
-use Rattle.cc_quote.specs.Signs.{Sign, blank, quote, other, is_blank, sign, HasNoQuote}
+use Rattle.cc_quote.specs.Signs.{Sign, blank, quote, other, sign, HasNoQuote}
 use Rattle.cc_quote.specs.Tokens.{Piece, cut}
 use Rattle.cc_quote.specs.Tokens.QuoteState.{in_quotes}
 

@@ -2,7 +2,8 @@
 use Rattle.std.proofs.Common.{◌≡◌, ◌≢◌, ◌⊎◌, ℕ, true, false, List, [], ◌∷◌, ◌++◌, map, flat_map, Option, Some, None, refl, sym, ap, subst, ◌∙◌, append_assoc, append-nil, inl, inr}
 use Rattle.std.specs.Str.{NonePass}
 use Rattle.cc_quote.specs.QuotedWord.{before, bare, quoted, after_quote, word_from, IsBareRead, IsWithoutQuotes, IsCutAtQuote, BeginsWithQuote, BeginsWithNoQuote}
-use Rattle.cc_quote.specs.Signs.{Sign, blank, quote, other, bytes, is_blank, sign}
+use Rattle.cc_quote.specs.Signs.{Sign, blank, quote, other, bytes, sign}
+use Rattle.cc_base.specs.Bytes.{is_blank, space}
 use Rattle.cc_quote.proofs.Blanks.{bytes_no_blank}
 use Rattle.cc_quote.proofs.WithinQuotes.{word_reads, kept_text}
 
@@ -23,10 +24,8 @@ module _ (signs : List ℕ → List Sign) (are : AreSigns signs) where
   closed rest word none = by_sign (signs rest) none ∙ ap (λ bs. Some (word, bs)) (are.bytes_are rest)
     where
       by_sign : (s : List Sign) → ((opening : List ℕ) (more : List Sign) → s ≢ quote opening ∷ more) → word_from (after_quote word) s ≡ Some (word, flat_map bytes s)
-      by_sign [] h = refl
-      by_sign (blank run ∷ more) h = refl
-      by_sign (other run ∷ more) h = refl
       by_sign (quote run ∷ more) h = absurd (h run more refl)
+      by_sign s h = refl
 
   -- a run, a quote and what follows it, which begins with no quote: the word is read
   pub closes : (text run opening rest word : List ℕ) → IsCutAtQuote signs text run opening rest → BeginsWithNoQuote signs rest
@@ -84,9 +83,9 @@ module _ (signs : List ℕ → List Sign) (are : AreSigns signs) where
       ∙ bare_end back (byte ∷ front) at.0.ends
 
   -- a run without a blank, and a space: the word ends there
-  pub word_before_space : (byte : ℕ) (run rest : List ℕ) → BeginsWithNoQuote signs (byte ∷ run ++ 32 ∷ rest) → NonePass is_blank (byte ∷ run)
-      → word_from before (signs (byte ∷ run ++ 32 ∷ rest)) ≡ Some (byte ∷ run, 32 ∷ rest)
+  pub word_before_space : (byte : ℕ) (run rest : List ℕ) → BeginsWithNoQuote signs (byte ∷ run ++ space ∷ rest) → NonePass is_blank (byte ∷ run)
+      → word_from before (signs (byte ∷ run ++ space ∷ rest)) ≡ Some (byte ∷ run, space ∷ rest)
   word_before_space byte run rest none clear =
-      ap (word_from before) (are.of_other byte (run ++ 32 ∷ rest) clear.0 none)
-      ∙ bare_run run (32 ∷ rest) (byte ∷ []) clear.1
-      ∙ bare_end (32 ∷ rest) (byte ∷ run) (inr (32, rest, refl, refl))
+      ap (word_from before) (are.of_other byte (run ++ space ∷ rest) clear.0 none)
+      ∙ bare_run run (space ∷ rest) (byte ∷ []) clear.1
+      ∙ bare_end (space ∷ rest) (byte ∷ run) (inr (32, rest, refl, refl))

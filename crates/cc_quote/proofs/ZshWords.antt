@@ -51,11 +51,11 @@ module _ (is_marked : ℕ → Bool) (backslash_marked : is_marked 92 ≡ true) w
   -- a marked byte, whatever follows
   marks-byte : (byte : ℕ) (rest : List ℕ) → marks_from false (marked_byte is_marked byte ++ rest) ≡ mark_of is_marked byte ∷ marks_from false rest
   unfolding marks_from
-  marks-byte byte rest = by_tests (is_marked byte) (byte == 92) refl refl
+  marks-byte byte rest = by_tests (is_marked byte) (byte == backslash) refl refl
     where
-      by_tests : (m b : Bool) → is_marked byte ≡ m → byte == 92 ≡ b → marks_from false (cond m (92 ∷ byte ∷ []) (byte ∷ []) ++ rest) ≡ cond m (escaped byte) (kept byte) ∷ marks_from false rest
+      by_tests : (m b : Bool) → is_marked byte ≡ m → byte == backslash ≡ b → marks_from false (cond m (backslash ∷ byte ∷ []) (byte ∷ []) ++ rest) ≡ cond m (escaped byte) (kept byte) ∷ marks_from false rest
       by_tests true b e f = refl
-      by_tests false true e f = let is : byte ≡ 92 = (Decides-eqb byte 92).0 f in let both : true ≡ false = sym backslash_marked ∙ ap is_marked (sym is) ∙ e in cc
+      by_tests false true e f = let is : byte ≡ 92 = (Decides-eqb byte backslash).0 f in let both : true ≡ false = sym backslash_marked ∙ ap is_marked (sym is) ∙ e in cc
       by_tests false false e f = marks-kept byte rest f
 
   -- a marked text, whatever follows
@@ -135,7 +135,7 @@ run_unescaped (byte ∷ run) rest (h, hs) =
     both (Some bytes) = refl
 
 -- a character after a backslash
-character_unescaped : (c : ℕ) (bytes rest : List ℕ) → IsCharacter c bytes → unmarked (marks_from false (92 ∷ (bytes ++ rest))) ≡ option_map (λ more. bytes ++ more) (unmarked (marks_from false rest))
+character_unescaped : (c : ℕ) (bytes rest : List ℕ) → IsCharacter c bytes → unmarked (marks_from false (backslash ∷ (bytes ++ rest))) ≡ option_map (λ more. bytes ++ more) (unmarked (marks_from false rest))
 unfolding marks_from unmarked
 character_unescaped c bytes rest (low byte below) = refl
 character_unescaped c bytes rest (high character byte run above first h) =
@@ -150,25 +150,25 @@ abbrev pub unescaped_after : List ℕ → List ℕ → Option (List ℕ)
 unescaped_after word rest = option_map (λ bytes. word ++ bytes) (zsh_unescaped rest)
 
 -- the reading goes on after a run, a backslash and a character
-pub goes_on : (word rest run next after : List ℕ) (c : ℕ) → (rest ≡ run ++ 92 ∷ next) × ((k : ℕ) → k < length run → get_or run k 0 ≢ 92) → next ≡ encode_utf8 c ++ after
+pub goes_on : (word rest run next after : List ℕ) (c : ℕ) → (rest ≡ run ++ backslash ∷ next) × ((k : ℕ) → k < length run → get_or run k 0 ≢ 92) → next ≡ encode_utf8 c ++ after
     → unescaped_after ((word ++ run) ++ encode_utf8 c) after ≡ unescaped_after word rest
 unfolding zsh_unescaped marks
 goes_on word rest run next after c (whole, none) cut =
     three (unmarked (marks_from false after))
     ∙ ap (λ read. option_map (λ bytes. word ++ bytes) (option_map (λ bytes. run ++ bytes) read)) (sym (character_unescaped c (encode_utf8 c) after (character c)))
-    ∙ ap (option_map (λ bytes. word ++ bytes)) (sym (run_unescaped run (92 ∷ (encode_utf8 c ++ after)) (none_escaped run none)))
-    ∙ ap (λ text. option_map (λ bytes. word ++ bytes) (unmarked (marks_from false text))) (ap (λ text. run ++ 92 ∷ text) (sym cut) ∙ sym whole)
+    ∙ ap (option_map (λ bytes. word ++ bytes)) (sym (run_unescaped run (backslash ∷ (encode_utf8 c ++ after)) (none_escaped run none)))
+    ∙ ap (λ text. option_map (λ bytes. word ++ bytes) (unmarked (marks_from false text))) (ap (λ text. run ++ backslash ∷ text) (sym cut) ∙ sym whole)
   where
     three : (read : Option (List ℕ)) → option_map (λ bytes. ((word ++ run) ++ encode_utf8 c) ++ bytes) read ≡ option_map (λ bytes. word ++ bytes) (option_map (λ bytes. run ++ bytes) (option_map (λ bytes. encode_utf8 c ++ bytes) read))
     three None = refl
     three (Some bytes) = ap Some (append_assoc (word ++ run) (encode_utf8 c) bytes ∙ append_assoc word run (encode_utf8 c ++ bytes))
 
 -- a backslash is last
-pub ends_open : (word rest run next : List ℕ) → (rest ≡ run ++ 92 ∷ next) × ((k : ℕ) → k < length run → get_or run k 0 ≢ 92) → next ≡ [] → unescaped_after word rest ≡ None
+pub ends_open : (word rest run next : List ℕ) → (rest ≡ run ++ backslash ∷ next) × ((k : ℕ) → k < length run → get_or run k 0 ≢ 92) → next ≡ [] → unescaped_after word rest ≡ None
 unfolding zsh_unescaped marks marks_from unmarked
 ends_open word rest run next (whole, none) ends =
-    ap (λ text. option_map (λ bytes. word ++ bytes) (unmarked (marks_from false text))) (whole ∙ ap (λ text. run ++ 92 ∷ text) ends)
-    ∙ ap (option_map (λ bytes. word ++ bytes)) (run_unescaped run (92 ∷ []) (none_escaped run none))
+    ap (λ text. option_map (λ bytes. word ++ bytes) (unmarked (marks_from false text))) (whole ∙ ap (λ text. run ++ backslash ∷ text) ends)
+    ∙ ap (option_map (λ bytes. word ++ bytes)) (run_unescaped run (backslash ∷ []) (none_escaped run none))
 
 -- no backslash is left
 pub ends_kept : (word rest : List ℕ) → ((k : ℕ) → k < length rest → get_or rest k 0 ≢ 92) → unescaped_after word rest ≡ Some (word ++ rest)

@@ -1,8 +1,8 @@
 -- The tokens of an Elvish script, by its bytes.
 use Rattle.std.specs.Prelude.{ℕ, Bool, not, ◌||◌, List, [], ◌==◌, map, IsTrue, ◌≢◌}
 use Rattle.std.specs.List.{AllByRecursion}
-use Rattle.cc_base.specs.Bytes.{single_quote}
-use Rattle.cc_quote.specs.Signs.{is_blank, sign}
+use Rattle.cc_base.specs.Bytes.{single_quote, is_blank}
+use Rattle.cc_quote.specs.Signs.{sign}
 use Rattle.cc_quote.specs.Tokens.{Token, cut}
 use Rattle.cc_quote.specs.Tokens.QuoteState.{between}
 

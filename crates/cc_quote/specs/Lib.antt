@@ -6,6 +6,8 @@ pub mod FishEscapes
 pub mod FishStates
 pub mod FishQuote
 pub mod FishTokens
+pub mod PlainName
+pub mod PlainPath
 pub mod PosixQuote
 pub mod PosixTokenWords
 pub mod PosixTokens

@@ -24,8 +24,8 @@ use Rattle.std.specs.Borrow.{Bor}
 use Rattle.std.specs.Str.{NoCharPasses}
 use Rattle.std.specs.String.{string_bytes}
 use Rattle.std.specs.declared.string.String.{String}
-use Rattle.cc_base.specs.Bytes.{line_feed, space}
-use Rattle.cc_quote.specs.Signs.{Sign, blank, quote, other, bytes, is_blank, sign, HasNoQuote}
+use Rattle.cc_base.specs.Bytes.{line_feed, space, is_blank}
+use Rattle.cc_quote.specs.Signs.{Sign, blank, quote, other, bytes, sign, HasNoQuote}
 
 -- where a reader is, with the word so far: before the word, in a bare one, in a quoted one, or
 -- after a quote that closes it unless another follows

@@ -1,7 +1,7 @@
 -- What the bytes of a text are to the readers of words and of tokens.
-use Rattle.std.specs.Prelude.{ℕ, Bool, not, ◌||◌, ◌==◌, if◌then◌else◌, List, [], ◌∷◌, IsTrue}
+use Rattle.std.specs.Prelude.{ℕ, not, ◌==◌, if◌then◌else◌, List, [], ◌∷◌, IsTrue}
 use Rattle.std.specs.List.{AllByRecursion}
-use Rattle.cc_base.specs.Bytes.{tab, line_feed, space, single_quote}
+use Rattle.cc_base.specs.Bytes.{single_quote, is_blank}
 
 -- a space, a tab or a line feed; a quote; anything else; each with its bytes
 pub data Sign : Type 0 where
@@ -14,10 +14,6 @@ abbrev pub bytes : Sign → List ℕ
 bytes (blank run) = run
 bytes (quote run) = run
 bytes (other run) = run
-
--- a space, a tab or a line feed
-abbrev pub is_blank : ℕ → Bool
-is_blank byte = byte == space || byte == tab || byte == line_feed
 
 -- the sign of a byte, where `'` is the only quote
 unfoldable pub sign : ℕ → Sign

@@ -1,16 +1,17 @@
 -- A registration for bash is read as what it was made for.
 use Rattle.std.proofs.Common.{◌≡◌, ◌==◌, ℕ, IsTrue, List, [], ◌∷◌, ◌++◌, Some, option_map, drop, codes, refl, sym, ◌∙◌, ap, append_assoc, append-nil}
 use Rattle.std.specs.Option.{option_and_then}
-use Rattle.cc_command.specs.PlainName.{is_plain_name, name_byte}
-use Rattle.cc_command.proofs.NameBytes.{plain_bytes}
+use Rattle.cc_base.specs.Bytes.{equals, line_feed, open_parenthesis, space}
+use Rattle.cc_quote.specs.PlainName.{is_plain_name, name_byte}
+use Rattle.cc_quote.proofs.NameBytes.{plain_bytes, AreNameBytes, name_lacks, name_no_blanks, name_no_line_feeds, plain_some}
 use Rattle.cc_quote.specs.BashDouble.{bash_doubled}
 use Rattle.cc_quote.specs.PosixQuote.{posix_word_of}
 use Rattle.cc_quote.proofs.BashDoubles.{doubled_is_word}
-use Rattle.cc_registrations.specs.Found.{after, with_front, cut_at, up_to, after_mark, between, without_blanks, after_last_from, last_line, word_by, word_after, words_from, before_last}
+use Rattle.cc_base.specs.Found.{after, with_front, cut_at, up_to, after_mark, between, without_blanks, after_last_from, last_line, word_by, word_after, words_from, before_last}
 use Rattle.cc_registrations.specs.Names.{underscored}
 use Rattle.cc_registrations.specs.BashRegistration.{function_begins, function_head, call_begins, call_ends, name_ends, otherwise, registration_ends, registration_front, sorted_call, plain_call, registration_tail, bash_registration, variable_ends, bash_variable, bash_completer, bash_name, bash_binary, BashRegistrationReads, BashReads}
-use Rattle.cc_registrations.proofs.Finding.{past_lacking, past_free, run_on, no_blanks, before_fi}
-use Rattle.cc_registrations.proofs.NameBytes.{AreNameBytes, name_lacks, name_no_blanks, name_no_line_feeds, underscored_bytes, plain_some}
+use Rattle.cc_base.proofs.Finding.{past_lacking, past_free, run_on, no_blanks, before_fi}
+use Rattle.cc_registrations.proofs.Underscored.{underscored_bytes}
 
 -- ---- the registration, piece after piece
 
@@ -36,14 +37,14 @@ module _ (variable name bin completer : List ℕ) where
   abbrev before_bin : List ℕ
   before_bin = (registration_front variable name ++ bash_doubled completer) ++ (((((call_ends ++ n) ++ name_ends) ++ bin) ++ otherwise) ++ n)
 
-  up_to_bin : bash_registration variable name bin completer ≡ before_bin ++ 32 ∷ (bin ++ registration_ends)
+  up_to_bin : bash_registration variable name bin completer ≡ before_bin ++ space ∷ (bin ++ registration_ends)
   unfolding bash_registration sorted_call plain_call registration_tail name_ends
   up_to_bin =
       let front = registration_front variable name ++ bash_doubled completer in
       let middle = (((call_ends ++ n) ++ name_ends) ++ bin) ++ otherwise in
       ap (λ t. front ++ (middle ++ t)) (append_assoc (n ++ name_ends) bin registration_ends ∙ append_assoc n name_ends (bin ++ registration_ends))
-      ∙ ap (λ t. front ++ t) (sym (append_assoc middle n (32 ∷ (bin ++ registration_ends))))
-      ∙ sym (append_assoc front (middle ++ n) (32 ∷ (bin ++ registration_ends)))
+      ∙ ap (λ t. front ++ t) (sym (append_assoc middle n (space ∷ (bin ++ registration_ends))))
+      ∙ sym (append_assoc front (middle ++ n) (space ∷ (bin ++ registration_ends)))
 
   module _ (variable_plain : IsTrue (is_plain_name variable)) (name_plain : IsTrue (is_plain_name name)) (bin_plain : IsTrue (is_plain_name bin)) where
     of_name : AreNameBytes n
@@ -58,15 +59,15 @@ module _ (variable name bin completer : List ℕ) where
     cut =
         ap (cut_at variable_ends) in_turn
         ∙ past_free variable_ends function_begins (n ++ (function_head ++ (variable ++ (variable_ends ++ call)))) refl
-        ∙ ap (with_front function_begins) (past_lacking 61 (drop 1 variable_ends) n (function_head ++ (variable ++ (variable_ends ++ call))) (name_lacks 61 n refl of_name))
+        ∙ ap (with_front function_begins) (past_lacking equals (drop 1 variable_ends) n (function_head ++ (variable ++ (variable_ends ++ call))) (name_lacks equals n refl of_name))
         ∙ ap (λ found. with_front function_begins (with_front n found)) (past_free variable_ends function_head (variable ++ (variable_ends ++ call)) refl)
-        ∙ ap (λ found. with_front function_begins (with_front n (with_front function_head found))) (past_lacking 61 (drop 1 variable_ends) variable (variable_ends ++ call) (name_lacks 61 variable refl (plain_bytes variable variable_plain)))
+        ∙ ap (λ found. with_front function_begins (with_front n (with_front function_head found))) (past_lacking equals (drop 1 variable_ends) variable (variable_ends ++ call) (name_lacks equals variable refl (plain_bytes variable variable_plain)))
 
     last : last_line before ≡ codes "        " ++ variable
     unfolding last_line after_last_from function_begins function_head
     last =
-        run_on (λ byte. byte == 10) (codes "_clap_complete_") n (function_head ++ (variable ++ [])) (name_no_line_feeds n of_name)
-        ∙ run_on (λ byte. byte == 10) (codes "        ") variable [] (name_no_line_feeds variable (plain_bytes variable variable_plain))
+        run_on (λ byte. byte == line_feed) (codes "_clap_complete_") n (function_head ++ (variable ++ [])) (name_no_line_feeds n of_name)
+        ∙ run_on (λ byte. byte == line_feed) (codes "        ") variable [] (name_no_line_feeds variable (plain_bytes variable variable_plain))
 
     variable_found : bash_variable (bash_registration variable name bin completer) ≡ Some variable
     unfolding bash_variable up_to without_blanks
@@ -85,7 +86,7 @@ module _ (variable name bin completer : List ℕ) where
     unfolding bash_name between up_to after_mark after with_front cut_at function_begins function_head name_byte
     name_found =
         ap (between (codes "_clap_complete_") (codes "() {")) in_turn
-        ∙ ap (option_map (λ c. c.0)) (past_lacking 40 (codes ") {") n (function_head ++ (variable ++ (variable_ends ++ call))) (name_lacks 40 n refl of_name))
+        ∙ ap (option_map (λ c. c.0)) (past_lacking open_parenthesis (codes ") {") n (function_head ++ (variable ++ (variable_ends ++ call))) (name_lacks open_parenthesis n refl of_name))
         ∙ ap Some (append-nil n)
 
     binary_found : bash_binary (bash_registration variable name bin completer) ≡ Some bin

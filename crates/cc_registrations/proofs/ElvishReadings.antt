@@ -1,21 +1,20 @@
 -- A registration for Elvish is read as what it was made for.
 use Rattle.std.proofs.Common.{◌≡◌, ℕ, IsTrue, List, [], ◌∷◌, ◌++◌, Some, option_map, drop, codes, refl, ◌∙◌, ap, ap₂, append_assoc, append-nil}
 use Rattle.std.specs.Option.{option_and_then}
-use Rattle.cc_command.specs.PlainName.{is_plain_name, name_byte}
-use Rattle.cc_command.proofs.NameBytes.{plain_bytes}
+use Rattle.cc_quote.specs.PlainName.{is_plain_name, name_byte}
+use Rattle.cc_quote.proofs.NameBytes.{plain_bytes, name_lacks, name_no_blanks, posix_plain, path_safe, safe_as_it_is}
 use Rattle.cc_quote.specs.ElvishQuote.{elvish_word_of}
-use Rattle.cc_quote.specs.Signs.{is_blank}
-use Rattle.cc_quote.proofs.BeforeBlanks.{elvish_before_space}
-use Rattle.cc_registrations.specs.Found.{after, with_front, cut_at, up_to, after_mark, between, without_blanks, after_last_from, last_run, word_by, word_after}
-use Rattle.cc_registrations.specs.Names.{is_plain_path}
+use Rattle.cc_base.specs.Bytes.{is_blank, close_bracket, equals, space}
+use Rattle.cc_quote.proofs.BeforeBlanks.{elvish_before_space, bare_first}
+use Rattle.cc_base.specs.Found.{after, with_front, cut_at, up_to, after_mark, between, without_blanks, after_last_from, last_run, word_by, word_after}
+use Rattle.cc_quote.specs.PlainPath.{is_plain_path}
 use Rattle.cc_registrations.specs.ElvishRegistration.{registration_begins, function_head, shell_set, registration_ends, elvish_registration, variable_ends, elvish_variable, elvish_completer, elvish_binary, ElvishRegistrationReads, ElvishReads}
-use Rattle.cc_registrations.proofs.Finding.{past_lacking, past_free, run_on, bare_first}
-use Rattle.cc_registrations.proofs.NameBytes.{name_lacks, name_no_blanks, posix_plain, path_safe, safe_as_it_is}
+use Rattle.cc_base.proofs.Finding.{past_lacking, past_free, run_on}
 
 module _ (variable bin completer : List ℕ) (variable_plain : IsTrue (is_plain_name variable)) (bin_plain : IsTrue (is_plain_name bin)) (completer_plain : IsTrue (is_plain_path completer)) where
   -- after the variable's mark
   abbrev call : List ℕ
-  call = 32 ∷ (completer ++ registration_ends)
+  call = space ∷ (completer ++ registration_ends)
 
   in_turn : elvish_registration variable bin completer
       ≡ registration_begins ++ (bin ++ (function_head ++ (variable ++ (variable_ends ++ call))))
@@ -37,9 +36,9 @@ module _ (variable bin completer : List ℕ) (variable_plain : IsTrue (is_plain_
   cut =
       ap (cut_at variable_ends) in_turn
       ∙ past_free variable_ends registration_begins (bin ++ (function_head ++ (variable ++ (variable_ends ++ call)))) refl
-      ∙ ap (with_front registration_begins) (past_lacking 61 (drop 1 variable_ends) bin (function_head ++ (variable ++ (variable_ends ++ call))) (name_lacks 61 bin refl (plain_bytes bin bin_plain)))
+      ∙ ap (with_front registration_begins) (past_lacking equals (drop 1 variable_ends) bin (function_head ++ (variable ++ (variable_ends ++ call))) (name_lacks equals bin refl (plain_bytes bin bin_plain)))
       ∙ ap (λ found. with_front registration_begins (with_front bin found)) (past_free variable_ends function_head (variable ++ (variable_ends ++ call)) refl)
-      ∙ ap (λ found. with_front registration_begins (with_front bin (with_front function_head found))) (past_lacking 61 (drop 1 variable_ends) variable (variable_ends ++ call) (name_lacks 61 variable refl (plain_bytes variable variable_plain)))
+      ∙ ap (λ found. with_front registration_begins (with_front bin (with_front function_head found))) (past_lacking equals (drop 1 variable_ends) variable (variable_ends ++ call) (name_lacks equals variable refl (plain_bytes variable variable_plain)))
 
   last : last_run before ≡ variable
   unfolding last_run after_last_from registration_begins function_head
@@ -57,14 +56,14 @@ module _ (variable bin completer : List ℕ) (variable_plain : IsTrue (is_plain_
       let rest = drop 1 registration_ends in
       let read = elvish_before_space completer rest (path_safe completer completer_plain) in
       ap (λ found. option_and_then (word_by elvish_word_of) (option_map (λ c. c.1) found)) cut
-      ∙ ap (λ text. option_map (λ read. read.0) (elvish_word_of text)) (bare_first (completer ++ 32 ∷ rest) read.0)
+      ∙ ap (λ text. option_map (λ read. read.0) (elvish_word_of text)) (bare_first (completer ++ space ∷ rest) read.0)
       ∙ ap (option_map (λ read. read.0)) read.1
 
   binary_found : elvish_binary (elvish_registration variable bin completer) ≡ Some bin
   unfolding elvish_binary between up_to after_mark after with_front cut_at registration_begins function_head name_byte
   binary_found =
       ap (between (codes "arg-completer[") (codes "]")) in_turn
-      ∙ ap (option_map (λ c. c.0)) (past_lacking 93 [] bin (function_head ++ (variable ++ (variable_ends ++ call))) (name_lacks 93 bin refl (plain_bytes bin bin_plain)))
+      ∙ ap (option_map (λ c. c.0)) (past_lacking close_bracket [] bin (function_head ++ (variable ++ (variable_ends ++ call))) (name_lacks close_bracket bin refl (plain_bytes bin bin_plain)))
       ∙ ap Some (append-nil bin)
 
   reads : ElvishRegistrationReads variable bin completer

@@ -1,8 +1,7 @@
 pub mod BashReadings
 pub mod ElvishReadings
 mod Examples
-pub mod Finding
 pub mod FishReadings
-pub mod NameBytes
 pub mod PowershellReadings
+pub mod Underscored
 pub mod ZshReadings

@@ -1,15 +1,15 @@
 -- A registration for PowerShell is read as what it was made for.
 use Rattle.std.proofs.Common.{◌≡◌, ℕ, IsTrue, List, [], ◌∷◌, ◌++◌, Some, option_map, drop, codes, refl, ◌∙◌, ap, ap₂, append_assoc, append-nil}
 use Rattle.std.specs.Option.{option_and_then}
-use Rattle.cc_command.specs.PlainName.{is_plain_name, name_byte}
-use Rattle.cc_command.proofs.NameBytes.{plain_bytes}
+use Rattle.cc_base.specs.Bytes.{dollar, semicolon, space}
+use Rattle.cc_quote.specs.PlainName.{is_plain_name, name_byte}
+use Rattle.cc_quote.proofs.NameBytes.{plain_bytes, name_lacks, posix_plain, plain_safe, path_safe, safe_as_it_is}
 use Rattle.cc_quote.specs.PowershellQuote.{powershell_word_of}
-use Rattle.cc_quote.proofs.BeforeBlanks.{powershell_before_space}
-use Rattle.cc_registrations.specs.Found.{after, with_front, cut_at, up_to, after_mark, between, without_blanks, word_by, word_after}
-use Rattle.cc_registrations.specs.Names.{is_plain_path}
+use Rattle.cc_quote.proofs.BeforeBlanks.{powershell_before_space, bare_first}
+use Rattle.cc_base.specs.Found.{after, with_front, cut_at, up_to, after_mark, between, without_blanks, word_by, word_after}
+use Rattle.cc_quote.specs.PlainPath.{is_plain_path}
 use Rattle.cc_registrations.specs.PowershellRegistration.{registration_begins, script_head, environment, prev_ends, arguments, call_begins, call_ends, registration_head, call, registration_tail, powershell_registration, powershell_variable, powershell_completer, powershell_binary, PowershellRegistrationReads, PowershellReads}
-use Rattle.cc_registrations.proofs.Finding.{past_lacking, past_free, bare_first}
-use Rattle.cc_registrations.proofs.NameBytes.{name_lacks, posix_plain, plain_safe, path_safe, safe_as_it_is}
+use Rattle.cc_base.proofs.Finding.{past_lacking, past_free}
 
 module _ (variable bin completer : List ℕ) (variable_plain : IsTrue (is_plain_name variable)) (bin_plain : IsTrue (is_plain_name bin)) (completer_plain : IsTrue (is_plain_path completer)) where
   -- from the completer on
@@ -44,9 +44,9 @@ module _ (variable bin completer : List ℕ) (variable_plain : IsTrue (is_plain_
       ap (between mark (codes ";")) in_turn
       ∙ ap (λ found. up_to_end (option_map (λ c. c.1) found))
       (past_free mark registration_begins (bin ++ (script_head ++ (environment ++ called))) refl
-      ∙ ap (with_front registration_begins) (past_lacking 36 (drop 1 mark) bin (script_head ++ (environment ++ called)) (name_lacks 36 bin refl (plain_bytes bin bin_plain)))
+      ∙ ap (with_front registration_begins) (past_lacking dollar (drop 1 mark) bin (script_head ++ (environment ++ called)) (name_lacks dollar bin refl (plain_bytes bin bin_plain)))
       ∙ ap (λ found. with_front registration_begins (with_front bin found)) (past_free mark script_head (environment ++ called) refl))
-      ∙ ap (option_map (λ c. c.0)) (past_lacking 59 [] variable (prev_ends ++ (variable ++ (arguments ++ (call_begins ++ completed)))) (name_lacks 59 variable refl (plain_bytes variable variable_plain)))
+      ∙ ap (option_map (λ c. c.0)) (past_lacking semicolon [] variable (prev_ends ++ (variable ++ (arguments ++ (call_begins ++ completed)))) (name_lacks semicolon variable refl (plain_bytes variable variable_plain)))
       ∙ ap Some (append-nil variable)
 
   -- past the lines before the completer's
@@ -71,7 +71,7 @@ module _ (variable bin completer : List ℕ) (variable_plain : IsTrue (is_plain_
       let rest = drop 1 (registration_tail variable) in
       let read = powershell_before_space completer rest (path_safe completer completer_plain) in
       ap (option_and_then (word_by powershell_word_of)) cut
-      ∙ ap (λ text. option_map (λ read. read.0) (powershell_word_of text)) (bare_first (completer ++ 32 ∷ rest) read.0)
+      ∙ ap (λ text. option_map (λ read. read.0) (powershell_word_of text)) (bare_first (completer ++ space ∷ rest) read.0)
       ∙ ap (option_map (λ read. read.0)) read.1
 
   binary_found : powershell_binary (powershell_registration variable bin completer) ≡ Some bin
@@ -80,7 +80,7 @@ module _ (variable bin completer : List ℕ) (variable_plain : IsTrue (is_plain_
       let rest = drop 1 (script_head ++ (environment ++ called)) in
       let read = powershell_before_space bin rest (plain_safe bin bin_plain) in
       ap (word_after powershell_word_of (codes "-CommandName")) in_turn
-      ∙ ap (λ text. option_map (λ read. read.0) (powershell_word_of text)) (bare_first (bin ++ 32 ∷ rest) read.0)
+      ∙ ap (λ text. option_map (λ read. read.0) (powershell_word_of text)) (bare_first (bin ++ space ∷ rest) read.0)
       ∙ ap (option_map (λ read. read.0)) read.1
 
   reads : PowershellRegistrationReads variable bin completer

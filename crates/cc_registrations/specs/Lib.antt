@@ -1,7 +1,6 @@
 pub mod BashRegistration
 pub mod ElvishRegistration
 pub mod FishRegistration
-pub mod Found
 pub mod Names
 pub mod PowershellRegistration
 pub mod ZshRegistration

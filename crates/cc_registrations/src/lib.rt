@@ -13,6 +13,5 @@ mod zsh;
 pub use crate::bash::write_bash;
 pub use crate::elvish::write_elvish;
 pub use crate::fish::write_fish;
-pub use crate::names::is_plain_path;
 pub use crate::powershell::write_powershell;
 pub use crate::zsh::write_zsh;

@@ -7,7 +7,7 @@ use Rattle.cc_base.proofs.Lines.IsLine.{line}
 use Rattle.cc_quote.specs.Tokens.{QuoteState, cut, is_word, strip_words, after_words}
 use Rattle.cc_quote.specs.Tokens.Piece.{bare}
 use Rattle.cc_quote.specs.Tokens.QuoteState.{between}
-use Rattle.cc_base.specs.Bytes.{single_quote}
+use Rattle.cc_base.specs.Bytes.{single_quote, line_feed}
 use Rattle.cc_quote.specs.Signs.{sign, HasNoQuote}
 use Rattle.cc_quote.specs.ElvishQuote.{elvish_escaped}
 use Rattle.cc_quote.specs.ElvishTokens.{elvish_tokens, IsBare, IsBareWord}
@@ -44,7 +44,7 @@ row_reads tables name rows row rest h (line tail) =
     let table : Table Row = record { key = name; rows = rows } in
     ap (in_rows tables name rows) (regroup_six row_begin row.word text_begin (elvish_escaped row.text) row_end rest)
     ∙ ap (read spelling (in_table tables table after_cand)) (bare_word row.word (text_begin ++ (elvish_escaped row.text ++ (row_end ++ rest))) h)
-    ∙ ap (read spelling (in_table tables table (after_word row.word))) (escaped_text row.text (row_end ++ rest) [] (39 ∷ []) [])
+    ∙ ap (read spelling (in_table tables table (after_word row.word))) (escaped_text row.text (row_end ++ rest) [] (single_quote ∷ []) [])
 
 row_line : (row : Row) (rest : List ℕ) → IsLine (row_text row ++ rest)
 unfolding row_text row_begin
@@ -58,7 +58,7 @@ key_reads : (tables : List (Table Row)) (name rest : List ℕ) → HasNoQuote na
     → in_tables tables (elvish_frame.key_begin ++ (name ++ (elvish_frame.key_end ++ rest))) ≡ in_rows tables name [] rest
 unfolding elvish_frame sign cut part spelling next read
 key_reads tables name rest h (line tail) =
-    ap (read spelling (between_tables tables)) (quoted_text name (codes "'= {" ++ 10 ∷ tail) (bare (codes "&") ∷ []) (39 ∷ []) [] h)
+    ap (read spelling (between_tables tables)) (quoted_text name (codes "'= {" ++ line_feed ∷ tail) (bare (codes "&") ∷ []) (single_quote ∷ []) [] h)
 
 -- a line feed ends the token that closes the rows
 end_reads : (tables : List (Table Row)) (name : List ℕ) (rows : List Row) (rest : List ℕ) → IsLine rest
@@ -78,7 +78,7 @@ head_reads bin rest h (line tail) =
     let last : List ℕ = bin ++ (elvish_named.completions ++ rest) in
     ap (λ text. after_words tables_begin (elvish_tokens text)) (named_head elvish_frame elvish_named bin rest refl)
     ∙ ap (after_words tables_begin) (bare_run bin (elvish_named.between ++ last) [] (codes "edit:completion:arg-completer[") h)
-    ∙ ap (after_words tables_begin) (quoted_text bin (elvish_named.completions ++ rest) [] (39 ∷ []) [] (HasNoQuote-IsBare bin h))
+    ∙ ap (after_words tables_begin) (quoted_text bin (elvish_named.completions ++ rest) [] (single_quote ∷ []) [] (HasNoQuote-IsBare bin h))
 
 -- a script reads back to its tables, with a space for each line feed of a text, where each word is
 -- bare and no byte of a key is a quote

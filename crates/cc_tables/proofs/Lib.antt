@@ -1,7 +1,6 @@
 pub mod ElvishExamples
 pub mod ElvishPlain
 pub mod ElvishReadsBack
-pub mod ItemsRead
 pub mod NushellExamples
 pub mod NushellPlain
 pub mod NushellReadsBack

@@ -6,8 +6,9 @@ use Rattle.cc_arg.specs.Arguments.{new_arg}
 use Rattle.cc_command.specs.Made.{new_node}
 use Rattle.cc_command.specs.Tree.{Tree, none, more}
 use Rattle.cc_visits.specs.Visits.{tables_below}
-use Rattle.cc_tables.specs.NushellReader.{after, after_first, after_name, before, closed}
-use Rattle.cc_tables.specs.NushellReader.{in_block_sign, key_sign, lines_from, name_of, next}
+use Rattle.cc_base.specs.Found.{after, before_ending, after_mark, cut_at, with_front}
+use Rattle.cc_tables.specs.NushellReader.{after_name, closed}
+use Rattle.cc_tables.specs.NushellReader.{in_block_sign, key_sign, name_of, next}
 use Rattle.cc_tables.specs.NushellReader.{nushell_blocks, read, record_of, sign}
 use Rattle.cc_tables.specs.NushellScript.{Line, content, help_begin, help_text, line_begin}
 use Rattle.cc_tables.specs.NushellScript.{line_text, node_lines, nushell_frame, type_text, value_text}
@@ -41,13 +42,13 @@ read_back =
 
 -- the script reads back to them
 two_blocks : nushell_blocks (script_text nushell_frame line_text (codes "app") given) ≡ Some read_back
-unfolding nushell_frame named_text head_text line_begin value_text help_begin type_text help_text content line_text table_text script_text lines_from after before after_first name_of after_name record_of in_block_sign key_sign sign next closed read nushell_blocks
+unfolding nushell_frame named_text head_text line_begin value_text help_begin type_text help_text content line_text table_text script_text after before_ending after_mark cut_at with_front name_of after_name record_of in_block_sign key_sign sign next closed read nushell_blocks
 two_blocks = refl
 
 -- a block that is not closed, and one with a line that is no record
 malformed : (nushell_blocks (codes "  export extern \"app\" [\n    --x\n") ≡ None)
     × (nushell_blocks (codes "  export extern \"app\" [\n  --x\n  ]\n") ≡ None)
-unfolding lines_from after before after_first name_of after_name record_of in_block_sign key_sign sign next closed read nushell_blocks
+unfolding after before_ending after_mark cut_at with_front name_of after_name record_of in_block_sign key_sign sign next closed read nushell_blocks
 malformed = (refl, refl)
 
 -- `app` with a flag that has a help, and a child `run`, shown as `r` too, that has an option

@@ -6,12 +6,15 @@ use Rattle.std.proofs.lemmas.Bool.Decides.{nat_tests}
 use Rattle.std.specs.Bool.{⊤}
 use Rattle.std.specs.List.{AllByRecursion}
 use Rattle.std.proofs.lemmas.List.{reverse-append, reverse-reverse}
-use Rattle.cc_base.proofs.Members.{AllByRecursion-append}
-use Rattle.cc_base.specs.Bytes.{line_feed, space}
+use Rattle.cc_base.proofs.Members.{AllByRecursion-append, AllByRecursion-weaker}
+use Rattle.cc_base.specs.Bytes.{line_feed, space, double_quote, open_bracket}
+use Rattle.cc_base.specs.Found.{after, after_mark, before_ending, cut_at, pieces_from, with_front}
+use Rattle.cc_base.proofs.Cases.{choose}
+use Rattle.cc_base.proofs.Finding.{Cut, past_lacking}
 use Rattle.cc_quote.specs.QuotedWord.{line_feeds_as_spaces, space_for_line_feed}
-use Rattle.cc_tables.specs.NushellReader.{State, Sign, after, after_first, after_name, before}
+use Rattle.cc_tables.specs.NushellReader.{State, Sign, after_name}
 use Rattle.cc_tables.specs.NushellReader.{between, closed, ends_name, holds, in_block}
-use Rattle.cc_tables.specs.NushellReader.{in_block_sign, key_sign, line_read, lines_from, name_of}
+use Rattle.cc_tables.specs.NushellReader.{in_block_sign, key_sign, line_read, name_of}
 use Rattle.cc_tables.specs.NushellReader.{next, nushell_blocks, opens, other, read, record_of, sign}
 use Rattle.cc_tables.specs.NushellScript.{Line, content, help_begin, help_text, line_begin}
 use Rattle.cc_tables.specs.NushellScript.{line_text, nushell_frame, type_text, value_text}
@@ -28,26 +31,21 @@ IsOneLine text = AllByRecursion (λ byte. (byte == line_feed) ≡ false) text
 
 -- the text up to a line feed is a line
 line_first : (text begun rest : List ℕ) → IsOneLine text
-    → lines_from begun (text ++ 10 ∷ rest) ≡ (begun ++ text) ∷ lines_from [] rest
-unfolding lines_from
-line_first [] begun rest h = ap (λ line. line ∷ lines_from [] rest) (sym (append-nil begun))
+    → pieces_from line_feed begun (text ++ line_feed ∷ rest) ≡ (begun ++ text) ∷ pieces_from line_feed [] rest
+line_first [] begun rest h = ap (λ line. line ∷ pieces_from line_feed [] rest) (sym (append-nil begun))
 line_first (byte ∷ text) begun rest (h, hs) =
-    ap (λ test. elim test as
-    (λ b. List (List ℕ)) [
-      | true ↦ begun ∷ lines_from []
-          (text ++ 10 ∷ rest)
-      | false ↦ lines_from (begun ++ byte ∷ []) (text ++ 10 ∷ rest)
-    ]) h
+    ap (λ test. choose test (begun ∷ pieces_from line_feed [] (text ++ line_feed ∷ rest))
+    (pieces_from line_feed (begun ++ byte ∷ []) (text ++ line_feed ∷ rest))) h
     ∙ line_first text (begun ++ byte ∷ []) rest hs
-    ∙ ap (λ line. line ∷ lines_from [] rest) (append_assoc begun (byte ∷ []) text)
+    ∙ ap (λ line. line ∷ pieces_from line_feed [] rest) (append_assoc begun (byte ∷ []) text)
 
 -- what the reader gives from a state on
 abbrev reading : State → List ℕ → Option (List (Table Line))
-reading state script = read state (lines_from [] script)
+reading state script = read state (pieces_from line_feed [] script)
 
 -- a line is read by its sign
 one_line : (state : State) (text rest : List ℕ) → IsOneLine text
-    → reading state (text ++ 10 ∷ rest) ≡ reading (next state (sign text)) rest
+    → reading state (text ++ line_feed ∷ rest) ≡ reading (next state (sign text)) rest
 unfolding read
 one_line state text rest h = ap (read state) (line_first text [] rest h)
 
@@ -73,22 +71,24 @@ name_passed (byte ∷ name) rest (h, hs) =
     ∙ name_passed name rest hs
 
 -- a byte that ends no name is no space
-not_space : (byte : ℕ) → ends_name byte ≡ false → (32 == byte) ≡ false
+not_space : (byte : ℕ) → ends_name byte ≡ false → (space == byte) ≡ false
 not_space byte h = grind (arith, nat_tests)
+
+-- what is after a mark, with a text before it that lacks it
+rest_same : (front : List ℕ) (cut : Cut)
+    → option_map (λ c. c.1) (with_front front cut) ≡ option_map (λ c. c.1) cut
+unfolding with_front
+rest_same front None = refl
+rest_same front (Some (before, rest)) = refl
 
 -- no help begins in a name
 no_help : (name rest : List ℕ) → IsWholeName name
-    → after_first (codes " # ") (name ++ rest) ≡ after_first (codes " # ") rest
-unfolding after_first after
-no_help [] rest h = refl
-no_help (byte ∷ name) rest (h, hs) =
-    ap (λ test. elim (cond test (after (codes "# ") (name ++ rest)) None) as
-    (λ o. Option (List ℕ)) [
-      | Some found ↦ Some found
-      | None ↦ after_first (codes " # ")
-          (name ++ rest)
-    ]) (not_space byte h)
-    ∙ no_help name rest hs
+    → after_mark (codes " # ") (name ++ rest) ≡ after_mark (codes " # ") rest
+unfolding after_mark
+no_help name rest h =
+    ap (option_map (λ c. c.1)) (past_lacking space (codes "# ") name rest
+    (AllByRecursion-weaker (λ byte. ends_name byte ≡ false) (λ byte. (space == byte) ≡ false) not_space name h))
+    ∙ rest_same name (cut_at (codes " # ") rest)
 
 -- a record by its parts
 abbrev line_of : List ℕ → Bool → Option (List ℕ) → Line
@@ -98,9 +98,9 @@ line_of name takes_value help = record { name = name; takes_value = takes_value;
 parts_read : (name : List ℕ) (takes_value : Bool) (help : Option (List ℕ)) →
     line_of (name ++ name_of (type_text takes_value ++ help_text help))
     (is_some (after (codes ": string") (after_name (type_text takes_value ++ help_text help))))
-    (after_first (codes " # ") (type_text takes_value ++ help_text help))
+    (after_mark (codes " # ") (type_text takes_value ++ help_text help))
     ≡ line_of name takes_value (option_map line_feeds_as_spaces help)
-unfolding name_of after_name after after_first type_text value_text help_text help_begin
+unfolding name_of after_name after after_mark cut_at with_front type_text value_text help_text help_begin
 parts_read name true (Some help) =
     ap (λ n. line_of n true (Some (line_feeds_as_spaces help))) (append-nil name)
 parts_read name true None = ap (λ n. line_of n true None) (append-nil name)
@@ -116,9 +116,9 @@ record_read line h =
     let value : List ℕ → Bool = λ text. is_some (after (codes ": string") text) in
     ap record_of (append_assoc line.name (type_text line.takes_value) (help_text line.help))
     ∙ ap (λ name. line_of name (value (after_name (line.name ++ rest)))
-    (after_first (codes " # ") (line.name ++ rest))) (name_whole line.name rest h)
+    (after_mark (codes " # ") (line.name ++ rest))) (name_whole line.name rest h)
     ∙ ap (λ text. line_of (line.name ++ name_of rest) (value text)
-    (after_first (codes " # ") (line.name ++ rest))) (name_passed line.name rest h)
+    (after_mark (codes " # ") (line.name ++ rest))) (name_passed line.name rest h)
     ∙ ap (line_of (line.name ++ name_of rest) (value (after_name rest))) (no_help line.name rest h)
     ∙ parts_read line.name line.takes_value line.help
 
@@ -184,10 +184,10 @@ line_reads blocks key lines line rest h =
 -- ---- blocks
 
 -- the key is what is before the end of its line
-key_before : (key : List ℕ) → before (codes "\" [") (key ++ codes "\" [") ≡ Some key
-unfolding before after
+key_before : (key : List ℕ) → before_ending (codes "\" [") (key ++ codes "\" [") ≡ Some key
+unfolding before_ending after
 key_before key =
-    ap (λ turned. option_map (λ rest. reverse rest) (after (91 ∷ 32 ∷ 34 ∷ []) turned))
+    ap (λ turned. option_map (λ front. reverse front) (after (open_bracket ∷ space ∷ double_quote ∷ []) turned))
     (reverse-append key (codes "\" ["))
     ∙ ap Some (reverse-reverse key)
 
@@ -220,7 +220,7 @@ key_reads : (blocks : List (Table Line)) (key rest : List ℕ) → IsOneLine key
 unfolding nushell_frame next
 key_reads blocks key rest h =
     let opening : List ℕ = codes "  export extern \"" in
-    ap (λ text. in_blocks blocks (opening ++ text)) (sym (append_assoc key (codes "\" [") (10 ∷ rest)))
+    ap (λ text. in_blocks blocks (opening ++ text)) (sym (append_assoc key (codes "\" [") (line_feed ∷ rest)))
     ∙ one_line (between blocks) (opening ++ (key ++ codes "\" [")) rest (key_one_line key h)
     ∙ ap (λ s. reading (next (between blocks) s) rest) (key_line_sign key)
 
@@ -228,18 +228,18 @@ key_reads blocks key rest h =
 end_reads : (blocks : List (Table Line)) (key : List ℕ) (lines : List Line) (rest : List ℕ)
     → in_lines blocks key lines (nushell_frame.table_end ++ rest)
     ≡ in_blocks (blocks ++ record { key = key; rows = lines } ∷ []) rest
-unfolding nushell_frame lines_from after before sign key_sign in_block_sign next read
+unfolding nushell_frame after before_ending sign key_sign in_block_sign next read
 end_reads blocks key lines rest = refl
 
 -- there is no key before the blocks
 head_reads : (bin rest : List ℕ)
     → in_blocks [] (head_text nushell_frame bin ++ rest) ≡ in_blocks [] rest
-unfolding nushell_frame head_text named_text lines_from after before sign key_sign in_block_sign next read
+unfolding nushell_frame head_text named_text after before_ending sign key_sign in_block_sign next read
 head_reads bin rest = refl
 
 -- nor after them
 tail_reads : (blocks : List (Table Line)) → in_blocks blocks nushell_frame.tail ≡ Some blocks
-unfolding nushell_frame lines_from after before sign key_sign in_block_sign next closed read
+unfolding nushell_frame after before_ending sign key_sign in_block_sign next closed read
 tail_reads blocks = refl
 
 -- a script reads back to its blocks, with a space for each line feed of a help, where the keys are

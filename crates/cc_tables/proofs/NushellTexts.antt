@@ -2,6 +2,7 @@
 use Rattle.std.proofs.Common.{◌≡◌, ◌==◌, ℕ, Bool, true, false, cond, List, [], ◌∷◌, ◌++◌, flat_map, codes, refl, ap₂, ◌∙◌}
 use Rattle.std.proofs.lemmas.List.Concat.{flat_map-append}
 use Rattle.std.proofs.lemmas.List.Folds.{flat_map-map}
+use Rattle.cc_base.specs.Bytes.{line_feed}
 use Rattle.cc_arg.specs.declared.parts.ArgParts.{ArgParts as Arg}
 use Rattle.cc_command.specs.ArgumentLists.{options, flags}
 use Rattle.cc_command.specs.Tree.{Tree}
@@ -33,7 +34,7 @@ lines_of_node tree =
 -- a help on one line
 pub line_feeds_replaced : (text : List ℕ) → replace_byte 10 (codes " ") text ≡ line_feeds_as_spaces text
 line_feeds_replaced [] = refl
-line_feeds_replaced (byte ∷ text) = ap₂ (λ first second. first ++ second) (by_test (byte == 10)) (line_feeds_replaced text)
+line_feeds_replaced (byte ∷ text) = ap₂ (λ first second. first ++ second) (by_test (byte == line_feed)) (line_feeds_replaced text)
   where
     by_test : (is : Bool) → cond is (codes " ") (byte ∷ []) ≡ cond is 32 byte ∷ []
     by_test true = refl

@@ -1,5 +1,5 @@
 -- What is offered at a plain node: words of the bytes that plain names have.
-use Rattle.std.proofs.Common.{◌≡◌, ◌≢◌, ◌==◌, ◌||◌, ℕ, Bool, true, false, cond, IsTrue, List, []}
+use Rattle.std.proofs.Common.{◌≡◌, ◌≢◌, ℕ, IsTrue, List, []}
 use Rattle.std.proofs.Common.{◌∷◌, ◌++◌, map, flat_map, encode_utf8, subst, sym}
 use Rattle.std.proofs.Common.{arith}
 use Rattle.std.specs.Char.{is_ascii_alphanumeric}
@@ -17,17 +17,13 @@ use Rattle.cc_command.specs.Tree.{Forest, none, more, Tree}
 use Rattle.cc_command.specs.ArgumentLists.{options, flags}
 use Rattle.cc_command.specs.Names.{visible_names}
 use Rattle.cc_command.specs.Plain.{is_plain_forest}
-use Rattle.cc_command.specs.PlainName.{name_byte, foreign, joiner, letter, is_plain_name, is_joined}
-use Rattle.cc_command.proofs.NameBytes.{plain_bytes}
+use Rattle.cc_quote.specs.PlainName.{name_byte, foreign, is_plain_name, is_joined}
+use Rattle.cc_quote.proofs.NameBytes.{AreNameBytes, plain_bytes}
 use Rattle.cc_command.proofs.PlainParts.{IsPlainName, IsPlainShort, IsPlainArgument, IsPlainBelow}
 use Rattle.cc_command.proofs.PlainParts.{plain_node, plain_more, shown_plain}
 use Rattle.cc_tables.specs.Offers.{word, short_offer, long_offer, argument_offer, argument_offers}
 use Rattle.cc_tables.specs.Offers.{child_offer, child_offers, children_offers, node_offers}
 use Rattle.cc_tables.specs.declared.offers.Offer.{Offer}
-
--- every byte may occur in a plain name
-abbrev pub AreNameBytes : List ℕ → Type 0
-AreNameBytes text = AllByRecursion (λ byte. name_byte byte ≢ foreign) text
 
 -- the word of an offer is not empty, and its bytes may occur in a plain name
 pub record IsPlainOffer (offer : Offer) : Type 0 where
@@ -45,11 +41,7 @@ dash_byte = λ e. cc
 -- so may a letter or a digit
 letter_byte : (byte : ℕ) → IsTrue (is_ascii_alphanumeric byte) → name_byte byte ≢ foreign
 unfolding name_byte
-letter_byte byte h = λ e. by_test (is_ascii_alphanumeric byte) h e
-  where
-    by_test : (b : Bool) → IsTrue b → cond b letter (cond (byte == 45 || byte == 95) joiner foreign) ≡ foreign → ⊥
-    by_test true h e = cc
-    by_test false h e = cc
+letter_byte byte h = rw h (λ e. cc)
 
 -- the offer of a short
 short_plain : (argument : Arg) (character : ℕ) → IsPlainShort character → IsPlainOffer (short_offer argument character)

@@ -3,10 +3,11 @@ use Rattle.std.proofs.Common.{◌≡◌, ◌≢◌, ◌==◌, ◌||◌, not, ℕ
 use Rattle.std.proofs.Common.{[], ◌∷◌, codes, refl, arith}
 use Rattle.std.specs.Char.{is_ascii_alphanumeric, is_ascii_uppercase}
 use Rattle.std.proofs.lemmas.Bool.Decides.{nat_tests}
+use Rattle.cc_base.specs.Bytes.{dash, underscore}
 use Rattle.cc_base.proofs.Members.{AllByRecursion-weaker, AllByRecursion-append}
 use Rattle.cc_command.specs.Names.{full_name}
 use Rattle.cc_command.specs.Plain.{is_plain_tree}
-use Rattle.cc_command.specs.PlainName.{name_byte, foreign, joiner, letter}
+use Rattle.cc_quote.specs.PlainName.{name_byte, foreign, joiner, letter}
 use Rattle.cc_command.specs.Tree.{Tree}
 use Rattle.cc_command.proofs.PlainParts.{plain_full_name}
 use Rattle.cc_quote.specs.PowershellTokens.{is_quote_first, IsUnquoted}
@@ -17,7 +18,7 @@ use Rattle.cc_tables.specs.PowershellScript.{offer_text}
 use Rattle.cc_tables.specs.Script.{script_text}
 use Rattle.cc_tables.specs.Tables.{path_tables}
 use Rattle.cc_tables.specs.declared.offers.Kind.{Kind}
-use Rattle.cc_tables.specs.declared.offers.Kind.TheVariants.{Short, Long, Subcommand}
+use Rattle.cc_tables.specs.declared.offers.Kind.TheVariants.{Short}
 use Rattle.cc_tables.specs.declared.offers.Offer.{Offer}
 use Rattle.cc_tables.proofs.PowershellReadsBack.{IsPowershellRow, powershell_reads_back}
 use Rattle.cc_tables.proofs.PlainOffers.{IsPlainOffer}
@@ -26,9 +27,9 @@ use Rattle.cc_tables.proofs.PlainTables.{of_plain_name, reads_offers}
 -- a byte that may occur in a plain name begins no quote
 unquoted_byte : (byte : ℕ) → name_byte byte ≢ foreign → IsTrue (not (is_quote_first byte))
 unfolding name_byte is_quote_first
-unquoted_byte byte h = by_tests (is_ascii_alphanumeric byte) (byte == 45 || byte == 95) refl refl h
+unquoted_byte byte h = by_tests (is_ascii_alphanumeric byte) (byte == dash || byte == underscore) refl refl h
   where
-    by_tests : (a j : Bool) → is_ascii_alphanumeric byte ≡ a → (byte == 45 || byte == 95) ≡ j → cond a letter (cond j joiner foreign) ≢ foreign → IsTrue (not (is_quote_first byte))
+    by_tests : (a j : Bool) → is_ascii_alphanumeric byte ≡ a → (byte == dash || byte == underscore) ≡ j → cond a letter (cond j joiner foreign) ≢ foreign → IsTrue (not (is_quote_first byte))
     by_tests true j e f k = grind (arith, nat_tests)
     by_tests false true e f k = grind (arith, nat_tests)
     by_tests false false e f k = absurd (k refl)
@@ -48,8 +49,7 @@ space_unquoted Short (byte ∷ []) = by_test (is_ascii_uppercase byte)
     by_test true = (refl, tt)
     by_test false = tt
 space_unquoted Short (byte ∷ next ∷ name) = tt
-space_unquoted Long name = tt
-space_unquoted Subcommand name = tt
+space_unquoted kind name = tt
 
 -- the row of a plain offer
 row_unquoted : (offer : Offer) → IsPlainOffer offer → IsPowershellRow (offer_row offer)

@@ -2,7 +2,8 @@
 use Rattle.std.proofs.Common.{◌≡◌, not, IsTrue, ℕ, List, [], ◌∷◌, ◌++◌, map, Option, Some}
 use Rattle.std.proofs.Common.{codes, refl, ap, ◌∙◌, append_assoc}
 use Rattle.std.specs.List.{AllByRecursion}
-use Rattle.cc_base.proofs.Lines.{IsLine, regroup_six}
+use Rattle.cc_base.specs.Bytes.{single_quote, line_feed}
+use Rattle.cc_base.proofs.Lines.{IsLine, regroup_five, regroup_six}
 use Rattle.cc_base.proofs.Lines.IsLine.{line}
 use Rattle.cc_quote.specs.Tokens.{QuoteState, cut, is_word, strip_words, after_words}
 use Rattle.cc_quote.specs.Tokens.Piece.{bare}
@@ -27,7 +28,6 @@ use Rattle.cc_tables.specs.TableReader.{tables_of, read}
 use Rattle.cc_tables.specs.Tables.{Table}
 use Rattle.cc_tables.specs.declared.offers.Offer.{Offer}
 use Rattle.cc_tables.proofs.PlainTables.{IsReadable, table_read}
-use Rattle.cc_tables.proofs.ItemsRead.{regroup_five}
 use Rattle.cc_tables.proofs.ScriptReadsBack.{named_head, script_reads}
 
 -- a row as it is read: with a space for each line feed of its text
@@ -53,24 +53,24 @@ in_row tables name rows state = in_table tables (record { key = name; rows = row
 
 -- a row gives its word, and the list text is still open
 words_read : (tables : List (Table Row)) (name : List ℕ) (rows : List Row) (row : Row) (rest : List ℕ) → IsPowershellRow row
-    → in_rows tables name rows (words_text row ++ rest) ≡ reading (in_row tables name rows (after_word row.word)) (in_quotes [] (39 ∷ []) row.list) rest
+    → in_rows tables name rows (words_text row ++ rest) ≡ reading (in_row tables name rows (after_word row.word)) (in_quotes [] (single_quote ∷ []) row.list) rest
 unfolding words_text row_begin list_begin sign sign_before powershell_signs cut if_quoted part step spelling after_step next read
 words_read tables name rows row rest h =
     ap (in_rows tables name rows) (regroup_five row_begin row.word list_begin row.list rest)
-    ∙ ap (read spelling (in_row tables name rows between_rows)) (quoted_text row.word (list_begin ++ (row.list ++ rest)) (bare (codes "[CompletionResult]::new(") ∷ []) (39 ∷ []) [] h.word)
-    ∙ ap (read spelling (in_row tables name rows (after_word row.word))) (quoted_text row.list rest [] (39 ∷ []) [] h.list)
+    ∙ ap (read spelling (in_row tables name rows between_rows)) (quoted_text row.word (list_begin ++ (row.list ++ rest)) (bare (codes "[CompletionResult]::new(") ∷ []) (single_quote ∷ []) [] h.word)
+    ∙ ap (read spelling (in_row tables name rows (after_word row.word))) (quoted_text row.list rest [] (single_quote ∷ []) [] h.list)
 
 -- it gives its list text and its kind
 kind_reads : (tables : List (Table Row)) (name : List ℕ) (rows : List Row) (word list : List ℕ) (kind : ResultKind) (rest : List ℕ)
-    → reading (in_row tables name rows (after_word word)) (in_quotes [] (39 ∷ []) list) (kind_begin ++ (kind_text kind ++ (text_begin ++ rest)))
-    ≡ reading (in_row tables name rows (after_kind word list kind)) (in_quotes [] (39 ∷ []) []) rest
+    → reading (in_row tables name rows (after_word word)) (in_quotes [] (single_quote ∷ []) list) (kind_begin ++ (kind_text kind ++ (text_begin ++ rest)))
+    ≡ reading (in_row tables name rows (after_kind word list kind)) (in_quotes [] (single_quote ∷ []) []) rest
 unfolding kind_begin kind_text text_begin sign sign_before powershell_signs cut if_quoted part kind_of step spelling after_step next read
 kind_reads tables name rows word list parameter_name rest = refl
 kind_reads tables name rows word list parameter_value rest = refl
 
 -- a line feed ends the token that closes a row
 row_closes : (tables : List (Table Row)) (name : List ℕ) (rows : List Row) (row : Row) (rest : List ℕ) → IsLine rest
-    → reading (in_row tables name rows (after_kind row.word row.list row.kind)) (in_quotes [] (39 ∷ []) row.text) (row_end ++ rest) ≡ in_rows tables name (rows ++ row ∷ []) rest
+    → reading (in_row tables name rows (after_kind row.word row.list row.kind)) (in_quotes [] (single_quote ∷ []) row.text) (row_end ++ rest) ≡ in_rows tables name (rows ++ row ∷ []) rest
 unfolding row_end sign sign_before powershell_signs cut if_quoted part step spelling after_step next read
 row_closes tables name rows row rest (line tail) = refl
 
@@ -81,10 +81,10 @@ row_reads tables name rows row rest h l =
     let closed : List ℕ = row_end ++ rest in
     ap (in_rows tables name rows) (append_assoc (words_text row) (details_text row) rest)
     ∙ words_read tables name rows row (details_text row ++ rest) h
-    ∙ ap (reading (in_row tables name rows (after_word row.word)) (in_quotes [] (39 ∷ []) row.list))
+    ∙ ap (reading (in_row tables name rows (after_word row.word)) (in_quotes [] (single_quote ∷ []) row.list))
     (regroup_six kind_begin (kind_text row.kind) text_begin (powershell_escaped row.text) row_end rest)
     ∙ kind_reads tables name rows row.word row.list row.kind (powershell_escaped row.text ++ closed)
-    ∙ ap (read spelling (in_row tables name rows (after_kind row.word row.list row.kind))) (escaped_text row.text (codes ")" ++ rest) [] (39 ∷ []) [])
+    ∙ ap (read spelling (in_row tables name rows (after_kind row.word row.list row.kind))) (escaped_text row.text (codes ")" ++ rest) [] (single_quote ∷ []) [])
     ∙ row_closes tables name rows (spaced_row row) rest l
 
 row_line : (row : Row) (rest : List ℕ) → IsLine (row_text row ++ rest)
@@ -99,7 +99,7 @@ key_reads : (tables : List (Table Row)) (name rest : List ℕ) → IsUnquoted na
     → in_tables tables (powershell_frame.key_begin ++ (name ++ (powershell_frame.key_end ++ rest))) ≡ in_rows tables name [] rest
 unfolding powershell_frame sign sign_before powershell_signs cut if_quoted part spelling next read
 key_reads tables name rest h (line tail) =
-    ap (read spelling (between_tables tables)) (quoted_text name (codes "' {" ++ 10 ∷ tail) [] (39 ∷ []) [] h)
+    ap (read spelling (between_tables tables)) (quoted_text name (codes "' {" ++ line_feed ∷ tail) [] (single_quote ∷ []) [] h)
 
 -- a line feed ends the token that closes the rows
 end_reads : (tables : List (Table Row)) (name : List ℕ) (rows : List Row) (rest : List ℕ) → IsLine rest
@@ -118,8 +118,8 @@ unfolding powershell_frame powershell_named is_word strip_words after_words sign
 head_reads bin rest h (line tail) =
     let last : List ℕ = bin ++ (powershell_named.completions ++ rest) in
     ap (λ text. after_words tables_begin (powershell_tokens text)) (named_head powershell_frame powershell_named bin rest refl)
-    ∙ ap (after_words tables_begin) (quoted_text bin (powershell_named.between ++ last) [] (39 ∷ []) [] h)
-    ∙ ap (after_words tables_begin) (quoted_text bin (powershell_named.completions ++ rest) [] (39 ∷ []) [] h)
+    ∙ ap (after_words tables_begin) (quoted_text bin (powershell_named.between ++ last) [] (single_quote ∷ []) [] h)
+    ∙ ap (after_words tables_begin) (quoted_text bin (powershell_named.completions ++ rest) [] (single_quote ∷ []) [] h)
 
 -- a script reads back to its tables, with a space for each line feed of a text, where no quote
 -- is in a key, in a word and in a list text

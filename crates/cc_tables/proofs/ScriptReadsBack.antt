@@ -8,7 +8,7 @@ use Rattle.cc_tables.specs.Tables.{Table}
 use Rattle.cc_tables.specs.declared.tables.Frame.{Frame}
 use Rattle.cc_tables.specs.declared.tables.Named.{Named}
 use Rattle.cc_tables.proofs.PlainTables.{IsReadable, table_read}
-use Rattle.cc_tables.proofs.ItemsRead.{items_begin, items_read}
+use Rattle.cc_generator.proofs.ReadInTurn.{items_begin, items_read}
 
 -- a head that names the program, and what follows it
 pub named_head : (frame : Frame) (named : Named) (bin rest : List ℕ) → frame.named ≡ Some named

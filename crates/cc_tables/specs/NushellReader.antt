@@ -1,41 +1,15 @@
 -- The blocks that a Nushell script spells, read line by line. A line `  export extern "key" [`
 -- opens a block, and the lines up to one that is `  ]` are its records. Other lines between blocks
 -- are not read.
-use Rattle.std.specs.Prelude.{ℕ, List, [], ◌∷◌, ◌++◌, ◌==◌, ◌||◌, Bool, true, false, Option, Some}
+use Rattle.std.specs.Prelude.{ℕ, List, [], ◌∷◌, ◌++◌, ◌==◌, ◌||◌, Bool, Option, Some}
 use Rattle.std.specs.Prelude.{None, if◌then◌else◌, bytes_eq, codes, is_some, map, option_map}
-use Rattle.std.specs.Prelude.{reverse}
 use Rattle.cc_command.specs.Tree.{Tree}
 use Rattle.cc_base.specs.Bytes.{line_feed, space, colon}
+use Rattle.cc_base.specs.Found.{after, after_mark, before_ending, pieces_from}
 use Rattle.cc_quote.specs.QuotedWord.{line_feeds_as_spaces}
 use Rattle.cc_tables.specs.NushellScript.{Line, node_lines, nushell_script}
 use Rattle.cc_tables.specs.TableReader.{ReadsTables}
 use Rattle.cc_tables.specs.Tables.{Table, path_tables}
-
--- the lines of a text, after the one that is begun
-unfoldable pub lines_from : List ℕ → List ℕ → List (List ℕ)
-lines_from begun [] = begun ∷ []
-lines_from begun (byte ∷ bytes) = elim (byte == line_feed) [
-  | true ↦ begun ∷ lines_from [] bytes
-  | false ↦ lines_from (begun ++ byte ∷ []) bytes
-]
-
--- what is after this beginning of a text; none where the text begins otherwise
-unfoldable pub after : List ℕ → List ℕ → Option (List ℕ)
-after [] text = Some text
-after (byte ∷ bytes) [] = None
-after (byte ∷ bytes) (first ∷ text) = if byte == first then after bytes text else None
-
--- what is before this ending of a text; none where the text ends otherwise
-unfoldable pub before : List ℕ → List ℕ → Option (List ℕ)
-before ending text = option_map (λ rest. reverse rest) (after (reverse ending) (reverse text))
-
--- what is after the first occurrence where a text holds another; none where it holds it nowhere
-unfoldable pub after_first : List ℕ → List ℕ → Option (List ℕ)
-after_first found [] = None
-after_first found (byte ∷ bytes) = elim (after found (byte ∷ bytes)) [
-  | Some rest ↦ Some rest
-  | None ↦ after_first found bytes
-]
 
 -- ---- a line
 
@@ -58,7 +32,7 @@ unfoldable pub record_of : List ℕ → Line
 record_of text = record {
   name = name_of text;
   takes_value = is_some (after (codes ": string") (after_name text));
-  help = after_first (codes " # ") text;
+  help = after_mark (codes " # ") text;
 }
 
 -- what a line is: it opens the block of a key, closes a block, is a record, or is none of these
@@ -76,7 +50,7 @@ in_block_sign text = elim (after (codes "    ") text) [
 ]
 
 unfoldable pub key_sign : List ℕ → Sign
-key_sign text = elim (before (codes "\" [") text) [ Some key ↦ opens key | None ↦ other ]
+key_sign text = elim (before_ending (codes "\" [") text) [ Some key ↦ opens key | None ↦ other ]
 
 unfoldable pub sign : List ℕ → Sign
 sign text = elim (after (codes "  export extern \"") text) [
@@ -114,7 +88,7 @@ read state (line ∷ lines) = read (next state (sign line)) lines
 
 -- the blocks of a script; `None` where it spells none
 unfoldable pub nushell_blocks : List ℕ → Option (List (Table Line))
-nushell_blocks script = read (between []) (lines_from [] script)
+nushell_blocks script = read (between []) (pieces_from line_feed [] script)
 
 -- a line as it is read: with a space for each line feed of its help
 abbrev pub line_read : Line → Line

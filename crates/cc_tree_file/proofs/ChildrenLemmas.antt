@@ -1,5 +1,5 @@
 -- How the children of a command are found.
-use Rattle.std.proofs.Common.{◌≡◌, ◌∙◌, List, [], Option, Some, None, Ordering, Less, Equal, Greater}
+use Rattle.std.proofs.Common.{◌≡◌, ◌∙◌, List, [], Option, Some, None, Ordering, Less}
 use Rattle.std.proofs.Common.{ap, codes, fold, if◌then◌else◌, nat_cmp, refl, sym}
 use Rattle.std.specs.Prelude.{option_map}
 use Rattle.std.specs.Ordering.{is_eq, match_ordering}
@@ -24,8 +24,7 @@ either_children : (o : Ordering) (found : Option Data) (d : Data)
     → (if is_eq o then commands_of d else found_children found)
     ≡ found_children (match_ordering o found (Some d) found)
 either_children Less found d = refl
-either_children Equal found d = refl
-either_children Greater found d = refl
+either_children o found d = refl
 
 children_found : (ms : Members)
     → children_in ms ≡ found_children (get_member (codes "subcommands") ms)

@@ -1,5 +1,5 @@
 -- How deep the values inside a value nest.
-use Rattle.std.proofs.Common.{◌≡◌, ℕ, zero, suc, ◌<◌, ◌≤◌, List, [], ◌∷◌, length, get_or, Option, Some, None, Ordering, Less, Equal, Greater, nat_cmp, ap, arith}
+use Rattle.std.proofs.Common.{◌≡◌, ℕ, zero, suc, ◌<◌, ◌≤◌, List, [], ◌∷◌, length, get_or, Option, Some, None, Ordering, Equal, nat_cmp, ap, arith}
 use Rattle.std.specs.Cmp.Lexicographic.{slice_cmp}
 use Rattle.std.specs.Ordering.{match_ordering}
 use Rattle.serde_json.specs.Data.{Data, null, boolean, number, string, array, object, Items, Members, member, no_members, depth, items_depth, members_depth}
@@ -14,9 +14,8 @@ depth_found (Some d) = depth d
 
 either_within : (o : Ordering) (a b : Option Data) (n : ℕ) → depth_found a ≤ n → depth_found b ≤ n
     → depth_found (match_ordering o a b a) ≤ n
-either_within Less a b n p q = p
 either_within Equal a b n p q = q
-either_within Greater a b n p q = p
+either_within o a b n p q = p
 
 member_within : (key : List ℕ) (ms : Members) → depth_found (get_member key ms) ≤ members_depth ms
 member_within key no_members = omega arith

@@ -78,15 +78,12 @@ all_of_stops read vs k d xs h before here =
 
 -- a list that isn't of two items is no range
 pub no_pair_below : (vs : List (Value Global)) → length vs < 2 → pair_of (items_view vs) ≡ None
-no_pair_below [] h = refl
-no_pair_below (v ∷ []) h = refl
 no_pair_below (v ∷ w ∷ vs) h = absurd (omega arith)
+no_pair_below vs h = refl
 
 pub no_pair_above : (vs : List (Value Global)) → 3 ≤ length vs → pair_of (items_view vs) ≡ None
-no_pair_above [] h = absurd (omega arith)
-no_pair_above (v ∷ []) h = absurd (omega arith)
-no_pair_above (v ∷ w ∷ []) h = absurd (omega arith)
 no_pair_above (v ∷ w ∷ x ∷ vs) h = refl
+no_pair_above vs h = absurd (omega arith)
 
 -- ---- characters
 

@@ -7,9 +7,9 @@ use Rattle.cc_base.specs.Differ.{AllDifferBy}
 use Rattle.cc_base.proofs.Differing.{AllDifferBy-finer}
 use Rattle.cc_base.proofs.Members.{AllByRecursion-weaker}
 use Rattle.cc_command.specs.Plain.{is_plain_tree}
-use Rattle.cc_command.specs.PlainName.{name_byte, foreign}
+use Rattle.cc_quote.specs.PlainName.{name_byte, foreign}
 use Rattle.cc_command.specs.Tree.{Tree}
-use Rattle.cc_command.proofs.NameBytes.{plain_bytes}
+use Rattle.cc_quote.proofs.NameBytes.{plain_bytes}
 use Rattle.cc_command.proofs.PlainParts.{IsPlainName}
 use Rattle.cc_visits.specs.Paths.{CoversPaths}
 use Rattle.cc_visits.specs.Visits.{Keyed, joined_path}
@@ -48,14 +48,13 @@ module _ (first_byte : ℕ) (rest : List ℕ) (is_foreign : name_byte first_byte
 
   same_path : (path other : List (List ℕ)) → AllByRecursion IsPlainName path → AllByRecursion IsPlainName other → further path ≡ further other → path ≡ other
   same_path [] [] h k e = refl
-  same_path [] (name ∷ other) h k e = cc
-  same_path (name ∷ path) [] h k e = cc
   same_path (name ∷ path) (next ∷ other) h k e =
       let tail : name ++ further path ≡ next ++ further other =
       append_cancel_left separator (name ++ further path) (next ++ further other)
       (sym (append_assoc separator name (further path)) ∙ e ∙ append_assoc separator next (further other)) in
       let both = same_first name next path other (name_no_separator name h.0) (name_no_separator next k.0) tail in
       ap (λ first. first ∷ path) both.0 ∙ ap (λ rest. next ∷ rest) (same_path path other h.1 k.1 both.1)
+  same_path path _ h k e = cc
 
   -- no two visits that cover the paths of a plain tree have the same joined key
   pub joined_keys_differ : (first : List ℕ) (tree : Tree) (visits : List (Keyed (List (List ℕ)))) → IsTrue (is_plain_tree tree) → CoversPaths tree visits →

@@ -1,7 +1,8 @@
 -- The arms of a script, where each node is entered and left.
-use Rattle.std.proofs.Common.{◌≡◌, ℕ, List, [], ◌∷◌, ◌++◌, map, refl, ap, ◌∙◌, sym, append_assoc, append-nil}
+use Rattle.std.proofs.Common.{◌≡◌, ℕ, List, [], ◌∷◌, ◌++◌, map, refl, ap, ◌∙◌, append_assoc, append-nil}
 use Rattle.std.specs.List.{flat_map}
 use Rattle.std.proofs.lemmas.List.Concat.{flat_map-append}
+use Rattle.cc_base.specs.Bytes.{line_feed}
 use Rattle.cc_command.specs.declared.node.Node.{Node}
 use Rattle.cc_command.specs.Names.{visible_names}
 use Rattle.cc_command.specs.Tree.{Forest, none, more, Tree, has_nodes}
@@ -33,7 +34,7 @@ arm name above node (more first under others) arms is =
     let below : Forest = more first under others in
     let tree : Tree = record { node = node; children = below } in
     ap (λ t. enter_text (keyed name above tree) ++ (t ++ (leave_text tree ++ []))) is
-    ∙ regroup (arm_begins name (block_text above tree)) (10 ∷ nested_begins node)
+    ∙ regroup (arm_begins name (block_text above tree)) (line_feed ∷ nested_begins node)
     (arms_text node below) nested_ends arm_ends
 
 -- what is written of one node below a key

@@ -2,6 +2,7 @@
 use Rattle.std.proofs.Common.{◌≡◌, ℕ, suc, true, false, cond, List, [], ◌∷◌, ◌++◌, map, flat_map, fold, length, Some, None, codes, refl, sym, ◌∙◌, ap, append_assoc, append-nil}
 use Rattle.std.specs.List.{AllByRecursion}
 use Rattle.std.proofs.lemmas.List.{map-append}
+use Rattle.cc_base.specs.Bytes.{line_feed}
 use Rattle.cc_base.proofs.Lines.{IsLine}
 use Rattle.cc_base.proofs.Lines.IsLine.{line}
 use Rattle.cc_command.specs.declared.node.Node.{Node}
@@ -23,7 +24,7 @@ use Rattle.cc_zsh.proofs.LastBytes.{before-last}
 use Rattle.cc_zsh.proofs.LinesRead.{reading}
 use Rattle.cc_zsh.proofs.PlainNames.{name_other, plain_name_bytes}
 use Rattle.cc_zsh.proofs.BlockRead.{context_bytes, IsReadable, block_with, arm_block_read}
-use Rattle.cc_zsh.proofs.Digits.{decimal_other}
+use Rattle.cc_quote.proofs.Digits.{decimal_other}
 
 -- what is read at a visit
 abbrev pub block_at : Keyed Path → Block
@@ -111,7 +112,7 @@ unfolding arm_ends
 ends_line rest = line _
 
 line_feed_first : (outer : List Path) (blocks : List Block) (path : Path) (rest : List ℕ) →
-    reading (after_block outer blocks path) between (10 ∷ rest)
+    reading (after_block outer blocks path) between (line_feed ∷ rest)
     ≡ reading (after_block outer blocks path) between rest
 unfolding sign cut
 line_feed_first outer blocks path rest = refl

@@ -2,6 +2,7 @@
 use Rattle.std.proofs.Common.{◌≡◌, ◌==◌, ℕ, Bool, true, false, cond, List, [], ◌∷◌, ◌++◌, Option, Some, None, codes, refl, ◌∙◌, ap, inl, inr, ◌⊎◌, append_assoc, append-nil}
 use Rattle.std.specs.List.{AllByRecursion}
 use Rattle.std.specs.Option.{option_to_list}
+use Rattle.cc_base.specs.Bytes.{space, underscore}
 use Rattle.cc_base.proofs.Lines.{IsLine}
 use Rattle.cc_base.proofs.Lines.IsLine.{line}
 use Rattle.cc_base.proofs.Members.{AllByRecursion-append}
@@ -37,11 +38,11 @@ pub replace_byte_bytes : (by text : List ℕ) → AreNameBytes by → AreFullByt
     AreNameBytes (replace_byte 32 by text)
 replace_byte_bytes by [] h k = tt
 replace_byte_bytes by (byte ∷ text) h (inl k, ks) =
-    AllByRecursion-append (λ b. is_name_byte b ≡ true) (cond (byte == 32) by (byte ∷ [])) (replace_byte 32 by text)
-    (let e : byte == 32 ≡ false = name_byte-differs 32 byte refl k in rw e (k, tt))
+    AllByRecursion-append (λ b. is_name_byte b ≡ true) (cond (byte == space) by (byte ∷ [])) (replace_byte 32 by text)
+    (let e : byte == space ≡ false = name_byte-differs space byte refl k in rw e (k, tt))
     (replace_byte_bytes by text h ks)
 replace_byte_bytes by (byte ∷ text) h (inr e, ks) =
-    AllByRecursion-append (λ b. is_name_byte b ≡ true) (cond (byte == 32) by (byte ∷ [])) (replace_byte 32 by text)
+    AllByRecursion-append (λ b. is_name_byte b ≡ true) (cond (byte == space) by (byte ∷ [])) (replace_byte 32 by text)
     (rw e h) (replace_byte_bytes by text h ks)
 
 subcmd_bytes : AreNameBytes (codes "__subcmd__")
@@ -91,10 +92,10 @@ word_step token named outer blocks block not_and none names =
 first_word : (function : List ℕ) (outer : List Path) (blocks : List Block) (block : Block) →
     next (in_block outer blocks block) (double (codes ":: :_" ++ function) ∷ [])
     ≡ in_block outer blocks (with_function block
-    (first_named block.function (Some (95 ∷ function))))
+    (first_named block.function (Some (underscore ∷ function))))
 unfolding is_word word_of named_function text_after
 first_word function outer blocks block =
-    word_step (double (codes ":: :_" ++ function) ∷ []) (Some (95 ∷ function)) outer blocks block
+    word_step (double (codes ":: :_" ++ function) ∷ []) (Some (underscore ∷ function)) outer blocks block
     refl (colon_none ((codes ": :_" ++ function) ++ [])) refl
 
 -- a word that begins with a star and a colon changes nothing
@@ -112,11 +113,11 @@ children_read : (node : Node) (outer : List Path) (blocks : List Block) (block :
     (rest : List ℕ) → AreNameBytes (function_label (full_name node)) → AreNameBytes node.name →
     reading (in_block outer blocks block) between (children_text node ++ rest)
     ≡ reading (in_block outer blocks (with_function block
-    (first_named block.function (Some (95 ∷ function_label (full_name node)))))) between rest
+    (first_named block.function (Some (underscore ∷ function_label (full_name node)))))) between rest
 unfolding children_text command_begins state_begins state_ends sign byte_of cut read
 children_read node outer blocks block rest label name =
     let function : List ℕ = function_label (full_name node) in
-    let named : Block = with_function block (first_named block.function (Some (95 ∷ function))) in
+    let named : Block = with_function block (first_named block.function (Some (underscore ∷ function))) in
     let after : List ℕ = node.name ++ (state_ends ++ rest) in
     ap (reading (in_block outer blocks block) between)
     (in_parts command_begins (function ∷ state_begins ∷ node.name ∷ state_ends ∷ []) rest)
@@ -144,7 +145,7 @@ external_read outer blocks block rest =
 -- the function that a node's block names
 abbrev pub children_label : Node → Forest → Option (List ℕ)
 children_label node children =
-    cond (has_nodes children) (Some (95 ∷ function_label (full_name node))) None
+    cond (has_nodes children) (Some (underscore ∷ function_label (full_name node))) None
 
 -- what is asked of a node with the node above it
 pub record IsReadable (above : Node) (tree : Tree) : Type 0 where
@@ -197,7 +198,7 @@ below_read path above tree outer blocks rest is =
     by_tests : (has external : Bool) → reading (in_block outer blocks block) between
         (cond has (children_text tree.node) (cond external external_text []) ++ rest)
         ≡ reading (in_block outer blocks (with_function block
-        (cond has (Some (95 ∷ function_label (full_name tree.node))) None))) between rest
+        (cond has (Some (underscore ∷ function_label (full_name tree.node))) None))) between rest
     by_tests true external = children_read tree.node outer blocks block rest
         (label_bytes (full_name tree.node) is.full) (plain_name_bytes tree.node.name is.plain.names.0)
     by_tests false true = external_read outer blocks block rest

@@ -3,9 +3,10 @@ use Rattle.std.proofs.Common.{◌≡◌, ◌≢◌, ◌==◌, ℕ, Bool, true, f
 use Rattle.std.specs.List.{AllByRecursion}
 use Rattle.std.proofs.lemmas.Bool.Decides.{Decides-eqb, nat_tests}
 use Rattle.std.proofs.lemmas.List.Concat.{flat_map-append}
+use Rattle.cc_base.specs.Bytes as ascii
 use Rattle.cc_quote.specs.PosixQuote.{posix_escaped}
 use Rattle.cc_quote.specs.PosixTokens.{Sign, sign, byte_of, cut, single}
-use Rattle.cc_quote.specs.PosixTokens.Sign.{blank, line_feed, single_quote, double_quote, backslash, special, other}
+use Rattle.cc_quote.specs.PosixTokens.Sign.{single_quote}
 use Rattle.cc_quote.specs.PosixTokens.QuoteState.{between, in_single}
 use Rattle.cc_quote.specs.Tokens.{Piece, Token, is_word}
 use Rattle.cc_quote.specs.Tokens.Piece.{bare}
@@ -19,20 +20,20 @@ use Rattle.cc_zsh.specs.Reader.{piece_text, word_of, named_function}
 abbrev pub cut_word : Token → List ℕ → List ℕ → Token
 cut_word pieces text [] = pieces ++ single text ∷ []
 cut_word pieces text (byte ∷ word) =
-    cond (byte == 39)
-    (cut_word ((pieces ++ single text ∷ []) ++ bare (39 ∷ []) ∷ []) [] word)
+    cond (byte == ascii.single_quote)
+    (cut_word ((pieces ++ single text ∷ []) ++ bare (ascii.single_quote ∷ []) ∷ []) [] word)
     (cut_word pieces (text ++ byte ∷ []) word)
 
 -- the token of a text that is escaped between `'`
 abbrev pub quoted_token : List ℕ → Token
 quoted_token word = cut_word [] [] word
 
-no_quote_sign : (byte : ℕ) → byte == 39 ≡ false → sign byte ≢ single_quote
+no_quote_sign : (byte : ℕ) → byte == ascii.single_quote ≡ false → sign byte ≢ single_quote
 unfolding sign
 no_quote_sign byte h = grind (arith, nat_tests)
 
 -- a byte that is no `'` stays between them
-kept_single : (byte : ℕ) (rest text : List ℕ) (pieces : Token) → byte == 39 ≡ false →
+kept_single : (byte : ℕ) (rest text : List ℕ) (pieces : Token) → byte == ascii.single_quote ≡ false →
     tokens_from (in_single pieces text) (byte ∷ rest)
     ≡ tokens_from (in_single pieces (text ++ byte ∷ [])) rest
 unfolding byte_of cut
@@ -42,12 +43,7 @@ kept_single byte rest text pieces h = by_sign (sign byte) (no_quote_sign byte h)
         cut (in_single pieces text) (s ∷ map sign rest)
         ≡ cut (in_single pieces (text ++ byte ∷ [])) (map sign rest)
     by_sign single_quote differs e = absurd (differs refl)
-    by_sign (blank b) differs e = ap (λ x. cut (in_single pieces (text ++ x ∷ [])) (map sign rest)) e
-    by_sign line_feed differs e = ap (λ x. cut (in_single pieces (text ++ x ∷ [])) (map sign rest)) e
-    by_sign double_quote differs e = ap (λ x. cut (in_single pieces (text ++ x ∷ [])) (map sign rest)) e
-    by_sign backslash differs e = ap (λ x. cut (in_single pieces (text ++ x ∷ [])) (map sign rest)) e
-    by_sign (special b) differs e = ap (λ x. cut (in_single pieces (text ++ x ∷ [])) (map sign rest)) e
-    by_sign (other b) differs e = ap (λ x. cut (in_single pieces (text ++ x ∷ [])) (map sign rest)) e
+    by_sign s differs e = ap (λ x. cut (in_single pieces (text ++ x ∷ [])) (map sign rest)) e
 
 -- an escaped text up to the `'` that closes it at the end of a line that goes on
 pub single_cut : (word rest : List ℕ) (pieces : Token) (text : List ℕ) →
@@ -58,21 +54,21 @@ single_cut [] rest pieces text = refl
 single_cut (byte ∷ word) rest pieces text =
     ap (tokens_from (in_single pieces text))
     (append_assoc (posix_escaped_byte byte) (posix_escaped word) (codes "' \\\n" ++ rest))
-    ∙ by_test (byte == 39) refl
-    (single_cut word rest ((pieces ++ single text ∷ []) ++ bare (39 ∷ []) ∷ []) [])
+    ∙ by_test (byte == ascii.single_quote) refl
+    (single_cut word rest ((pieces ++ single text ∷ []) ++ bare (ascii.single_quote ∷ []) ∷ []) [])
     (single_cut word rest pieces (text ++ byte ∷ []))
   where
     after : List ℕ
     after = posix_escaped word ++ (codes "' \\\n" ++ rest)
 
-    by_test : (q : Bool) → byte == 39 ≡ q →
-        tokens_from (in_single ((pieces ++ single text ∷ []) ++ bare (39 ∷ []) ∷ []) []) after
-        ≡ cut_word ((pieces ++ single text ∷ []) ++ bare (39 ∷ []) ∷ []) [] word
+    by_test : (q : Bool) → byte == ascii.single_quote ≡ q →
+        tokens_from (in_single ((pieces ++ single text ∷ []) ++ bare (ascii.single_quote ∷ []) ∷ []) []) after
+        ≡ cut_word ((pieces ++ single text ∷ []) ++ bare (ascii.single_quote ∷ []) ∷ []) [] word
         ∷ tokens_from between rest →
         tokens_from (in_single pieces (text ++ byte ∷ [])) after
         ≡ cut_word pieces (text ++ byte ∷ []) word ∷ tokens_from between rest →
         tokens_from (in_single pieces text) (cond q (codes "'\\''") (byte ∷ []) ++ after)
-        ≡ cond q (cut_word ((pieces ++ single text ∷ []) ++ bare (39 ∷ []) ∷ []) [] word)
+        ≡ cond q (cut_word ((pieces ++ single text ∷ []) ++ bare (ascii.single_quote ∷ []) ∷ []) [] word)
         (cut_word pieces (text ++ byte ∷ []) word) ∷ tokens_from between rest
     by_test true e escaped kept = escaped
     by_test false e escaped kept = kept_single byte after text pieces e ∙ kept
@@ -87,8 +83,8 @@ cut_word-front : (word text : List ℕ) (piece : Piece) (pieces : Token) →
     cut_word (piece ∷ pieces) text word ≡ piece ∷ cut_word pieces text word
 cut_word-front [] text piece pieces = refl
 cut_word-front (byte ∷ word) text piece pieces =
-    by_test (byte == 39)
-    (cut_word-front word [] piece ((pieces ++ single text ∷ []) ++ bare (39 ∷ []) ∷ []))
+    by_test (byte == ascii.single_quote)
+    (cut_word-front word [] piece ((pieces ++ single text ∷ []) ++ bare (ascii.single_quote ∷ []) ∷ []))
     (cut_word-front word (text ++ byte ∷ []) piece pieces)
   where
     by_test : (q : Bool) {a b c d : Token} → a ≡ piece ∷ b → c ≡ piece ∷ d →
@@ -98,9 +94,9 @@ cut_word-front (byte ∷ word) text piece pieces =
 
 is_quoted : (word text : List ℕ) → IsQuoted (cut_word [] text word)
 is_quoted [] text = quoted_word text []
-is_quoted (byte ∷ word) text = by_test (byte == 39)
-    (subst IsQuoted (sym (cut_word-front word [] (single text) (bare (39 ∷ []) ∷ [])))
-    (quoted_word text (cut_word (bare (39 ∷ []) ∷ []) [] word)))
+is_quoted (byte ∷ word) text = by_test (byte == ascii.single_quote)
+    (subst IsQuoted (sym (cut_word-front word [] (single text) (bare (ascii.single_quote ∷ []) ∷ [])))
+    (quoted_word text (cut_word (bare (ascii.single_quote ∷ []) ∷ []) [] word)))
     (is_quoted word (text ++ byte ∷ []))
   where
     by_test : (q : Bool) {a b : Token} → IsQuoted a → IsQuoted b → IsQuoted (cond q a b)
@@ -125,28 +121,28 @@ spelled : (word text : List ℕ) (pieces : Token) →
     word_of (cut_word pieces text word) ≡ word_of pieces ++ (text ++ word)
 unfolding word_of
 spelled [] text pieces = flat_map-append piece_text pieces (single text ∷ [])
-spelled (byte ∷ word) text pieces = by_test (byte == 39) refl
-    (spelled word [] ((pieces ++ single text ∷ []) ++ bare (39 ∷ []) ∷ []))
+spelled (byte ∷ word) text pieces = by_test (byte == ascii.single_quote) refl
+    (spelled word [] ((pieces ++ single text ∷ []) ++ bare (ascii.single_quote ∷ []) ∷ []))
     (spelled word (text ++ byte ∷ []) pieces)
   where
-    all : word_of ((pieces ++ single text ∷ []) ++ bare (39 ∷ []) ∷ [])
-        ≡ (word_of pieces ++ text) ++ 39 ∷ []
-    all = flat_map-append piece_text (pieces ++ single text ∷ []) (bare (39 ∷ []) ∷ [])
-        ∙ ap (λ t. t ++ 39 ∷ []) (flat_map-append piece_text pieces (single text ∷ [])
+    all : word_of ((pieces ++ single text ∷ []) ++ bare (ascii.single_quote ∷ []) ∷ [])
+        ≡ (word_of pieces ++ text) ++ ascii.single_quote ∷ []
+    all = flat_map-append piece_text (pieces ++ single text ∷ []) (bare (ascii.single_quote ∷ []) ∷ [])
+        ∙ ap (λ t. t ++ ascii.single_quote ∷ []) (flat_map-append piece_text pieces (single text ∷ [])
         ∙ ap (λ t. word_of pieces ++ t) (append-nil text))
 
-    by_test : (q : Bool) → byte == 39 ≡ q →
-        word_of (cut_word ((pieces ++ single text ∷ []) ++ bare (39 ∷ []) ∷ []) [] word)
-        ≡ word_of ((pieces ++ single text ∷ []) ++ bare (39 ∷ []) ∷ []) ++ word →
+    by_test : (q : Bool) → byte == ascii.single_quote ≡ q →
+        word_of (cut_word ((pieces ++ single text ∷ []) ++ bare (ascii.single_quote ∷ []) ∷ []) [] word)
+        ≡ word_of ((pieces ++ single text ∷ []) ++ bare (ascii.single_quote ∷ []) ∷ []) ++ word →
         word_of (cut_word pieces (text ++ byte ∷ []) word)
         ≡ word_of pieces ++ ((text ++ byte ∷ []) ++ word) →
-        word_of (cond q (cut_word ((pieces ++ single text ∷ []) ++ bare (39 ∷ []) ∷ []) [] word)
+        word_of (cond q (cut_word ((pieces ++ single text ∷ []) ++ bare (ascii.single_quote ∷ []) ∷ []) [] word)
         (cut_word pieces (text ++ byte ∷ []) word)) ≡ word_of pieces ++ (text ++ byte ∷ word)
     by_test true e escaped kept =
         escaped ∙ ap (λ t. t ++ word) all
-        ∙ append_assoc (word_of pieces ++ text) (39 ∷ []) word
-        ∙ append_assoc (word_of pieces) text (39 ∷ word)
-        ∙ ap (λ b. word_of pieces ++ (text ++ b ∷ word)) (sym ((Decides-eqb byte 39).0 e))
+        ∙ append_assoc (word_of pieces ++ text) (ascii.single_quote ∷ []) word
+        ∙ append_assoc (word_of pieces) text (ascii.single_quote ∷ word)
+        ∙ ap (λ b. word_of pieces ++ (text ++ b ∷ word)) (sym ((Decides-eqb byte ascii.single_quote).0 e))
     by_test false e escaped kept =
         kept ∙ ap (λ t. word_of pieces ++ t) (append_assoc text (byte ∷ []) word)
 
@@ -158,7 +154,7 @@ word_of-quoted word = spelled word [] []
 
 -- no byte is a `'`
 abbrev pub NoQuote : List ℕ → Type 0
-NoQuote text = AllByRecursion (λ byte. byte == 39 ≡ false) text
+NoQuote text = AllByRecursion (λ byte. byte == ascii.single_quote ≡ false) text
 
 -- a text without a `'` up to what follows it
 pub single_run : (run rest text : List ℕ) (pieces : Token) → NoQuote run →

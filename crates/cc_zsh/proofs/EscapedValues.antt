@@ -1,13 +1,15 @@
 -- What stands for the values of an argument holds no `'` but escaped ones.
 use Rattle.std.proofs.Common.{◌≡◌, ◌==◌, ℕ, zero, suc, Bool, true, false, cond, not, IsTrue, List, [], ◌∷◌, ◌++◌, map, Option, Some, None, unwrap_or, codes, refl}
 use Rattle.std.specs.List.{AllByRecursion, list_any}
+use Rattle.std.proofs.lemmas.Bool.{not-true}
+use Rattle.cc_base.specs.Bytes.{single_quote}
 use Rattle.cc_base.proofs.Booleans.{each_passes}
 use Rattle.cc_base.proofs.Members.{AllByRecursion-weaker}
 use Rattle.cc_base.specs.Joined.{joined_after, separator}
 use Rattle.cc_arg.specs.declared.parts.ArgParts.{ArgParts as Arg}
 use Rattle.cc_arg.specs.declared.possible_value.PossibleValue.{PossibleValue}
 use Rattle.cc_arg.specs.declared.value_hint.ValueHint.{ValueHint}
-use Rattle.cc_arg.specs.declared.value_hint.ValueHint.TheVariants.{Unknown, Other, AnyPath, FilePath, DirPath, ExecutablePath, CommandName, CommandString, CommandWithArguments, Username, Hostname, Url, EmailAddress}
+use Rattle.cc_arg.specs.declared.value_hint.ValueHint.TheVariants.{Unknown, Other, DirPath, ExecutablePath, CommandName, CommandString, CommandWithArguments, Username, Hostname, Url, EmailAddress}
 use Rattle.cc_arg.specs.Arguments.{possible_values, takes_values}
 use Rattle.cc_command.proofs.PlainParts.{HasNoQuote}
 use Rattle.cc_quote.specs.QuotedWord.{line_feeds_as_spaces}
@@ -21,12 +23,8 @@ use Rattle.cc_zsh.proofs.Cutting.{NoQuote, IsEscaped, escaped_append, escaped_sa
 
 -- by the tests of plainness
 pub no_quote : (text : List ℕ) → HasNoQuote text → NoQuote text
-no_quote text h = AllByRecursion-weaker (λ byte. IsTrue (not (byte == 39))) (λ byte. byte == 39 ≡ false)
-    (λ byte k. by_test (byte == 39) k) text (each_passes (λ byte. not (byte == 39)) text h)
-  where
-    by_test : (b : Bool) → IsTrue (not b) → b ≡ false
-    by_test true k = cc
-    by_test false k = refl
+no_quote text h = AllByRecursion-weaker (λ byte. IsTrue (not (byte == single_quote))) (λ byte. byte == single_quote ≡ false)
+    (λ byte k. not-true (byte == single_quote) k) text (each_passes (λ byte. not (byte == single_quote)) text h)
 
 escaped_value : (text : List ℕ) → IsEscaped (zsh_escaped_value text)
 escaped_value text = escaped_of (zsh_escaped_value text) (marked is_value_marked text) (value_composed text)
@@ -97,8 +95,6 @@ escaped_hint : (hint : ValueHint) → IsEscaped (hint_text hint)
 unfolding hint_text
 escaped_hint Unknown = computed (codes "_default") refl
 escaped_hint Other = escaped_same [] tt
-escaped_hint AnyPath = computed (codes "_files") refl
-escaped_hint FilePath = computed (codes "_files") refl
 escaped_hint DirPath = computed (codes "_files -/") refl
 escaped_hint ExecutablePath = computed (codes "_absolute_command_paths") refl
 escaped_hint CommandName = computed (codes "_command_names -e") refl
@@ -108,6 +104,7 @@ escaped_hint Username = computed (codes "_users") refl
 escaped_hint Hostname = computed (codes "_hosts") refl
 escaped_hint Url = computed (codes "_urls") refl
 escaped_hint EmailAddress = computed (codes "_email_addresses") refl
+escaped_hint hint = computed (codes "_files") refl
 
 escaped_listed : (values : Option (List PossibleValue)) (hint : ValueHint) →
     IsEscaped (listed_or_hint values hint)

@@ -1,10 +1,11 @@
 -- The functions of a script are read back.
-use Rattle.std.proofs.Common.{◌≡◌, ◌==◌, ℕ, true, false, cond, List, [], ◌∷◌, ◌++◌, map, flat_map, Option, Some, None, option_map, codes, refl, sym, ◌∙◌, ap, append_assoc, append-nil}
+use Rattle.std.proofs.Common.{◌≡◌, ℕ, true, false, cond, List, [], ◌∷◌, ◌++◌, map, flat_map, Option, Some, None, option_map, codes, refl, sym, ◌∙◌, ap, append_assoc, append-nil}
 use Rattle.std.specs.List.{AllByRecursion}
 use Rattle.std.proofs.lemmas.List.{map-append}
+use Rattle.cc_base.specs.Bytes.{backslash, close_parenthesis, colon, open_parenthesis, underscore}
 use Rattle.cc_base.proofs.Lines.{IsLine}
 use Rattle.cc_base.proofs.Lines.IsLine.{line}
-use Rattle.cc_generator.proofs.ReadInTurn.{in_parts, in_turn, lines}
+use Rattle.cc_generator.proofs.ReadInTurn.{in_parts, in_turn, items_begin}
 use Rattle.cc_quote.specs.PosixTokens.{sign, byte_of, cut}
 use Rattle.cc_quote.specs.PosixTokens.QuoteState.{between, in_bare, in_single}
 use Rattle.cc_quote.specs.QuotedWord.{line_feeds_as_spaces}
@@ -34,12 +35,12 @@ unfolding entry_from
 entry_name [] rest word h =
     ap (λ w. entry_from w (marks_from false rest)) (sym (append-nil word))
 entry_name (byte ∷ name) rest word (h, hs) =
-    ap (entry_from word) (marks-kept byte (name ++ rest) (name_byte-differs 92 byte refl h))
+    ap (entry_from word) (marks-kept byte (name ++ rest) (name_byte-differs backslash byte refl h))
     ∙ ap (λ b. elim b as (λ x. Option Entry) [
       | true ↦ option_map (λ help. let e : Entry = record { word = word; help = help } in e)
           (unmarked (marks_from false (name ++ rest)))
       | false ↦ entry_from (word ++ byte ∷ []) (marks_from false (name ++ rest))
-    ]) (name_byte-differs 58 byte refl h)
+    ]) (name_byte-differs colon byte refl h)
     ∙ entry_name name rest (word ++ byte ∷ []) hs
     ∙ ap (λ w. entry_from w (marks_from false rest)) (append_assoc word (byte ∷ []) name)
 
@@ -137,7 +138,7 @@ module _ (blocks : List Block) (ds : List Description) (label : List ℕ) where
       ap (reading (at_list blocks ds label) (in_bare [] (codes "commands=(")))
       (append_assoc (flat_map entry_text (e ∷ es)) entries_end (describe_begins ++ rest))
       ∙ opens (flat_map entry_text (e ∷ es) ++ end)
-      (lines entry_text entry_line (e ∷ es) end (end_line (describe_begins ++ rest)))
+      (items_begin IsLine entry_text entry_line (e ∷ es) end (end_line (describe_begins ++ rest)))
       ∙ in_turn listing entry_text (λ e. AreNameBytes e.word) entry_line entry_read [] (e ∷ es) end
       h (end_line (describe_begins ++ rest))
       ∙ end_read (e ∷ es) rest
@@ -162,11 +163,11 @@ by_name blocks ds found = elim found as (λ x. State) [
 
 -- a bare token that does not end in a bracket is passed over
 pub passed : (blocks : List Block) (ds : List Description) (run : List ℕ) →
-    text_before 41 run ≡ None →
+    text_before close_parenthesis run ≡ None →
     next (between_functions blocks ds) (bare run ∷ []) ≡ between_functions blocks ds
 unfolding next next_function function_name
 passed blocks ds run e = ap (λ o. by_name blocks ds (elim o as (λ x. Option (List ℕ)) [
-  | Some front ↦ text_before 40 front
+  | Some front ↦ text_before open_parenthesis front
   | None ↦ None
 ])) e
 
@@ -177,7 +178,7 @@ begins : (blocks : List Block) (ds : List Description) (label : List ℕ) →
 unfolding next next_function function_name
 begins blocks ds label =
     ap (λ o. by_name blocks ds (elim o as (λ x. Option (List ℕ)) [
-      | Some front ↦ text_before 40 front
+      | Some front ↦ text_before open_parenthesis front
       | None ↦ None
     ])) (before-last 41 (label ++ codes "(") refl)
     ∙ ap (by_name blocks ds) (before-last 40 label refl)
@@ -197,13 +198,13 @@ module _ (blocks : List Block) (ds : List Description) where
 
   second_read : (label rest : List ℕ) → AreNameBytes label →
       reading (between_functions blocks ds) (in_bare [] (codes "_")) (label ++ (commands_begin ++ rest))
-      ≡ reading (at_list blocks ds (95 ∷ label)) (in_bare [] (codes "commands=(")) rest
+      ≡ reading (at_list blocks ds (underscore ∷ label)) (in_bare [] (codes "commands=(")) rest
   unfolding commands_begin sign byte_of cut is_word next read
   second_read label rest h =
       ap (read (between_functions blocks ds))
       (bare_run label (commands_begin ++ rest) [] (codes "_") (name_other label h))
       ∙ ap (λ s. read s (tokens_from between (codes " {\n    local commands; commands=(" ++ rest)))
-      (begins blocks ds (95 ∷ label))
+      (begins blocks ds (underscore ∷ label))
 
   describe_read : (name rest : List ℕ) → NoQuote name →
       reading (between_functions blocks ds) (in_single [] []) (name ++ (describe_ends ++ rest))
@@ -227,7 +228,7 @@ function_read blocks ds function rest is =
     ∷ entries_text function.entries ∷ describe_begins ∷ function.name ∷ describe_ends ∷ []) rest)
     ∙ first_read blocks ds label (label ++ (commands_begin ++ listed)) is.label
     ∙ second_read blocks ds label listed is.label
-    ∙ list_read blocks ds (95 ∷ label) function.entries named is.words
+    ∙ list_read blocks ds (underscore ∷ label) function.entries named is.words
     ∙ describe_read blocks (ds ++ description_of function ∷ []) function.name rest is.name
 
 -- functions are read one after another

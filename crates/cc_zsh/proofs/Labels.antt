@@ -2,8 +2,10 @@
 use Rattle.std.proofs.Common.{◌≡◌, ◌≢◌, ◌==◌, ◌&&◌, ◌||◌, ℕ, Bool, true, false, cond, IsTrue, List, [], ◌∷◌, ◌++◌, codes, refl, sym, ◌∙◌, ap, subst, inl, inr, append_assoc, append-nil, drop}
 use Rattle.std.specs.Char.{is_ascii_alphanumeric}
 use Rattle.std.specs.List.{AllByRecursion}
+use Rattle.std.proofs.lemmas.Bool.{and_parts}
 use Rattle.std.proofs.lemmas.List.{append_cancel_left, append_cancel_right}
 use Rattle.std.proofs.lemmas.List.Concat.{flat_map-append}
+use Rattle.cc_base.specs.Bytes.{dash, space, underscore}
 use Rattle.cc_base.specs.Differ.{AllDifferBy}
 use Rattle.cc_base.proofs.Differing.{AllDifferBy-append}
 use Rattle.cc_base.proofs.Members.{IsIn, AllByRecursion-append, AllByRecursion-IsIn, AllByRecursion-weaker}
@@ -11,7 +13,7 @@ use Rattle.cc_command.specs.declared.node.Node.{Node}
 use Rattle.cc_command.specs.Names.{full_name, joined_name, visible_names}
 use Rattle.cc_command.specs.Plain.{is_plain_forest, siblings_differ}
 use Rattle.cc_command.specs.Tree.{Forest, none, more, Tree, IsSibling}
-use Rattle.cc_command.proofs.PlainNames.{plain_after, plain_after_start, plain_after_end, plain_after_more}
+use Rattle.cc_quote.proofs.PlainNames.{plain_after, plain_after_start, plain_after_end, plain_after_more}
 use Rattle.cc_command.proofs.PlainParts.{IsPlainName, plain_node, plain_more}
 use Rattle.cc_command.proofs.SiblingNames.{not_shared, first_differs}
 use Rattle.cc_zsh.specs.Functions.{Function, function_of, functions_below}
@@ -26,38 +28,28 @@ use Rattle.cc_zsh.proofs.PlainTree.{IsNamed}
 -- nothing, or a text that begins with two underscores
 data IsTail : List ℕ → Type 0 where
   tail_none : IsTail []
-  tail_more : (text : List ℕ) → IsTail (95 ∷ 95 ∷ text)
-
-may_follow : Bool → ℕ → Bool
-may_follow follows byte = is_ascii_alphanumeric byte || (follows && (byte == 45 || byte == 95))
+  tail_more : (text : List ℕ) → IsTail (underscore ∷ underscore ∷ text)
 
 plain_step : (follows : Bool) (byte : ℕ) (name : List ℕ) → IsTrue (plain_after follows (byte ∷ name)) →
-    IsTrue ((is_ascii_alphanumeric byte || (follows && (byte == 45 || byte == 95)))
+    IsTrue ((is_ascii_alphanumeric byte || (follows && (byte == dash || byte == underscore)))
     && plain_after (is_ascii_alphanumeric byte) name)
 plain_step follows byte name h = subst IsTrue (plain_after_more follows byte name) h
-
-and_right : (a b : Bool) → IsTrue (a && b) → IsTrue b
-and_right true b h = h
-and_right false b h = cc
 
 plain_next : (follows : Bool) (byte : ℕ) (name : List ℕ) → IsTrue (plain_after follows (byte ∷ name)) →
     IsTrue (plain_after (is_ascii_alphanumeric byte) name)
 plain_next follows byte name h =
-    and_right (is_ascii_alphanumeric byte || (follows && (byte == 45 || byte == 95)))
-    (plain_after (is_ascii_alphanumeric byte) name) (plain_step follows byte name h)
-
-underscore_no_letter : is_ascii_alphanumeric 95 ≡ false
-underscore_no_letter = refl
+    (and_parts (is_ascii_alphanumeric byte || (follows && (byte == dash || byte == underscore)))
+    (plain_after (is_ascii_alphanumeric byte) name) (plain_step follows byte name h)).1
 
 -- after an underscore no name ends, and no other underscore follows
 not_ended : (name : List ℕ) (tail text : List ℕ) → IsTrue (plain_after false name) → IsTail tail →
-    name ++ tail ≢ 95 ∷ text
+    name ++ tail ≢ underscore ∷ text
 not_ended [] tail text h of e = let ends : false ≡ true = sym (plain_after_end false) ∙ h in cc
 not_ended (byte ∷ name) tail text h of e =
     let is : byte ≡ 95 = cc in
-    let step : IsTrue ((is_ascii_alphanumeric 95 || (false && (95 == 45 || 95 == 95)))
+    let step : IsTrue ((is_ascii_alphanumeric 95 || (false && (underscore == dash || underscore == underscore)))
     && plain_after (is_ascii_alphanumeric 95) name) =
-    subst (λ b. IsTrue ((is_ascii_alphanumeric b || (false && (b == 45 || b == 95)))
+    subst (λ b. IsTrue ((is_ascii_alphanumeric b || (false && (b == dash || b == underscore)))
     && plain_after (is_ascii_alphanumeric b) name)) is (plain_step false byte name h) in
     let wrong : false ≡ true = step in cc
 
@@ -68,7 +60,7 @@ longer : (follows : Bool) (byte : ℕ) (name tail other : List ℕ) →
 longer follows byte name tail other h of tail_none e = cc
 longer follows byte name tail other h of (tail_more text) e =
     let is : byte ≡ 95 = cc in
-    let rest : name ++ tail ≡ 95 ∷ text = ap (drop 1) e in
+    let rest : name ++ tail ≡ underscore ∷ text = ap (drop 1) e in
     let after : IsTrue (plain_after (is_ascii_alphanumeric 95) name) =
     subst (λ b. IsTrue (plain_after (is_ascii_alphanumeric b) name)) is (plain_next follows byte name h) in
     not_ended name tail text after of rest
@@ -95,15 +87,15 @@ stem name = replace_byte 32 (codes "__subcmd__") name
 stem-name : (name : List ℕ) → AreNameBytes name → stem name ≡ name
 stem-name [] h = refl
 stem-name (byte ∷ name) (h, hs) =
-    ap (λ b. cond b (codes "__subcmd__") (byte ∷ []) ++ stem name) (name_byte-differs 32 byte refl h)
+    ap (λ b. cond b (codes "__subcmd__") (byte ∷ []) ++ stem name) (name_byte-differs space byte refl h)
     ∙ ap (λ t. byte ∷ t) (stem-name name hs)
 
 stem-joined : (parent name : List ℕ) → AreNameBytes name →
     stem (joined_name parent name) ≡ stem parent ++ (codes "__subcmd__" ++ name)
 stem-joined parent name h =
-    flat_map-append (λ byte. cond (byte == 32) (codes "__subcmd__") (byte ∷ [])) (parent ++ codes " ") name
+    flat_map-append (λ byte. cond (byte == space) (codes "__subcmd__") (byte ∷ [])) (parent ++ codes " ") name
     ∙ ap (λ t. t ++ stem name)
-    (flat_map-append (λ byte. cond (byte == 32) (codes "__subcmd__") (byte ∷ [])) parent (codes " "))
+    (flat_map-append (λ byte. cond (byte == space) (codes "__subcmd__") (byte ∷ [])) parent (codes " "))
     ∙ ap (λ t. (stem parent ++ codes "__subcmd__") ++ t) (stem-name name h)
     ∙ append_assoc (stem parent) (codes "__subcmd__") name
 

@@ -2,7 +2,6 @@ pub mod ArmSteps
 pub mod ArmsRead
 pub mod BlockRead
 pub mod Cutting
-pub mod Digits
 pub mod EscapedValues
 pub mod Examples
 pub mod FunctionOrder

@@ -2,6 +2,7 @@
 use Rattle.std.proofs.Common.{◌≡◌, ℕ, cond, List, [], ◌∷◌, ◌++◌, map, flat_map, Option, Some, None, codes, refl, sym, ◌∙◌, ap, append_assoc, append-nil}
 use Rattle.std.specs.List.{AllByRecursion}
 use Rattle.std.specs.Option.{option_to_list}
+use Rattle.cc_base.specs.Bytes.{single_quote}
 use Rattle.cc_quote.specs.PosixTokens.{QuoteState, sign, cut}
 use Rattle.cc_quote.specs.PosixTokens.QuoteState.{between, in_single}
 use Rattle.cc_quote.proofs.PosixCutting.{tokens_from}
@@ -94,7 +95,7 @@ word_next word options outer blocks block e =
 
 -- a line with a quoted word
 pub line_adds : (text word : List ℕ) (options : List ZshOption) → Escapes text word →
-    option_to_list (option_of word) ≡ options → Adds (39 ∷ (text ++ line_end)) options
+    option_to_list (option_of word) ≡ options → Adds (single_quote ∷ (text ++ line_end)) options
 unfolding line_end sign cut read
 line_adds text word options escapes e outer blocks block rest =
     ap (λ t. reading (in_block outer blocks block) (in_single [] []) t)

@@ -2,6 +2,7 @@
 use Rattle.std.proofs.Common.{◌≡◌, ℕ, Bool, true, false, cond, List, [], ◌∷◌, ◌++◌, flat_map, unwrap_or, codes, refl, sym, ◌∙◌, ap, subst, append_assoc}
 use Rattle.std.specs.List.{AllByRecursion}
 use Rattle.std.specs.Option.{option_to_list}
+use Rattle.cc_base.specs.Bytes.{single_quote}
 use Rattle.cc_arg.specs.declared.parts.ArgParts.{ArgParts as Arg}
 use Rattle.cc_arg.specs.declared.names.ShownName.{ShownName}
 use Rattle.cc_arg.specs.declared.names.ShownName.TheVariants.{Short, Long}
@@ -78,7 +79,7 @@ module _ (above node : Node) (above_plain : AllByRecursion IsPlainArgument above
   -- a line under one name
   line_of : (name : List ℕ) (bracket : Bracket) (values : List ℕ) → IsEscaped values →
       IsDashed name →
-      Adds (39 ∷ (option_word has_front words (is_repeated argument) name bracket
+      Adds (single_quote ∷ (option_word has_front words (is_repeated argument) name bracket
       (zsh_escaped_help help) values ++ line_end))
       (option_row above node argument bracket name ∷ [])
   line_of name bracket values v dashed =

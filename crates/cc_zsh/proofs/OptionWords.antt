@@ -4,6 +4,7 @@ use Rattle.std.specs.Char.{is_ascii_alphanumeric}
 use Rattle.std.specs.List.{AllByRecursion, list_all}
 use Rattle.std.proofs.lemmas.Bool.{cases_Bool}
 use Rattle.std.proofs.lemmas.Bool.Decides.{Decides-eqb, nat_tests}
+use Rattle.cc_base.specs.Bytes as ascii
 use Rattle.cc_base.specs.Joined.{joined, joined_after}
 use Rattle.cc_quote.specs.Escapes.{marked_byte, marked}
 use Rattle.cc_quote.specs.ZshQuote.{is_help_marked, is_value_marked}
@@ -28,7 +29,7 @@ pub record IsDashed (text : List ℕ) : Type 0 where
 
 -- a byte of names differs from one that is in no name
 pub name_byte-differs : (other byte : ℕ) →
-    (is_ascii_alphanumeric other || other == 45 || other == 95) ≡ false → is_name_byte byte ≡ true →
+    (is_ascii_alphanumeric other || other == ascii.dash || other == ascii.underscore) ≡ false → is_name_byte byte ≡ true →
     byte == other ≡ false
 unfolding is_name_byte
 name_byte-differs other byte outside h = elim (cases_Bool (byte == other)) [
@@ -70,12 +71,11 @@ bracket_text after_plus = codes "+"
 bracket_text after_equals = codes "="
 
 bracket_read : (bracket : Bracket) (rest name : List ℕ) (names : List (List ℕ)) (repeated : Bool) →
-    state_after (in_name names repeated name) (bracket_text bracket ++ 91 ∷ rest)
+    state_after (in_name names repeated name) (bracket_text bracket ++ ascii.open_bracket ∷ rest)
     ≡ state_after (in_help (new_option names repeated name bracket)) rest
 unfolding state_after next_state is_name_byte after_name
 bracket_read alone rest name names repeated = refl
-bracket_read after_plus rest name names repeated = refl
-bracket_read after_equals rest name names repeated = refl
+bracket_read bracket rest name names repeated = refl
 
 -- after the help nothing changes
 pub after_stays : (option : ZshOption) (rest : List ℕ) →
@@ -87,10 +87,10 @@ after_stays option (byte ∷ rest) = after_stays option rest
 abbrev helped : ZshOption → List ℕ → ZshOption
 helped option help = record option { help = option.help ++ help }
 
-not_bracket : (byte : ℕ) → is_help_marked byte ≡ false → byte == 93 ≡ false
+not_bracket : (byte : ℕ) → is_help_marked byte ≡ false → byte == ascii.close_bracket ≡ false
 not_bracket byte h = grind (arith, nat_tests)
 
-not_backslash : (byte : ℕ) → is_help_marked byte ≡ false → byte == 92 ≡ false
+not_backslash : (byte : ℕ) → is_help_marked byte ≡ false → byte == ascii.backslash ≡ false
 not_backslash byte h = grind (arith, nat_tests)
 
 help_byte_read : (byte : ℕ) (rest : List ℕ) (option : ZshOption) →
@@ -100,25 +100,25 @@ unfolding state_after next_state
 help_byte_read byte rest option = by_test (is_help_marked byte) refl
   where
     by_test : (m : Bool) → is_help_marked byte ≡ m →
-        state_after (in_help option) (cond m (92 ∷ byte ∷ []) (byte ∷ []) ++ rest)
+        state_after (in_help option) (cond m (ascii.backslash ∷ byte ∷ []) (byte ∷ []) ++ rest)
         ≡ state_after (in_help (with_help option byte)) rest
     by_test true e = refl
     by_test false e =
-        ap (λ b. state_after (cond b (after_help option) (cond (byte == 92) (in_help_escaped option)
+        ap (λ b. state_after (cond b (after_help option) (cond (byte == ascii.backslash) (in_help_escaped option)
         (in_help (with_help option byte)))) rest) (not_bracket byte e)
         ∙ ap (λ b. state_after (cond b (in_help_escaped option)
         (in_help (with_help option byte))) rest) (not_backslash byte e)
 
 help_read : (help rest : List ℕ) (option : ZshOption) →
-    state_after (in_help option) (marked is_help_marked help ++ 93 ∷ rest)
+    state_after (in_help option) (marked is_help_marked help ++ ascii.close_bracket ∷ rest)
     ≡ after_help (helped option help)
 unfolding state_after next_state
 help_read [] rest option =
     after_stays option rest ∙ ap (λ h. after_help (record option { help = h })) (sym (append-nil option.help))
 help_read (byte ∷ help) rest option =
     ap (state_after (in_help option))
-    (append_assoc (marked_byte is_help_marked byte) (marked is_help_marked help) (93 ∷ rest))
-    ∙ help_byte_read byte (marked is_help_marked help ++ 93 ∷ rest) option
+    (append_assoc (marked_byte is_help_marked byte) (marked is_help_marked help) (ascii.close_bracket ∷ rest))
+    ∙ help_byte_read byte (marked is_help_marked help ++ ascii.close_bracket ∷ rest) option
     ∙ help_read help rest (with_help option byte)
     ∙ ap (λ h. after_help (record option { help = h })) (append_assoc option.help (byte ∷ []) help)
 
@@ -132,10 +132,10 @@ conflict_read [] rest name names h =
     ap (λ n. state_after (in_conflicts names n) rest) (sym (append-nil name))
 conflict_read (byte ∷ text) rest name names (h, hs) =
     ap (λ b. state_after (cond b (after_conflicts (with_name names name))
-    (cond (byte == 32) (in_conflicts (with_name names name) [])
-    (in_conflicts names (name ++ byte ∷ [])))) (text ++ rest)) (name_byte-differs 41 byte refl h)
+    (cond (byte == ascii.space) (in_conflicts (with_name names name) [])
+    (in_conflicts names (name ++ byte ∷ [])))) (text ++ rest)) (name_byte-differs ascii.close_parenthesis byte refl h)
     ∙ ap (λ b. state_after (cond b (in_conflicts (with_name names name) [])
-    (in_conflicts names (name ++ byte ∷ []))) (text ++ rest)) (name_byte-differs 32 byte refl h)
+    (in_conflicts names (name ++ byte ∷ []))) (text ++ rest)) (name_byte-differs ascii.space byte refl h)
     ∙ conflict_read text rest (name ++ byte ∷ []) names hs
     ∙ ap (λ n. state_after (in_conflicts names n) rest) (append_assoc name (byte ∷ []) text)
 
@@ -147,16 +147,16 @@ with_dashed names (byte ∷ name) h = refl
 -- the names after the first
 names_read : (words : List (List ℕ)) (rest name : List ℕ) (names : List (List ℕ)) →
     AllByRecursion IsDashed words →
-    state_after (in_conflicts names name) (joined_after (codes " ") true words ++ 41 ∷ rest)
+    state_after (in_conflicts names name) (joined_after (codes " ") true words ++ ascii.close_parenthesis ∷ rest)
     ≡ state_after (after_conflicts (with_name names name ++ words)) rest
 unfolding state_after next_state
 names_read [] rest name names h =
     ap (λ ns. state_after (after_conflicts ns) rest) (sym (append-nil (with_name names name)))
 names_read (word ∷ words) rest name names (h, hs) =
     let before : List (List ℕ) = with_name names name in
-    let more : List ℕ = joined_after (codes " ") true words ++ 41 ∷ rest in
+    let more : List ℕ = joined_after (codes " ") true words ++ ascii.close_parenthesis ∷ rest in
     ap (state_after (in_conflicts before []))
-    (append_assoc word (joined_after (codes " ") true words) (41 ∷ rest))
+    (append_assoc word (joined_after (codes " ") true words) (ascii.close_parenthesis ∷ rest))
     ∙ conflict_read word more [] before (dashed_bytes word h)
     ∙ names_read words rest word before hs
     ∙ ap (λ ns. state_after (after_conflicts (ns ++ words)) rest) (with_dashed before word h)
@@ -170,8 +170,8 @@ unfolding state_after next_state
 conflicts_read [] rest h = refl
 conflicts_read (word ∷ words) rest (h, hs) =
     ap (state_after (in_conflicts [] []))
-    (append_assoc word (joined_after (codes " ") true words) (41 ∷ rest))
-    ∙ conflict_read word (joined_after (codes " ") true words ++ 41 ∷ rest) [] [] (dashed_bytes word h)
+    (append_assoc word (joined_after (codes " ") true words) (ascii.close_parenthesis ∷ rest))
+    ∙ conflict_read word (joined_after (codes " ") true words ++ ascii.close_parenthesis ∷ rest) [] [] (dashed_bytes word h)
     ∙ names_read words rest word [] hs
     ∙ ap (λ ns. state_after (after_conflicts (ns ++ words)) rest) (with_dashed [] word h)
 
@@ -207,21 +207,21 @@ option_with words repeated name bracket help = record {
 -- from the first byte of the name on
 rest_read : (words : List (List ℕ)) (repeated : Bool) (name : List ℕ) (bracket : Bracket)
     (help values : List ℕ) → AreNameBytes name →
-    state_after (in_name words repeated (45 ∷ []))
+    state_after (in_name words repeated (ascii.dash ∷ []))
     (name ++ after_name_text bracket (marked is_help_marked help) values)
-    ≡ after_help (option_with words repeated (45 ∷ name) bracket help)
+    ≡ after_help (option_with words repeated (ascii.dash ∷ name) bracket help)
 rest_read words repeated name bracket help values h =
-    name_read name (after_name_text bracket (marked is_help_marked help) values) (45 ∷ []) words
+    name_read name (after_name_text bracket (marked is_help_marked help) values) (ascii.dash ∷ []) words
     repeated h
-    ∙ bracket_read bracket (marked is_help_marked help ++ (codes "]" ++ values)) (45 ∷ name) words
+    ∙ bracket_read bracket (marked is_help_marked help ++ (codes "]" ++ values)) (ascii.dash ∷ name) words
     repeated
-    ∙ help_read help values (new_option words repeated (45 ∷ name) bracket)
+    ∙ help_read help values (new_option words repeated (ascii.dash ∷ name) bracket)
 
 -- from the star on, where a star and a dash lead on as after these names in conflict
 star_read : (state : OptionState) (words : List (List ℕ)) →
-    ((rest : List ℕ) → state_after state (42 ∷ rest) ≡ state_after (after_star words) rest) →
-    ((rest : List ℕ) → state_after state (45 ∷ rest)
-    ≡ state_after (in_name words false (45 ∷ [])) rest) →
+    ((rest : List ℕ) → state_after state (ascii.star ∷ rest) ≡ state_after (after_star words) rest) →
+    ((rest : List ℕ) → state_after state (ascii.dash ∷ rest)
+    ≡ state_after (in_name words false (ascii.dash ∷ [])) rest) →
     (repeated : Bool) (name : List ℕ) (bracket : Bracket) (help values : List ℕ) →
     StartsDashed name → state_after state
     (star_of repeated ++ (name ++ after_name_text bracket (marked is_help_marked help) values))
@@ -304,34 +304,32 @@ by_cond : (q : Bool) {a b : OptionState} → BeforeBracket a → BeforeBracket b
 by_cond true h k = h
 by_cond false h k = k
 
-not_open : (byte : ℕ) → is_value_marked byte ≡ false → byte == 91 ≡ false
+not_open : (byte : ℕ) → is_value_marked byte ≡ false → byte == ascii.open_bracket ≡ false
 not_open byte h = grind (arith, nat_tests)
 
 -- a byte that is no bracket does not lead on to the help
-kept_before : (state : OptionState) (byte : ℕ) → BeforeBracket state → byte == 91 ≡ false →
+kept_before : (state : OptionState) (byte : ℕ) → BeforeBracket state → byte == ascii.open_bracket ≡ false →
     BeforeBracket (next_state state byte)
 unfolding next_state after_name
 kept_before state byte (star_state names) e =
-    by_cond (byte == 45) (name_state names true (byte ∷ [])) none_state
+    by_cond (byte == ascii.dash) (name_state names true (byte ∷ [])) none_state
 kept_before state byte (name_state names repeated name) e =
     by_cond (is_name_byte byte) (name_state names repeated (name ++ byte ∷ []))
     (subst (λ b. BeforeBracket (cond b (in_help (new_option names repeated name alone))
-    (cond (byte == 43) (at_bracket names repeated name after_plus)
-    (cond (byte == 61) (at_bracket names repeated name after_equals) no_option)))) (sym e)
-    (by_cond (byte == 43) (bracket_state names repeated name after_plus)
-    (by_cond (byte == 61) (bracket_state names repeated name after_equals) none_state)))
+    (cond (byte == ascii.plus) (at_bracket names repeated name after_plus)
+    (cond (byte == ascii.equals) (at_bracket names repeated name after_equals) no_option)))) (sym e)
+    (by_cond (byte == ascii.plus) (bracket_state names repeated name after_plus)
+    (by_cond (byte == ascii.equals) (bracket_state names repeated name after_equals) none_state)))
 kept_before state byte (bracket_state names repeated name bracket) e =
     subst (λ b. BeforeBracket (cond b (in_help (new_option names repeated name bracket)) no_option))
     (sym e) none_state
 kept_before state byte none_state e = none_state
 
 -- after a backslash nothing is an option
-backslash_none : (state : OptionState) → BeforeBracket state → next_state state 92 ≡ no_option
+backslash_none : (state : OptionState) → BeforeBracket state → next_state state ascii.backslash ≡ no_option
 unfolding next_state after_name is_name_byte
 backslash_none state (star_state names) = refl
-backslash_none state (name_state names repeated name) = refl
-backslash_none state (bracket_state names repeated name bracket) = refl
-backslash_none state none_state = refl
+backslash_none state _ = refl
 
 value_before : (text : List ℕ) (state : OptionState) → BeforeBracket state →
     BeforeBracket (state_after state (marked is_value_marked text))
@@ -342,7 +340,7 @@ value_before (byte ∷ text) state h = by_test (is_value_marked byte) refl
   where
     by_test : (m : Bool) → is_value_marked byte ≡ m → (is_value_marked byte ≡ false →
         BeforeBracket (state_after (next_state state byte) (marked is_value_marked text))) →
-        BeforeBracket (state_after state (cond m (92 ∷ byte ∷ []) (byte ∷ [])
+        BeforeBracket (state_after state (cond m (ascii.backslash ∷ byte ∷ []) (byte ∷ [])
         ++ marked is_value_marked text))
     by_test true e again =
         subst (λ p. BeforeBracket (state_after p (byte ∷ marked is_value_marked text)))
@@ -352,12 +350,10 @@ value_before (byte ∷ text) state h = by_test (is_value_marked byte) refl
 
 -- and a colon ends it
 colon_ends : (state : OptionState) (rest : List ℕ) → BeforeBracket state →
-    state_after state (58 ∷ rest) ≡ no_option
+    state_after state (ascii.colon ∷ rest) ≡ no_option
 unfolding state_after next_state after_name is_name_byte
 colon_ends state rest (star_state names) = none_stays rest
-colon_ends state rest (name_state names repeated name) = none_stays rest
-colon_ends state rest (bracket_state names repeated name bracket) = none_stays rest
-colon_ends state rest none_state = none_stays rest
+colon_ends state rest _ = none_stays rest
 
 state_after-append : (text rest : List ℕ) (state : OptionState) →
     state_after state (text ++ rest) ≡ state_after (state_after state text) rest
@@ -370,6 +366,6 @@ pub star_none : (value rest : List ℕ) →
     option_of (codes "*" ++ (marked is_value_marked value ++ (codes ":" ++ rest))) ≡ None
 unfolding option_of state_after next_state read_option
 star_none value rest =
-    ap read_option (state_after-append (marked is_value_marked value) (58 ∷ rest) (after_star [])
+    ap read_option (state_after-append (marked is_value_marked value) (ascii.colon ∷ rest) (after_star [])
     ∙ colon_ends (state_after (after_star []) (marked is_value_marked value)) rest
     (value_before value (after_star []) (star_state [])))

@@ -6,6 +6,7 @@ use Rattle.std.specs.Option.{option_to_list}
 use Rattle.std.specs.Str.{bytes_eq}
 use Rattle.std.proofs.lemmas.Str.{encode_ascii}
 use Rattle.std.proofs.lemmas.Bool.Decides.{nat_tests}
+use Rattle.cc_base.specs.Bytes.{dash, single_quote, underscore}
 use Rattle.cc_base.proofs.Members.{AllByRecursion-weaker, AllByRecursion-append, AllByRecursion-map}
 use Rattle.cc_base.specs.Joined.{joined, joined_after, separator}
 use Rattle.cc_arg.specs.declared.parts.ArgParts.{ArgParts as Arg}
@@ -14,8 +15,8 @@ use Rattle.cc_arg.specs.declared.names.ShownName.TheVariants.{Short, Long}
 use Rattle.cc_arg.specs.ShownNames.{shown_names, shown_shorts, shown_longs}
 use Rattle.cc_command.specs.declared.node.Node.{Node}
 use Rattle.cc_command.specs.Plain.{passes_if_some}
-use Rattle.cc_command.specs.PlainName.{letter, joiner, foreign, is_joined, name_byte, is_plain_name}
-use Rattle.cc_command.proofs.NameBytes.{plain_bytes}
+use Rattle.cc_quote.specs.PlainName.{letter, joiner, foreign, is_joined, name_byte, is_plain_name}
+use Rattle.cc_quote.proofs.NameBytes.{plain_bytes, letter_or_joiner}
 use Rattle.cc_command.proofs.PlainParts.{IsPlainName, IsPlainShort, IsPlainArgument, shown_plain}
 use Rattle.cc_quote.specs.PosixTokens.{sign}
 use Rattle.cc_quote.specs.PosixTokens.Sign.{other}
@@ -34,19 +35,9 @@ letter_is : (byte : ℕ) → is_ascii_alphanumeric byte ≡ true → is_name_byt
 unfolding is_name_byte
 letter_is byte h = grind (arith, nat_tests)
 
-joiner_is : (byte : ℕ) → (byte == 45 || byte == 95) ≡ true → is_name_byte byte ≡ true
-unfolding is_name_byte
-joiner_is byte h = grind (arith, nat_tests)
-
 name_byte_is : (byte : ℕ) → name_byte byte ≢ foreign → is_name_byte byte ≡ true
-unfolding name_byte
-name_byte_is byte h = by_tests (is_ascii_alphanumeric byte) (byte == 45 || byte == 95) refl refl h
-  where
-    by_tests : (a j : Bool) → is_ascii_alphanumeric byte ≡ a → (byte == 45 || byte == 95) ≡ j →
-        cond a letter (cond j joiner foreign) ≢ foreign → is_name_byte byte ≡ true
-    by_tests true j e f k = letter_is byte e
-    by_tests false true e f k = joiner_is byte f
-    by_tests false false e f k = absurd (k refl)
+unfolding is_name_byte
+name_byte_is byte h = let k = letter_or_joiner byte h in grind (arith, nat_tests)
 
 -- a plain name is of such bytes
 pub plain_name_bytes : (name : List ℕ) → IsPlainName name → AreNameBytes name
@@ -63,24 +54,24 @@ name_other text h = AllByRecursion-weaker (λ byte. is_name_byte byte ≡ true)
 
 pub name_no_quote : (text : List ℕ) → AreNameBytes text → NoQuote text
 name_no_quote text h = AllByRecursion-weaker (λ byte. is_name_byte byte ≡ true)
-    (λ byte. byte == 39 ≡ false) (λ byte. name_byte-differs 39 byte refl) text h
+    (λ byte. byte == single_quote ≡ false) (λ byte. name_byte-differs single_quote byte refl) text h
 
 -- ---- names of arguments
 
 short_low : (short : ℕ) → is_ascii_alphanumeric short ≡ true → short < 128
 short_low short h = grind (arith, nat_tests)
 
-short_no_dash : (short : ℕ) → is_ascii_alphanumeric short ≡ true → short == 45 ≡ false
+short_no_dash : (short : ℕ) → is_ascii_alphanumeric short ≡ true → short == dash ≡ false
 short_no_dash short h = grind (arith, nat_tests)
 
-short_typed : (short : ℕ) → IsPlainShort short → IsTrue (is_typed_name (45 ∷ short ∷ []))
+short_typed : (short : ℕ) → IsPlainShort short → IsTrue (is_typed_name (dash ∷ short ∷ []))
 unfolding is_typed_name is_plain_name is_joined name_byte
 short_typed short h =
     ap (λ b. is_plain_name (cond b [] (short ∷ []))) (short_no_dash short h)
-    ∙ ap (λ b. is_joined (cond b letter (cond (short == 45 || short == 95) joiner foreign) ∷ [])) h
+    ∙ ap (λ b. is_joined (cond b letter (cond (short == dash || short == underscore) joiner foreign) ∷ [])) h
 
 short_dashed : (short : ℕ) → IsPlainShort short → IsDashed (short_word short)
-short_dashed short h = subst (λ t. IsDashed (45 ∷ t)) (sym (encode_ascii short (short_low short h)))
+short_dashed short h = subst (λ t. IsDashed (dash ∷ t)) (sym (encode_ascii short (short_low short h)))
     (record { starts = (refl, (letter_is short h, tt)); typed = short_typed short h })
 
 dash_bytes : (text : List ℕ) → AreNameBytes text → StartsDashed (codes "--" ++ text)
@@ -193,9 +184,9 @@ joined_no_quote : (begun : Bool) (words : List (List ℕ)) → AllByRecursion Is
     NoQuote (joined_after (codes " ") begun words)
 joined_no_quote begun [] h = tt
 joined_no_quote begun (word ∷ words) (h, hs) =
-    AllByRecursion-append (λ byte. byte == 39 ≡ false) (separator (codes " ") begun ++ word)
+    AllByRecursion-append (λ byte. byte == single_quote ≡ false) (separator (codes " ") begun ++ word)
     (joined_after (codes " ") true words)
-    (AllByRecursion-append (λ byte. byte == 39 ≡ false) (separator (codes " ") begun) word
+    (AllByRecursion-append (λ byte. byte == single_quote ≡ false) (separator (codes " ") begun) word
     (front begun) (name_no_quote word (dashed_bytes word h)))
     (joined_no_quote true words hs)
   where
@@ -208,6 +199,6 @@ pub front_no_quote : (has_front : Bool) (words : List (List ℕ)) → IsFront ha
 front_no_quote false words h = tt
 front_no_quote true words h = (
   refl,
-  AllByRecursion-append (λ byte. byte == 39 ≡ false) (joined (codes " ") words) (codes ")")
+  AllByRecursion-append (λ byte. byte == single_quote ≡ false) (joined (codes " ") words) (codes ")")
       (joined_no_quote false words h) (refl, tt),
 )

@@ -3,6 +3,7 @@ use Rattle.std.proofs.Common.{◌≡◌, ◌==◌, ◌&&◌, ◌||◌, ℕ, suc,
 use Rattle.std.specs.Char.{is_ascii_alphanumeric}
 use Rattle.std.specs.List.{AllByRecursion}
 use Rattle.std.proofs.lemmas.Bool.Decides.{nat_tests}
+use Rattle.cc_base.specs.Bytes.{dash, single_quote, underscore}
 use Rattle.cc_base.specs.Sorting.{in_order}
 use Rattle.cc_base.proofs.Members.{AllByRecursion-weaker, AllByRecursion-append, AllByRecursion-map}
 use Rattle.cc_base.proofs.Sorted.{AllByRecursion-in_order}
@@ -14,8 +15,8 @@ use Rattle.cc_command.specs.Texts.{help_name}
 use Rattle.cc_command.specs.Names.{full_name, joined_name, visible_names}
 use Rattle.cc_command.specs.Plain.{is_plain_forest, is_plain_tree}
 use Rattle.cc_command.specs.Tree.{Forest, none, more, join, Tree}
-use Rattle.cc_command.specs.PlainName.{is_joined, is_plain_name}
-use Rattle.cc_command.proofs.PlainNames.{plain_after, plain_after_start, plain_after_more}
+use Rattle.cc_quote.specs.PlainName.{is_joined, is_plain_name}
+use Rattle.cc_quote.proofs.PlainNames.{plain_after, plain_after_start, plain_after_more}
 use Rattle.cc_command.proofs.PlainParts.{IsPlainName, IsPlainArgument, IsPlainNode, plain_node, plain_more, plain_tree, plain_full_name}
 use Rattle.cc_zsh.specs.Functions.{Function, entry, entries_of, function_of, functions_below, function_below, is_again, once_after, sorted_functions}
 use Rattle.cc_zsh.specs.Reader.{is_name_byte}
@@ -104,11 +105,11 @@ full_joined parent name h k =
 
 full_no_quote : (name : List ℕ) → AreFullBytes name → NoQuote name
 full_no_quote name h = AllByRecursion-weaker (λ byte. (is_name_byte byte ≡ true) ⊎ (byte ≡ 32))
-    (λ byte. byte == 39 ≡ false) one name h
+    (λ byte. byte == single_quote ≡ false) one name h
   where
-    one : (byte : ℕ) → (is_name_byte byte ≡ true) ⊎ (byte ≡ 32) → byte == 39 ≡ false
-    one byte (inl k) = name_byte-differs 39 byte refl k
-    one byte (inr e) = ap (λ b. b == 39) e
+    one : (byte : ℕ) → (is_name_byte byte ≡ true) ⊎ (byte ≡ 32) → byte == single_quote ≡ false
+    one byte (inl k) = name_byte-differs single_quote byte refl k
+    one byte (inr e) = ap (λ b. b == single_quote) e
 
 -- ---- nodes and functions
 
@@ -179,7 +180,7 @@ once_each P last (function ∷ functions) (h, hs) = by_test (is_again last funct
 
 -- ---- the root
 
-letter_first : (byte : ℕ) → is_ascii_alphanumeric byte ≡ true → byte == 95 ≡ false
+letter_first : (byte : ℕ) → is_ascii_alphanumeric byte ≡ true → byte == underscore ≡ false
 letter_first byte h = grind (arith, nat_tests)
 
 bin_name_is : (name : List ℕ) → IsPlainName name → IsBinName name
@@ -195,11 +196,11 @@ bin_name_is (byte ∷ name) h = record {
 }
   where
     first_letter : (a : Bool) → is_ascii_alphanumeric byte ≡ a →
-        ((is_ascii_alphanumeric byte || (false && (byte == 45 || byte == 95)))
+        ((is_ascii_alphanumeric byte || (false && (byte == dash || byte == underscore)))
         && plain_after (is_ascii_alphanumeric byte) name) ≡ true → is_ascii_alphanumeric byte ≡ true
     first_letter true e k = e
     first_letter false e k =
-        let none : false ≡ true = sym (ap (λ b. (b || (false && (byte == 45 || byte == 95)))
+        let none : false ≡ true = sym (ap (λ b. (b || (false && (byte == dash || byte == underscore)))
         && plain_after (is_ascii_alphanumeric byte) name) e) ∙ k in cc
 
 pub readable_tree : (root : Tree) → IsTrue (is_plain_tree root) → built_tree root ≡ root →

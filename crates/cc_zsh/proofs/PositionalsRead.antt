@@ -3,7 +3,7 @@ use Rattle.std.proofs.Common.{◌≡◌, ◌||◌, ℕ, Bool, true, false, cond,
 use Rattle.std.specs.List.{AllByRecursion}
 use Rattle.std.specs.Option.{option_to_list}
 use Rattle.std.proofs.lemmas.Bool.Decides.{nat_tests}
-use Rattle.std.proofs.lemmas.List.Concat.{flat_map-append}
+use Rattle.cc_base.specs.Bytes.{single_quote}
 use Rattle.cc_base.proofs.Members.{AllByRecursion-append, AllByRecursion-filter}
 use Rattle.cc_arg.specs.declared.parts.ArgParts.{ArgParts as Arg}
 use Rattle.cc_arg.specs.Arguments.{is_positional}
@@ -121,7 +121,7 @@ unfolding positional_text
 positional_adds has_children argument is =
     let rest : List ℕ = argument.id ++ (positional_help argument.help ++ (codes ":" ++ value_text argument)) in
     let none = counted has_children argument rest (rest_escaped argument is) in
-    subst (λ t. Adds (39 ∷ t) [])
+    subst (λ t. Adds (single_quote ∷ t) [])
     (sym (regroup (count_text has_children argument) (codes ":") argument.id
     (positional_help argument.help) (codes ":") (value_text argument) line_end))
     (line_adds (count_text has_children argument ++ (codes ":" ++ rest)) none.word [] none.escapes

@@ -1,6 +1,6 @@
 -- A script that is read as the definitions say.
 use Rattle.std.proofs.Common.{◌≡◌, ◌∷◌, ◌++◌, [], List, ℕ, true, false, refl, codes, Some, None}
-use Rattle.cc_command.specs.PlainName.{is_joined, is_plain_name, name_byte}
+use Rattle.cc_quote.specs.PlainName.{is_joined, is_plain_name, name_byte}
 use Rattle.cc_quote.specs.PosixTokens.{sign, byte_of, cut, posix_tokens}
 use Rattle.cc_quote.specs.Tokens.{is_word}
 use Rattle.cc_quote.specs.ZshQuote.{marks, marks_from, unmarked}

@@ -2,6 +2,8 @@
 use Rattle.std.proofs.Common.{◌≡◌, ◌≢◌, ℕ, Bool, true, false, cond, IsTrue, List, [], ◌∷◌, ◌++◌, map, flat_map, Option, Some, None, option_map, is_some, Result, Ok, Err, codes, bytes_eq, refl, sym, ◌∙◌, ap, subst, inl, inr, drop}
 use Rattle.std.specs.List.{AllByRecursion}
 use Rattle.std.proofs.lemmas.Slice.Eq.{bytes_eq-Decides}
+use Rattle.std.proofs.lemmas.Bool.{and_parts}
+use Rattle.cc_base.specs.Bytes.{underscore}
 use Rattle.cc_base.specs.Differ.{AllDifferBy}
 use Rattle.cc_base.specs.Sorting.{in_order}
 use Rattle.cc_base.proofs.Differing.{AllDifferBy-map, AllDifferBy-finer, AllDifferBy-permutation}
@@ -15,7 +17,6 @@ use Rattle.cc_base.specs.declared.failures.Failures.{Failures}
 use Rattle.cc_base.specs.Writes.{Writes}
 use Rattle.cc_generator.proofs.InOrder.{in_order-permutes}
 use Rattle.cc_generator.specs.Generators.{Generates, IsReady}
-use Rattle.cc_base.proofs.Booleans.{both_true}
 use Rattle.cc_command.specs.Names.{full_name}
 use Rattle.cc_command.specs.Plain.{is_plain_tree}
 use Rattle.cc_command.specs.Tree.{Forest, none, more, Tree, has_nodes}
@@ -122,25 +123,25 @@ below_have path above (more node below rest) =
 -- ---- what is shown
 
 one_shown : (descriptions : List Description) (visit : Keyed Path) →
-    labelled_entries (95 ∷ function_label (full_name visit.tree.node)) descriptions
+    labelled_entries (underscore ∷ function_label (full_name visit.tree.node)) descriptions
     ≡ Some (map entry_row (entries_of visit.tree.children)) →
     shown_of descriptions (block_at visit) ≡ Some (shown_at visit)
 unfolding shown_of children_of
 one_shown descriptions visit e = by_children visit.tree.children e
   where
     by_children : (children : Forest) →
-        labelled_entries (95 ∷ function_label (full_name visit.tree.node)) descriptions
+        labelled_entries (underscore ∷ function_label (full_name visit.tree.node)) descriptions
         ≡ Some (map entry_row (entries_of children)) →
         option_map (λ entries. let s : Shown = record { path = visit.key; options = (block_at visit).options; children = entries } in s)
         (children_of descriptions (cond (has_nodes children)
-        (Some (95 ∷ function_label (full_name visit.tree.node))) None))
+        (Some (underscore ∷ function_label (full_name visit.tree.node))) None))
         ≡ Some (record { path = visit.key; options = (block_at visit).options; children = map entry_row (entries_of children) })
     by_children none found = refl
     by_children (more node below rest) found =
         ap (option_map (λ entries. let s : Shown = record { path = visit.key; options = (block_at visit).options; children = entries } in s)) found
 
 visits_shown : (descriptions : List Description) (visits : List (Keyed Path)) →
-    AllByRecursion (λ visit. labelled_entries (95 ∷ function_label (full_name visit.tree.node)) descriptions
+    AllByRecursion (λ visit. labelled_entries (underscore ∷ function_label (full_name visit.tree.node)) descriptions
     ≡ Some (map entry_row (entries_of visit.tree.children))) visits →
     all_shown descriptions (map block_at visits) ≡ Some (map shown_at visits)
 unfolding all_shown
@@ -185,7 +186,7 @@ module _ (root : Tree) (plain : IsTrue (is_plain_tree root)) (built : built_tree
 
   descriptions_differ : AllDifferBy (λ d. d.label) (map description_of functions)
   descriptions_differ = AllDifferBy-map (λ d. d.label) description_of functions
-      (AllDifferBy-finer label (λ f. 95 ∷ label f) (λ f. Unit {0}) (λ f g _ _ same. ap (drop 1) same) functions
+      (AllDifferBy-finer label (λ f. underscore ∷ label f) (λ f. Unit {0}) (λ f g _ _ same. ap (drop 1) same) functions
       (AllByRecursion-from_IsIn (λ f. Unit {0}) functions (λ f at. tt)) apart_all)
 
   visits_have : AllByRecursion (HasFunction functions) (path_visits longer_path [] root)
@@ -200,9 +201,9 @@ module _ (root : Tree) (plain : IsTrue (is_plain_tree root)) (built : built_tree
       ≡ Some (all_shown_at root)
   nodes_shown = visits_shown (map description_of functions) (path_visits longer_path [] root)
       (AllByRecursion-weaker (HasFunction functions)
-      (λ visit. labelled_entries (95 ∷ function_label (full_name visit.tree.node)) (map description_of functions)
+      (λ visit. labelled_entries (underscore ∷ function_label (full_name visit.tree.node)) (map description_of functions)
       ≡ Some (map entry_row (entries_of visit.tree.children)))
-      (λ visit at. found_first (95 ∷ function_label (full_name visit.tree.node)) (map description_of functions)
+      (λ visit at. found_first (underscore ∷ function_label (full_name visit.tree.node)) (map description_of functions)
       (description_of (function_of visit.tree.node visit.tree.children)) descriptions_differ
       (map-IsIn description_of functions (function_of visit.tree.node visit.tree.children) at) refl)
       (path_visits longer_path [] root) visits_have)
@@ -233,7 +234,7 @@ reads_back root plain built = record {
 ready_reads_back : (root : Tree) → StaysIfMarked root → IsReady root → IsTrue (is_plain_tree root) →
     ZshReads root
 ready_reads_back root stays ready plain =
-    reads_back root plain (stays (both_true root.node.built (is_some root.node.bin_name) ready).0)
+    reads_back root plain (stays (and_parts root.node.built (is_some root.node.bin_name) ready).0)
 
 -- what writing the script of such a tree does, as the call of a generator
 pub generated : {S : Type 0} (taken : S → List ℕ) (failed : S → Failures) (root at : Tree)

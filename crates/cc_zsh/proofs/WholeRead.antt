@@ -2,6 +2,7 @@
 use Rattle.std.proofs.Common.{◌≡◌, ◌==◌, ◌&&◌, ℕ, Bool, true, false, cond, not, List, [], ◌∷◌, ◌++◌, map, flat_map, Some, None, option_map, codes, bytes_eq, refl, sym, ◌∙◌, ap, append_assoc, append-nil, arith}
 use Rattle.std.specs.List.{AllByRecursion, list_all}
 use Rattle.std.proofs.lemmas.Bool.Decides.{nat_tests}
+use Rattle.cc_base.specs.Bytes as ascii
 use Rattle.cc_base.proofs.Lines.{IsLine}
 use Rattle.cc_base.proofs.Lines.IsLine.{line}
 use Rattle.cc_base.proofs.Members.{AllByRecursion-weaker}
@@ -36,22 +37,22 @@ pub record IsBinName (name : List ℕ) : Type 0 where
   pub rest : List ℕ
   pub whole : name ≡ first ∷ rest
   pub bytes : AreNameBytes (first ∷ rest)
-  pub no_underscore : first == 95 ≡ false
+  pub no_underscore : first == ascii.underscore ≡ false
 
-with_bracket : (text rest sought : List ℕ) → list_all (λ byte. not (byte == 40)) sought ≡ true →
-    bytes_eq (text ++ 40 ∷ rest) sought ≡ false
+with_bracket : (text rest sought : List ℕ) → list_all (λ byte. not (byte == ascii.open_parenthesis)) sought ≡ true →
+    bytes_eq (text ++ ascii.open_parenthesis ∷ rest) sought ≡ false
 with_bracket [] rest [] h = refl
 with_bracket [] rest (byte ∷ sought) h = grind (arith, nat_tests)
 with_bracket (first ∷ text) rest [] h = refl
 with_bracket (first ∷ text) rest (byte ∷ sought) h = by_test (first == byte)
-    (with_bracket text rest sought (tail (not (byte == 40)) (list_all (λ b. not (b == 40)) sought) h))
+    (with_bracket text rest sought (tail (not (byte == ascii.open_parenthesis)) (list_all (λ b. not (b == ascii.open_parenthesis)) sought) h))
   where
     tail : (a b : Bool) → (a && b) ≡ true → b ≡ true
     tail true b e = e
     tail false b e = cc
 
-    by_test : (q : Bool) → bytes_eq (text ++ 40 ∷ rest) sought ≡ false →
-        (q && bytes_eq (text ++ 40 ∷ rest) sought) ≡ false
+    by_test : (q : Bool) → bytes_eq (text ++ ascii.open_parenthesis ∷ rest) sought ≡ false →
+        (q && bytes_eq (text ++ ascii.open_parenthesis ∷ rest) sought) ≡ false
     by_test true e = e
     by_test false e = refl
 
@@ -61,7 +62,7 @@ other_word : (run : List ℕ) → bytes_eq run (codes "_arguments") ≡ false �
 unfolding next is_word
 other_word run e = ap (λ b. cond b (in_block [] [] (record { path = []; options = []; function = None })) before_blocks) e
 
-first_word : (first : ℕ) (rest : List ℕ) → first == 95 ≡ false →
+first_word : (first : ℕ) (rest : List ℕ) → first == ascii.underscore ≡ false →
     bytes_eq (first ∷ rest) (codes "_arguments") ≡ false
 first_word first rest e = ap (λ b. b && bytes_eq rest (codes "arguments")) e
 
@@ -83,7 +84,7 @@ begin_tail : (rest : List ℕ) →
 unfolding sign byte_of cut is_word next read
 begin_tail rest = refl
 
-first_read : (first : ℕ) (rest named : List ℕ) → first == 95 ≡ false →
+first_read : (first : ℕ) (rest named : List ℕ) → first == ascii.underscore ≡ false →
     read before_blocks (tokens_from (in_bare [] (first ∷ rest)) (autoloads ++ named))
     ≡ reading before_blocks (in_bare [] (codes "_")) named
 unfolding autoloads sign byte_of cut is_word next read
@@ -99,7 +100,7 @@ second_read bin rest = ap (λ s. read s (tokens_from between (after_function_nam
     (other_word (((codes "_" ++ bin) ++ codes "(") ++ codes ")") (named_tokens bin))
   where
     named_tokens : (bin : List ℕ) → bytes_eq (((codes "_" ++ bin) ++ codes "(") ++ codes ")") (codes "_arguments") ≡ false
-    named_tokens bin = ap (λ t. bytes_eq (95 ∷ t) (codes "_arguments")) (append_assoc bin (codes "(") (codes ")")) ∙ named_word bin
+    named_tokens bin = ap (λ t. bytes_eq (ascii.underscore ∷ t) (codes "_arguments")) (append_assoc bin (codes "(") (codes ")")) ∙ named_word bin
 
 begin_read : (bin rest : List ℕ) → IsBinName bin →
     reading before_blocks between (begin_text bin ++ rest) ≡ reading before_blocks between rest
@@ -126,9 +127,9 @@ lacks_bracket last (byte ∷ []) (h, hs) = ap (λ b. cond b (Some []) None) h
 lacks_bracket last (byte ∷ next ∷ text) (h, hs) =
     ap (option_map (λ before. byte ∷ before)) (lacks_bracket last (next ∷ text) hs)
 
-name_lacks : (name : List ℕ) → AreNameBytes name → text_before 41 name ≡ None
-name_lacks name h = lacks_bracket 41 name (AllByRecursion-weaker (λ b. is_name_byte b ≡ true)
-    (λ b. b == 41 ≡ false) (λ b. name_byte-differs 41 b refl) name h)
+name_lacks : (name : List ℕ) → AreNameBytes name → text_before ascii.close_parenthesis name ≡ None
+name_lacks name h = lacks_bracket ascii.close_parenthesis name (AllByRecursion-weaker (λ b. is_name_byte b ≡ true)
+    (λ b. b == ascii.close_parenthesis ≡ false) (λ b. name_byte-differs ascii.close_parenthesis b refl) name h)
 
 underscore : is_name_byte 95 ≡ true
 unfolding is_name_byte
@@ -146,7 +147,7 @@ module _ (blocks : List Block) (ds : List Description) (bin : List ℕ) (h : Are
   name_passed = passed blocks ds bin (name_lacks bin h)
 
   function_passed : next functions (bare (codes "_" ++ bin) ∷ []) ≡ functions
-  function_passed = passed blocks ds (codes "_" ++ bin) (name_lacks (95 ∷ bin) (underscore, h))
+  function_passed = passed blocks ds (codes "_" ++ bin) (name_lacks (ascii.underscore ∷ bin) (underscore, h))
 
   last_read : reading functions (in_bare [] (codes "_")) (bin ++ (codes " " ++ (bin ++ if_ends)))
       ≡ Some (record { blocks = blocks; descriptions = ds })

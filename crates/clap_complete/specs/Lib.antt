@@ -23,6 +23,8 @@ pub use Rattle.cc_quote.specs.Escapes
 pub use Rattle.cc_quote.specs.FishEscapes
 pub use Rattle.cc_quote.specs.FishQuote
 pub use Rattle.cc_quote.specs.FishTokens
+pub use Rattle.cc_quote.specs.PlainName
+pub use Rattle.cc_quote.specs.PlainPath
 pub use Rattle.cc_quote.specs.PosixQuote
 pub use Rattle.cc_quote.specs.PosixTokenWords
 pub use Rattle.cc_quote.specs.PosixTokens
@@ -54,7 +56,6 @@ pub use Rattle.cc_command.specs.Made
 pub use Rattle.cc_command.specs.Marked
 pub use Rattle.cc_command.specs.Names
 pub use Rattle.cc_command.specs.Plain
-pub use Rattle.cc_command.specs.PlainName
 pub use Rattle.cc_command.specs.Quiet
 pub use Rattle.cc_command.specs.Texts
 pub use Rattle.cc_command.specs.Tree
@@ -152,7 +153,7 @@ pub use Rattle.cc_agreement.specs.Agreement as BashAgreement
 pub use Rattle.cc_registrations.specs.BashRegistration
 pub use Rattle.cc_registrations.specs.ElvishRegistration
 pub use Rattle.cc_registrations.specs.FishRegistration
-pub use Rattle.cc_registrations.specs.Found as FoundTexts
+pub use Rattle.cc_base.specs.Found as FoundTexts
 pub use Rattle.cc_registrations.specs.Names as RegistrationNames
 pub use Rattle.cc_registrations.specs.PowershellRegistration
 pub use Rattle.cc_registrations.specs.ZshRegistration

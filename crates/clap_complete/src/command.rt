@@ -5,4 +5,5 @@ pub use cc_arg::{
     ValueRange,
 };
 pub use cc_base::Text;
-pub use cc_command::{Arguments, Command, NameAndVisibleAliases, is_plain_name};
+pub use cc_command::{Arguments, Command, NameAndVisibleAliases};
+pub use cc_quote::is_plain_name;

@@ -31,7 +31,7 @@ use Rattle.clap.specs.Walk.{settled_rows, short_met, short_or_plain, subcommand_
 use Rattle.clap.specs.Walk.{subcommand_or_other, takes_several, takes_values, to_positional, used}
 use Rattle.clap.specs.Walk.{used_as, used_by_id, values_or_missing, walk, walk_from, walked}
 use Rattle.clap.specs.Walk.{walked_from, with_count, with_default, with_values, without, word_met}
-use Rattle.clap.specs.Walk.{done, waits, plain, refused, idle, option, positional, next, trailing}
+use Rattle.clap.specs.Walk.{done, waits, plain, idle, option, positional, next, trailing}
 use Rattle.clap.specs.Walk.{subcommand, value}
 use Rattle.clap.specs.declared.builder.action.ArgAction.{ArgAction}
 use Rattle.clap.specs.declared.builder.action.ArgAction.TheVariants as act
@@ -146,12 +146,6 @@ with_count_kept id at how s n rows h = at_row_kept id at (new_count s n) _ rows 
 used_as_kept : (x : ArgAction) (id at : Text) (how : Reading) (values : List Text) (rows : List Row)
     → fills id at values ≡ true → have_values id rows ≡ true
     → have_values id (used_as x at how values rows) ≡ true
-used_as_kept act.Set id at how values rows given h =
-    with_values_kept id at how _ values _ given (without_kept id at rows h)
-used_as_kept act.SetTrue id at how values rows given h =
-    with_values_kept id at how _ values _ given (without_kept id at rows h)
-used_as_kept act.SetFalse id at how values rows given h =
-    with_values_kept id at how _ values _ given (without_kept id at rows h)
 used_as_kept act.Append id at how values rows given h =
     with_values_kept id at how _ values rows given h
 used_as_kept act.Count id at how [] rows given h =
@@ -163,6 +157,8 @@ used_as_kept act.Help id at how values rows given h = h
 used_as_kept act.HelpShort id at how values rows given h = h
 used_as_kept act.HelpLong id at how values rows given h = h
 used_as_kept act.Version id at how values rows given h = h
+used_as_kept x id at how values rows given h =
+    with_values_kept id at how _ values _ given (without_kept id at rows h)
 
 -- ---- one use of an argument
 
@@ -180,13 +176,7 @@ leaves_value id a =
 wants_some : (x : ArgAction) (least : ℕ) → wants_value x least ≡ true → nat_lt 0 least ≡ true
 wants_some act.Set least h = h
 wants_some act.Append least h = h
-wants_some act.SetTrue least h = cc
-wants_some act.SetFalse least h = cc
-wants_some act.Count least h = cc
-wants_some act.Help least h = cc
-wants_some act.HelpShort least h = cc
-wants_some act.HelpLong least h = cc
-wants_some act.Version least h = cc
+wants_some x least h = cc
 
 some_in_range : (a : Rule) (least most : ℕ) (values : List Text) → nat_lt 0 least ≡ true
     → range_kinds least most (length values) ≡ [] → has_some (values_or_missing a values) ≡ true
@@ -316,8 +306,7 @@ module _ (s : Shape) (id : Text) (leaves : list_all (leaves_value id) s.rules �
       → kept (after_flag c waiting word h o).0
   after_flag_kept waiting word h done k = k
   after_flag_kept waiting word h (waits name) k = k
-  after_flag_kept waiting word h plain k = plain_word_kept waiting word h k
-  after_flag_kept waiting word h refused k = plain_word_kept waiting word h k
+  after_flag_kept waiting word h o k = plain_word_kept waiting word h k
 
   short_word_kept : (waiting : Waiting) (word : Text) (o : Option Text) (h : Held)
       → option_map_or (λ flags. bundle_fault c again flags h) o [] ≡ [] → kept h

@@ -4,10 +4,9 @@ ghost use Rattle.std.specs.Prelude.{◌≡◌, ◌&&◌, ◌||◌, ◌==◌, ◌
 ghost use Rattle.std.specs.List.{list_all};
 ghost use Rattle.std.specs.Option.{option_copied};
 ghost use Rattle.std.specs.Char.{is_ascii_alphanumeric};
-ghost use Rattle.cc_base.specs.Bytes.{dash, underscore};
 ghost use Rattle.cc_command.specs.Tree.{forest_of};
 ghost use Rattle.cc_command.specs.Names.{contains_name, has_child};
-ghost use Rattle.cc_command.specs.PlainName.{is_plain_name};
+ghost use Rattle.cc_quote.specs.PlainName.{is_plain_name};
 ghost use Rattle.cc_command.specs.Plain.{all_differ, has_no_quote, is_plain_argument};
 ghost use Rattle.cc_command.specs.Plain.{is_plain_forest, is_plain_node, is_plain_tree};
 ghost use Rattle.cc_command.specs.Plain.{names_of, passes_if_some, siblings_differ};
@@ -18,6 +17,7 @@ use crate::command::getters::contains_name;
 use crate::node::Node;
 use cc_arg::Arg;
 use cc_base::Text;
+use cc_quote::is_plain_name;
 
 impl Command {
     /// Whether the tree is plain, so that a script can hold its names as they are.
@@ -191,27 +191,4 @@ fn is_plain_if_some(name: Option<&str>) -> bool
         Some(name) => is_plain_name(name),
         None => true,
     }
-}
-
-/// Whether the name is plain: made of ASCII letters and digits with single `-` or `_` between them.
-#[tactic(auto, using(crate::proofs::PlainNames::plain_after_start))]
-pub fn is_plain_name(name: &str) -> bool
-    ensures { result ≡ is_plain_name name.now }
-{
-    let mut after_letter = false;
-    for byte in name.as_bytes() {
-        if !may_follow(*byte, after_letter) {
-            return false;
-        }
-        after_letter = byte.is_ascii_alphanumeric();
-    }
-    after_letter
-}
-
-// A letter or digit may always be in a name, a `-` or a `_` after one of those.
-fn may_follow(byte: u8, after_letter: bool) -> bool
-    ensures { result ≡ (is_ascii_alphanumeric byte
-        || (after_letter && (byte == dash || byte == underscore))) }
-{
-    byte.is_ascii_alphanumeric() || (after_letter && matches!(byte, b'-' | b'_'))
 }

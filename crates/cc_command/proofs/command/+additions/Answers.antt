@@ -1,10 +1,10 @@
 use Rattle.std.proofs.Common.{◌≡◌, ◌+◌, List, [], ◌∷◌, ◌++◌, Some, length, take, ap, ◌∙◌, subst, sym, arith, rules}
-use Rattle.std.proofs.lemmas.List.{take_more}
+use Rattle.std.proofs.lemmas.List.{take_more, take_all}
 use Rattle.cc_command.specs.Tree.{Tree, forest_of, none}
 use Rattle.cc_command.specs.Names.{full_name, joined_name}
 use Rattle.cc_command.specs.Built.{globals}
 use Rattle.cc_command.specs.Additions.{IsAddition, AreAfter, AreOfTreeAfter}
-use Rattle.cc_command.proofs.PutIn.{take_all, forest_of-none, AreAfter-none, AreAfter-push, AreOfTreeAfter-of, AreOfTreeAfter-leaf}
+use Rattle.cc_command.proofs.PutIn.{forest_of-none, AreAfter-none, AreAfter-push, AreOfTreeAfter-of, AreOfTreeAfter-leaf}
 use Rattle.cc_command.proofs.command.+additions.Goals as goal
 
 pub Command::push_additions-returns-then-is_empty : goal.Command::push_additions-returns-then-is_empty

@@ -1,10 +1,9 @@
-use Rattle.std.proofs.Common.{◌≡◌, ◌∙◌, ◌+◌, ◌<◌, ◌&&◌, ◌∷◌, ap, arith, drop, false, length}
-use Rattle.std.proofs.Common.{rules, subst, sym, true}
-use Rattle.std.proofs.lemmas.List.{drop_more}
+use Rattle.std.proofs.Common.{◌∙◌, ◌<◌, ap, arith, false, length, refl, rules, subst, sym, true}
 use Rattle.json.specs.Tree.{items_tokens, json_tokens, members_tokens}
 use Rattle.json.specs.Value.{items_view, members_view, value_view}
 use Rattle.json.proofs.Trees.{item_smaller, member_smaller}
 use Rattle.cc_json.specs.Seen.{are_in_range, is_in_range, members_are_in_range}
+use Rattle.cc_json.proofs.RangeSteps.{range_step}
 use Rattle.cc_json.proofs.range.+range.Goals as goal
 
 pub have_range-has_range-requires : goal.have_range-has_range-requires
@@ -18,26 +17,16 @@ have_range-has_range-requires t c =
 
 pub have_range-returns-then-not-has_range : goal.have_range-returns-then-not-has_range
 have_range-returns-then-not-has_range t c =
-    let l = c.loop-item in
-    let xs = c.deref-item-items.result.now in
-    let x = c.item-item.result in
-    let rest = are_in_range (items_view (drop (l.item-index + 1) xs)) in
-    let here : drop l.item-index xs ≡ x ∷ drop (l.item-index + 1) xs =
-    drop_more xs l.item-index x (omega arith) ∙ ap (λ y. y ∷ drop (l.item-index + 1) xs) (sym c.item-item.is) in
-    let outside : is_in_range (value_view x) ≡ false = search rules in
-    sym (ap (λ b. b && rest) outside) ∙ sym (ap (λ ys. are_in_range (items_view ys)) here) ∙ l.invariant
-    ∙ ap (λ ys. are_in_range (items_view ys)) c.deref-item-items.ensures.value
+    range_step (λ x. is_in_range (value_view x)) (λ xs. are_in_range (items_view xs)) (λ x xs. refl)
+    c.deref-item-items.result.now c.loop-item.item-index c.item-item.result false _ (omega arith) c.item-item.is (search rules)
+    c.loop-item.invariant
+    ∙ ap (λ xs. are_in_range (items_view xs)) c.deref-item-items.ensures.value
 
 pub have_range-loop-item-preserved : goal.have_range-loop-item-preserved
 have_range-loop-item-preserved t c =
-    let l = c.loop-item in
-    let xs = c.deref-item-items.result.now in
-    let x = c.item-item.result in
-    let rest = are_in_range (items_view (drop (l.item-index + 1) xs)) in
-    let here : drop l.item-index xs ≡ x ∷ drop (l.item-index + 1) xs =
-    drop_more xs l.item-index x (omega arith) ∙ ap (λ y. y ∷ drop (l.item-index + 1) xs) (sym c.item-item.is) in
-    let inside : is_in_range (value_view x) ≡ true = search rules in
-    sym (ap (λ b. b && rest) inside) ∙ sym (ap (λ ys. are_in_range (items_view ys)) here) ∙ l.invariant
+    range_step (λ x. is_in_range (value_view x)) (λ xs. are_in_range (items_view xs)) (λ x xs. refl)
+    c.deref-item-items.result.now c.loop-item.item-index c.item-item.result true _ (omega arith) c.item-item.is (search rules)
+    c.loop-item.invariant
 
 pub members_have_range-has_range-requires : goal.members_have_range-has_range-requires
 members_have_range-has_range-requires t c =
@@ -50,23 +39,13 @@ members_have_range-has_range-requires t c =
 
 pub members_have_range-returns-then-not-has_range : goal.members_have_range-returns-then-not-has_range
 members_have_range-returns-then-not-has_range t c =
-    let l = c.loop-member in
-    let xs = c.deref-member-items.result.now in
-    let x = c.member-item.result in
-    let rest = members_are_in_range (members_view (drop (l.member-index + 1) xs)) in
-    let here : drop l.member-index xs ≡ x ∷ drop (l.member-index + 1) xs =
-    drop_more xs l.member-index x (omega arith) ∙ ap (λ y. y ∷ drop (l.member-index + 1) xs) (sym c.member-item.is) in
-    let outside : is_in_range (value_view x.1) ≡ false = search rules in
-    sym (ap (λ b. b && rest) outside) ∙ sym (ap (λ ys. members_are_in_range (members_view ys)) here) ∙ l.invariant
-    ∙ ap (λ ys. members_are_in_range (members_view ys)) c.deref-member-items.ensures.value
+    range_step (λ x. is_in_range (value_view x.1)) (λ xs. members_are_in_range (members_view xs)) (λ x xs. refl)
+    c.deref-member-items.result.now c.loop-member.member-index c.member-item.result false _ (omega arith) c.member-item.is (search rules)
+    c.loop-member.invariant
+    ∙ ap (λ xs. members_are_in_range (members_view xs)) c.deref-member-items.ensures.value
 
 pub members_have_range-loop-member-preserved : goal.members_have_range-loop-member-preserved
 members_have_range-loop-member-preserved t c =
-    let l = c.loop-member in
-    let xs = c.deref-member-items.result.now in
-    let x = c.member-item.result in
-    let rest = members_are_in_range (members_view (drop (l.member-index + 1) xs)) in
-    let here : drop l.member-index xs ≡ x ∷ drop (l.member-index + 1) xs =
-    drop_more xs l.member-index x (omega arith) ∙ ap (λ y. y ∷ drop (l.member-index + 1) xs) (sym c.member-item.is) in
-    let inside : is_in_range (value_view x.1) ≡ true = search rules in
-    sym (ap (λ b. b && rest) inside) ∙ sym (ap (λ ys. members_are_in_range (members_view ys)) here) ∙ l.invariant
+    range_step (λ x. is_in_range (value_view x.1)) (λ xs. members_are_in_range (members_view xs)) (λ x xs. refl)
+    c.deref-member-items.result.now c.loop-member.member-index c.member-item.result true _ (omega arith) c.member-item.is (search rules)
+    c.loop-member.invariant

@@ -1,13 +1,15 @@
-use Rattle.std.proofs.Common.{◌∙◌, ap, sym, map, encode_utf8, string_bytes, arith, length, length-append}
-use Rattle.std.proofs.lemmas.Str.{length-encode, len_utf8_bounds, IsUtf8-past_char}
+use Rattle.std.proofs.Common.{◌∙◌, ap, sym, map, string_bytes}
+use Rattle.std.proofs.lemmas.Str.{IsUtf8-past_char}
 use Rattle.cc_quote.specs.BashDouble.{bash_double_from}
 use Rattle.cc_quote.specs.PosixTokens.{sign}
 use Rattle.cc_quote.specs.declared.posix.QuoteState.TheVariants.{InDouble}
+use Rattle.cc_quote.proofs.Characters.{shorter}
+use Rattle.cc_quote.proofs.BashCharacters.IsWithin.{between}
 use Rattle.cc_quote.proofs.BashCharacters.{character_closes, character_read, never_stops, stays_within}
 use Rattle.cc_quote.proofs.bash.read_double.Goals as goal
 
 pub loop-character-init : goal.loop-character-init
-loop-character-init c = record { is_text = c.utf8.text; within = tt; same = ap (λ w. bash_double_from InDouble w (map sign c.args.text.now)) c.new-word.ensures.bytes }
+loop-character-init c = record { is_text = c.utf8.text; within = between; same = ap (λ w. bash_double_from InDouble w (map sign c.args.text.now)) c.new-word.ensures.bytes }
 
 pub returns-then-closes_double : goal.returns-then-closes_double
 returns-then-closes_double c =
@@ -22,9 +24,7 @@ returns-in_default-next_state c =
     absurd (never_stops c.loop-character.state c.in-Some.character c.loop-character.invariant.within (sym c.closes_double.ensures ∙ c.if-closes_double.false) (sym c.next_state.ensures ∙ c.in_default-next_state.is))
 
 pub loop-character-smaller : goal.loop-character-smaller
-loop-character-smaller c =
-    let whole = ap length c.in-Some.ensures ∙ length-append (encode_utf8 c.in-Some.character) c.in-Some.after.now in
-    omega (arith, whole, length-encode c.in-Some.character, len_utf8_bounds c.in-Some.character)
+loop-character-smaller c = shorter c.in-Some.character _ _ c.in-Some.ensures
 
 pub loop-character-preserved : goal.loop-character-preserved
 loop-character-preserved c =

@@ -1,13 +1,15 @@
-use Rattle.std.proofs.Common.{◌∙◌, ap, ap₂, sym, subst, Some, encode_utf8, string_bytes, arith, length, length-append}
-use Rattle.std.proofs.lemmas.Str.{length-encode, len_utf8_bounds, IsUtf8-past_char}
+use Rattle.std.proofs.Common.{◌∙◌, ap, ap₂, sym, subst, Some, string_bytes}
+use Rattle.std.proofs.lemmas.Str.{IsUtf8-past_char}
 use Rattle.cc_quote.specs.FishStates.{state_at, is_bare}
 use Rattle.cc_quote.specs.FishQuote.{fish_double_from}
 use Rattle.cc_quote.specs.FishQuote.FishState.{in_double}
+use Rattle.cc_quote.proofs.Characters.{shorter}
+use Rattle.cc_quote.proofs.FishCharacters.IsWithin.{between}
 use Rattle.cc_quote.proofs.FishCharacters.{IsWithin, character_closes, character_within, stays_within}
 use Rattle.cc_quote.proofs.fish_reader.read_double.Goals as goal
 
 pub loop-character-init : goal.loop-character-init
-loop-character-init c = record { is_text = c.utf8.text; within = tt; same = ap (λ w. fish_double_from (in_double w) c.args.text.now) c.new-word.ensures.bytes }
+loop-character-init c = record { is_text = c.utf8.text; within = between; same = ap (λ w. fish_double_from (in_double w) c.args.text.now) c.new-word.ensures.bytes }
 
 pub returns-then-is_bare : goal.returns-then-is_bare
 returns-then-is_bare c =
@@ -20,9 +22,7 @@ returns-then-is_bare c =
     ∙ c.loop-character.invariant.same
 
 pub loop-character-smaller : goal.loop-character-smaller
-loop-character-smaller c =
-    let whole = ap length c.in-Some.ensures ∙ length-append (encode_utf8 c.in-Some.character) c.in-Some.after.now in
-    omega (arith, whole, length-encode c.in-Some.character, len_utf8_bounds c.in-Some.character)
+loop-character-smaller c = shorter c.in-Some.character _ _ c.in-Some.ensures
 
 pub loop-character-preserved : goal.loop-character-preserved
 loop-character-preserved c =

@@ -1,8 +1,9 @@
-use Rattle.std.proofs.Common.{◌∙◌, ap, ap₂, sym, Some, encode_utf8, string_bytes, arith, length, length-append}
-use Rattle.std.proofs.lemmas.Str.{length-encode, len_utf8_bounds, IsUtf8-past_char}
+use Rattle.std.proofs.Common.{◌∙◌, ap, ap₂, sym, Some, string_bytes}
+use Rattle.std.proofs.lemmas.Str.{IsUtf8-past_char}
 use Rattle.cc_quote.specs.FishStates.{state_at}
 use Rattle.cc_quote.specs.FishQuote.{fish_word_from}
 use Rattle.cc_quote.specs.FishQuote.FishState.{bare}
+use Rattle.cc_quote.proofs.Characters.{shorter}
 use Rattle.cc_quote.proofs.FishCharacters.{character_read, character_stops, ends_bare, ends_open}
 use Rattle.cc_quote.proofs.fish_reader.read_word.Goals as goal
 
@@ -19,9 +20,7 @@ returns-then-ends_word c =
     ∙ c.loop-character.invariant.same
 
 pub loop-character-smaller : goal.loop-character-smaller
-loop-character-smaller c =
-    let whole = ap length c.in-Some.ensures ∙ length-append (encode_utf8 c.in-Some.character) c.in-Some.after.now in
-    omega (arith, whole, length-encode c.in-Some.character, len_utf8_bounds c.in-Some.character)
+loop-character-smaller c = shorter c.in-Some.character _ _ c.in-Some.ensures
 
 pub loop-character-preserved : goal.loop-character-preserved
 loop-character-preserved c =

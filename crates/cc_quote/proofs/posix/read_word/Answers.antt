@@ -1,8 +1,9 @@
-use Rattle.std.proofs.Common.{◌∙◌, ap, sym, map, encode_utf8, string_bytes, arith, length, length-append}
-use Rattle.std.proofs.lemmas.Str.{length-encode, len_utf8_bounds, IsUtf8-past_char}
+use Rattle.std.proofs.Common.{◌∙◌, ap, sym, map, string_bytes}
+use Rattle.std.proofs.lemmas.Str.{IsUtf8-past_char}
 use Rattle.cc_quote.specs.PosixQuote.{posix_word_from, posix_word_of, ended}
 use Rattle.cc_quote.specs.PosixTokens.{sign}
 use Rattle.cc_quote.specs.declared.posix.QuoteState.TheVariants.{Before}
+use Rattle.cc_quote.proofs.Characters.{shorter}
 use Rattle.cc_quote.proofs.PosixWords.{character_read, character_stops}
 use Rattle.cc_quote.proofs.posix.read_word.Goals as goal
 
@@ -20,9 +21,7 @@ returns-in_default-next_state c =
     ∙ c.loop-character.invariant.same
 
 pub loop-character-smaller : goal.loop-character-smaller
-loop-character-smaller c =
-    let whole = ap length c.in-Some.ensures ∙ length-append (encode_utf8 c.in-Some.character) c.in-Some.after.now in
-    omega (arith, whole, length-encode c.in-Some.character, len_utf8_bounds c.in-Some.character)
+loop-character-smaller c = shorter c.in-Some.character _ _ c.in-Some.ensures
 
 pub loop-character-preserved : goal.loop-character-preserved
 loop-character-preserved c =

@@ -1,7 +1,7 @@
 use Rattle.std.proofs.Common.{◌≡◌, ◌≢◌, ◌∙◌, ◌∷◌, [], ◌+◌, get_or, take, drop, arith}
 use Rattle.std.proofs.lemmas.Slice.{between_from_start}
 use Rattle.std.proofs.lemmas.Str.{IsCharBoundary-after_ascii}
-use Rattle.cc_base.specs.Bytes.{right_quote}
+use Rattle.cc_base.specs.Bytes.{right_quote, single_quote}
 use Rattle.cc_quote.specs.PowershellQuote.{IsFirstQuote}
 use Rattle.cc_quote.proofs.PowershellWords.{begins_right, cut_after, cut_at_single, cut_at_right}
 use Rattle.cc_quote.proofs.powershell.split_at_quote.Goals as goal
@@ -20,7 +20,7 @@ returns-then-bytes-at-eq39 c =
     let first : IsFirstQuote text at = rw c.as_bytes-bytes.ensures.value at c.in-Some.ensures in
     let is : get_or text at 0 ≡ 39 = rw c.as_bytes-bytes.ensures.value at c.if-bytes-at-eq39.true in
     let run : c.range-run.result.now ≡ take at text = c.range-run.ensures.value ∙ between_from_start text at in
-    (39 ∷ [], rw (run, c.range_from.ensures.value) (cut_at_single text at first is))
+    (single_quote ∷ [], rw (run, c.range_from.ensures.value) (cut_at_single text at first is))
 
 pub range_from-requires-2 : goal.range_from-requires-2
 range_from-requires-2 c =

@@ -1,14 +1,10 @@
 -- Where a mark is found: not in a text that lacks its first byte, nor in one that is tested byte by byte.
 use Rattle.std.specs.Prelude.{bytes_eq}
-use Rattle.std.proofs.Common.{◌≡◌, ◌≢◌, ◌==◌, ℕ, Bool, true, false, cond, List, [], ◌∷◌, ◌++◌, Option, Some, None, ◌⊎◌, inl, inr, refl, sym, ◌∙◌, ap, append_assoc, append-nil}
+use Rattle.std.proofs.Common.{◌≡◌, ◌≢◌, ◌==◌, ℕ, Bool, true, false, cond, List, [], ◌∷◌, ◌++◌, Option, Some, None, inl, inr, refl, sym, ◌∙◌, ap, append_assoc, append-nil}
 use Rattle.std.specs.List.{AllByRecursion}
-use Rattle.cc_quote.specs.Signs.{is_blank}
-use Rattle.cc_quote.proofs.BeforeBlanks.{BeginsBare}
-use Rattle.cc_registrations.specs.Found.{after, with_front, cut_at, without_blanks, after_last_from, ended, words_from, before_last}
-
--- one of two, by a test
-abbrev choose : {A : Type 0} → Bool → A → A → A
-choose test first second = elim test [ true ↦ first | false ↦ second ]
+use Rattle.cc_base.specs.Bytes.{is_blank, line_feed, space}
+use Rattle.cc_base.proofs.Cases.{option_cases, choose}
+use Rattle.cc_base.specs.Found.{after, with_front, cut_at, without_blanks, after_last_from, ended, words_from, before_last}
 
 abbrev pub Cut : Type 0
 Cut = Option (List ℕ × List ℕ)
@@ -62,10 +58,6 @@ is_free mark (byte ∷ text) rest = elim (after mark (byte ∷ text ++ rest)) [
   | None ↦ is_free mark text rest
 ]
 
-option_cases : {A : Type 0} (option : Option A) → ((value : A) × (option ≡ Some value)) ⊎ (option ≡ None)
-option_cases (Some value) = inl (value, refl)
-option_cases None = inr refl
-
 abbrev free_step : Bool → Option (List ℕ) → Bool
 free_step later found = elim found [ Some _ ↦ false | None ↦ later ]
 
@@ -115,35 +107,28 @@ word_on word (byte ∷ text) rest h =
     ∙ word_on (word ++ byte ∷ []) text rest h.1
     ∙ ap (λ w. words_from w rest) (append_assoc word (byte ∷ []) text)
 
-words-append : (word text rest : List ℕ) → words_from word (text ++ 32 ∷ rest) ≡ words_from word text ++ words_from [] rest
+words-append : (word text rest : List ℕ) → words_from word (text ++ space ∷ rest) ≡ words_from word text ++ words_from [] rest
 unfolding words_from
 words-append word [] rest = ended-append word [] (words_from [] rest)
 words-append word (byte ∷ text) rest = by_test (is_blank byte) (words-append [] text rest) (words-append (word ++ byte ∷ []) text rest)
   where
-    by_test : (blank : Bool) → words_from [] (text ++ 32 ∷ rest) ≡ words_from [] text ++ words_from [] rest
-        → words_from (word ++ byte ∷ []) (text ++ 32 ∷ rest) ≡ words_from (word ++ byte ∷ []) text ++ words_from [] rest
-        → choose blank (ended word (words_from [] (text ++ 32 ∷ rest))) (words_from (word ++ byte ∷ []) (text ++ 32 ∷ rest))
+    by_test : (blank : Bool) → words_from [] (text ++ space ∷ rest) ≡ words_from [] text ++ words_from [] rest
+        → words_from (word ++ byte ∷ []) (text ++ space ∷ rest) ≡ words_from (word ++ byte ∷ []) text ++ words_from [] rest
+        → choose blank (ended word (words_from [] (text ++ space ∷ rest))) (words_from (word ++ byte ∷ []) (text ++ space ∷ rest))
         ≡ choose blank (ended word (words_from [] text)) (words_from (word ++ byte ∷ []) text) ++ words_from [] rest
     by_test true e f = ap (ended word) e ∙ ended-append word (words_from [] text) (words_from [] rest)
     by_test false e f = f
 
 before_last-append : (last word : List ℕ) (words : List (List ℕ)) → bytes_eq last last ≡ true → before_last last (words ++ word ∷ last ∷ []) ≡ Some word
 unfolding before_last
-before_last-append last word [] h = ap (λ b. cond b (Some word) None) h
-before_last-append last word (first ∷ []) h = ap (λ b. cond b (Some word) None) h
-before_last-append last word (first ∷ second ∷ []) h = ap (λ b. cond b (Some word) None) h
 before_last-append last word (first ∷ second ∷ third ∷ words) h = before_last-append last word (second ∷ third ∷ words) h
+before_last-append last word words h = ap (λ b. cond b (Some word) None) h
 
 -- the last word before `fi`
-pub before_fi : (front word : List ℕ) → NonePasses is_blank word → word ≢ [] → before_last (102 ∷ 105 ∷ []) (words_from [] (front ++ 32 ∷ (word ++ 10 ∷ 102 ∷ 105 ∷ 10 ∷ 10 ∷ []))) ≡ Some word
+pub before_fi : (front word : List ℕ) → NonePasses is_blank word → word ≢ [] → before_last (102 ∷ 105 ∷ []) (words_from [] (front ++ space ∷ (word ++ line_feed ∷ 102 ∷ 105 ∷ line_feed ∷ line_feed ∷ []))) ≡ Some word
 unfolding words_from ended
 before_fi front [] h some = absurd (some refl)
 before_fi front (byte ∷ word) h some =
-    ap (before_last (102 ∷ 105 ∷ [])) (words-append [] front ((byte ∷ word) ++ 10 ∷ 102 ∷ 105 ∷ 10 ∷ 10 ∷ [])
-    ∙ ap (λ ws. words_from [] front ++ ws) (word_on [] (byte ∷ word) (10 ∷ 102 ∷ 105 ∷ 10 ∷ 10 ∷ []) h))
+    ap (before_last (102 ∷ 105 ∷ [])) (words-append [] front ((byte ∷ word) ++ line_feed ∷ 102 ∷ 105 ∷ line_feed ∷ line_feed ∷ [])
+    ∙ ap (λ ws. words_from [] front ++ ws) (word_on [] (byte ∷ word) (line_feed ∷ 102 ∷ 105 ∷ line_feed ∷ line_feed ∷ []) h))
     ∙ before_last-append (102 ∷ 105 ∷ []) (byte ∷ word) (words_from [] front) refl
-
--- a text that begins with no blank
-pub bare_first : (text : List ℕ) → BeginsBare text → without_blanks text ≡ text
-bare_first [] h = absurd h
-bare_first (byte ∷ text) h = no_blank_first byte text h

@@ -1,8 +1,7 @@
 -- Occurrences in a text.
-use Rattle.std.specs.Prelude.{ℕ, Bool, true, false, List, [], ◌∷◌, ◌++◌, ◌==◌, Option, Some, None, option_map, if◌then◌else◌, bytes_eq}
+use Rattle.std.specs.Prelude.{ℕ, Bool, true, false, List, [], ◌∷◌, ◌++◌, ◌==◌, Option, Some, None, option_map, if◌then◌else◌, bytes_eq, reverse}
 use Rattle.std.specs.Option.{option_and_then}
-use Rattle.cc_base.specs.Bytes.{line_feed}
-use Rattle.cc_quote.specs.Signs.{is_blank}
+use Rattle.cc_base.specs.Bytes.{line_feed, is_blank}
 
 -- the text after this front; none where it begins otherwise
 unfoldable pub after : List ℕ → List ℕ → Option (List ℕ)
@@ -12,6 +11,10 @@ after (byte ∷ front) (first ∷ text) = elim (byte == first) [
   | true ↦ after front text
   | false ↦ None
 ]
+
+-- the text before this ending; none where it ends otherwise
+unfoldable pub before_ending : List ℕ → List ℕ → Option (List ℕ)
+before_ending ending text = option_map (λ front. reverse front) (after (reverse ending) (reverse text))
 
 -- a cut with some text more before it
 unfoldable pub with_front : List ℕ → Option (List ℕ × List ℕ) → Option (List ℕ × List ℕ)
@@ -70,6 +73,14 @@ word_by reader text = option_map (λ read. read.0) (reader (without_blanks text)
 -- that word after the first occurrence of a mark
 unfoldable pub word_after : (List ℕ → Option (List ℕ × List ℕ)) → List ℕ → List ℕ → Option (List ℕ)
 word_after reader mark text = option_and_then (word_by reader) (after_mark mark text)
+
+-- the pieces of a text between the occurrences of a byte, after the piece that is begun
+abbrev pub pieces_from : ℕ → List ℕ → List ℕ → List (List ℕ)
+pieces_from separator piece [] = piece ∷ []
+pieces_from separator piece (byte ∷ text) = elim (byte == separator) [
+  | true ↦ piece ∷ pieces_from separator [] text
+  | false ↦ pieces_from separator (piece ++ byte ∷ []) text
+]
 
 -- ---- words between blanks
 
