@@ -229,7 +229,7 @@ pub fn fish_escape(alloc: Global, text: &str) -> Result<String, Error>
 }
 
 /// Puts what `fish_quote_for_eval` makes of the text. Fails with the kind of the put that failed.
-#[tactic(auto, using(crate::proofs::FishEscaped::eval_safe, crate::proofs::FishEscaped::eval_unsafe_text))]
+#[tactic(auto, using(crate::proofs::FishEscaped::eval_safe, crate::proofs::FishEscaped::eval_unsafe))]
 pub fn put_fish_quoted_for_eval<W: Sink>(sink: &mut W, text: &str) -> Result<(), ErrorKind>
     ensures { Writes W.taken W.failed (as_write result) sink.old sink.new
         (fish_quoted_for_eval text.now) }
@@ -241,7 +241,7 @@ pub fn put_fish_quoted_for_eval<W: Sink>(sink: &mut W, text: &str) -> Result<(),
 }
 
 /// Puts what `fish_help_for_eval` makes of the help. Fails with the kind of the put that failed.
-#[tactic(auto, using(crate::proofs::FishEscaped::help_text))]
+#[tactic(auto, using(crate::proofs::FishEscaped::help_quoted))]
 pub fn put_fish_help_for_eval<W: Sink>(sink: &mut W, help: &str) -> Result<(), ErrorKind>
     ensures { Writes W.taken W.failed (as_write result) sink.old sink.new
         (fish_help_for_eval_of help.now) }
