@@ -1,10 +1,11 @@
 //! The calls.
 
 use crate::fixtures::{command, environment, texts};
+use crate::lent::{Keys, Levels};
 use crate::sinks::Narrow;
 use clap_complete::aot::{Counted, put_all};
 use clap_complete::command::Command;
-use clap_complete::engine::{Completers, MemoryFolder, complete};
+use clap_complete::engine::{Completers, MemoryFolder, ValueCandidates, ValueCompleter, complete};
 use clap_complete::env::{EnvCompleter, Shells};
 use clap_complete::{CompleteEnv, Error, Shell, generate, generate_to};
 use std::alloc::Global;
@@ -14,6 +15,8 @@ use std::rt::Files;
 pub(crate) const CALLS: &[&str] = &[
     "build",
     "complete",
+    "complete completer",
+    "complete list",
     "complete names",
     "complete values",
     "generate bash",
@@ -79,7 +82,7 @@ pub(crate) fn call<R: Files + AllocGlobal>(
 }
 
 // Puts the value of each candidate: the names of children and options, the possible values of an
-// option, or paths.
+// option, what a completer or a list returns for one, or paths.
 fn complete_word(
     alloc: Global,
     asked: &str,
@@ -89,12 +92,18 @@ fn complete_word(
     let words: &[&str] = match asked {
         "names" => &["app", ""],
         "values" => &["app", "--color", ""],
+        "completer" => &["app", "--key", "k"],
+        "list" => &["app", "--level", "h"],
         _ => &["app", "--root", "k"],
     };
     let last = words.len().saturating_sub(1);
     let words = texts(alloc, words)?;
     let folder = folder();
-    let lent = Completers::none(alloc);
+    let mut completers: Vec<Box<dyn ValueCompleter>> = Vec::new(alloc);
+    completers.push(Box::new(alloc, Keys)?)?;
+    let mut lists: Vec<Box<dyn ValueCandidates>> = Vec::new(alloc);
+    lists.push(Box::new(alloc, Levels)?)?;
+    let lent = Completers::new(alloc, completers, lists);
     let found = complete(alloc, command, words, last, Some("/w"), &folder, &lent)?;
     for candidate in &found {
         put_all(sink, candidate.get_value().as_bytes())?;

@@ -2,17 +2,27 @@
 
 use clap_complete::Error;
 use clap_complete::command::{Arg, Command, PossibleValue, ValueHint};
+use clap_complete::engine::{ArgValueCandidates, ArgValueCompleter};
 use clap_complete::env::EnvValues;
 use std::alloc::{AllocError, Global};
 
-/// `app` with an option for a path, an option with possible values, and the child `run`.
+/// `app` with an option for a path, options with possible values, with the completer and with the
+/// list of number 0, and the child `run`.
 pub(crate) fn command(alloc: Global) -> Result<Command, Error> {
     let about = String::from_str(alloc, "Does it")?;
-    Command::new(alloc, String::from_str(alloc, "app")?)
+    let command = Command::new(alloc, String::from_str(alloc, "app")?)
         .about(about)
         .arg(option(alloc, "root")?.value_hint(ValueHint::AnyPath))?
         .arg(option(alloc, "color")?.value_parser(colors(alloc)?))?
-        .subcommand(child(alloc)?)
+        .subcommand(child(alloc)?)?;
+    with_lent(alloc, command)
+}
+
+fn with_lent(alloc: Global, command: Command) -> Result<Command, Error> {
+    let key = option(alloc, "key")?.add(ArgValueCompleter::new(0));
+    let command = command.arg(key)?;
+    let level = option(alloc, "level")?.add_candidates(ArgValueCandidates::new(0));
+    command.arg(level)
 }
 
 fn child(alloc: Global) -> Result<Command, Error> {

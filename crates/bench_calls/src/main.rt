@@ -12,6 +12,7 @@
 mod calls;
 mod chain;
 mod fixtures;
+mod lent;
 mod sinks;
 mod state;
 
