@@ -16,9 +16,7 @@ ghost use Rattle.cc_walk.specs.Visible.{HasNoHiddenAlias};
 
 use cc_base::{Error, Sink};
 use cc_bash::Bash;
-use cc_candidates::{
-    Completers, CompletionCandidate, FnCandidates, FnCompleter, ValueCandidates, ValueCompleter,
-};
+use cc_candidates::{CandidateSources, Completers, CompletionCandidate};
 use cc_command::Command;
 use cc_engine::complete;
 use cc_generator::generate;
@@ -58,15 +56,8 @@ pub fn bash_script_and_candidates<W: Sink, D: Folder>(
         HasNoHiddenAlias command.old
         (words_before command.old.node (map string_bytes words.items) index) →
         AgreesWithBash (lent_by
-        (λ item. (⟦<dyn ValueCompleter as ValueCompleter>⟧ item.vtable).completes item.value)
-        completers.now.completers.items
-        ⟦<FnCompleter as ValueCompleter>⟧.completes completers.now.completer_closures.items
-        (λ item. (⟦<dyn ValueCandidates as ValueCandidates>⟧ item.vtable).lists item.value)
-        completers.now.lists.items
-        ⟦<FnCandidates as ValueCandidates>⟧.lists completers.now.list_closures.items
-        (PathsOf (D.lists folder.now) (D.tells_dir folder.now) (D.tells_file folder.now)
-        (D.tells_executable folder.now) (D.home_path folder.now)
-        (option_copied current_dir.entry)))
+        ⟦<Completers as CandidateSources>⟧.may_complete ⟦<Completers as CandidateSources>⟧.may_list
+        completers.now (PathsOf (D.facts folder.now) (option_copied current_dir.entry)))
         command.new (map string_bytes words.items) index found.items) }
     ensures errors { IfErr result (FailsBefore command.old command.new
         (built_under (Some (string_bytes bin_name)) command.old)

@@ -3,6 +3,7 @@ use Rattle.std.proofs.Common.{◌≡◌, ◌∙◌, ap, inl, inr, refl, subst, s
 use Rattle.std.proofs.lemmas.Bool.{cases_Bool}
 use Rattle.std.proofs.lemmas.List.{append-nil}
 use Rattle.std.specs.Prelude.{not, ◌==◌}
+use Rattle.clap_complete.specs.ArgValueCompleter.{ArgValueCompleter}
 use Rattle.clap_complete.specs.ArgParts.{ArgParts as Arg}
 use Rattle.clap_complete.specs.Printed.{printed, printed_names, printed_values}
 use Rattle.clap_complete.specs.Sorting.{in_order}
@@ -19,8 +20,7 @@ use Rattle.clap_complete.specs.OfferedChildren.{in_candidates_order, subcommand_
 use Rattle.clap_complete.specs.Finished.{finish}
 use Rattle.clap_complete.specs.OptionRows.{Listed, row_of}
 use Rattle.clap_complete.specs.ValueParts.{front_length}
-use Rattle.clap_complete.specs.ArgumentValues.{Lent, as_value, gather, lent_by, question, values}
-use Rattle.clap_complete.specs.ValueHint.{ValueHint}
+use Rattle.clap_complete.specs.ArgumentValues.{Lent, as_value, gather, question, values}
 use Rattle.clap_complete.specs.WalkBlocks.{Block, Dashes, Flag, Opened, Values, join, start, state_after}
 use Rattle.clap_complete.specs.WalkState.{State}
 use Rattle.clap_complete.specs.WalkLine.{IsLine}
@@ -68,48 +68,44 @@ as_tools [] = refl
 as_tools (name ∷ names) = ap (λ cs. tool_candidate name ∷ cs) (as_tools names)
 
 -- what is offered for the word at the root, where the completer returns these names
-at_root : (lent : Lent) (names : List (List ℕ)) (word : List ℕ) (found : List CompletionCandidate)
-    → ((list : List CompletionCandidate) → lent.completes 0 0 word list → list ≡ map new_candidate names)
-    → Offers lent (built_tree runner) (start false) word found → is_bare word ≡ true → found ≡ map tool_candidate names
+at_root : (lent : Lent) (completer : ArgValueCompleter) (names : List (List ℕ)) (word : List ℕ) (found : List CompletionCandidate)
+    → ((list : List CompletionCandidate) → lent.completes completer.number 0 word list → list ≡ map new_candidate names)
+    → Offers lent (built_tree (runner completer)) (start false) word found → is_bare word ≡ true → found ≡ map tool_candidate names
 unfolding positional_at help_argument help_name question front_length values gather printed printed_names printed_values subcommand_candidates in_candidates_order in_order
-at_root lent names word found gives (given, allowed, is) bare =
+at_root lent completer names word found returns (given, allowed, is) bare =
     is
-    ∙ ap (λ row. finish (map (as_value [] (codes "[tool]")) given.positional ++ row_candidates row given.within)) (bare_row (built_tree runner).node.arguments word bare)
+    ∙ ap (λ row. finish (map (as_value [] (codes "[tool]")) given.positional ++ row_candidates row given.within)) (bare_row (built_tree (runner completer)).node.arguments word bare)
     ∙ ap finish (append-nil (map (as_value [] (codes "[tool]")) given.positional))
-    ∙ ap (λ list. finish (map (as_value [] (codes "[tool]")) list)) (gives given.positional allowed.positional)
+    ∙ ap (λ list. finish (map (as_value [] (codes "[tool]")) list)) (returns given.positional allowed.positional)
     ∙ ap finish (as_tools names)
     ∙ finished_same names
 
 -- THE CALL
 
--- what a call finds that lends one completer
-pub offers_tools : {A C F L G : Type 0} (items : A → List CompletionCandidate)
-    (Ones : C → ℕ → List ℕ → List CompletionCandidate → Type 0) (completers : List C) (Others : F → ℕ → List ℕ → List CompletionCandidate → Type 0) (closures : List F)
-    (Lists : L → List CompletionCandidate → Type 0) (lists : List L) (Gives : G → List CompletionCandidate → Type 0) (list_closures : List G)
-    (Finds : ValueHint → List ℕ → List CompletionCandidate → Type 0)
-    (names : List (List ℕ)) (word : List ℕ) (words : List (List ℕ)) (old new : Tree) (result : Result A Error) (one : C)
-    → completers ≡ one ∷ [] → old ≡ runner → words ≡ codes "run" ∷ word ∷ []
+-- what a call finds, where the completer of the argument returns these names
+pub offers_tools : {A : Type 0} (items : A → List CompletionCandidate) (lent : Lent) (completer : ArgValueCompleter)
+    (names : List (List ℕ)) (word : List ℕ) (words : List (List ℕ)) (old new : Tree) (result : Result A Error)
+    → old ≡ runner completer → words ≡ codes "run" ∷ word ∷ []
     → OnOk result (new ≡ built_tree old)
-    → IfOk result (λ found. Completes (lent_by Ones completers Others closures Lists lists Gives list_closures Finds) new words 1 (items found))
-    → ((list : List CompletionCandidate) → Ones one 0 word list → list ≡ map new_candidate (names_beginning names word))
+    → IfOk result (λ found. Completes lent new words 1 (items found))
+    → ((list : List CompletionCandidate) → lent.completes completer.number 0 word list → list ≡ map new_candidate (names_beginning names word))
     → IfOk result (λ found. OffersTools names word (items found))
-offers_tools items Ones completers Others closures Lists lists Gives list_closures Finds names word words old new (Ok found) one lent_is old_is words_are built completes gives =
-    let at : Completes (lent_by Ones (one ∷ []) Others closures Lists lists Gives list_closures Finds) (built_tree runner) (codes "run" ∷ word ∷ []) 1 (items found) =
-    subst (λ cs. Completes (lent_by Ones cs Others closures Lists lists Gives list_closures Finds) (built_tree runner) (codes "run" ∷ word ∷ []) 1 (items found)) lent_is
-    (subst (λ t. Completes (lent_by Ones completers Others closures Lists lists Gives list_closures Finds) t (codes "run" ∷ word ∷ []) 1 (items found)) (built ∙ ap built_tree old_is)
-    (subst (λ ws. Completes (lent_by Ones completers Others closures Lists lists Gives list_closures Finds) new ws 1 (items found)) words_are completes)) in
-    let stays : (at.tree ≡ built_tree runner) × (at.state ≡ start false) = no_words (built_tree runner) at.tree at.state at.line in
-    at_root (lent_by Ones (one ∷ []) Others closures Lists lists Gives list_closures Finds) (names_beginning names word) word (items found) gives
-    (subst (λ state. Offers (lent_by Ones (one ∷ []) Others closures Lists lists Gives list_closures Finds) (built_tree runner) state word (items found)) stays.1
-    (subst (λ tree. Offers (lent_by Ones (one ∷ []) Others closures Lists lists Gives list_closures Finds) tree at.state word (items found)) stays.0 at.offers))
-offers_tools items Ones completers Others closures Lists lists Gives list_closures Finds names word words old new (Err e) one lent_is old_is words_are built completes gives = tt
+offers_tools items lent completer names word words old new (Ok found) old_is words_are built completes returns =
+    let at : Completes lent (built_tree (runner completer)) (codes "run" ∷ word ∷ []) 1 (items found) =
+    subst (λ t. Completes lent t (codes "run" ∷ word ∷ []) 1 (items found)) (built ∙ ap built_tree old_is)
+    (subst (λ ws. Completes lent new ws 1 (items found)) words_are completes) in
+    let stays : (at.tree ≡ built_tree (runner completer)) × (at.state ≡ start false) = no_words (built_tree (runner completer)) at.tree at.state at.line in
+    at_root lent completer (names_beginning names word) word (items found) returns
+    (subst (λ state. Offers lent (built_tree (runner completer)) state word (items found)) stays.1
+    (subst (λ tree. Offers lent tree at.state word (items found)) stays.0 at.offers))
+offers_tools items lent completer names word words old new (Err e) old_is words_are built completes returns = tt
 
 -- the word is there, so it fails with `Memory` alone
-pub memory_alone : {A : Type 0} (old new : Tree) (count : ℕ) (result : Result A Error) → old ≡ runner → count ≡ 2
+pub memory_alone : {A : Type 0} (completer : ArgValueCompleter) (old new : Tree) (count : ℕ) (result : Result A Error) → old ≡ runner completer → count ≡ 2
     → IfErr result (Refuses old new count 1) → IfErr result (λ e. e ≡ error.Memory)
-memory_alone old new count (Ok found) old_is count_is refuses = tt
-memory_alone old new count (Err error.Memory) old_is count_is refuses = refl
-memory_alone old new count (Err error.NoCompletion) old_is count_is refuses =
+memory_alone completer old new count (Ok found) old_is count_is refuses = tt
+memory_alone completer old new count (Err error.Memory) old_is count_is refuses = refl
+memory_alone completer old new count (Err error.NoCompletion) old_is count_is refuses =
     let out = subst (λ n. is_in_range new.node n 1 ≡ false) count_is refuses.1 in
     let apart : true ≡ false = subst (λ t. is_in_range t.node 2 1 ≡ false) (refuses.0 ∙ ap built_tree old_is) out in cc
-memory_alone old new count (Err _) old_is count_is refuses = absurd refuses
+memory_alone completer old new count (Err _) old_is count_is refuses = absurd refuses

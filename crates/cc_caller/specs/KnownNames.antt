@@ -3,6 +3,7 @@ use Rattle.std.specs.Prelude.{◌≡◌, ℕ, ◌==◌, List, [], ◌∷◌, Boo
 use Rattle.std.specs.Prelude.{filter, map, nat_eq}
 use Rattle.std.specs.List.{starts_with}
 use Rattle.clap_complete.specs.Arguments.{new_arg}
+use Rattle.clap_complete.specs.ArgValueCompleter.{ArgValueCompleter}
 use Rattle.clap_complete.specs.Candidate.{new_candidate}
 use Rattle.clap_complete.specs.CompletionCandidate.{CompletionCandidate}
 use Rattle.clap_complete.specs.Made.{new_tree, with_argument}
@@ -12,11 +13,11 @@ use Rattle.clap_complete.specs.Tree.{Tree}
 abbrev pub names_beginning : List (List ℕ) → List ℕ → List (List ℕ)
 names_beginning names text = filter (λ name. starts_with nat_eq name text) names
 
--- `run` with an argument `tool`, whose values the completer of number 0 gives
-abbrev pub runner : Tree
-runner =
+-- `run` with an argument `tool`, whose values this completer returns
+abbrev pub runner : ArgValueCompleter → Tree
+runner completer =
     let made = new_tree (codes "run") in
-    let tool = record (new_arg (codes "tool")) { completer = Some (record { number = 0 }) } in
+    let tool = record (new_arg (codes "tool")) { completer = Some completer } in
     record made { node = with_argument made.node tool }
 
 -- a name as a value of the argument

@@ -1,4 +1,4 @@
-//! A completer of names that a program knows, and what is offered where it is lent.
+//! A completer of names that a program knows, and what is offered with it.
 
 ghost use Rattle.std.specs.Prelude.{◌≡◌, IfErr, IfOk, map, string_bytes};
 ghost use Rattle.clap_complete.specs.Candidate.{new_candidate};
@@ -39,12 +39,12 @@ impl ValueCompleter for KnownNames {
     }
 }
 
-// `run` with an argument `tool`, whose values the completer of number 0 gives.
-fn runner(alloc: Global) -> Result<Command, Error>
-    ensures ok { IfOk result (λ command. command ≡ runner) }
+// `run` with an argument `tool`, whose values this completer returns.
+fn runner(alloc: Global, completer: ArgValueCompleter) -> Result<Command, Error>
+    ensures ok { IfOk result (λ command. command ≡ runner completer) }
     ensures memory { IfErr result (λ error. error ≡ Error.Memory) }
 {
-    let tool = Arg::new(alloc, String::from_str(alloc, "tool")?).add(ArgValueCompleter::new(0));
+    let tool = Arg::new(alloc, String::from_str(alloc, "tool")?).add(completer);
     let command = Command::new(alloc, String::from_str(alloc, "run")?);
     command.arg(tool)
 }
@@ -60,12 +60,11 @@ pub fn tools<D: Folder>(
         OffersTools (map string_bytes names.items) (string_bytes word) found.items) }
     ensures memory { IfErr result (λ error. error ≡ Error.Memory) }
 {
-    let mut completers: Vec<Box<dyn ValueCompleter>> = Vec::new(alloc);
-    completers.push(Box::new(alloc, KnownNames { names })?)?;
-    let lent = Completers::new(alloc, completers, Vec::new(alloc));
-    let mut command = runner(alloc)?;
+    let mut completers = Completers::none(alloc);
+    let known = completers.add_completer(Box::new(alloc, KnownNames { names })?)?;
+    let mut command = runner(alloc, known)?;
     let mut words = Vec::new(alloc);
     words.push(String::from_str(alloc, "run")?)?;
     words.push(word)?;
-    complete(alloc, &mut command, words, 1, None, folder, &lent)
+    complete(alloc, &mut command, words, 1, None, folder, &completers)
 }

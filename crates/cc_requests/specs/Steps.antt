@@ -1,6 +1,7 @@
 -- What a program does where its environment may ask for a completion.
-use Rattle.std.specs.Prelude.{◌≡◌, ◌≢◌, ◌++◌, ⊤, ℕ, Bool, true, false, List, [], ◌∷◌, Option, unwrap_or, Result, Ok, Err, IfErr, IfOk}
+use Rattle.std.specs.Prelude.{◌≡◌, ◌≢◌, ◌++◌, ⊤, ℕ, Bool, true, false, List, [], ◌∷◌, map, Option, unwrap_or, Result, Ok, Err, IfErr, IfOk}
 use Rattle.std.specs.declared.io.ErrorKind.{ErrorKind}
+use Rattle.cc_adapters.specs.Builtins.{CompleterSpec}
 use Rattle.cc_adapters.specs.Replies.{AsksInRange, AsksOutOfRange, IsReply}
 use Rattle.cc_base.specs.Collected.{collected_bytes}
 use Rattle.cc_base.specs.Sink.{add_failure}
@@ -12,8 +13,9 @@ use Rattle.cc_candidates.specs.declared.candidate.CompletionCandidate.{Completio
 use Rattle.cc_command.specs.Built.{built_tree}
 use Rattle.cc_command.specs.Names.{full_name}
 use Rattle.cc_command.specs.Tree.{Tree}
+use Rattle.cc_env.specs.declared.environment.EnvValues.{EnvValues}
 use Rattle.cc_requests.specs.Arguments.{after_dashes, program_path}
-use Rattle.cc_requests.specs.Asked.{Asked, IsUnknownShell, known, nothing, unknown}
+use Rattle.cc_requests.specs.Asked.{Asked, IsUnknownShell, asked_of, known, nothing, unknown}
 
 -- ---- the registration
 
@@ -39,27 +41,26 @@ names_of variable bin completer current program tree = record {
 }
 
 -- the text is the registration of these names, and what it is read as holds
-pub record IsRegistration (registration : List ℕ → List ℕ → List ℕ → List ℕ → List ℕ)
-    (Reads : List ℕ → List ℕ → List ℕ → List ℕ → Type 0) (names : Names) (text : List ℕ)
-    : Type 0 where
-  pub is : text ≡ registration names.variable names.name names.bin names.completer
-  pub read_back : Reads names.variable names.name names.bin names.completer
+pub record IsRegistration (shell : CompleterSpec) (names : Names) (text : List ℕ) : Type 0 where
+  pub is : text ≡ shell.registration names.variable names.name names.bin names.completer
+  pub read_back : shell.Reads names.variable names.name names.bin names.completer
 
 -- ---- the reply
 
 -- How the reply ends, over a built tree: candidates that may be offered for what is asked for are
 -- replied, the index that is asked for is in range, and what replies are read as holds; the index
 -- is out of range; or memory ran out.
-abbrev pub RepliesAs : (List (List ℕ) → ℕ → Type 0)
-    → (List (List ℕ) → ℕ → List CompletionCandidate → Type 0)
-    → (List CompletionCandidate → List ℕ) → (List CompletionCandidate → Type 0) → Tree
+abbrev pub RepliesAs : CompleterSpec → EnvValues → List (List ℕ)
+    → (List (List ℕ) → ℕ → List CompletionCandidate → Type 0) → Tree
     → Result (List ℕ) Error → Type 0
-RepliesAs Asks Offers reply Reads tree (Ok text) =
-    AsksInRange tree Asks × IsReply Asks Offers reply text
-    × ((candidates : List CompletionCandidate) → Reads candidates)
-RepliesAs Asks Offers reply Reads tree (Err Memory) = ⊤
-RepliesAs Asks Offers reply Reads tree (Err NoCompletion) = AsksOutOfRange tree Asks
-RepliesAs Asks Offers reply Reads tree (Err _) = ⊥
+RepliesAs shell env words Offers tree (Ok text) =
+    AsksInRange tree (shell.Asks env words)
+    × IsReply (shell.Asks env words) Offers (shell.reply env) text
+    × ((candidates : List CompletionCandidate) → shell.ReplyReads env candidates)
+RepliesAs shell env words Offers tree (Err Memory) = ⊤
+RepliesAs shell env words Offers tree (Err NoCompletion) =
+    AsksOutOfRange tree (shell.Asks env words)
+RepliesAs shell env words Offers tree (Err _) = ⊥
 
 -- the tree is built, as a fact, where a text is made or the index is out of range; nothing is said
 -- where memory ran out
@@ -72,30 +73,30 @@ BuiltUnlessMemory (Err _) Built = ⊥
 -- ---- the text
 
 -- How making the text ends for a shell that is known. `Makes` says what the factory may return,
--- `Registers` which text is the registration of a program and a tree, and `Replies` how the reply
--- to words ends over a tree.
-pub data MakesText (Makes : Result Tree Error → Type 0)
-    (Registers : List ℕ → Tree → List ℕ → Type 0)
-    (Replies : List (List ℕ) → Tree → Result (List ℕ) Error → Type 0)
+-- `names` what the registration of a program and a tree is made of, and `Offers` which candidates
+-- may be offered over a tree.
+pub data MakesText (Makes : Result Tree Error → Type 0) (shell : CompleterSpec)
+    (names : List ℕ → Tree → Names) (env : EnvValues)
+    (Offers : Tree → List (List ℕ) → ℕ → List CompletionCandidate → Type 0)
     : List (List ℕ) → Result (List ℕ) Error → Type 0 where
   -- the factory fails
   factory_failed : (arguments : List (List ℕ)) (error : Error) → Makes (Err error)
-      → MakesText Makes Registers Replies arguments (Err error)
+      → MakesText Makes shell names env Offers arguments (Err error)
   -- out of memory
   out_of_memory : (arguments : List (List ℕ))
-      → MakesText Makes Registers Replies arguments (Err Memory)
+      → MakesText Makes shell names env Offers arguments (Err Memory)
   -- the factory makes a command, and there are no arguments
   no_arguments : (tree : Tree) → Makes (Ok tree)
-      → MakesText Makes Registers Replies [] (Err NoArguments)
+      → MakesText Makes shell names env Offers [] (Err NoArguments)
   -- no words follow a `--`: the registration
   registered : (tree : Tree) (program : List ℕ) (rest : List (List ℕ)) (text : List ℕ)
-      → Makes (Ok tree) → after_dashes rest ≡ [] → Registers program (built_tree tree) text
-      → MakesText Makes Registers Replies (program ∷ rest) (Ok text)
+      → Makes (Ok tree) → after_dashes rest ≡ [] → IsRegistration shell (names program (built_tree tree)) text
+      → MakesText Makes shell names env Offers (program ∷ rest) (Ok text)
   -- words follow: the reply to them
   replied : (tree : Tree) (program : List ℕ) (rest : List (List ℕ))
       (result : Result (List ℕ) Error) → Makes (Ok tree) → after_dashes rest ≢ []
-      → Replies (after_dashes rest) (built_tree tree) result
-      → MakesText Makes Registers Replies (program ∷ rest) result
+      → RepliesAs shell env (after_dashes rest) (Offers (built_tree tree)) (built_tree tree) result
+      → MakesText Makes shell names env Offers (program ∷ rest) result
 
 -- a put into memory that failed is out of memory
 abbrev pub in_memory : Result (Unit {0}) Error → Result (Unit {0}) Error
@@ -125,11 +126,18 @@ pub data Ends {S : Type 0} (taken : S → List ℕ) (failed : S → Failures)
       → failed new ≡ failed old → Ends taken failed Makes old new (Ok true)
 
 -- What the whole call does, by what is asked for: nothing, a shell that there is not, or a shell.
-abbrev pub Tries : {S C : Type 0} → (S → List ℕ) → (S → Failures)
-    → (C → Result (List ℕ) Error → Type 0) → List (List ℕ) → S → S → Result Bool Error → Asked C
-    → Type 0
-Tries taken failed Makes names old new result nothing = (result ≡ Ok false) × (new ≡ old)
-Tries taken failed Makes names old new result (unknown name) =
+abbrev pub EndsAs : {S C : Type 0} → (S → List ℕ) → (S → Failures) → List (List ℕ)
+    → (C → Result (List ℕ) Error → Type 0) → Asked C → S → S → Result Bool Error → Type 0
+EndsAs taken failed names Makes nothing old new result = (result ≡ Ok false) × (new ≡ old)
+EndsAs taken failed names Makes (unknown name) old new result =
     IfOk result (λ _. ⊥) × IfErr result (IsUnknownShell names name) × (new ≡ old)
-Tries taken failed Makes names old new result (known shell) =
+EndsAs taken failed names Makes (known shell) old new result =
     Ends taken failed (Makes shell) old new result
+
+-- The same of these shells, for the name that is asked for, where one is. `Makes` says how making
+-- the text ends for a shell.
+abbrev pub Tries : {S C : Type 0} → (S → List ℕ) → (S → Failures) → (C → CompleterSpec) → List C
+    → (C → Result (List ℕ) Error → Type 0) → Option (List ℕ) → S → S → Result Bool Error → Type 0
+Tries taken failed spec shells Makes name old new result =
+    EndsAs taken failed (map (λ shell. (spec shell).name) shells) Makes
+    (asked_of (λ shell. (spec shell).named) shells name) old new result

@@ -1,40 +1,13 @@
 //! The arguments of a program.
 
-ghost use Rattle.std.specs.Prelude.{◌≡◌, ◌≤◌, drop, length, map, IfOk};
+ghost use Rattle.std.specs.Prelude.{◌≡◌, ◌≤◌, ◌-◌, drop, length, map, IfOk};
 ghost use Rattle.std.specs.Option.{option_copied};
 ghost use Rattle.std.specs.String.{string_bytes};
-ghost use Rattle.cc_requests.specs.Arguments.{after_dashes, asked_words, has_folder, program_path};
+ghost use Rattle.cc_requests.specs.Arguments.{after_dashes, has_folder, program_path};
 
 use cc_base::Text;
 use cc_paths::{join, trim_trailing};
 use std::alloc::{AllocError, Global};
-
-/// The words after the first `--` that follows the first argument; none without such a `--`.
-pub(crate) fn into_asked_words(arguments: Vec<String>) -> Vec<String>
-    ensures { map string_bytes result.items ≡ asked_words (map string_bytes arguments.items) }
-{
-    let count = asked_words(arguments.as_slice()).len();
-    let before = arguments.len() - count;
-    without_first(arguments, before)
-}
-
-// The words after the first `--` that follows the first argument; none without such a `--`.
-fn asked_words(arguments: &[String]) -> &[String]
-    ensures { map string_bytes result.now ≡ asked_words (map string_bytes arguments.now) }
-{
-    match arguments.split_first() {
-        Some((_program, rest)) => after_dashes(rest),
-        None => arguments,
-    }
-}
-
-fn without_first(mut texts: Vec<String>, count: usize) -> Vec<String>
-    requires { count ≤ length texts.items }
-    ensures { result.items ≡ drop count texts.items }
-{
-    texts.drain(..count);
-    texts
-}
 
 /// The words after the first `--`; none without one.
 pub(crate) fn after_dashes(words: &[String]) -> &[String]
@@ -48,6 +21,16 @@ pub(crate) fn after_dashes(words: &[String]) -> &[String]
         left = rest;
     }
     left
+}
+
+/// The last texts, as many as there are said to be.
+pub(crate) fn keep_last(mut texts: Vec<String>, count: usize) -> Vec<String>
+    requires { count ≤ length texts.items }
+    ensures { result.items ≡ drop (length texts.items - count) texts.items }
+{
+    let before = texts.len() - count;
+    texts.drain(..before);
+    texts
 }
 
 /// The path by which a shell runs the program of this first argument: one that leads through a

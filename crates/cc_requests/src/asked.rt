@@ -42,10 +42,10 @@ pub(crate) fn known_shell<'a, E: EnvCompleter>(
     name: &str,
 ) -> Result<&'a E, Error>
     ensures ok { IfOk result (λ shell.
-        find (λ shell. E.named shell name.now) shells.now.0.now ≡ Some shell.now) }
+        find (λ shell. (E.spec shell).named name.now) shells.now.0.now ≡ Some shell.now) }
     ensures err { IfErr result (λ error.
-        (find (λ shell. E.named shell name.now) shells.now.0.now ≡ None)
-        × IsUnknownShell (map E.own_name shells.now.0.now) name.now error) }
+        (find (λ shell. (E.spec shell).named name.now) shells.now.0.now ≡ None)
+        × IsUnknownShell (map (λ shell. (E.spec shell).name) shells.now.0.now) name.now error) }
 {
     match shells.completer(name) {
         Some(shell) => Ok(shell),
@@ -55,7 +55,7 @@ pub(crate) fn known_shell<'a, E: EnvCompleter>(
 
 // The error that no shell has this name.
 fn unknown_shell<E: EnvCompleter>(alloc: Global, shells: &[E], name: &str) -> Error
-    ensures { IsUnknownShell (map E.own_name shells.now) name.now result }
+    ensures { IsUnknownShell (map (λ shell. (E.spec shell).name) shells.now) name.now result }
 {
     match message(alloc, shells, name) {
         Ok(message) => Error::UnknownShell(message),
@@ -65,7 +65,7 @@ fn unknown_shell<E: EnvCompleter>(alloc: Global, shells: &[E], name: &str) -> Er
 
 fn message<E: EnvCompleter>(alloc: Global, shells: &[E], name: &str) -> Result<Text, AllocError>
     ensures { IfOk result (λ message.
-        message ≡ unknown_shell (map E.own_name shells.now) name.now) }
+        message ≡ unknown_shell (map (λ shell. (E.spec shell).name) shells.now) name.now) }
 {
     let mut text = String::from_str(alloc, "unknown shell `")?;
     text.push_str(name)?;
@@ -77,7 +77,7 @@ fn message<E: EnvCompleter>(alloc: Global, shells: &[E], name: &str) -> Result<T
 // Appends the names of the shells, with a comma and a space before each but the first.
 fn push_names<E: EnvCompleter>(text: &mut String, shells: &[E]) -> Result<(), AllocError>
     ensures { OnOk result (string_bytes text.new ≡ string_bytes text.old
-        ++ joined (codes ", ") (map quoted_name (map E.own_name shells.now))) }
+        ++ joined (codes ", ") (map quoted_name (map (λ shell. (E.spec shell).name) shells.now))) }
 {
     let mut begun = false;
     for shell in shells {

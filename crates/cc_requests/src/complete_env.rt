@@ -6,15 +6,14 @@ ghost use Rattle.cc_adapters.specs.Builtins.{all_builtins};
 ghost use Rattle.cc_engine.specs.Completion.{Completes};
 ghost use Rattle.cc_engine.specs.Paths.{PathsOf};
 ghost use Rattle.cc_env.specs.Environment.{value_of};
-ghost use Rattle.cc_requests.specs.Asked.{asked_name, asked_of};
-ghost use Rattle.cc_requests.specs.Steps.{IsRegistration, MakesText, RepliesAs, Tries};
-ghost use Rattle.cc_requests.specs.Steps.{names_of};
+ghost use Rattle.cc_requests.specs.Asked.{asked_name};
+ghost use Rattle.cc_requests.specs.Steps.{MakesText, Tries, names_of};
 ghost use Rattle.cc_values.specs.Values.{lent_by};
 
 use crate::asked::{asked_name, known_shell};
 use cc_adapters::{Builtin, EnvCompleter, Shells};
 use cc_base::{Error, Sink, Text, put_all};
-use cc_candidates::{Completers, FnCandidates, FnCompleter, ValueCandidates, ValueCompleter};
+use cc_candidates::{CandidateSources, Completers};
 use cc_command::Command;
 use cc_env::EnvValues;
 use cc_paths::Folder;
@@ -134,26 +133,15 @@ impl<'s, F: Fn(Global) -> Result<Command, Error> + Drop, E: EnvCompleter> Comple
         out: &mut W,
     ) -> Result<bool, Error>
         requires { F.IsAlwaysCallable self.factory }
-        ensures { Tries W.taken W.failed
-            (λ shell. MakesText (λ made. F.post self.entry.factory alloc made)
-            (λ program tree. IsRegistration (E.registration shell) (E.Reads shell)
+        ensures { Tries W.taken W.failed E.spec self.entry.shells.0.now (λ shell. MakesText
+            (λ made. F.post self.entry.factory alloc made) (E.spec shell)
             (names_of self.entry.variable.now self.entry.bin self.entry.completer
-            (option_copied current_dir.entry) program tree))
-            (λ words tree. RepliesAs (E.Asks shell env.now words) (Completes (lent_by
-            (λ item. (⟦<dyn ValueCompleter as ValueCompleter>⟧ item.vtable).completes item.value)
-            completers.now.completers.items
-            ⟦<FnCompleter as ValueCompleter>⟧.completes completers.now.completer_closures.items
-            (λ item. (⟦<dyn ValueCandidates as ValueCandidates>⟧ item.vtable).lists item.value)
-            completers.now.lists.items
-            ⟦<FnCandidates as ValueCandidates>⟧.lists completers.now.list_closures.items
-            (PathsOf (D.lists folder.now) (D.tells_dir folder.now) (D.tells_file folder.now)
-            (D.tells_executable folder.now) (D.home_path folder.now)
-            (option_copied current_dir.entry)))
-            tree) (E.reply shell env.now) (E.ReplyReads shell env.now) tree)
+            (option_copied current_dir.entry)) env.now (Completes (lent_by
+            ⟦<Completers as CandidateSources>⟧.may_complete
+            ⟦<Completers as CandidateSources>⟧.may_list completers.now
+            (PathsOf (D.facts folder.now) (option_copied current_dir.entry))))
             (map string_bytes args.items))
-            (map E.own_name self.entry.shells.0.now) out.old out.new result
-            (asked_of E.named self.entry.shells.0.now
-            (asked_name (value_of self.entry.variable.now env.now))) }
+            (asked_name (value_of self.entry.variable.now env.now)) out.old out.new result }
     {
         let Some(name) = asked_name(env.get(self.variable)) else {
             return Ok(false);

@@ -11,11 +11,11 @@ ghost use Rattle.cc_requests.specs.Steps.{BuiltUnlessMemory, IsRegistration, Mak
 ghost use Rattle.cc_requests.specs.Steps.{completer_path, in_memory, made_bytes, names_of};
 ghost use Rattle.cc_values.specs.Values.{lent_by};
 
-use crate::arguments::{after_dashes, into_asked_words, program_path};
+use crate::arguments::{after_dashes, keep_last, program_path};
 use crate::complete_env::CompleteEnv;
 use cc_adapters::EnvCompleter;
 use cc_base::{Collected, Error, Text};
-use cc_candidates::{Completers, FnCandidates, FnCompleter, ValueCandidates, ValueCompleter};
+use cc_candidates::{CandidateSources, Completers};
 use cc_command::{Command, full_name};
 use cc_env::EnvValues;
 use cc_paths::Folder;
@@ -35,31 +35,24 @@ impl<'s, F: Fn(Global) -> Result<Command, Error>, E: EnvCompleter> CompleteEnv<'
         completers: &Completers,
     ) -> Result<Collected, Error>
         requires { F.IsAlwaysCallable self.now.factory }
-        ensures { MakesText (λ made. F.post self.now.factory alloc made)
-            (λ program tree. IsRegistration (E.registration shell.now) (E.Reads shell.now)
+        ensures { MakesText (λ made. F.post self.now.factory alloc made) (E.spec shell.now)
             (names_of self.now.variable.now self.now.bin self.now.completer
-            (option_copied current_dir.entry) program tree))
-            (λ words tree. RepliesAs (E.Asks shell.now env.now words) (Completes (lent_by
-            (λ item. (⟦<dyn ValueCompleter as ValueCompleter>⟧ item.vtable).completes item.value)
-            completers.now.completers.items
-            ⟦<FnCompleter as ValueCompleter>⟧.completes completers.now.completer_closures.items
-            (λ item. (⟦<dyn ValueCandidates as ValueCandidates>⟧ item.vtable).lists item.value)
-            completers.now.lists.items
-            ⟦<FnCandidates as ValueCandidates>⟧.lists completers.now.list_closures.items
-            (PathsOf (D.lists folder.now) (D.tells_dir folder.now) (D.tells_file folder.now)
-            (D.tells_executable folder.now) (D.home_path folder.now)
-            (option_copied current_dir.entry)))
-            tree) (E.reply shell.now env.now) (E.ReplyReads shell.now env.now) tree)
+            (option_copied current_dir.entry)) env.now (Completes (lent_by
+            ⟦<Completers as CandidateSources>⟧.may_complete
+            ⟦<Completers as CandidateSources>⟧.may_list completers.now
+            (PathsOf (D.facts folder.now) (option_copied current_dir.entry))))
             (map string_bytes args.items) (made_bytes result) }
     {
         let mut command = self.command(alloc)?;
         let Some((program, rest)) = args.split_first() else {
             return Err(Error::NoArguments);
         };
-        if after_dashes(rest).is_empty() {
+        let after = after_dashes(rest);
+        if after.is_empty() {
             return self.registration(alloc, shell, &command, current_dir, program.as_str());
         }
-        let words = into_asked_words(args);
+        let count = after.len();
+        let words = keep_last(args, count);
         reply(
             alloc,
             shell,
@@ -95,7 +88,7 @@ impl<'s, F: Fn(Global) -> Result<Command, Error>, E: EnvCompleter> CompleteEnv<'
         program: &str,
     ) -> Result<Collected, Error>
         ensures ok { IfOk result (λ text.
-            IsRegistration (E.registration shell.now) (E.Reads shell.now)
+            IsRegistration (E.spec shell.now)
             (names_of self.now.variable.now self.now.bin self.now.completer
             (option_copied current_dir.entry) program.now command.now) (collected_bytes text)) }
         ensures memory { IfErr result (λ error. error ≡ Error.Memory) }
@@ -143,20 +136,11 @@ fn reply<E: EnvCompleter, D: Folder>(
     folder: &D,
     completers: &Completers,
 ) -> Result<Collected, Error>
-    ensures replied { RepliesAs (E.Asks shell.now env.now (map string_bytes words.items))
-        (Completes (lent_by
-        (λ item. (⟦<dyn ValueCompleter as ValueCompleter>⟧ item.vtable).completes item.value)
-        completers.now.completers.items
-        ⟦<FnCompleter as ValueCompleter>⟧.completes completers.now.completer_closures.items
-        (λ item. (⟦<dyn ValueCandidates as ValueCandidates>⟧ item.vtable).lists item.value)
-        completers.now.lists.items
-        ⟦<FnCandidates as ValueCandidates>⟧.lists completers.now.list_closures.items
-        (PathsOf (D.lists folder.now) (D.tells_dir folder.now) (D.tells_file folder.now)
-        (D.tells_executable folder.now) (D.home_path folder.now)
-        (option_copied current_dir.entry)))
-        command.new)
-        (E.reply shell.now env.now) (E.ReplyReads shell.now env.now) command.new
-        (made_bytes result) }
+    ensures replied { RepliesAs (E.spec shell.now) env.now (map string_bytes words.items)
+        (Completes (lent_by ⟦<Completers as CandidateSources>⟧.may_complete
+        ⟦<Completers as CandidateSources>⟧.may_list completers.now
+        (PathsOf (D.facts folder.now) (option_copied current_dir.entry))) command.new)
+        command.new (made_bytes result) }
     ensures built { BuiltUnlessMemory (made_bytes result) (command.new ≡ built_tree command.old) }
 {
     let mut text = Collected::new(alloc);

@@ -117,11 +117,13 @@ pub use Rattle.cc_zsh.specs.Values as ZshValues
 -- live completion
 pub use Rattle.cc_candidates.specs.Beginning
 pub use Rattle.cc_candidates.specs.Candidate
-pub use Rattle.cc_candidates.specs.Lent
+pub use Rattle.cc_candidates.specs.Sources as CandidateSources
 pub use Rattle.cc_candidates.specs.declared.candidate.CompletionCandidate
 pub use Rattle.cc_candidates.specs.declared.numbers.ArgValueCandidates
 pub use Rattle.cc_candidates.specs.declared.numbers.ArgValueCompleter
 pub use Rattle.cc_candidates.specs.declared.numbers.SubcommandCandidates
+pub use Rattle.cc_candidates.specs.declared.sources.Source as CandidateSource
+pub use Rattle.cc_paths.specs.Folders
 pub use Rattle.cc_paths.specs.InMemory
 pub use Rattle.cc_paths.specs.PathCandidates
 pub use Rattle.cc_paths.specs.PathTexts
@@ -146,7 +148,7 @@ pub use Rattle.cc_gather.specs.Rows as OptionRows
 pub use Rattle.cc_values.specs.Parts as ValueParts
 pub use Rattle.cc_values.specs.Values as ArgumentValues
 pub use Rattle.cc_engine.specs.Completion
-pub use Rattle.cc_engine.specs.Offer as WordOffer
+pub use Rattle.cc_engine.specs.OpenLists
 pub use Rattle.cc_engine.specs.Paths as HintPaths
 pub use Rattle.cc_agreement.specs.Agreement as BashAgreement
 -- requests of a shell

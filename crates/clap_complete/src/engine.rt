@@ -1,9 +1,9 @@
-//! Candidates for a word of a command line, and the completers that a program lends.
+//! Candidates for a word of a command line, and completers of values.
 
 pub use cc_agreement::{bash_script_and_candidates, has_no_hidden_alias};
 pub use cc_candidates::{
-    ArgValueCandidates, ArgValueCompleter, Completers, CompletionCandidate, FnCandidates,
-    FnCompleter, SubcommandCandidates, ValueCandidates, ValueCompleter,
+    ArgValueCandidates, ArgValueCompleter, CandidateSources, Completers, CompletionCandidate,
+    FnCandidates, FnCompleter, SubcommandCandidates, ValueCandidates, ValueCompleter,
 };
 pub use cc_engine::complete;
 pub use cc_paths::{

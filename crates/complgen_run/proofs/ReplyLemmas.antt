@@ -6,8 +6,10 @@ use Rattle.std.specs.String.{string_bytes}
 use Rattle.complgen_command_line.specs.declared.types.Plan.{Plan}
 use Rattle.complgen_command_line.specs.declared.types.Plan.TheVariants.{Candidates}
 use Rattle.complgen_command_line.specs.declared.types.Refusal.{Refusal}
-use Rattle.clap_complete.specs.ArgumentValues.{Lent, lent_by}
+use Rattle.clap_complete.specs.ArgumentValues.{Lent}
 use Rattle.clap_complete.specs.Built.{built_tree}
+use Rattle.clap_complete.specs.CandidateSources.{ReturnsAt}
+use Rattle.clap_complete.specs.CandidateSource.{Source}
 use Rattle.clap_complete.specs.Completion.{Completes, Refuses, is_in_range}
 use Rattle.clap_complete.specs.CompletionCandidate.{CompletionCandidate}
 use Rattle.clap_complete.specs.Error.{Error}
@@ -31,16 +33,21 @@ finds_none old new count index error.NoCompletion refused =
     subst (λ tree. is_in_range tree.node count index ≡ false) refused.0 refused.1
 finds_none old new count index _ refused = absurd refused
 
--- where no completer and no list is lent, only paths are found
-pub lent_none : {C F L G : Type 0} (Ones : C → ℕ → List ℕ → List CompletionCandidate → Type 0)
-    (completers : List C) (Others : F → ℕ → List ℕ → List CompletionCandidate → Type 0)
-    (closures : List F) (Lists : L → List CompletionCandidate → Type 0) (lists : List L)
-    (Gives : G → List CompletionCandidate → Type 0) (list_closures : List G) (Finds : Paths)
-    → completers ≡ [] → closures ≡ [] → lists ≡ [] → list_closures ≡ []
-    → lent_by Ones completers Others closures Lists lists Gives list_closures Finds
-    ≡ only_paths Finds
-lent_none Ones completers Others closures Lists lists Gives list_closures Finds a b c d =
-    rw (a, b, c, d) refl
+-- without completers and lists only paths are found
+pub without_completers : {B C L G : Type 0}
+    (Boxes : ℕ → List ℕ → B → List CompletionCandidate → Type 0)
+    (Closures : ℕ → List ℕ → C → List CompletionCandidate → Type 0)
+    (completers : List (Source B C)) (ListBoxes : L → List CompletionCandidate → Type 0)
+    (ListClosures : G → List CompletionCandidate → Type 0) (lists : List (Source L G))
+    (Finds : Paths) → completers ≡ [] → lists ≡ []
+    → record {
+      completes = λ which number text. ReturnsAt (Boxes number text) (Closures number text)
+          completers which;
+      lists = λ which. ReturnsAt ListBoxes ListClosures lists which;
+      finds = Finds;
+    } ≡ only_paths Finds
+without_completers Boxes Closures completers ListBoxes ListClosures lists Finds none no_lists =
+    rw (none, no_lists) refl
 
 -- what a call that builds the command finds, where only paths are found
 pub are_found : {A : Type 0} (items : A → List CompletionCandidate) (Finds : Paths) (lent : Lent)

@@ -1,8 +1,7 @@
 -- The registration for the command of a tree file, by which a shell asks a program for candidates.
 use Rattle.std.specs.Prelude.{◌≡◌, ℕ, true, List, Option, Some, None, Result, Err, codes, find, map, option_map}
 use Rattle.clap_complete.specs.Builtin.{Builtin}
-use Rattle.clap_complete.specs.BuiltinShells.{BuiltinReads, all_builtins, builtin_name}
-use Rattle.clap_complete.specs.BuiltinShells.{builtin_named, builtin_registration}
+use Rattle.clap_complete.specs.BuiltinShells.{all_builtins, builtin_spec}
 use Rattle.clap_complete.specs.Error.TheVariants.{UnknownShell}
 use Rattle.clap_complete.specs.Failures.{Failures}
 use Rattle.clap_complete.specs.RequestedShell.{unknown_shell}
@@ -20,16 +19,16 @@ variable = codes "COMPLETE"
 
 -- the adapter of a shell: the first that has its text as a name
 abbrev pub adapter_for : Shell → Option Builtin
-adapter_for shell = find (λ adapter. builtin_named adapter (shell_text shell)) all_builtins
+adapter_for shell = find (λ adapter. (builtin_spec adapter).named (shell_text shell)) all_builtins
 
 -- a registration of the name of a command and of the bin name, under which it is called and
 -- completes
 abbrev pub registration_by : Builtin → List ℕ → List ℕ → List ℕ
-registration_by adapter name bin = builtin_registration adapter variable name bin bin
+registration_by adapter name bin = (builtin_spec adapter).registration variable name bin bin
 
 -- what it is read as, of the same names
 abbrev pub RegistrationReadsBy : Builtin → List ℕ → List ℕ → Type 0
-RegistrationReadsBy adapter name bin = BuiltinReads adapter variable name bin bin
+RegistrationReadsBy adapter name bin = (builtin_spec adapter).Reads variable name bin bin
 
 -- the registration for a shell; without an adapter there is none
 abbrev pub registration_for : Shell → Option (List ℕ → List ℕ → List ℕ)
@@ -45,7 +44,8 @@ RegistrationReads shell = AdapterReads (adapter_for shell)
 
 -- the message that there is none for a shell
 abbrev pub no_registration_text : Shell → List ℕ
-no_registration_text shell = unknown_shell (map builtin_name all_builtins) (shell_text shell)
+no_registration_text shell =
+    unknown_shell (map (λ adapter. (builtin_spec adapter).name) all_builtins) (shell_text shell)
 
 -- the registration of a command, and what it is read as holds
 pub record IsRegistration (registration : List ℕ → List ℕ → List ℕ)

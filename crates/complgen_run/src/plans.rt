@@ -25,9 +25,8 @@ pub fn run<D: Folder, W: Sink>(
     folder: &D,
     out: &mut W,
 ) -> Result<(), Refusal>
-    ensures ends { Ends W.taken W.failed (PathsOf (D.lists folder.now) (D.tells_dir folder.now)
-        (D.tells_file folder.now) (D.tells_executable folder.now) (D.home_path folder.now)
-        (Some (codes "."))) plan.now (option_copied file.entry) out.old out.new result }
+    ensures ends { Ends W.taken W.failed (PathsOf (D.facts folder.now) (Some (codes "."))) plan.now
+        (option_copied file.entry) out.old out.new result }
     ensures read_back { OnOk result (ReadsBack plan.now (option_copied file.entry)) }
 {
     match plan {

@@ -2,7 +2,7 @@
 
 ghost use Rattle.std.specs.Prelude.{◌≡◌, find, true};
 ghost use Rattle.std.specs.Option.{option_copied};
-ghost use Rattle.clap_complete.specs.BuiltinShells.{all_builtins, builtin_named};
+ghost use Rattle.clap_complete.specs.BuiltinShells.{all_builtins, builtin_spec};
 ghost use Rattle.clap_complete.specs.Shells.{shell_text};
 ghost use Rattle.complgen_run.specs.Ends.{EndsRegistration};
 ghost use Rattle.complgen_run.specs.Registrations.{IsRegistration, Registers, RegistrationReads};
@@ -33,10 +33,8 @@ pub(crate) fn register<W: Sink>(
     ensures { EndsRegistration W.taken W.failed name.now bin.now (option_copied file.entry)
         out.old out.new result }
 {
-    match shell_of(alloc, name) {
-        Ok(shell) => register_named(alloc, shell, name, bin, file, out),
-        Err(unknown) => Err(unknown),
-    }
+    let shell = shell_of(alloc, name)?;
+    register_named(alloc, shell, name, bin, file, out)
 }
 
 // Writes the registration for this shell, which has this text, of a tree file, where it has one.
@@ -60,7 +58,7 @@ fn register_named<W: Sink>(
 
 // The adapter of this name.
 fn adapter_of(name: &str) -> Option<Builtin>
-    ensures { result ≡ find (λ adapter. builtin_named adapter name.now) all_builtins }
+    ensures { result ≡ find (λ adapter. (builtin_spec adapter).named name.now) all_builtins }
 {
     let shells = Shells::builtins();
     shells.completer(name).copied()

@@ -28,10 +28,8 @@ pub(crate) fn reply<D: Folder, W: Sink>(
     folder: &D,
     out: &mut W,
 ) -> Result<(), Refusal>
-    ensures { EndsReply W.taken W.failed (PathsOf (D.lists folder.now) (D.tells_dir folder.now)
-        (D.tells_file folder.now) (D.tells_executable folder.now) (D.home_path folder.now)
-        (Some (codes "."))) (map string_bytes words.now) index (option_copied file.entry)
-        out.old out.new result }
+    ensures { EndsReply W.taken W.failed (PathsOf (D.facts folder.now) (Some (codes ".")))
+        (map string_bytes words.now) index (option_copied file.entry) out.old out.new result }
 {
     let command = tree(alloc, file)?;
     let words = copies(alloc, words)?;
@@ -55,7 +53,7 @@ fn copies(alloc: Global, words: &[String]) -> Result<Vec<String>, AllocError>
     Ok(copies)
 }
 
-// The candidates for the word at the index, where no completers are lent.
+// The candidates for the word at the index, without completers.
 fn candidates<D: Folder>(
     alloc: Global,
     mut command: Command,
@@ -63,13 +61,10 @@ fn candidates<D: Folder>(
     index: usize,
     folder: &D,
 ) -> Result<Vec<CompletionCandidate>, Error>
-    ensures ok { IfOk result (λ found. AreFound (PathsOf (D.lists folder.now)
-        (D.tells_dir folder.now) (D.tells_file folder.now) (D.tells_executable folder.now)
-        (D.home_path folder.now) (Some (codes "."))) (map string_bytes words.items) index command
-        found.items) }
+    ensures ok { IfOk result (λ found. AreFound (PathsOf (D.facts folder.now) (Some (codes ".")))
+        (map string_bytes words.items) index command found.items) }
     ensures err { IfErr result (FindsNone (length words.items) index command) }
 {
-    let lent = Completers::none(alloc);
     complete(
         alloc,
         &mut command,
@@ -77,6 +72,6 @@ fn candidates<D: Folder>(
         index,
         Some(CURRENT_DIR),
         folder,
-        &lent,
+        &Completers::none(alloc),
     )
 }

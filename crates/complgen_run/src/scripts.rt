@@ -27,10 +27,8 @@ pub(crate) fn script<W: Sink>(
     ensures read_back { OnOk result
         (NamedScriptReads shell.now bin.now (option_copied file.entry)) }
 {
-    match shell_of(alloc, shell) {
-        Ok(shell) => script_by(alloc, shell, bin, file, out),
-        Err(unknown) => Err(unknown),
-    }
+    let shell = shell_of(alloc, shell)?;
+    script_by(alloc, shell, bin, file, out)
 }
 
 // Writes the script for this shell of a tree file.

@@ -10,14 +10,14 @@ use clap_complete::command::{Arg, Command, ValueHint, ValueRange};
 use clap_complete::engine::ArgValueCompleter;
 use std::alloc::Global;
 
-/// The whole tree.
-pub(crate) fn larder(alloc: Global) -> Result<Command, Error> {
+/// The whole tree, where this completer completes the names of installed packages.
+pub(crate) fn larder(alloc: Global, installed: ArgValueCompleter) -> Result<Command, Error> {
     let larder = command_with_about(alloc, "larder", "Install, update and publish packages");
     let larder = with_arg(larder, verbose(alloc));
     let larder = with_arg(larder, root(alloc));
     let larder = with_arg(larder, color(alloc));
     let larder = with_child(larder, install(alloc));
-    let larder = with_child(larder, remove(alloc));
+    let larder = with_child(larder, remove(alloc, installed));
     with_child(larder, source(alloc))
 }
 
@@ -57,16 +57,16 @@ fn dry_run(alloc: Global) -> Result<Arg, Error> {
     Ok(flag(alloc, "dry-run", "Only say what would be done")?.short('n'))
 }
 
-fn remove(alloc: Global) -> Result<Command, Error> {
+fn remove(alloc: Global, installed: ArgValueCompleter) -> Result<Command, Error> {
     let remove = command_with_about(alloc, "remove", "Remove packages");
     let remove = with_alias(alloc, remove, "rm");
-    let remove = with_arg(remove, installed_argument(alloc));
+    let remove = with_arg(remove, completed_packages(alloc, installed));
     with_arg(remove, flag(alloc, "purge", "Remove their settings too"))
 }
 
-// The first completer that is lent completes them.
-fn installed_argument(alloc: Global) -> Result<Arg, Error> {
-    Ok(packages(alloc)?.add(ArgValueCompleter::new(0)))
+// The completer completes them.
+fn completed_packages(alloc: Global, completer: ArgValueCompleter) -> Result<Arg, Error> {
+    Ok(packages(alloc)?.add(completer))
 }
 
 // One package or more.

@@ -4,12 +4,13 @@
 use crate::command::larder;
 use crate::packages::Installed;
 use clap_complete::aot::Counted;
-use clap_complete::engine::{Completers, RealFolder, ValueCompleter};
+use clap_complete::engine::{Completers, RealFolder};
 use clap_complete::env::EnvValues;
 use clap_complete::{CompleteEnv, Error};
 use std::alloc::{AllocError, Global};
 use std::env::{self, Env, VarError};
 use std::io;
+use std::path::PathBuf;
 
 /// Writes what a shell asks for, where the environment says that one asks, and returns whether it
 /// does; the program then has nothing else to do. The words are those of the command line, the
@@ -18,12 +19,11 @@ use std::io;
 /// Fails as `CompleteEnv::try_complete` does.
 pub(crate) fn completes(rt: &HostRuntime, words: Vec<String>) -> Result<bool, Error> {
     let alloc = rt.alloc();
-    let mut lent: Vec<Box<dyn ValueCompleter>> = Vec::new(alloc);
-    lent.push(Box::new(alloc, Installed::new(*rt))?)?;
-    let completers = Completers::new(alloc, lent, Vec::new(alloc));
-    let folder = RealFolder::new(rt, variable(rt, "HOME")?);
+    let mut completers = Completers::none(alloc);
+    let installed = completers.add_completer(Box::new(alloc, Installed::new(*rt))?)?;
+    let folder = RealFolder::new(rt, home(rt)?);
     let current = env::current_dir(rt).ok();
-    CompleteEnv::with_factory(|alloc: Global| larder(alloc)).try_complete(
+    CompleteEnv::with_factory(|alloc: Global| larder(alloc, installed)).try_complete(
         alloc,
         words,
         current.as_ref().map(|path| path.as_str()),
@@ -44,6 +44,15 @@ fn environment<R: Env + AllocGlobal>(rt: &R) -> Result<EnvValues, AllocError> {
         }
     }
     Ok(EnvValues::new(variables))
+}
+
+// The home folder of the user, where the environment names one: an empty name is none.
+fn home<R: Env + AllocGlobal>(rt: &R) -> Result<Option<String>, AllocError> {
+    match env::home_dir(rt) {
+        Ok(home) => Ok(home.map(PathBuf::into_string)),
+        Err(error) if error.kind() == io::ErrorKind::OutOfMemory => Err(AllocError),
+        Err(_) => Ok(None),
+    }
 }
 
 // The value of a variable that is set, where it is UTF-8.

@@ -7,6 +7,6 @@ use Rattle.cc_requests.proofs.asked.push_names.Given as goal
 abbrev pub invariant-loop-shell : goal.invariant-loop-shell
 invariant-loop-shell g l =
     string_bytes l.text
-    ++ joined_after (codes ", ") l.begun (map quoted_name (map g.E.EnvCompleter.own_name (drop l.shell-index l.shells)))
+    ++ joined_after (codes ", ") l.begun (map quoted_name (map (λ shell. (g.E.EnvCompleter.spec shell).name) (drop l.shell-index l.shells)))
     ≡ string_bytes l.initial.text
-    ++ joined_after (codes ", ") l.initial.begun (map quoted_name (map g.E.EnvCompleter.own_name l.shells))
+    ++ joined_after (codes ", ") l.initial.begun (map quoted_name (map (λ shell. (g.E.EnvCompleter.spec shell).name) l.shells))

@@ -1,9 +1,12 @@
+use Rattle.std.proofs.lemmas.Result.{err_from_is_err_and}
 use Rattle.complgen_run.specs.Ends.{known_shell, unknown_shell}
 use Rattle.complgen_run.proofs.WritingLemmas.{same}
 use Rattle.complgen_run.proofs.registrations.register.Goals as goal
 
-pub returns-in-Ok : goal.returns-in-Ok
-returns-in-Ok g c = known_shell _ _ c.in-Ok.ensures c.register_named.ensures
+pub returns-in_err-shell : goal.returns-in_err-shell
+returns-in_err-shell g c =
+    let p = err_from_is_err_and c.from_residual.result c.from_residual.ensures.1 in
+    rw (p.1, p.2) (unknown_shell _ c.in_err-shell.ensures (same _ _ _))
 
-pub returns-in-Err : goal.returns-in-Err
-returns-in-Err g c = unknown_shell _ c.in-Err.ensures (same _ _ _)
+pub returns : goal.returns
+returns g c = known_shell _ _ c.in_ok-shell.ensures c.register_named.ensures
