@@ -8,6 +8,7 @@ use Rattle.std.specs.List.{list_all, list_any}
 use Rattle.std.specs.Prelude.{nat_le, nat_lt}
 use Rattle.std.specs.Cmp.Lexicographic.{slice_cmp}
 use Rattle.std.specs.Ordering.{match_ordering}
+use Rattle.std.proofs.Math.Bool.{and_assoc, and_comm, and-true}
 use Rattle.std.proofs.lemmas.Map.Text.{is_eq-slice_cmp}
 use Rattle.std.proofs.lemmas.Slice.Eq.{bytes_eq-Decides}
 use Rattle.fast_float.specs.Text.{Parts, digits_of, nearest, with_sign}
@@ -119,11 +120,11 @@ member_seen name j = refl
 
 -- ---- the keys
 
+and_regrouped : (a b c : Bool) → ((a && b) && c) ≡ (b && (a && c))
+and_regrouped a b c = ap (λ t. t && c) (and_comm a b) ∙ and_assoc b a c
+
 and_swapped : (a b c : Bool) → (a && (b && c)) ≡ (b && (a && c))
-and_swapped true true c = refl
-and_swapped true false c = refl
-and_swapped false true c = refl
-and_swapped false false c = refl
+and_swapped a b c = sym (and_assoc a b c) ∙ and_regrouped a b c
 
 and_twice : (a b : Bool) → (a && b) ≡ (a && (a && b))
 and_twice true b = refl
@@ -155,16 +156,6 @@ Key = Bor (List ℕ)
 abbrev pub Member : Type 0
 Member = Key × Value Global
 
-and_regrouped : (a b c : Bool) → ((a && b) && c) ≡ (b && (a && c))
-and_regrouped true true c = refl
-and_regrouped true false c = refl
-and_regrouped false true c = refl
-and_regrouped false false c = refl
-
-and_true : (b : Bool) → b ≡ (b && true)
-and_true true = refl
-and_true false = refl
-
 keys_of_all : (test : List ℕ → Bool) (ms : List Member) (found : Members)
     → (list_all (λ m. test m.0.now) ms && list_all test (keys_in found))
     ≡ list_all test (keys_in (members_put (views.members_view ms) found))
@@ -180,7 +171,7 @@ pub keys_seen : (test : List ℕ → Bool) (ms : List Member)
     → list_all (λ m. test m.0.now) ms
     ≡ list_all test (keys_in (members_put (views.members_view ms) no_members))
 keys_seen test ms =
-    and_true (list_all (λ m. test m.0.now) ms) ∙ keys_of_all test ms no_members
+    sym (and-true (list_all (λ m. test m.0.now) ms)) ∙ keys_of_all test ms no_members
 
 -- a test over a mapped list
 list_any-map : {X Y : Type 0} (p : Y → Bool) (f : X → Y) (xs : List X)
