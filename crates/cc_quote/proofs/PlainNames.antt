@@ -23,28 +23,15 @@ unfolding joined_after is_joined
 plain_after_end true = refl
 plain_after_end false = refl
 
-joined_after-letter : (follows : Bool) (bytes : List NameByte) → joined_after follows (letter ∷ bytes) ≡ joined_after true bytes
-unfolding joined_after is_joined
-joined_after-letter true bytes = refl
-joined_after-letter false bytes = refl
-
-joined_after-joiner : (follows : Bool) (bytes : List NameByte) → joined_after follows (joiner ∷ bytes) ≡ (follows && joined_after false bytes)
-unfolding joined_after is_joined
-joined_after-joiner true bytes = refl
-joined_after-joiner false bytes = refl
-
-joined_after-foreign : (follows : Bool) (bytes : List NameByte) → joined_after follows (foreign ∷ bytes) ≡ false
-unfolding joined_after is_joined
-joined_after-foreign true bytes = refl
-joined_after-foreign false bytes = refl
-
 joined_after-kind : (follows is_letter is_joiner : Bool) (bytes : List NameByte) →
     joined_after follows (cond is_letter letter (cond is_joiner joiner foreign) ∷ bytes) ≡ ((is_letter || (follows && is_joiner)) && joined_after is_letter bytes)
-joined_after-kind follows true is_joiner bytes = joined_after-letter follows bytes
-joined_after-kind true false true bytes = joined_after-joiner true bytes
-joined_after-kind false false true bytes = joined_after-joiner false bytes
-joined_after-kind true false false bytes = joined_after-foreign true bytes
-joined_after-kind false false false bytes = joined_after-foreign false bytes
+unfolding joined_after is_joined
+joined_after-kind true true is_joiner bytes = refl
+joined_after-kind false true is_joiner bytes = refl
+joined_after-kind true false true bytes = refl
+joined_after-kind false false true bytes = refl
+joined_after-kind true false false bytes = refl
+joined_after-kind false false false bytes = refl
 
 -- one byte on: it may be there, and the rest is joined after it
 pub plain_after_more : (follows : Bool) (byte : ℕ) (bytes : List ℕ) →
