@@ -26,6 +26,14 @@ fn a_help_in_zsh(rt: HostRuntime) {
     has(&rt, script(&rt, Zsh, HELP), row);
 }
 
+// A flag whose long holds a quote.
+const LONG: &str = r#"{"name": "app", "args": [{"id": "a", "long": "it's", "action": "SetTrue"}]}"#;
+
+#[test]
+fn a_long_with_a_quote_in_fish(rt: HostRuntime) {
+    has(&rt, script(&rt, Fish, LONG), r"complete -c app -l it\'s");
+}
+
 // A possible value whose help holds both quotes, a backslash and a dollar sign.
 const VALUE: &str = r#"{"name": "app", "args": [
     {"id": "o", "long": "o", "action": "Set",
