@@ -175,8 +175,20 @@ unfolding encode_utf8 fish_escaped is_fish_safe fish_quoted fish_quoted_for_eval
 color_text = refl
 
 color_spec : spec_text color ≡ codes " c/color="
-unfolding encode_utf8 spec_text
+unfolding encode_utf8 fish_escaped spec_text
 color_spec = refl
+
+-- a flag whose long holds a quote
+abbrev quoted : Arg
+quoted = record (new_arg (codes "a")) { long = Some (codes "it's"); action = Some SetTrue }
+
+quoted_text : argument_text (front_text (codes "app") None) false quoted ≡ line (codes "complete -c app -l it\\'s")
+unfolding fish_escaped values_text names_text argument_text front_text
+quoted_text = refl
+
+quoted_spec : spec_text quoted ≡ codes " it\\'s"
+unfolding fish_escaped spec_text
+quoted_spec = refl
 
 -- a value with a help that fish would expand
 expanded_text : listed_text (record (new_possible_value (codes "v")) { help = Some (codes "$HOME \"x\"") } ∷ []) ≡ codes " -r -f -a \"v\\t'\\$HOME \\\"x\\\"'\""

@@ -7,7 +7,7 @@ use Rattle.cc_arg.specs.ShownNames.{with_aliases, shown_shorts, shown_longs}
 use Rattle.cc_command.specs.Tree.{Forest, none, more, Tree, has_nodes}
 use Rattle.cc_command.proofs.PlainParts.{IsPlainArgument, IsPlainNode}
 use Rattle.cc_base.specs.Bytes as ascii
-use Rattle.cc_quote.specs.FishQuote.{fish_sign, is_fish_safe}
+use Rattle.cc_quote.specs.FishQuote.{fish_sign, is_fish_safe, fish_escaped}
 use Rattle.cc_quote.specs.FishQuote.FishState.{bare}
 use Rattle.cc_quote.specs.FishTokens.{in_word, commands_from, fish_commands}
 use Rattle.cc_quote.proofs.FishWords.{IsSafe}
@@ -16,7 +16,7 @@ use Rattle.cc_fish.specs.Script.{slash_text, first_short, first_long, spec_word,
 use Rattle.cc_fish.specs.Table.{function_name}
 use Rattle.cc_fish.specs.Reader.{records_of, records}
 use Rattle.cc_fish.specs.Records.{Record}
-use Rattle.cc_fish.proofs.Names.{IsName, name_safe, name_spelled, IsShortName, plain_shorts, plain_longs}
+use Rattle.cc_fish.proofs.Names.{IsName, name_safe, name_spelled, escaped_name, IsShortName, plain_shorts, plain_longs}
 use Rattle.cc_fish.proofs.Conditions.{safe_append, function_safe}
 use Rattle.cc_fish.proofs.RecordsRead.{Yields, yields_none, unchanged}
 
@@ -110,11 +110,11 @@ spec_of shorts longs takes = first_short shorts longs ++ first_long longs ++ con
 
 spec_named : (shorts : List ℕ) (longs : List (List ℕ)) (takes : Bool) → AllByRecursion IsShortName shorts → AllByRecursion IsName longs → (no_names shorts && no_names longs) ≡ false → IsName (spec_of shorts longs takes)
 spec_named [] [] takes h k e = absurd (cc)
-spec_named [] (long ∷ longs) takes h (k, ks) e = named long (cond takes (codes "=") []) k (equals_safe takes)
+spec_named [] (long ∷ longs) takes h (k, ks) e = named (fish_escaped long) (cond takes (codes "=") []) (escaped_name long k) (equals_safe takes)
 spec_named (short ∷ shorts) [] takes (h, hs) k e = named ((encode_utf8 short ++ []) ++ []) (cond takes (codes "=") []) (named (encode_utf8 short ++ []) [] (named (encode_utf8 short) [] h tt) tt) (equals_safe takes)
 spec_named (short ∷ shorts) (long ∷ longs) takes (h, hs) (k, ks) e =
-    named ((encode_utf8 short ++ codes "/") ++ long) (cond takes (codes "=") [])
-    (named (encode_utf8 short ++ codes "/") long (named (encode_utf8 short) (codes "/") h (slash_safe (long ∷ longs))) (name_safe long k)) (equals_safe takes)
+    named ((encode_utf8 short ++ codes "/") ++ fish_escaped long) (cond takes (codes "=") [])
+    (named (encode_utf8 short ++ codes "/") (fish_escaped long) (named (encode_utf8 short) (codes "/") h (slash_safe (long ∷ longs))) (name_safe (fish_escaped long) (escaped_name long k))) (equals_safe takes)
 
 -- a plain argument that is no positional
 record IsSpecified (argument : Arg) : Type 0 where

@@ -14,7 +14,8 @@ use Rattle.cc_quote.specs.PlainName.{foreign, name_byte, is_joined, is_plain_nam
 use Rattle.cc_command.specs.Tree.{Forest, none, more}
 use Rattle.cc_quote.proofs.NameBytes.{plain_bytes, fish_safe}
 use Rattle.cc_command.proofs.PlainParts.{IsPlainName, IsPlainShort, IsPlainArgument, plain_node, plain_more, shown_plain}
-use Rattle.cc_quote.specs.FishQuote.{begins_word, is_fish_safe}
+use Rattle.cc_quote.specs.FishQuote.{begins_word, is_fish_safe, fish_escaped}
+use Rattle.cc_quote.proofs.FishEscaped.{safe_escaped}
 use Rattle.cc_quote.proofs.FishWords.{IsSafe, safe_sign, safe_bare}
 use Rattle.cc_quote.proofs.FishCutting.{Spells}
 use Rattle.cc_generator.specs.Subcommands.{sibling_names}
@@ -32,6 +33,18 @@ name_safe (byte ∷ bytes) h = h
 pub name_spelled : (name : List ℕ) → IsName name → Spells name name
 name_spelled [] h = absurd h
 name_spelled (byte ∷ bytes) h = record { begins = ap begins_word (safe_sign byte h.0); spells = safe_bare (byte ∷ bytes) [] h }
+
+-- the escape of a name is the name
+name_escaped : (name : List ℕ) → IsName name → fish_escaped name ≡ name
+name_escaped name h = safe_escaped name (name_safe name h)
+
+-- and a name as well
+pub escaped_name : (name : List ℕ) → IsName name → IsName (fish_escaped name)
+escaped_name name h = subst IsName (sym (name_escaped name h)) h
+
+-- which spells the name
+pub escaped_spelled : (name : List ℕ) → IsName name → Spells (fish_escaped name) name
+escaped_spelled name h = subst (λ text. Spells text name) (sym (name_escaped name h)) (name_spelled name h)
 
 -- ---- plain names
 

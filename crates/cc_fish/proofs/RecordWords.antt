@@ -25,7 +25,7 @@ use Rattle.cc_quote.proofs.FishCutting.{Spells, word_read, Adds, adds_none, adds
 use Rattle.cc_fish.specs.Script.{condition_text, short_text, long_text, help_text, value_text, value_lines, list_begin, listed_text, hint_text, value_part, values_text, names_text, front_text}
 use Rattle.cc_fish.specs.Table.{value_word}
 use Rattle.cc_fish.specs.Reader.{joined_words, offered_of}
-use Rattle.cc_fish.proofs.Names.{IsName, letter_safe, dash_safe, name_safe, name_spelled, IsShortName, plain_shorts, plain_longs}
+use Rattle.cc_fish.proofs.Names.{IsName, letter_safe, dash_safe, name_safe, name_spelled, escaped_spelled, IsShortName, plain_shorts, plain_longs}
 
 -- ---- words in `"`
 
@@ -93,7 +93,7 @@ short_adds : (short : ℕ) → IsShortName short → Adds (short_text short) (sh
 short_adds short h = adds_operand (codes "-s") (encode_utf8 short) (encode_utf8 short) (option_spelled _ refl) (name_spelled (encode_utf8 short) h)
 
 long_adds : (long : List ℕ) → IsName long → Adds (long_text long) (long_words long)
-long_adds long h = adds_operand (codes "-l") long long (option_spelled _ refl) (name_spelled long h)
+long_adds long h = adds_operand (codes "-l") (fish_escaped long) long (option_spelled _ refl) (escaped_spelled long h)
 
 single_quoted_spelled : (text : List ℕ) → Spells (single_quoted text) text
 unfolding fish_sign

@@ -62,7 +62,7 @@ abbrev pub short_text : ℕ → List ℕ
 short_text short = codes " -s " ++ encode_utf8 short
 
 abbrev pub long_text : List ℕ → List ℕ
-long_text long = codes " -l " ++ long
+long_text long = codes " -l " ++ fish_escaped long
 
 abbrev pub help_text : Option (List ℕ) → List ℕ
 help_text None = []
@@ -167,7 +167,7 @@ first_short (short ∷ shorts) longs = encode_utf8 short ++ slash_text longs
 -- the first long
 abbrev pub first_long : List (List ℕ) → List ℕ
 first_long [] = []
-first_long (long ∷ longs) = long
+first_long (long ∷ longs) = fish_escaped long
 
 -- what `argparse` is told of an argument: short, slash and long, and `=` where it takes values
 abbrev pub spec_word : Arg → List ℕ

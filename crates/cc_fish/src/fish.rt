@@ -12,7 +12,7 @@ use crate::function::function_name;
 use crate::head::write_head;
 use crate::keys::FishKeys;
 use crate::lines::write_visit;
-use cc_base::{Error, Sink, as_error};
+use cc_base::{Error, Sink};
 use cc_command::{Command, full_name};
 use cc_flat::Flat;
 use cc_generator::Generator;
@@ -45,42 +45,42 @@ impl Generator for Fish {
         sink: &mut W,
     ) -> Result<(), Error> {
         let flat = Flat::new(alloc, command)?;
-        write_script(alloc, &flat, sink)
+        write_script(alloc, sink, &flat)
     }
 }
 
-fn write_script<W: Sink>(alloc: Global, flat: &Flat<'_>, sink: &mut W) -> Result<(), Error>
+fn write_script<W: Sink>(alloc: Global, sink: &mut W, flat: &Flat<'_>) -> Result<(), Error>
     requires { 0 < length flat.now }
     ensures { Writes W.taken W.failed result sink.old sink.new (fish_script (tree_at flat.now 0)) }
 {
     let bin_name = full_name(flat.command(0));
     let function = function_name(alloc, bin_name)?;
-    write_parts(alloc, flat, bin_name, function.as_str(), sink)
+    write_parts(alloc, sink, flat, bin_name, function.as_str())
 }
 
 #[tactic(auto, unfolding(crate::specs::Script::script_text))]
 fn write_parts<W: Sink>(
     alloc: Global,
+    sink: &mut W,
     flat: &Flat<'_>,
     bin_name: &str,
     function: &str,
-    sink: &mut W,
 ) -> Result<(), Error>
     requires { 0 < length flat.now }
     ensures { Writes W.taken W.failed result sink.old sink.new
         (script_text bin_name.now function.now (tree_at flat.now 0)) }
 {
-    as_error(write_head(function, flat.command(0), sink))?;
-    write_body(alloc, flat, bin_name, function, sink)
+    write_head(sink, function, flat.command(0))?;
+    write_body(alloc, sink, flat, bin_name, function)
 }
 
 #[tactic(auto, using(crate::proofs::ScriptRead::entered_texts))]
 fn write_body<W: Sink>(
     alloc: Global,
+    sink: &mut W,
     flat: &Flat<'_>,
     bin_name: &str,
     function: &str,
-    sink: &mut W,
 ) -> Result<(), Error>
     requires { 0 < length flat.now }
     ensures { Writes W.taken W.failed result sink.old sink.new
@@ -88,15 +88,15 @@ fn write_body<W: Sink>(
 {
     let keys = FishKeys;
     let steps = PathSteps::new(alloc, flat, "", &keys)?;
-    write_steps(alloc, bin_name, function, steps, sink)
+    write_steps(alloc, sink, bin_name, function, steps)
 }
 
 fn write_steps<W: Sink>(
     alloc: Global,
+    sink: &mut W,
     bin_name: &str,
     function: &str,
     mut steps: PathSteps<'_, '_, FishKeys>,
-    sink: &mut W,
 ) -> Result<(), Error>
     ensures { Writes W.taken W.failed result sink.old sink.new
         (flat_map (where_entered (visit_text bin_name.now function.now)) steps.entry) }
@@ -106,7 +106,7 @@ fn write_steps<W: Sink>(
         let PathStep::Enter(visit) = step else {
             continue;
         };
-        write_visit(bin_name, function, &visit, &mut front, sink)?;
+        write_visit(sink, bin_name, function, &visit, &mut front)?;
     }
     Ok(())
 }

@@ -19,14 +19,15 @@ use crate::texts::{
 use cc_arg::Arg;
 use cc_base::{Sink, put_around, put_piece};
 use cc_command::Command;
+use cc_quote::{FishEscape, put_escaped};
 use std::io::ErrorKind;
 
 /// Fails with the kind of the put that failed.
 #[tactic(auto, unfolding(crate::specs::Script::head_text))]
 pub(crate) fn write_head<W: Sink>(
+    sink: &mut W,
     function: &str,
     command: &Command,
-    sink: &mut W,
 ) -> Result<(), ErrorKind>
     ensures { Writes W.taken W.failed (as_write result) sink.old sink.new
         (head_text function.now command.now) }
@@ -34,19 +35,19 @@ pub(crate) fn write_head<W: Sink>(
     if !command.has_subcommands() {
         return Ok(());
     }
-    put_around(optspecs_begin(), function, optspecs_join(), sink)?;
-    write_specs(command.get_arguments(), sink)?;
-    put_around(needs_command_begin(), function, needs_command_parse(), sink)?;
-    put_around(function, needs_command_end(), function, sink)?;
+    put_around(sink, optspecs_begin(), function, optspecs_join())?;
+    write_specs(sink, command.get_arguments())?;
+    put_around(sink, needs_command_begin(), function, needs_command_parse())?;
+    put_around(sink, function, needs_command_end(), function)?;
     put_around(
+        sink,
         using_subcommand_call(),
         function,
         using_subcommand_end(),
-        sink,
     )
 }
 
-fn write_specs<W: Sink>(arguments: &[Arg], sink: &mut W) -> Result<(), ErrorKind>
+fn write_specs<W: Sink>(sink: &mut W, arguments: &[Arg]) -> Result<(), ErrorKind>
     ensures { Writes W.taken W.failed (as_write result) sink.old sink.new
         (flat_map spec_text (filter (λ argument. not (is_positional argument)) arguments.now)) }
 {
@@ -54,22 +55,22 @@ fn write_specs<W: Sink>(arguments: &[Arg], sink: &mut W) -> Result<(), ErrorKind
         if argument.is_positional() {
             continue;
         }
-        write_spec(argument, sink)?;
+        write_spec(sink, argument)?;
     }
     Ok(())
 }
 
 #[tactic(auto, unfolding(crate::specs::Script::spec_text))]
-fn write_spec<W: Sink>(argument: &Arg, sink: &mut W) -> Result<(), ErrorKind>
+fn write_spec<W: Sink>(sink: &mut W, argument: &Arg) -> Result<(), ErrorKind>
     ensures { Writes W.taken W.failed (as_write result) sink.old sink.new (spec_text argument.now) }
 {
-    put_piece(sink, " ".as_bytes())?;
-    write_first_short(argument, sink)?;
-    write_first_long(argument, sink)?;
-    put_piece(sink, equals(argument).as_bytes())
+    put_piece(sink, " ")?;
+    write_first_short(sink, argument)?;
+    write_first_long(sink, argument)?;
+    put_piece(sink, equals(argument))
 }
 
-fn write_first_short<W: Sink>(argument: &Arg, sink: &mut W) -> Result<(), ErrorKind>
+fn write_first_short<W: Sink>(sink: &mut W, argument: &Arg) -> Result<(), ErrorKind>
     ensures { Writes W.taken W.failed (as_write result) sink.old sink.new
         (first_short (shown_shorts argument.now) (shown_longs argument.now)) }
 {
@@ -77,18 +78,19 @@ fn write_first_short<W: Sink>(argument: &Arg, sink: &mut W) -> Result<(), ErrorK
         return Ok(());
     };
     let mut buffer = [0; 4];
-    put_piece(sink, short.encode_utf8(&mut buffer).as_bytes())?;
-    put_piece(sink, slash(argument).as_bytes())
+    put_piece(sink, short.encode_utf8(&mut buffer))?;
+    put_piece(sink, slash(argument))
 }
 
-fn write_first_long<W: Sink>(argument: &Arg, sink: &mut W) -> Result<(), ErrorKind>
+#[tactic(auto, unfolding(cc_quote::specs::FishQuote::fish_escaped))]
+fn write_first_long<W: Sink>(sink: &mut W, argument: &Arg) -> Result<(), ErrorKind>
     ensures { Writes W.taken W.failed (as_write result) sink.old sink.new
         (first_long (shown_longs argument.now)) }
 {
     let Some(long) = argument.get_long() else {
         return Ok(());
     };
-    put_piece(sink, long.as_bytes())
+    put_escaped(sink, &FishEscape, long)
 }
 
 // `argparse` takes a short and a long with a slash between them as one option.

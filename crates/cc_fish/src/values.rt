@@ -22,9 +22,9 @@ use std::io::ErrorKind;
 /// Nothing, where the argument takes no values.
 #[tactic(auto, unfolding(crate::specs::Script::values_text))]
 pub(crate) fn write_values<W: Sink>(
+    sink: &mut W,
     takes: bool,
     argument: &Arg,
-    sink: &mut W,
 ) -> Result<(), ErrorKind>
     ensures { Writes W.taken W.failed (as_write result) sink.old sink.new
         (values_text takes argument.now) }
@@ -33,23 +33,23 @@ pub(crate) fn write_values<W: Sink>(
         return Ok(());
     }
     match possible_values(argument) {
-        Some(values) => write_listed(values, sink),
-        None => put_piece(sink, hint_marks(argument.get_value_hint()).as_bytes()),
+        Some(values) => write_listed(sink, values),
+        None => put_piece(sink, hint_marks(argument.get_value_hint())),
     }
 }
 
 #[tactic(auto, unfolding(crate::specs::Script::listed_text))]
-fn write_listed<W: Sink>(values: &[PossibleValue], sink: &mut W) -> Result<(), ErrorKind>
+fn write_listed<W: Sink>(sink: &mut W, values: &[PossibleValue]) -> Result<(), ErrorKind>
     ensures { Writes W.taken W.failed (as_write result) sink.old sink.new
         (listed_text values.now) }
 {
-    put_piece(sink, list_begin().as_bytes())?;
-    write_lines(values, sink)?;
-    put_piece(sink, "\"".as_bytes())
+    put_piece(sink, list_begin())?;
+    write_lines(sink, values)?;
+    put_piece(sink, "\"")
 }
 
 #[tactic(auto, unfolding(crate::specs::Script::value_lines))]
-fn write_lines<W: Sink>(values: &[PossibleValue], sink: &mut W) -> Result<(), ErrorKind>
+fn write_lines<W: Sink>(sink: &mut W, values: &[PossibleValue]) -> Result<(), ErrorKind>
     ensures { Writes W.taken W.failed (as_write result) sink.old sink.new
         (value_lines values.now) }
 {
@@ -58,7 +58,7 @@ fn write_lines<W: Sink>(values: &[PossibleValue], sink: &mut W) -> Result<(), Er
         if !is_shown(value) {
             continue;
         }
-        write_value(&mut begun, value, sink)?;
+        write_value(sink, &mut begun, value)?;
     }
     Ok(())
 }
@@ -71,18 +71,18 @@ fn is_shown(value: &PossibleValue) -> bool
 
 #[tactic(auto, unfolding(crate::specs::Script::value_text))]
 fn write_value<W: Sink>(
+    sink: &mut W,
     begun: &mut bool,
     value: &PossibleValue,
-    sink: &mut W,
 ) -> Result<(), ErrorKind>
     ensures written { Writes W.taken W.failed (as_write result) sink.old sink.new
         (separator (line_feed ∷ []) begun.old ++ value_text value.now) }
     ensures begun { OnOk result (begun.new ≡ true) }
 {
-    put_separator("\n", begun, sink)?;
-    put_fish_quoted_for_eval(value.get_name(), sink)?;
-    put_piece(sink, "\\t".as_bytes())?;
-    put_fish_help_for_eval(value.get_help().unwrap_or(""), sink)
+    put_separator(sink, "\n", begun)?;
+    put_fish_quoted_for_eval(sink, value.get_name())?;
+    put_piece(sink, "\\t")?;
+    put_fish_help_for_eval(sink, value.get_help().unwrap_or(""))
 }
 
 // A value follows, and fish offers what it does by default.
