@@ -39,7 +39,7 @@ impl EnvCompleter for Bash {
         completer: &str,
         sink: &mut W,
     ) -> Result<(), Error> {
-        write_bash(variable, name, bin, completer, sink)
+        write_bash(sink, variable, name, bin, completer)
     }
 
     fn write_complete<D: Folder, W: Sink>(

@@ -39,7 +39,7 @@ impl EnvCompleter for Elvish {
         completer: &str,
         sink: &mut W,
     ) -> Result<(), Error> {
-        write_elvish(alloc, variable, bin, completer, sink)
+        write_elvish(alloc, sink, variable, bin, completer)
     }
 
     fn write_complete<D: Folder, W: Sink>(

@@ -38,7 +38,7 @@ impl EnvCompleter for Fish {
         completer: &str,
         sink: &mut W,
     ) -> Result<(), Error> {
-        write_fish(alloc, variable, bin, completer, sink)
+        write_fish(alloc, sink, variable, bin, completer)
     }
 
     fn write_complete<D: Folder, W: Sink>(

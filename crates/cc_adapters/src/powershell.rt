@@ -38,7 +38,7 @@ impl EnvCompleter for Powershell {
         completer: &str,
         sink: &mut W,
     ) -> Result<(), Error> {
-        write_powershell(alloc, variable, bin, completer, sink)
+        write_powershell(alloc, sink, variable, bin, completer)
     }
 
     fn write_complete<D: Folder, W: Sink>(

@@ -41,7 +41,7 @@ impl EnvCompleter for Zsh {
         completer: &str,
         sink: &mut W,
     ) -> Result<(), Error> {
-        write_zsh(alloc, variable, name, bin, completer, sink)
+        write_zsh(alloc, sink, variable, name, bin, completer)
     }
 
     fn write_complete<D: Folder, W: Sink>(
