@@ -39,7 +39,7 @@ impl ReplyFormat for Values<'_> {
     ghost text = { λ format found. values_reply format.0.now found };
 
     fn write<W: Sink>(&self, found: &[CompletionCandidate], sink: &mut W) -> Result<(), Error> {
-        write_values(self.0, found, sink)
+        write_values(sink, self.0, found)
     }
 }
 
@@ -51,7 +51,7 @@ impl ReplyFormat for ZshItems<'_> {
     ghost text = { λ format found. zsh_reply format.0.now found };
 
     fn write<W: Sink>(&self, found: &[CompletionCandidate], sink: &mut W) -> Result<(), Error> {
-        write_zsh_items(self.0, found, sink)
+        write_zsh_items(sink, self.0, found)
     }
 }
 
@@ -63,7 +63,7 @@ impl ReplyFormat for Lines {
     ghost text = { λ _ found. lines_reply found };
 
     fn write<W: Sink>(&self, found: &[CompletionCandidate], sink: &mut W) -> Result<(), Error> {
-        write_lines(found, sink)
+        write_lines(sink, found)
     }
 }
 

@@ -1,6 +1,7 @@
 //! Completers and lists of candidates, by number.
 
-ghost use Rattle.std.specs.Prelude.{◌≡◌, ◌+◌, ℕ, List, [], length, IfOk, OnErr};
+ghost use Rattle.std.specs.Prelude.{◌≡◌, ◌↔◌, ◌+◌, ℕ, List, [], MatchOption, length, slice_get, IfOk, OnErr};
+ghost use Rattle.cc_candidates.specs.declared.candidate.CompletionCandidate.{CompletionCandidate};
 ghost use Rattle.cc_candidates.specs.Sources.{Adds};
 
 use crate::candidate::CompletionCandidate;
@@ -56,6 +57,16 @@ impl Completers {
         ensures completers { result.completers ≡ completers }
         ensures lists { result.lists ≡ lists }
         ensures added { (result.added_completers.items ≡ []) × (result.added_lists.items ≡ []) }
+        ensures complete { (which : ℕ) → (number : ℕ) → (text : List ℕ)
+            → (list : List CompletionCandidate)
+            → ⟦<Completers as CandidateSources>⟧.may_complete result which number text list
+            ↔ MatchOption (slice_get completers.items which) (list ≡ []) (λ item.
+            (⟦<dyn ValueCompleter as ValueCompleter>⟧ item.vtable).completes item.value number text
+            list) }
+        ensures listed { (which : ℕ) → (list : List CompletionCandidate)
+            → ⟦<Completers as CandidateSources>⟧.may_list result which list
+            ↔ MatchOption (slice_get lists.items which) (list ≡ []) (λ item.
+            (⟦<dyn ValueCandidates as ValueCandidates>⟧ item.vtable).lists item.value list) }
     {
         Completers {
             completers,

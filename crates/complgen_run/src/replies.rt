@@ -37,7 +37,7 @@ pub(crate) fn reply<D: Folder, W: Sink>(
         Ok(found) => found,
         Err(error) => return Err(error_refusal(alloc, &error)),
     };
-    match write_lines(found.as_slice(), out) {
+    match write_lines(out, found.as_slice()) {
         Ok(()) => Ok(()),
         Err(error) => Err(error_refusal(alloc, &error)),
     }
