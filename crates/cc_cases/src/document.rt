@@ -5,6 +5,9 @@
 //!   `? STATUS`, and then what is printed. A line `...` stands for any lines, `[..]` for any text,
 //!   and a last line `(no-eol)` says that the line before it has no line feed.
 //! - A line that begins with `#` outside blocks is the title of the cases after it.
+//!
+//! Other blocks, lines of a block of cases before its first command, and a second tree of one name
+//! are not read, and are kept as strays.
 
 use std::alloc::{AllocError, Global};
 
@@ -14,6 +17,8 @@ pub(crate) struct Document {
     alloc: Global,
     title: String,
     place: Place,
+    /// Lines that stand where nothing can be read of them.
+    pub strays: Vec<String>,
     /// The tree files, in order.
     pub trees: Vec<TreeFile>,
     /// The cases, in order.
@@ -47,7 +52,9 @@ pub(crate) struct Case {
 enum Place {
     Prose,
     Tree,
+    // A block of cases before its first command.
     Console,
+    Case,
 }
 
 impl Document {
@@ -57,10 +64,11 @@ impl Document {
             alloc,
             title: String::new(alloc),
             place: Place::Prose,
+            strays: Vec::new(alloc),
             trees: Vec::new(alloc),
             cases: Vec::new(alloc),
         };
-        for line in text.lines() {
+        for line in text.split('\n') {
             document.push(line)?;
         }
         Ok(document)
@@ -84,7 +92,7 @@ impl Document {
                 Ok(())
             }
             Place::Tree => self.push_to_tree(line),
-            Place::Console => self.push_to_console(line),
+            Place::Console | Place::Case => self.push_to_console(line),
         }
     }
 
@@ -95,6 +103,10 @@ impl Document {
         }
         if line == "```console" {
             self.place = Place::Console;
+            return Ok(());
+        }
+        if line.starts_with("```") {
+            return self.push_stray(line);
         }
         if line.starts_with("#") {
             self.title = String::from_str(self.alloc, line)?;
@@ -102,7 +114,16 @@ impl Document {
         Ok(())
     }
 
+    fn push_stray(&mut self, line: &str) -> Result<(), AllocError> {
+        let line = String::from_str(self.alloc, line)?;
+        self.strays.push(line)?;
+        Ok(())
+    }
+
     fn push_tree(&mut self, name: &str) -> Result<(), AllocError> {
+        if self.tree(name).is_some() {
+            self.push_stray(name)?;
+        }
         let name = String::from_str(self.alloc, name)?;
         let text = String::new(self.alloc);
         self.trees.push(TreeFile { name, text })?;
@@ -119,7 +140,11 @@ impl Document {
 
     fn push_to_console(&mut self, line: &str) -> Result<(), AllocError> {
         if let Some(command) = line.strip_prefix("$ ") {
+            self.place = Place::Case;
             return self.push_case(command);
+        }
+        if self.place == Place::Console {
+            return self.push_stray(line);
         }
         match self.cases.last_mut() {
             Some(case) => case.push(self.alloc, line),

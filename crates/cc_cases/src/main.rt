@@ -39,9 +39,12 @@ fn failures<R: Env + Files + Print + AllocGlobal>(rt: &R) -> io::Result<usize> {
     Ok(all)
 }
 
-// Runs the cases of a document, and returns how many failed.
+// Runs the cases of a document, and returns how many failed, with the lines that are not read.
 fn failures_in<R: Print + AllocGlobal>(rt: &R, document: &Document) -> io::Result<usize> {
-    let mut failed: usize = 0;
+    for line in &document.strays {
+        println!(rt; "not read: {line}")?;
+    }
+    let mut failed = document.strays.len();
     for case in &document.cases {
         if !is_kept(rt, document, case)? {
             failed = failed.saturating_add(1);

@@ -13,7 +13,7 @@ fn push_line(text: &mut String, line: &str) -> Result<(), AllocError> {
 }
 
 /// Whether a text, each of whose lines has a line feed on both sides, is made of these pieces, in
-/// order, with any text between two of them. Fails where memory runs out.
+/// order, with any text, also of several lines, between two of them. Fails where memory runs out.
 pub(crate) fn holds(alloc: Global, pieces: &[String], text: &str) -> Result<bool, AllocError> {
     let marked = marked(alloc, text)?;
     Ok(is_made_of(marked.as_str(), pieces))
@@ -22,13 +22,23 @@ pub(crate) fn holds(alloc: Global, pieces: &[String], text: &str) -> Result<bool
 // The text with a line feed on both sides of each line.
 fn marked(alloc: Global, text: &str) -> Result<String, AllocError> {
     let mut marked = String::new(alloc);
-    for line in text.lines() {
-        push_line(&mut marked, line)?;
-    }
-    if !text.is_empty() && !text.ends_with('\n') {
+    let Some(lines) = text.strip_suffix('\n') else {
+        if text.is_empty() {
+            return Ok(marked);
+        }
+        push_lines(&mut marked, text)?;
         push_line(&mut marked, NO_LINE_FEED)?;
-    }
+        return Ok(marked);
+    };
+    push_lines(&mut marked, lines)?;
     Ok(marked)
+}
+
+fn push_lines(text: &mut String, lines: &str) -> Result<(), AllocError> {
+    for line in lines.split('\n') {
+        push_line(text, line)?;
+    }
+    Ok(())
 }
 
 fn is_made_of(text: &str, pieces: &[String]) -> bool {

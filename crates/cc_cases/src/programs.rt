@@ -45,7 +45,8 @@ pub(crate) fn run_line(
     completed(alloc, document, &variables, words)
 }
 
-// The words of a command line.
+// The words of a command line. What is no word, as after a quote that is not closed, is one as it
+// stands.
 fn words(alloc: Global, command: &str) -> Result<Vec<String>, Error> {
     let mut words = Vec::new(alloc);
     let mut rest = command;
@@ -55,6 +56,9 @@ fn words(alloc: Global, command: &str) -> Result<Vec<String>, Error> {
         };
         words.push(word)?;
         rest = after;
+    }
+    if !rest.trim_start().is_empty() {
+        words.push(String::from_str(alloc, rest)?)?;
     }
     Ok(words)
 }

@@ -53,6 +53,7 @@ const SCRIPT_FOLDERS: &str =
   bash        ~/.local/share/bash-completion/completions/N
               /usr/share/bash-completion/completions/N
   elvish      ~/.config/elvish/lib/N.elv, with the line `use N` in ~/.config/elvish/rc.elv
+              /usr/share/elvish/lib/N.elv
   fish        ~/.config/fish/completions/N.fish
               /usr/share/fish/vendor_completions.d/N.fish
   nushell     FOLDER/N.nu, with the line `use FOLDER/N.nu *` in config.nu
