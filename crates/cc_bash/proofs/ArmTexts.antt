@@ -12,12 +12,11 @@ use Rattle.cc_bash.specs.Script.{arm_text, detail_text}
 use Rattle.cc_bash.specs.Words.{words_text}
 use Rattle.cc_bash.specs.Texts.{arm_begins, arm_words, arm_level, arm_details, arm_ends}
 
-pub arm_parts : (label level : List ℕ) (tree : Tree) (written : List Arg)
-    (begins words before after ends : List ℕ) → written ≡ options tree.node →
-    begins ≡ arm_begins → words ≡ arm_words → before ≡ arm_level → after ≡ arm_details →
-    ends ≡ arm_ends →
-    (((((begins ++ label) ++ words) ++ words_text (words_at tree)) ++ ((before ++ level) ++ after))
-    ++ flat_map detail_text (flat_map option_details written)) ++ ends
+pub arm_parts : (label level : List ℕ) (tree : Tree) (written : List Arg) →
+    written ≡ options tree.node →
+    (((((arm_begins ++ label) ++ arm_words) ++ words_text (words_at tree))
+    ++ ((arm_level ++ level) ++ arm_details))
+    ++ flat_map detail_text (flat_map option_details written)) ++ arm_ends
     ≡ (let arm : Arm = record {
       label = label;
       level = level;
@@ -25,11 +24,9 @@ pub arm_parts : (label level : List ℕ) (tree : Tree) (written : List Arg)
       details = details_at tree.node;
     } in arm_text arm)
 unfolding arm_text details_at
-arm_parts label level tree written begins words before after ends same b w f a e =
-    rw (same, b, w, f, a, e) (regroup arm_begins label arm_words (words_text (words_at tree))
-    arm_level level arm_details
-    (flat_map detail_text (flat_map option_details (options tree.node)))
-    arm_ends)
+arm_parts label level tree written same =
+    rw same (regroup arm_begins label arm_words (words_text (words_at tree)) arm_level level
+    arm_details (flat_map detail_text (flat_map option_details (options tree.node))) arm_ends)
   where
     regroup : (a b c d e f g h i : List ℕ) →
         (((((a ++ b) ++ c) ++ d) ++ ((e ++ f) ++ g)) ++ h) ++ i

@@ -11,9 +11,9 @@ ghost use Rattle.cc_bash.specs.Script.{arm_text};
 
 use crate::details::write_details;
 use crate::nodes::LabelledNode;
-use crate::texts::{arm_begins, arm_details, arm_ends, arm_level, arm_words};
+use crate::texts::{ARM_BEGINS, ARM_DETAILS, ARM_ENDS, ARM_LEVEL, ARM_WORDS};
 use crate::words::write_words;
-use cc_base::{Error, Sink, as_error, put_around, put_piece};
+use cc_base::{Error, Sink, put_around, put_piece};
 use cc_command::Command;
 use std::alloc::{AllocError, Global};
 use std::cmp::Ordering;
@@ -35,14 +35,14 @@ fn compare_sort_texts(one: &LabelledNode<'_>, other: &LabelledNode<'_>) -> Order
 
 pub(crate) fn write_arms<W: Sink>(
     alloc: Global,
-    nodes: &[LabelledNode<'_>],
     sink: &mut W,
+    nodes: &[LabelledNode<'_>],
 ) -> Result<(), Error>
     ensures { Writes W.taken W.failed result sink.old sink.new
         (flat_map arm_text (map node_arm (map labelled_of nodes.now))) }
 {
     for node in nodes {
-        write_arm(alloc, node.label.as_str(), node.level, node.command, sink)?;
+        write_arm(alloc, sink, node.label.as_str(), node.level, node.command)?;
     }
     Ok(())
 }
@@ -50,24 +50,24 @@ pub(crate) fn write_arms<W: Sink>(
 /// The arm of a command with this label, at this level.
 pub(crate) fn write_arm<W: Sink>(
     alloc: Global,
+    sink: &mut W,
     label: &str,
     level: usize,
     command: &Command,
-    sink: &mut W,
 ) -> Result<(), Error>
     ensures { Writes W.taken W.failed result sink.old sink.new
         (arm_text (arm_of label.now level command.now)) }
 {
     let level = format!(in alloc; "{level}")?;
-    as_error(write_levelled(label, level.as_str(), command, sink))
+    Ok(write_levelled(sink, label, level.as_str(), command)?)
 }
 
 // The level is in digits.
 fn write_levelled<'a, W: Sink>(
+    sink: &mut W,
     label: &'a str,
     level: &'a str,
     command: &Command,
-    sink: &mut W,
 ) -> Result<(), ErrorKind>
     ensures { Writes W.taken W.failed (as_write result) sink.old sink.new
         (let arm : Arm = record {
@@ -77,9 +77,9 @@ fn write_levelled<'a, W: Sink>(
           details = details_at command.now.node;
         } in arm_text arm) }
 {
-    put_around(arm_begins(), label, arm_words(), sink)?;
-    write_words(command, sink)?;
-    put_around(arm_level(), level, arm_details(), sink)?;
-    write_details(command.get_opts(), sink)?;
-    put_piece(sink, arm_ends().as_bytes())
+    put_around(sink, ARM_BEGINS, label, ARM_WORDS)?;
+    write_words(sink, command)?;
+    put_around(sink, ARM_LEVEL, level, ARM_DETAILS)?;
+    write_details(sink, command.get_opts())?;
+    put_piece(sink, ARM_ENDS)
 }

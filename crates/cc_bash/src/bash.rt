@@ -17,10 +17,10 @@ use crate::cases::{sorted_cases, write_cases};
 use crate::clash::shared_label;
 use crate::nodes::{LabelledNode, labelled_nodes};
 use crate::texts::{
-    arms_begin, arms_end, cases_begin, function_begins, function_head, otherwise, script_ends,
-    sorted_options, unsorted_options,
+    ARMS_BEGIN, ARMS_END, CASES_BEGIN, FUNCTION_BEGINS, FUNCTION_HEAD, OTHERWISE, SCRIPT_ENDS,
+    SORTED_OPTIONS, UNSORTED_OPTIONS,
 };
-use cc_base::{Error, Sink, as_error, put_all, put_pieces};
+use cc_base::{Error, Sink, put_piece, put_pieces};
 use cc_command::{Command, full_name};
 use cc_flat::Flat;
 use cc_generator::Generator;
@@ -61,17 +61,17 @@ impl Generator for Bash {
         if let Some(label) = shared_label(alloc, root.as_str(), &nodes)? {
             return Err(Error::LabelClash(label));
         }
-        write_script(alloc, command, root.as_str(), nodes, sink)
+        write_script(alloc, sink, command, root.as_str(), nodes)
     }
 }
 
 // The root has this label, and below it are these nodes.
 fn write_script<W: Sink>(
     alloc: Global,
+    sink: &mut W,
     command: &Command,
     root: &str,
     nodes: Vec<LabelledNode<'_>>,
-    sink: &mut W,
 ) -> Result<(), Error>
     ensures { Writes W.taken W.failed result sink.old sink.new
         (script_text root.now (full_name command.now.node)
@@ -79,69 +79,63 @@ fn write_script<W: Sink>(
         (arm_of root.now 1 command.now
         ∷ map node_arm (in_order arm_below (map labelled_of nodes.entry.items)))) }
 {
-    write_head(root, sink)?;
-    write_table(alloc, &nodes, sink)?;
-    put_all(sink, arms_begin().as_bytes())?;
+    write_head(sink, root)?;
+    write_table(alloc, sink, &nodes)?;
+    put_piece(sink, ARMS_BEGIN)?;
     // the root's path has one name
-    write_arm(alloc, root, 1, command, sink)?;
-    write_sorted_arms(alloc, nodes, sink)?;
-    write_tail(root, full_name(command), sink)
+    write_arm(alloc, sink, root, 1, command)?;
+    write_sorted_arms(alloc, sink, nodes)?;
+    write_tail(sink, root, full_name(command))
 }
 
-#[tactic(auto, unfolding(crate::specs::Script::head_text))]
-fn write_head<W: Sink>(label: &str, sink: &mut W) -> Result<(), Error>
+#[tactic(auto, unfolding(crate::specs::Script::head_text, crate::specs::Texts::fixed_texts))]
+fn write_head<W: Sink>(sink: &mut W, label: &str) -> Result<(), Error>
     ensures { Writes W.taken W.failed result sink.old sink.new (head_text label.now) }
 {
-    let pieces = [
-        function_begins(),
-        label,
-        function_head(),
-        label,
-        cases_begin(),
-    ];
-    as_error(put_pieces(sink, &pieces))
+    let pieces = [FUNCTION_BEGINS, label, FUNCTION_HEAD, label, CASES_BEGIN];
+    Ok(put_pieces(sink, &pieces)?)
 }
 
 fn write_table<W: Sink>(
     alloc: Global,
-    nodes: &[LabelledNode<'_>],
     sink: &mut W,
+    nodes: &[LabelledNode<'_>],
 ) -> Result<(), Error>
     ensures { Writes W.taken W.failed result sink.old sink.new
         (flat_map case_text
         (in_order case_below (flat_map node_cases (map labelled_of nodes.now)))) }
 {
     let cases = sorted_cases(alloc, nodes)?;
-    as_error(write_cases(&cases, sink))
+    Ok(write_cases(sink, &cases)?)
 }
 
 fn write_sorted_arms<W: Sink>(
     alloc: Global,
-    mut nodes: Vec<LabelledNode<'_>>,
     sink: &mut W,
+    mut nodes: Vec<LabelledNode<'_>>,
 ) -> Result<(), Error>
     ensures { Writes W.taken W.failed result sink.old sink.new
         (flat_map arm_text
         (map node_arm (in_order arm_below (map labelled_of nodes.entry.items)))) }
 {
     sort_nodes(&mut nodes)?;
-    write_arms(alloc, &nodes, sink)
+    write_arms(alloc, sink, &nodes)
 }
 
-#[tactic(auto, unfolding(crate::specs::Script::tail_text))]
-fn write_tail<'a, W: Sink>(label: &'a str, bin: &'a str, sink: &mut W) -> Result<(), Error>
+#[tactic(auto, unfolding(crate::specs::Script::tail_text, crate::specs::Texts::fixed_texts))]
+fn write_tail<'a, W: Sink>(sink: &mut W, label: &'a str, bin: &'a str) -> Result<(), Error>
     ensures { Writes W.taken W.failed result sink.old sink.new (tail_text label.now bin.now) }
 {
     let pieces = [
-        arms_end(),
+        ARMS_END,
         label,
-        unsorted_options(),
+        UNSORTED_OPTIONS,
         bin,
-        otherwise(),
+        OTHERWISE,
         label,
-        sorted_options(),
+        SORTED_OPTIONS,
         bin,
-        script_ends(),
+        SCRIPT_ENDS,
     ];
-    as_error(put_pieces(sink, &pieces))
+    Ok(put_pieces(sink, &pieces)?)
 }

@@ -1,6 +1,6 @@
 //! The case table.
 
-ghost use Rattle.std.specs.Prelude.{◌≡◌, ◌++◌, List, map, flat_map, IfOk, OnOk};
+ghost use Rattle.std.specs.Prelude.{◌≡◌, ◌++◌, map, flat_map, IfOk, OnOk};
 ghost use Rattle.cc_base.specs.Sorting.{in_order};
 ghost use Rattle.cc_base.specs.Writes.{Writes, as_write};
 ghost use Rattle.cc_bash.specs.CaseTable.{case_below, node_cases};
@@ -8,7 +8,7 @@ ghost use Rattle.cc_bash.specs.Nodes.{case_of, labelled_of};
 ghost use Rattle.cc_bash.specs.Script.{case_text};
 
 use crate::nodes::LabelledNode;
-use crate::texts::{case_begins, case_comma, case_ends, case_sets};
+use crate::texts::{CASE_BEGINS, CASE_COMMA, CASE_ENDS, CASE_SETS};
 use cc_base::{Sink, put_pieces};
 use std::alloc::{AllocError, Global};
 use std::io::ErrorKind;
@@ -66,29 +66,29 @@ fn push_cases<'a, 'b>(
     Ok(())
 }
 
-pub(crate) fn write_cases<W: Sink>(cases: &[Case<'_>], sink: &mut W) -> Result<(), ErrorKind>
+pub(crate) fn write_cases<W: Sink>(sink: &mut W, cases: &[Case<'_>]) -> Result<(), ErrorKind>
     ensures { Writes W.taken W.failed (as_write result) sink.old sink.new
         (flat_map case_text (map case_of cases.now)) }
 {
     for case in cases {
-        write_case(case, sink)?;
+        write_case(sink, case)?;
     }
     Ok(())
 }
 
-#[tactic(auto, unfolding(crate::specs::Script::case_text))]
-fn write_case<W: Sink>(case: &Case<'_>, sink: &mut W) -> Result<(), ErrorKind>
+#[tactic(auto, unfolding(crate::specs::Script::case_text, crate::specs::Texts::fixed_texts))]
+fn write_case<W: Sink>(sink: &mut W, case: &Case<'_>) -> Result<(), ErrorKind>
     ensures { Writes W.taken W.failed (as_write result) sink.old sink.new
         (case_text (case_of case.now)) }
 {
     let pieces = [
-        case_begins(),
+        CASE_BEGINS,
         case.from,
-        case_comma(),
+        CASE_COMMA,
         case.word,
-        case_sets(),
+        CASE_SETS,
         case.to,
-        case_ends(),
+        CASE_ENDS,
     ];
     put_pieces(sink, &pieces)
 }

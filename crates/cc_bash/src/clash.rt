@@ -1,7 +1,6 @@
 //! Two nodes with one label.
 
 ghost use Rattle.std.specs.Prelude.{◌≡◌, ◌∷◌, [], ◌||◌, not, ℕ, List, map, bytes_eq, IfOk, OnOk};
-ghost use Rattle.std.specs.Option.{option_map};
 ghost use Rattle.cc_bash.specs.Labels.{first_again};
 ghost use Rattle.cc_bash.specs.Seen.{is_seen};
 
@@ -21,10 +20,10 @@ pub(crate) fn shared_label(
         ≡ first_again [] (root.now ∷ map (λ node. node.label) nodes.now)) }
 {
     let mut seen = BTreeMap::new(alloc);
-    see(&mut seen, root)?;
+    insert_label(&mut seen, root)?;
     for node in nodes {
         let label = node.label.as_str();
-        if !see(&mut seen, label)? {
+        if !insert_label(&mut seen, label)? {
             return Ok(Some(Text::copy_of(alloc, label)?));
         }
     }
@@ -32,7 +31,7 @@ pub(crate) fn shared_label(
 }
 
 // Keeps the label, and returns whether it is new.
-fn see<'a>(seen: &mut BTreeMap<&'a str, ()>, label: &'a str) -> Result<bool, AllocError>
+fn insert_label<'a>(seen: &mut BTreeMap<&'a str, ()>, label: &'a str) -> Result<bool, AllocError>
     ensures new { IfOk result (λ new. new ≡ not (is_seen seen.old label.now)) }
     ensures kept { OnOk result ((word : List ℕ) →
         is_seen seen.new word ≡ (is_seen seen.old word || bytes_eq label.now word)) }

@@ -1,11 +1,10 @@
 //! The nodes of a command tree, each with its label.
 
-ghost use Rattle.std.specs.Prelude.{◌≡◌, ◌++◌, ◌<◌, length, map, codes, IfOk, OnOk};
+ghost use Rattle.std.specs.Prelude.{◌≡◌, ◌<◌, length, map, IfOk, OnOk};
 ghost use Rattle.std.specs.String.{string_bytes};
 ghost use Rattle.cc_flat.specs.Flat.{tree_at};
 ghost use Rattle.cc_flat.specs.Nodes.{levelled_of};
-ghost use Rattle.cc_bash.specs.Labels.{child_label, labelled_node, labelled_under};
-ghost use Rattle.cc_bash.specs.Labels.{sort_text};
+ghost use Rattle.cc_bash.specs.Labels.{child_label, labelled_node, labelled_under, sort_text};
 ghost use Rattle.cc_bash.specs.Nodes.{labelled_of, last_label, next_labelled, next_path};
 
 use cc_base::Text;
@@ -51,8 +50,8 @@ pub(crate) fn labelled_nodes<'a>(
     Ok(nodes)
 }
 
-// The node that comes in preorder after one to which a path with these labels leads, the root's
-// left out. Then the path leads to it.
+// Labels the next node in preorder. `path` holds the labels from below the root to the previous
+// node, and then to this one.
 fn next_labelled<'a>(
     alloc: Global,
     root: &SharedKey,

@@ -1,27 +1,8 @@
-//! The fixed texts of a script, as the definitions have them. They have any lifetime, since all
-//! pieces that are put together must have one.
-#![tactic(auto, unfolding(crate::specs::Texts::fixed_texts))]
+//! The fixed texts of a script.
 
-ghost use Rattle.std.specs.Prelude.{◌≡◌};
-ghost use Rattle.cc_bash.specs.Texts.{arm_begins, arm_details, arm_ends, arm_level, arm_words};
-ghost use Rattle.cc_bash.specs.Texts.{arms_begin, arms_end, case_begins, case_comma, case_ends};
-ghost use Rattle.cc_bash.specs.Texts.{case_sets, cases_begin, detail_begins, detail_ends};
-ghost use Rattle.cc_bash.specs.Texts.{detail_word_ends, offer_files, function_begins};
-ghost use Rattle.cc_bash.specs.Texts.{function_head, mode_begins, mode_ends, otherwise};
-ghost use Rattle.cc_bash.specs.Texts.{reply_begins, reply_ends, script_ends, separator_back};
-ghost use Rattle.cc_bash.specs.Texts.{keep_separator, sorted_options, unsorted_options, values_begin};
-ghost use Rattle.cc_bash.specs.Texts.{values_end, offer_word};
+pub(crate) const FUNCTION_BEGINS: &str = "_";
 
-pub(crate) fn function_begins<'a>() -> &'a str
-    ensures { result.now ≡ function_begins }
-{
-    "_"
-}
-
-pub(crate) fn function_head<'a>() -> &'a str
-    ensures { result.now ≡ function_head }
-{
-    "() {
+pub(crate) const FUNCTION_HEAD: &str = "() {
     local i cur prev opts cmd
     COMPREPLY=()
     if [[ \"${BASH_VERSINFO[0]}\" -ge 4 ]]; then
@@ -37,228 +18,111 @@ pub(crate) fn function_head<'a>() -> &'a str
     do
         case \"${cmd},${i}\" in
             \",$1\")
-                cmd=\""
-}
+                cmd=\"";
 
-pub(crate) fn cases_begin<'a>() -> &'a str
-    ensures { result.now ≡ cases_begin }
-{
-    "\"
-                ;;"
-}
+pub(crate) const CASES_BEGIN: &str = "\"
+                ;;";
 
-pub(crate) fn arms_begin<'a>() -> &'a str
-    ensures { result.now ≡ arms_begin }
-{
-    "
+pub(crate) const ARMS_BEGIN: &str = "
             *)
                 ;;
         esac
     done
 
-    case \"${cmd}\" in"
-}
+    case \"${cmd}\" in";
 
-pub(crate) fn arms_end<'a>() -> &'a str
-    ensures { result.now ≡ arms_end }
-{
-    "
+pub(crate) const ARMS_END: &str = "
     esac
 }
 
 if [[ \"${BASH_VERSINFO[0]}\" -eq 4 && \"${BASH_VERSINFO[1]}\" -ge 4 \
     || \"${BASH_VERSINFO[0]}\" -gt 4 ]]; then
-    complete -F _"
-}
+    complete -F _";
 
-pub(crate) fn unsorted_options<'a>() -> &'a str
-    ensures { result.now ≡ unsorted_options }
-{
-    " -o nosort -o bashdefault -o default "
-}
+pub(crate) const UNSORTED_OPTIONS: &str = " -o nosort -o bashdefault -o default ";
 
-pub(crate) fn otherwise<'a>() -> &'a str
-    ensures { result.now ≡ otherwise }
-{
-    "
+pub(crate) const OTHERWISE: &str = "
 else
-    complete -F _"
-}
+    complete -F _";
 
-pub(crate) fn sorted_options<'a>() -> &'a str
-    ensures { result.now ≡ sorted_options }
-{
-    " -o bashdefault -o default "
-}
+pub(crate) const SORTED_OPTIONS: &str = " -o bashdefault -o default ";
 
-pub(crate) fn script_ends<'a>() -> &'a str
-    ensures { result.now ≡ script_ends }
-{
-    "
+pub(crate) const SCRIPT_ENDS: &str = "
 fi
-"
-}
+";
 
-pub(crate) fn case_begins<'a>() -> &'a str
-    ensures { result.now ≡ case_begins }
-{
-    "
-            "
-}
+pub(crate) const CASE_BEGINS: &str = "
+            ";
 
-pub(crate) fn case_comma<'a>() -> &'a str
-    ensures { result.now ≡ case_comma }
-{
-    ","
-}
+pub(crate) const CASE_COMMA: &str = ",";
 
-pub(crate) fn case_sets<'a>() -> &'a str
-    ensures { result.now ≡ case_sets }
-{
-    ")
-                cmd=\""
-}
+pub(crate) const CASE_SETS: &str = ")
+                cmd=\"";
 
-pub(crate) fn case_ends<'a>() -> &'a str
-    ensures { result.now ≡ case_ends }
-{
-    "\"
-                ;;"
-}
+pub(crate) const CASE_ENDS: &str = "\"
+                ;;";
 
-pub(crate) fn arm_begins<'a>() -> &'a str
-    ensures { result.now ≡ arm_begins }
-{
-    "
-        "
-}
+pub(crate) const ARM_BEGINS: &str = "
+        ";
 
-pub(crate) fn arm_words<'a>() -> &'a str
-    ensures { result.now ≡ arm_words }
-{
-    ")
-            opts=\""
-}
+pub(crate) const ARM_WORDS: &str = ")
+            opts=\"";
 
-pub(crate) fn arm_level<'a>() -> &'a str
-    ensures { result.now ≡ arm_level }
-{
-    "\"
-            if [[ ${cur} == -* || ${COMP_CWORD} -eq "
-}
+pub(crate) const ARM_LEVEL: &str = "\"
+            if [[ ${cur} == -* || ${COMP_CWORD} -eq ";
 
-pub(crate) fn arm_details<'a>() -> &'a str
-    ensures { result.now ≡ arm_details }
-{
-    " ]] ; then
+pub(crate) const ARM_DETAILS: &str = " ]] ; then
                 COMPREPLY=( $(compgen -W \"${opts}\" -- \"${cur}\") )
                 return 0
             fi
-            case \"${prev}\" in"
-}
+            case \"${prev}\" in";
 
-pub(crate) fn arm_ends<'a>() -> &'a str
-    ensures { result.now ≡ arm_ends }
-{
-    "
+pub(crate) const ARM_ENDS: &str = "
                 *)
                     COMPREPLY=()
                     ;;
             esac
             COMPREPLY=( $(compgen -W \"${opts}\" -- \"${cur}\") )
             return 0
-            ;;"
-}
+            ;;";
 
-pub(crate) fn detail_begins<'a>() -> &'a str
-    ensures { result.now ≡ detail_begins }
-{
-    "
-                "
-}
+pub(crate) const DETAIL_BEGINS: &str = "
+                ";
 
-pub(crate) fn detail_word_ends<'a>() -> &'a str
-    ensures { result.now ≡ detail_word_ends }
-{
-    ")"
-}
+pub(crate) const DETAIL_WORD_ENDS: &str = ")";
 
-pub(crate) fn keep_separator<'a>() -> &'a str
-    ensures { result.now ≡ keep_separator }
-{
-    "
+pub(crate) const KEEP_SEPARATOR: &str = "
                     local oldifs
                     if [ -n \"${IFS+x}\" ]; then
                         oldifs=\"$IFS\"
                     fi
-                    IFS=$'\\n'"
-}
+                    IFS=$'\\n'";
 
-pub(crate) fn separator_back<'a>() -> &'a str
-    ensures { result.now ≡ separator_back }
-{
-    "
+pub(crate) const SEPARATOR_BACK: &str = "
                     if [ -n \"${oldifs+x}\" ]; then
                         IFS=\"$oldifs\"
-                    fi"
-}
+                    fi";
 
-pub(crate) fn reply_begins<'a>() -> &'a str
-    ensures { result.now ≡ reply_begins }
-{
-    "
-                    COMPREPLY=("
-}
+pub(crate) const REPLY_BEGINS: &str = "
+                    COMPREPLY=(";
 
-pub(crate) fn reply_ends<'a>() -> &'a str
-    ensures { result.now ≡ reply_ends }
-{
-    ")"
-}
+pub(crate) const REPLY_ENDS: &str = ")";
 
-pub(crate) fn values_begin<'a>() -> &'a str
-    ensures { result.now ≡ values_begin }
-{
-    "$(compgen -W \""
-}
+pub(crate) const VALUES_BEGIN: &str = "$(compgen -W \"";
 
-pub(crate) fn values_end<'a>() -> &'a str
-    ensures { result.now ≡ values_end }
-{
-    "\" -- \"${cur}\")"
-}
+pub(crate) const VALUES_END: &str = "\" -- \"${cur}\")";
 
-pub(crate) fn offer_files<'a>() -> &'a str
-    ensures { result.now ≡ offer_files }
-{
-    "$(compgen -f \"${cur}\")"
-}
+pub(crate) const OFFER_FILES: &str = "$(compgen -f \"${cur}\")";
 
-pub(crate) fn offer_word<'a>() -> &'a str
-    ensures { result.now ≡ offer_word }
-{
-    "\"${cur}\""
-}
+pub(crate) const OFFER_WORD: &str = "\"${cur}\"";
 
-pub(crate) fn mode_begins<'a>() -> &'a str
-    ensures { result.now ≡ mode_begins }
-{
-    "
+pub(crate) const MODE_BEGINS: &str = "
                     if [[ \"${BASH_VERSINFO[0]}\" -ge 4 ]]; then
-                        compopt -o "
-}
+                        compopt -o ";
 
-pub(crate) fn mode_ends<'a>() -> &'a str
-    ensures { result.now ≡ mode_ends }
-{
-    "
-                    fi"
-}
+pub(crate) const MODE_ENDS: &str = "
+                    fi";
 
-pub(crate) fn detail_ends<'a>() -> &'a str
-    ensures { result.now ≡ detail_ends }
-{
-    "
+pub(crate) const DETAIL_ENDS: &str = "
                     return 0
-                    ;;"
-}
+                    ;;";

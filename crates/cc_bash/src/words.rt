@@ -5,7 +5,7 @@ ghost use Rattle.cc_base.specs.Joined.{has_texts, separator};
 ghost use Rattle.cc_base.specs.Writes.{Writes, as_write};
 ghost use Rattle.cc_command.specs.Names.{visible_names};
 ghost use Rattle.cc_command.specs.Tree.{forest_of};
-ghost use Rattle.cc_generator.specs.ArgumentNames.{long_word, short_word};
+ghost use Rattle.cc_generator.specs.ArgumentNames.{short_word};
 ghost use Rattle.cc_bash.specs.Arms.{long_words, names_of_shown, names_of_values};
 ghost use Rattle.cc_generator.specs.Subcommands.{sibling_names};
 ghost use Rattle.cc_bash.specs.Arms.{short_words, words_at};
@@ -14,9 +14,8 @@ ghost use Rattle.cc_bash.specs.Words.{words_after, words_text};
 ghost use Rattle.cc_bash.specs.declared.words.Part.TheVariants.{Values};
 
 use cc_arg::{Arg, PossibleValue, possible_values};
-use cc_base::Sink;
+use cc_base::{Sink, put_word};
 use cc_command::Command;
-use cc_generator::put_word;
 use std::io::ErrorKind;
 
 // The words of all arguments that are together.
@@ -28,24 +27,24 @@ enum Part {
     Values,
 }
 
-pub(crate) fn write_words<W: Sink>(command: &Command, sink: &mut W) -> Result<(), ErrorKind>
+pub(crate) fn write_words<W: Sink>(sink: &mut W, command: &Command) -> Result<(), ErrorKind>
     ensures { Writes W.taken W.failed (as_write result) sink.old sink.new
         (words_text (words_at command.now)) }
 {
     let arguments = command.get_arguments();
     let mut begun = false;
-    write_part(arguments, Part::Shorts, &mut begun, sink)?;
-    write_part(arguments, Part::Longs, &mut begun, sink)?;
-    write_part(arguments, Part::Values, &mut begun, sink)?;
-    write_children(command.get_subcommands(), &mut begun, sink)
+    write_part(sink, arguments, Part::Shorts, &mut begun)?;
+    write_part(sink, arguments, Part::Longs, &mut begun)?;
+    write_part(sink, arguments, Part::Values, &mut begun)?;
+    write_children(sink, command.get_subcommands(), &mut begun)
 }
 
 // `begun` tells whether a word was written before.
 fn write_part<W: Sink>(
+    sink: &mut W,
     arguments: &[Arg],
     part: Part,
     begun: &mut bool,
-    sink: &mut W,
 ) -> Result<(), ErrorKind>
     ensures written { Writes W.taken W.failed (as_write result) sink.old sink.new
         (words_after begun.old (flat_map (part_words part) arguments.now)) }
@@ -53,16 +52,16 @@ fn write_part<W: Sink>(
         (begun.new ≡ (begun.old || has_texts (flat_map (part_words part) arguments.now))) }
 {
     for argument in arguments {
-        write_argument_words(argument, part, begun, sink)?;
+        write_argument_words(sink, argument, part, begun)?;
     }
     Ok(())
 }
 
 fn write_argument_words<W: Sink>(
+    sink: &mut W,
     argument: &Arg,
     part: Part,
     begun: &mut bool,
-    sink: &mut W,
 ) -> Result<(), ErrorKind>
     ensures written { Writes W.taken W.failed (as_write result) sink.old sink.new
         (words_after begun.old (part_words part argument.now)) }
@@ -70,16 +69,16 @@ fn write_argument_words<W: Sink>(
         (begun.new ≡ (begun.old || has_texts (part_words part argument.now))) }
 {
     match part {
-        Part::Shorts => write_short_words(argument, begun, sink),
-        Part::Longs => write_long_words(argument, begun, sink),
-        Part::Values => write_positional_values(argument, begun, sink),
+        Part::Shorts => write_short_words(sink, argument, begun),
+        Part::Longs => write_long_words(sink, argument, begun),
+        Part::Values => write_positional_values(sink, argument, begun),
     }
 }
 
 fn write_short_words<W: Sink>(
+    sink: &mut W,
     argument: &Arg,
     begun: &mut bool,
-    sink: &mut W,
 ) -> Result<(), ErrorKind>
     ensures written { Writes W.taken W.failed (as_write result) sink.old sink.new
         (words_after begun.old (short_words argument.now)) }
@@ -89,24 +88,24 @@ fn write_short_words<W: Sink>(
         return Ok(());
     };
     for alias in argument.get_visible_short_aliases() {
-        write_short_word(*alias, begun, sink)?;
+        write_short_word(sink, *alias, begun)?;
     }
-    write_short_word(short, begun, sink)
+    write_short_word(sink, short, begun)
 }
 
-fn write_short_word<W: Sink>(short: char, begun: &mut bool, sink: &mut W) -> Result<(), ErrorKind>
+fn write_short_word<W: Sink>(sink: &mut W, short: char, begun: &mut bool) -> Result<(), ErrorKind>
     ensures written { Writes W.taken W.failed (as_write result) sink.old sink.new
         (separator (codes " ") begun.old ++ short_word short) }
     ensures begun { OnOk result (begun.new ≡ true) }
 {
     let mut buffer = [0; 4];
-    put_word("-", short.encode_utf8(&mut buffer), begun, sink)
+    put_word(sink, "-", short.encode_utf8(&mut buffer), begun)
 }
 
 fn write_long_words<W: Sink>(
+    sink: &mut W,
     argument: &Arg,
     begun: &mut bool,
-    sink: &mut W,
 ) -> Result<(), ErrorKind>
     ensures written { Writes W.taken W.failed (as_write result) sink.old sink.new
         (words_after begun.old (long_words argument.now)) }
@@ -116,15 +115,15 @@ fn write_long_words<W: Sink>(
         return Ok(());
     };
     for alias in argument.get_visible_aliases() {
-        put_word("--", alias.as_str(), begun, sink)?;
+        put_word(sink, "--", alias.as_str(), begun)?;
     }
-    put_word("--", long, begun, sink)
+    put_word(sink, "--", long, begun)
 }
 
 fn write_positional_values<W: Sink>(
+    sink: &mut W,
     argument: &Arg,
     begun: &mut bool,
-    sink: &mut W,
 ) -> Result<(), ErrorKind>
     ensures written { Writes W.taken W.failed (as_write result) sink.old sink.new
         (words_after begun.old (part_words Values argument.now)) }
@@ -135,15 +134,15 @@ fn write_positional_values<W: Sink>(
         return Ok(());
     }
     match possible_values(argument) {
-        Some(possible) => write_values(possible, begun, sink),
+        Some(possible) => write_values(sink, possible, begun),
         None => Ok(()),
     }
 }
 
 fn write_values<W: Sink>(
+    sink: &mut W,
     possible: &[PossibleValue],
     begun: &mut bool,
-    sink: &mut W,
 ) -> Result<(), ErrorKind>
     ensures written { Writes W.taken W.failed (as_write result) sink.old sink.new
         (words_after begun.old (names_of_values possible.now)) }
@@ -151,15 +150,15 @@ fn write_values<W: Sink>(
         (begun.new ≡ (begun.old || has_texts (names_of_values possible.now))) }
 {
     for value in possible {
-        put_word("", value.get_name(), begun, sink)?;
+        put_word(sink, "", value.get_name(), begun)?;
     }
     Ok(())
 }
 
 /// The names of those of the values that are shown.
 pub(crate) fn write_shown_values<W: Sink>(
-    possible: &[PossibleValue],
     sink: &mut W,
+    possible: &[PossibleValue],
 ) -> Result<(), ErrorKind>
     ensures { Writes W.taken W.failed (as_write result) sink.old sink.new
         (words_text (names_of_shown possible.now)) }
@@ -169,32 +168,32 @@ pub(crate) fn write_shown_values<W: Sink>(
         if value.is_hide_set() {
             continue;
         }
-        put_word("", value.get_name(), &mut begun, sink)?;
+        put_word(sink, "", value.get_name(), &mut begun)?;
     }
     Ok(())
 }
 
 fn write_children<W: Sink>(
+    sink: &mut W,
     children: &[Command],
     begun: &mut bool,
-    sink: &mut W,
 ) -> Result<(), ErrorKind>
     ensures { Writes W.taken W.failed (as_write result) sink.old sink.new
         (words_after begun.old (sibling_names (forest_of children.now))) }
 {
     for child in children {
-        write_names(child, begun, sink)?;
+        write_names(sink, child, begun)?;
     }
     Ok(())
 }
 
-fn write_names<W: Sink>(command: &Command, begun: &mut bool, sink: &mut W) -> Result<(), ErrorKind>
+fn write_names<W: Sink>(sink: &mut W, command: &Command, begun: &mut bool) -> Result<(), ErrorKind>
     ensures written { Writes W.taken W.failed (as_write result) sink.old sink.new
         (words_after begun.old (visible_names command.now.node)) }
     ensures begun { OnOk result (begun.new ≡ true) }
 {
     for name in command.get_name_and_visible_aliases() {
-        put_word("", name, begun, sink)?;
+        put_word(sink, "", name, begun)?;
     }
     Ok(())
 }

@@ -4,7 +4,7 @@ use Rattle.std.specs.Ordering.{nat_cmp}
 use Rattle.std.specs.Cmp.Lexicographic.{slice_cmp}
 use Rattle.std.proofs.lemmas.Map.Text.{btree_map_updates_str}
 use Rattle.cc_bash.proofs.Seen.{seen_more}
-use Rattle.cc_bash.proofs.clash.see.Goals as goal
+use Rattle.cc_bash.proofs.clash.insert_label.Goals as goal
 
 pub returns-clause-kept : goal.returns-clause-kept
 returns-clause-kept c =
