@@ -1,12 +1,11 @@
 //! Values of environment variables, given by the caller.
 
-ghost use Rattle.std.specs.Prelude.{◌≡◌, unwrap_or};
+ghost use Rattle.std.specs.Prelude.{◌≡◌};
 ghost use Rattle.std.specs.Option.{option_copied};
-ghost use Rattle.std.specs.Prelude.{codes, option_map, find};
+ghost use Rattle.std.specs.Prelude.{option_map, find};
 ghost use Rattle.std.specs.Str.{bytes_eq};
 ghost use Rattle.std.specs.String.{string_bytes};
-ghost use Rattle.cc_env.specs.Environment.{index_name, separator_of, value_of, IsIndex};
-ghost use Rattle.cc_env.specs.Environment.{IsNumberOf};
+ghost use Rattle.cc_env.specs.Environment.{index_name, separator_of, value_of, IsIndex, IsNumberOf};
 
 use cc_base::Items;
 
