@@ -28,18 +28,18 @@ use Rattle.cc_gather.specs.Finished.{comes_before, finish, first_of_ids, group, 
 use Rattle.cc_gather.specs.Lookup.{has_own_long}
 use Rattle.cc_gather.specs.Numbers.{is_number}
 use Rattle.cc_gather.specs.Options.{hidden_candidates, long_candidate, long_candidates, longs, short_candidate, short_candidates, shorts}
-use Rattle.cc_gather.specs.Rows.{Listed, Row, ValuesOf, after_equals, after_one_dash, after_two_dashes, value_asked_after, cluster_row, flag_row, long_row, with_prefix, row_of, short_row, without_end}
+use Rattle.cc_gather.specs.Rows.{Listed, Row, ValuesOf, after_equals, after_one_dash, after_two_dashes, value_query_after, cluster_row, flag_row, long_row, with_prefix, row_of, short_row, without_end}
 use Rattle.cc_gather.proofs.FirstOfIds.{all-first_of_ids}
 use Rattle.cc_gather.proofs.Law.{all-shown}
 use Rattle.cc_gather.proofs.WordKinds.{ends_past_dash, with_end}
 use Rattle.cc_values.specs.Parts.{front, front_length, part}
 use Rattle.cc_values.specs.Values.{Allows, Lent, Question, as_value, candidates, completer, gather, gathered_by, is_path, nothing, paths, question, question_by, question_of_hint, sorted, value_candidate, values}
-use Rattle.cc_walk.specs.declared.sign.ValueCharacter.{ValueCharacter}
+use Rattle.cc_walk.specs.declared.word_class.ValueCharacter.{ValueCharacter}
 use Rattle.cc_walk.specs.declared.state.Pending.{Pending}
 use Rattle.cc_walk.specs.declared.state.Pending.TheVariants.{Nothing, OptionOpen, PositionalRun, PositionMoved}
 use Rattle.cc_walk.specs.declared.state.State.{State}
 use Rattle.cc_walk.specs.Lookup.{positional_at}
-use Rattle.cc_walk.specs.Signs.{character_value, value_argument, value_character}
+use Rattle.cc_walk.specs.WordClasses.{character_value, value_argument, value_character}
 use Rattle.cc_walk.specs.Words.{EndsWith, before_equals}
 use Rattle.cc_engine.specs.declared.open_lists.OpenLists.{OpenLists}
 use Rattle.cc_engine.specs.Completion.{AreAllowed, BeginsOrIsTold, Given, candidates_for, finished_with, questions_of_lists, offered, offered_children, offered_row, open_question, opened_values, positional_question, positional_values, questions, row_candidates, row_question, told}
@@ -221,7 +221,7 @@ two_fits P arguments [] ok =
     all_longs P (λ a hidden name. ok (long_candidate a hidden name) (starts (codes "--" ++ name) (45 ∷ 45 ∷ []) name refl)) arguments
 two_fits P arguments (c ∷ t) ok = long_fits P arguments (c ∷ t) (after_equals (c ∷ t)) refl ok
 
-asked_whole : (argument : Arg) (before after : List ℕ) → (value_asked_after argument before after).before ++ (value_asked_after argument before after).text ≡ before ++ after
+asked_whole : (argument : Arg) (before after : List ℕ) → (value_query_after argument before after).before ++ (value_query_after argument before after).text ≡ before ++ after
 asked_whole argument before [] = refl
 asked_whole argument before (c ∷ s) = elim (cases_Bool (c == 61)) [
   | inl t ↦ rw t (append_assoc before (codes "=") s ∙ ap (λ x. before ++ (x ∷ s)) (sym (eqb-true c 61 t)))

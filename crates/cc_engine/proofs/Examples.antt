@@ -29,7 +29,7 @@ use Rattle.cc_values.specs.Values.{completer, gather, nothing, paths, question, 
 use Rattle.cc_walk.specs.Blocks.{start}
 use Rattle.cc_walk.specs.Lookup.{allows_hyphens_at, limit, positional_at}
 use Rattle.cc_walk.specs.Machine.{NodeState, walk}
-use Rattle.cc_walk.specs.Signs.{sign_of}
+use Rattle.cc_walk.specs.WordClasses.{class_of}
 use Rattle.cc_engine.specs.Completion.{Given, Questions, candidates_for, is_in_range, questions, words_before}
 
 -- where these words lead from the root
@@ -110,13 +110,13 @@ empty_word = refl
 -- after `--` no option
 after_dashes : offered_after app (codes "--" ∷ []) [] no_lists ≡ codes "t" ∷ codes "help" ∷ []
 unfolding help_argument help_name help_about help_help subcommand_candidates in_candidates_order
-    in_order insert finish shown_or_all group positional_at sign_of
+    in_order insert finish shown_or_all group positional_at class_of
 after_dashes = refl
 
 -- at a child without children that `--` precedes, nothing
 at_a_child : offered_after app (codes "--" ∷ codes "test" ∷ []) [] no_lists ≡ []
 unfolding help_argument help_name help_about help_help subcommand_candidates in_candidates_order
-    in_order insert finish shown_or_all group positional_at sign_of
+    in_order insert finish shown_or_all group positional_at class_of
 at_a_child = refl
 
 -- A POSITIONAL
@@ -134,7 +134,7 @@ hyphens = built_tree (with (with (with (new_tree (codes "app")) (option (codes "
 second_positional : offered_after hyphens (codes "--opt" ∷ codes "-z" ∷ []) [] no_lists
     ≡ codes "x" ∷ codes "y" ∷ codes "--opt" ∷ codes "--help" ∷ []
 unfolding help_argument help_name help_about help_help subcommand_candidates in_candidates_order
-    in_order insert finish shown_or_all group positional_at row_of longs shorts sign_of limit
+    in_order insert finish shown_or_all group positional_at row_of longs shorts class_of limit
     allows_hyphens_at chars values gather front_length printed printed_names printed_values
     printed_after_name lib.Utf8.encode
 second_positional = refl
@@ -152,7 +152,7 @@ kinds = record (new_arg (codes "kinds")) { value_delimiter = Some 44; completer 
 
 -- the second of two values is asked for as number 1
 second_value : (value_asked_after (completed pair) (codes "a" ∷ []) []).positional ≡ completer 0 1 []
-unfolding sign_of limit positional_at question front_length
+unfolding class_of limit positional_at question front_length
 second_value = refl
 
 -- only what follows the last delimiter is asked for
@@ -220,14 +220,14 @@ options = built_tree (with (with (new_tree (codes "app"))
     (record (option (codes "port")) { help_heading = Some (codes "Net") }))
 
 first_value : (value_asked_after options (codes "--col" ∷ []) []).opened ≡ completer 0 0 []
-unfolding help_argument help_name sign_of question front_length
+unfolding help_argument help_name class_of question front_length
 first_value = refl
 
 -- the value has the id of `--col`, which goes only after the others are finished
 finished_twice : offered_after options (codes "--col" ∷ []) [] (record no_lists { opened = auto ∷ [] })
     ≡ codes "auto" ∷ codes "--help" ∷ codes "--port" ∷ []
 unfolding help_argument help_name help_about help_help subcommand_candidates in_candidates_order
-    in_order insert finish shown_or_all group positional_at row_of longs shorts sign_of values gather
+    in_order insert finish shown_or_all group positional_at row_of longs shorts class_of values gather
     front_length printed printed_names printed_values printed_after_name auto lib.Utf8.encode
 finished_twice = refl
 
@@ -327,7 +327,7 @@ values_of_a_short = refl
 -- an option that needs a value leaves nothing but its values
 values_alone : offered_after colored (codes "--color" ∷ []) [] no_lists ≡ codes "auto" ∷ []
 unfolding help_argument help_name help_about help_help subcommand_candidates in_candidates_order
-    in_order insert finish shown_or_all group positional_at row_of sign_of chars values gather
+    in_order insert finish shown_or_all group positional_at row_of class_of chars values gather
     front_length printed printed_names printed_values printed_after_name lib.Utf8.encode
 values_alone = refl
 
@@ -335,7 +335,7 @@ values_alone = refl
 closed_option : offered_after colored (codes "-c=" ∷ []) [] no_lists
     ≡ codes "--color" ∷ codes "--verbose" ∷ codes "--help" ∷ []
 unfolding help_argument help_name help_about help_help subcommand_candidates in_candidates_order
-    in_order insert finish shown_or_all group positional_at row_of longs shorts sign_of chars
+    in_order insert finish shown_or_all group positional_at row_of longs shorts class_of chars
     lib.Utf8.encode
 closed_option = refl
 
@@ -371,14 +371,14 @@ below_a_hidden_alias = refl
 -- so does a name after `--`, where no option is left
 below_a_name : offered_after deep (codes "--" ∷ codes "test" ∷ []) [] no_lists ≡ []
 unfolding help_argument help_name help_about help_help subcommand_candidates in_candidates_order
-    in_order insert finish shown_or_all group positional_at sign_of
+    in_order insert finish shown_or_all group positional_at class_of
 below_a_name = refl
 
 -- `-` is the option's value, so the first positional is next, which has no values to offer
 dash_as_a_value : offered_after hyphens (codes "--opt" ∷ codes "-" ∷ []) [] no_lists
     ≡ codes "--opt" ∷ codes "--help" ∷ []
 unfolding help_argument help_name help_about help_help subcommand_candidates in_candidates_order
-    in_order insert finish shown_or_all group positional_at row_of longs shorts sign_of limit
+    in_order insert finish shown_or_all group positional_at row_of longs shorts class_of limit
     allows_hyphens_at chars values gather sorted front_length printed printed_names printed_values
     printed_after_name lib.Utf8.encode
 dash_as_a_value = refl

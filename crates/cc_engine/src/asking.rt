@@ -12,7 +12,7 @@ use crate::sources::Sources;
 use cc_arg::Arg;
 use cc_candidates::{CandidateSources, Completers, CompletionCandidate};
 use cc_command::Command;
-use cc_gather::{OptionRow, all_with_prefix, option_row, subcommand_candidates};
+use cc_gather::{OptionMatch, all_with_prefix, match_options, subcommand_candidates};
 use cc_values::PathSource;
 use std::alloc::{AllocError, Global};
 
@@ -80,9 +80,9 @@ pub(crate) fn options<P: PathSource>(
     if !offered {
         return Ok(Vec::new(alloc));
     }
-    match option_row(alloc, arguments, word)? {
-        OptionRow::Listed(found) => Ok(found),
-        OptionRow::ValuesOf(asked) => {
+    match match_options(alloc, arguments, word)? {
+        OptionMatch::Listed(found) => Ok(found),
+        OptionMatch::ValuesOf(asked) => {
             let values = sources.values(alloc, asked.argument, asked.text.as_str(), 0)?;
             all_with_prefix(alloc, values, asked.before.as_str())
         }

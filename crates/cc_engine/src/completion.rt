@@ -17,7 +17,7 @@ use cc_command::Command;
 use cc_flat::Flat;
 use cc_paths::Folder;
 use cc_values::PathSource;
-use cc_walk::line_of;
+use cc_walk::walk;
 use std::alloc::{AllocError, Global};
 
 /// The candidates for the word at the index, counted from 0, of a command that is built first.
@@ -100,7 +100,7 @@ fn complete_in_range<P: PathSource>(
         command.now (map string_bytes words.now) index found.items) }
 {
     let flat = Flat::new(alloc, command)?;
-    let line = line_of(&flat, words_before(command, words, index));
+    let line = walk(&flat, words_before(command, words, index));
     let node = flat.command(line.node);
     let word = word_at(words, index);
     offer_candidates(alloc, node, &line.state, word, sources)

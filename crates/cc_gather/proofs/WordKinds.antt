@@ -10,7 +10,7 @@ use Rattle.cc_arg.specs.declared.parts.ArgParts.{ArgParts as Arg}
 use Rattle.cc_candidates.specs.Beginning.{begins}
 use Rattle.cc_gather.specs.Lookup.{has_own_long}
 use Rattle.cc_gather.specs.Options.{longs, shorts}
-use Rattle.cc_gather.specs.Rows.{Listed, flag_row, long_row, short_row, after_equals, value_asked_after, without_end, after_one_dash, after_two_dashes, row_of}
+use Rattle.cc_gather.specs.Rows.{Listed, flag_row, long_row, short_row, after_equals, value_query_after, without_end, after_one_dash, after_two_dashes, row_of}
 use Rattle.cc_walk.specs.Words.{EndsWith, before_equals}
 use Rattle.cc_walk.proofs.Forms.{empty, no_equals_tail}
 
@@ -87,7 +87,7 @@ long_some arguments long flag text is h =
 -- A `=` IN FRONT OF A VALUE
 
 pub asked_plain : (argument : Arg) (before rest : List ℕ) → ((s : List ℕ) → rest ≡ 61 ∷ s → ⊥) →
-    value_asked_after argument before rest ≡ record { argument = argument; before = before; text = rest }
+    value_query_after argument before rest ≡ record { argument = argument; before = before; text = rest }
 asked_plain argument before [] h = refl
 asked_plain argument before (c ∷ s) h = rw (ne_eqb c 61 (λ e. h s (ap (λ x. x ∷ s) e))) refl
 

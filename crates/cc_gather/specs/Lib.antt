@@ -2,7 +2,7 @@ pub mod Children
 pub mod Finished
 pub mod Lookup
 pub mod Numbers
-pub mod OptionRows
+pub mod OptionMatches
 pub mod Options
 pub mod Ranked
 pub mod Rows

@@ -7,9 +7,9 @@ use Rattle.cc_candidates.specs.Beginning.{begins}
 use Rattle.cc_gather.specs.Numbers.{is_number}
 use Rattle.cc_gather.specs.Lookup.{has_own_long}
 use Rattle.cc_gather.specs.Options.{longs, shorts}
-use Rattle.cc_walk.specs.Signs.{value_character}
+use Rattle.cc_walk.specs.WordClasses.{value_character}
 use Rattle.cc_walk.specs.Words.{before_equals}
-use Rattle.cc_walk.specs.declared.sign.ValueCharacter.{ValueCharacter}
+use Rattle.cc_walk.specs.declared.word_class.ValueCharacter.{ValueCharacter}
 
 -- what is asked for: values of an argument for a text, with a text before each
 pub record Asked : Type 0 where
@@ -44,9 +44,9 @@ long_row arguments long (Some text) =
 -- THE SHORTS OF A WORD
 
 -- a `=` in front of a value belongs to what is before it
-abbrev pub value_asked_after : Arg → List ℕ → List ℕ → Asked
-value_asked_after argument before [] = record { argument = argument; before = before; text = [] }
-value_asked_after argument before (c ∷ s) =
+abbrev pub value_query_after : Arg → List ℕ → List ℕ → Asked
+value_query_after argument before [] = record { argument = argument; before = before; text = [] }
+value_query_after argument before (c ∷ s) =
     if c == equals then record { argument = argument; before = before ++ codes "="; text = s }
     else record { argument = argument; before = before; text = c ∷ s }
 
@@ -59,7 +59,7 @@ without_end text end = take (length text - length end) text
 abbrev pub cluster_row : List Arg → List ℕ → Option ValueCharacter → Row
 cluster_row arguments word None = Listed (shorts word arguments)
 cluster_row arguments word (Some found) =
-    ValuesOf (value_asked_after found.argument (without_end word found.after) found.after)
+    ValuesOf (value_query_after found.argument (without_end word found.after) found.after)
 
 -- after `-`: none for a negative number
 abbrev pub short_row : List Arg → List ℕ → Row

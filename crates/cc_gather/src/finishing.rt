@@ -140,14 +140,14 @@ fn new_ids(alloc: Global, candidates: &[CompletionCandidate]) -> Result<Vec<bool
     let mut seen = BTreeSet::new(alloc);
     let mut marks = Vec::with_capacity(alloc, candidates.len())?;
     for candidate in candidates {
-        let new = see(&mut seen, candidate)?;
+        let new = insert_id(&mut seen, candidate)?;
         marks.push(new)?;
     }
     Ok(marks)
 }
 
 // Keeps an id; whether it is a new one, or none.
-fn see<'a>(
+fn insert_id<'a>(
     seen: &mut BTreeSet<TextRef<'a>>,
     candidate: &'a CompletionCandidate,
 ) -> Result<bool, AllocError>

@@ -8,5 +8,5 @@ mod options;
 mod subcommands;
 
 pub use crate::finishing::{finish, finish_after};
-pub use crate::options::{OptionRow, ValuesAsked, all_with_prefix, option_row};
+pub use crate::options::{OptionMatch, ValueQuery, all_with_prefix, match_options};
 pub use crate::subcommands::subcommand_candidates;

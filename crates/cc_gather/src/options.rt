@@ -3,9 +3,9 @@
 ghost use Rattle.std.specs.Prelude.{◌≡◌, ◌++◌, [], ◌==◌, map, codes, find, length, IfOk, if◌then◌else◌};
 ghost use Rattle.std.specs.String.{string_bytes};
 ghost use Rattle.cc_gather.specs.Lookup.{has_own_long};
-ghost use Rattle.cc_gather.specs.OptionRows.{asked_of, row_given};
+ghost use Rattle.cc_gather.specs.OptionMatches.{query_of, row_of_match};
 ghost use Rattle.cc_gather.specs.Options.{longs, shorts};
-ghost use Rattle.cc_gather.specs.Rows.{after_equals, value_asked_after, flag_row, long_row, with_prefix, row_of, short_row, without_end};
+ghost use Rattle.cc_gather.specs.Rows.{after_equals, value_query_after, flag_row, long_row, with_prefix, row_of, short_row, without_end};
 ghost use Rattle.cc_walk.specs.Words.{EndsWith};
 
 use crate::negative_numbers::is_number;
@@ -18,16 +18,16 @@ use std::alloc::{AllocError, Global};
 
 /// What a word asks of the options of a command.
 #[derive(Drop)]
-pub enum OptionRow<'a> {
+pub enum OptionMatch<'a> {
     /// These candidates.
     Listed(Vec<CompletionCandidate>),
     /// Values of an argument.
-    ValuesOf(ValuesAsked<'a>),
+    ValuesOf(ValueQuery<'a>),
 }
 
 /// Values that are asked for. A candidate for the word is a value with the text before it.
 #[derive(Drop)]
-pub struct ValuesAsked<'a> {
+pub struct ValueQuery<'a> {
     /// The argument.
     pub argument: &'a Arg,
     /// What the word has before the value: a flag with its `=`, or a dash and shorts.
@@ -37,24 +37,24 @@ pub struct ValuesAsked<'a> {
 }
 
 /// What a word asks of the options. Fails where memory runs out.
-pub fn option_row<'a>(
+pub fn match_options<'a>(
     alloc: Global,
     arguments: &'a [Arg],
     word: &'a str,
-) -> Result<OptionRow<'a>, AllocError>
-    ensures { IfOk result (λ row. row_given row ≡ row_of arguments.now word.now) }
+) -> Result<OptionMatch<'a>, AllocError>
+    ensures { IfOk result (λ row. row_of_match row ≡ row_of arguments.now word.now) }
 {
     let Some(rest) = word.strip_prefix('-') else {
-        return Ok(OptionRow::Listed(without_dash(alloc, arguments, word)?));
+        return Ok(OptionMatch::Listed(without_dash(alloc, arguments, word)?));
     };
     if rest.is_empty() {
-        return Ok(OptionRow::Listed(shorts_then_longs(alloc, arguments)?));
+        return Ok(OptionMatch::Listed(shorts_then_longs(alloc, arguments)?));
     }
     let Some(long) = rest.strip_prefix('-') else {
         return short_options(alloc, arguments, word, rest);
     };
     if long.is_empty() {
-        return Ok(OptionRow::Listed(longs(alloc, arguments)?));
+        return Ok(OptionMatch::Listed(longs(alloc, arguments)?));
     }
     long_options(alloc, arguments, long)
 }
@@ -118,12 +118,12 @@ fn long_options<'a>(
     alloc: Global,
     arguments: &'a [Arg],
     long: &'a str,
-) -> Result<OptionRow<'a>, AllocError>
+) -> Result<OptionMatch<'a>, AllocError>
     ensures { IfOk result
-        (λ row. row_given row ≡ long_row arguments.now long.now (after_equals long.now)) }
+        (λ row. row_of_match row ≡ long_row arguments.now long.now (after_equals long.now)) }
 {
     match long.split_once('=') {
-        None => Ok(OptionRow::Listed(longs_beginning(alloc, arguments, long)?)),
+        None => Ok(OptionMatch::Listed(longs_beginning(alloc, arguments, long)?)),
         Some((flag, text)) => flag_values(alloc, arguments, flag, text),
     }
 }
@@ -133,15 +133,15 @@ fn flag_values<'a>(
     arguments: &'a [Arg],
     flag: &str,
     text: &'a str,
-) -> Result<OptionRow<'a>, AllocError>
-    ensures { IfOk result (λ row. row_given row
+) -> Result<OptionMatch<'a>, AllocError>
+    ensures { IfOk result (λ row. row_of_match row
         ≡ flag_row (find (has_own_long flag.now) arguments.now) flag.now text.now) }
 {
     let Some(argument) = with_own_long(arguments, flag) else {
-        return Ok(OptionRow::Listed(Vec::new(alloc)));
+        return Ok(OptionMatch::Listed(Vec::new(alloc)));
     };
     let before = flag_before(alloc, flag)?;
-    Ok(OptionRow::ValuesOf(ValuesAsked {
+    Ok(OptionMatch::ValuesOf(ValueQuery {
         argument,
         before,
         text: TextRef::new(text),
@@ -163,16 +163,16 @@ fn short_options<'a>(
     arguments: &'a [Arg],
     word: &str,
     rest: &'a str,
-) -> Result<OptionRow<'a>, AllocError>
+) -> Result<OptionMatch<'a>, AllocError>
     requires { word.now ≡ codes "-" ++ rest.now }
-    ensures { IfOk result (λ row. row_given row ≡ short_row arguments.now rest.now) }
+    ensures { IfOk result (λ row. row_of_match row ≡ short_row arguments.now rest.now) }
 {
     if is_number(rest) {
-        return Ok(OptionRow::Listed(Vec::new(alloc)));
+        return Ok(OptionMatch::Listed(Vec::new(alloc)));
     }
     match value_character(arguments, rest) {
-        Some(found) => Ok(OptionRow::ValuesOf(character_values(alloc, word, found)?)),
-        None => Ok(OptionRow::Listed(shorts(alloc, arguments, word)?)),
+        Some(found) => Ok(OptionMatch::ValuesOf(character_values(alloc, word, found)?)),
+        None => Ok(OptionMatch::Listed(shorts(alloc, arguments, word)?)),
     }
 }
 
@@ -181,15 +181,15 @@ fn character_values<'a>(
     alloc: Global,
     word: &str,
     found: ValueCharacter<'a, 'a>,
-) -> Result<ValuesAsked<'a>, AllocError>
+) -> Result<ValueQuery<'a>, AllocError>
     requires { EndsWith word.now found.after }
-    ensures { IfOk result (λ asked. asked_of asked
-        ≡ value_asked_after found.entry.argument (without_end word.now found.entry.after)
+    ensures { IfOk result (λ asked. query_of asked
+        ≡ value_query_after found.entry.argument (without_end word.now found.entry.after)
         found.entry.after) }
 {
     let after = found.after.as_str();
     let before = String::from_str(alloc, without_end(word, after))?;
-    value_asked_after(found.argument.get(), before, after)
+    value_query_after(found.argument.get(), before, after)
 }
 
 // What is in a text before an end of it.
@@ -201,23 +201,23 @@ fn without_end<'a>(text: &'a str, end: &str) -> &'a str
 }
 
 // A `=` in front of a value belongs to what is before it.
-fn value_asked_after<'a>(
+fn value_query_after<'a>(
     argument: &'a Arg,
     mut before: String,
     rest: &'a str,
-) -> Result<ValuesAsked<'a>, AllocError>
-    ensures { IfOk result (λ asked. asked_of asked
-        ≡ value_asked_after argument.now (string_bytes before) rest.now) }
+) -> Result<ValueQuery<'a>, AllocError>
+    ensures { IfOk result (λ asked. query_of asked
+        ≡ value_query_after argument.now (string_bytes before) rest.now) }
 {
     let Some(text) = rest.strip_prefix('=') else {
-        return Ok(ValuesAsked {
+        return Ok(ValueQuery {
             argument,
             before: Text::from(before),
             text: TextRef::new(rest),
         });
     };
     before.push_str("=")?;
-    Ok(ValuesAsked {
+    Ok(ValueQuery {
         argument,
         before: Text::from(before),
         text: TextRef::new(text),

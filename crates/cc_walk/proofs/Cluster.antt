@@ -4,9 +4,9 @@ use Rattle.std.specs.Prelude.{chars, IsUtf8, encode_utf8}
 use Rattle.std.proofs.lemmas.Str.{chars_past_char, encodes-chars, chars-nil}
 use Rattle.cc_arg.specs.declared.parts.ArgParts.{ArgParts as Arg}
 use Rattle.cc_walk.specs.Words.{EndsWith}
-use Rattle.cc_walk.specs.Signs.{character_value, cluster_sign, last_sign, value_argument, value_character}
-use Rattle.cc_walk.specs.declared.sign.ValueCharacter.{ValueCharacter}
-use Rattle.cc_walk.specs.declared.sign.Sign.TheVariants.{Closed, Opens}
+use Rattle.cc_walk.specs.WordClasses.{character_value, cluster_class, last_class, value_argument, value_character}
+use Rattle.cc_walk.specs.declared.word_class.ValueCharacter.{ValueCharacter}
+use Rattle.cc_walk.specs.declared.word_class.WordClass.TheVariants.{Closed, Opens}
 
 past : (arguments : List Arg) (bs rest : List ℕ) (c : ℕ) → IsUtf8 bs → bs ≡ encode_utf8 c ++ rest → value_character arguments (chars bs) ≡ character_value (value_argument arguments c) (chars rest) (value_character arguments (chars rest))
 past arguments bs rest c u e = ap (value_character arguments) (chars_past_char bs rest c u e)
@@ -30,12 +30,12 @@ past_end arguments rest e = ap (λ s. value_character arguments (chars s)) (empt
 pub ends_more : (text bs rest : List ℕ) (c : ℕ) → EndsWith text bs → bs ≡ encode_utf8 c ++ rest → EndsWith text rest
 ends_more text bs rest c (leading, is) e = (leading ++ encode_utf8 c, is ∙ ap (λ s. leading ++ s) e ∙ sym (append_assoc leading (encode_utf8 c) rest))
 
-pub opens_last : (found : ValueCharacter) → (length found.after == 0) ≡ true → cluster_sign (Some found) ≡ Opens found.argument
-opens_last found e = ap (last_sign found.argument) (empty found.after (eqb-true (length found.after) 0 e))
+pub opens_last : (found : ValueCharacter) → (length found.after == 0) ≡ true → cluster_class (Some found) ≡ Opens found.argument
+opens_last found e = ap (last_class found.argument) (empty found.after (eqb-true (length found.after) 0 e))
 
-pub closed_before : (found : ValueCharacter) → (length found.after == 0) ≡ false → cluster_sign (Some found) ≡ Closed
+pub closed_before : (found : ValueCharacter) → (length found.after == 0) ≡ false → cluster_class (Some found) ≡ Closed
 closed_before found e = by_text found.argument found.after e
   where
-    by_text : (a : Arg) (s : List ℕ) → (length s == 0) ≡ false → last_sign a s ≡ Closed
+    by_text : (a : Arg) (s : List ℕ) → (length s == 0) ≡ false → last_class a s ≡ Closed
     by_text a [] e = cc
     by_text a (b ∷ bs) e = refl

@@ -7,45 +7,45 @@ use Rattle.cc_arg.specs.declared.parts.ArgParts.{ArgParts as Arg}
 use Rattle.cc_walk.specs.Blocks.{AreBlocks, BeginsWithNoFollower, BeginsWithNoValues, Block, Dashes, Flag, Follows, IsValueAt, Opened, Values, state_after, after_block, follows, is_value, join, position_after}
 use Rattle.cc_walk.specs.Lookup.{allows_hyphens_at, greatest, limit}
 use Rattle.cc_walk.specs.Machine.{closed_step, open_step, option_state, run, step, value_state}
-use Rattle.cc_walk.specs.Signs.{sign_of}
-use Rattle.cc_walk.specs.declared.sign.Sign.{Sign}
-use Rattle.cc_walk.specs.declared.sign.Sign.TheVariants.{Closed, Escape, Opens, Plain, Unknown}
+use Rattle.cc_walk.specs.WordClasses.{class_of}
+use Rattle.cc_walk.specs.declared.word_class.WordClass.{WordClass}
+use Rattle.cc_walk.specs.declared.word_class.WordClass.TheVariants.{Closed, Escape, Opens, Plain, Unknown}
 use Rattle.cc_walk.specs.declared.state.Pending.{Pending}
 use Rattle.cc_walk.specs.declared.state.Pending.TheVariants.{OptionOpen, PositionMoved, Nothing, PositionalRun}
 use Rattle.cc_walk.proofs.Opens.{Opens-takes}
 
 -- an open option takes a follower
-open_follows : (arguments : List Arg) (position : ℕ) (a : Arg) (value : ℕ) (sign : Sign) → follows a sign ≡ true → open_step arguments position a value sign ≡ option_state position a (suc value)
-open_follows arguments position a value sign e = rw e refl
+open_follows : (arguments : List Arg) (position : ℕ) (a : Arg) (value : ℕ) (class : WordClass) → follows a class ≡ true → open_step arguments position a value class ≡ option_state position a (suc value)
+open_follows arguments position a value class e = rw e refl
 
 -- and is left by any other word
-open_leaves : (arguments : List Arg) (position : ℕ) (a : Arg) (value : ℕ) (sign : Sign) → follows a sign ≡ false → open_step arguments position a value sign ≡ closed_step arguments position 0 sign
-open_leaves arguments position a value sign e = rw e refl
+open_leaves : (arguments : List Arg) (position : ℕ) (a : Arg) (value : ℕ) (class : WordClass) → follows a class ≡ false → open_step arguments position a value class ≡ closed_step arguments position 0 class
+open_leaves arguments position a value class e = rw e refl
 
 -- a positional value
-value_step : (arguments : List Arg) (position values : ℕ) (escaped : Bool) (sign : Sign) (word : List ℕ) → sign_of arguments word ≡ sign → IsValueAt arguments position escaped word → step arguments position escaped (PositionalRun values) sign ≡ value_state arguments position escaped values
-value_step arguments position values true sign word is e = refl
-value_step arguments position values false sign word is e = by_sign arguments position values sign (rw is at e)
+value_step : (arguments : List Arg) (position values : ℕ) (escaped : Bool) (class : WordClass) (word : List ℕ) → class_of arguments word ≡ class → IsValueAt arguments position escaped word → step arguments position escaped (PositionalRun values) class ≡ value_state arguments position escaped values
+value_step arguments position values true class word is e = refl
+value_step arguments position values false class word is e = by_class arguments position values class (rw is at e)
   where
-    by_sign : (arguments : List Arg) (position values : ℕ) (sign : Sign) → is_value (allows_hyphens_at arguments position) sign ≡ true → closed_step arguments position values sign ≡ value_state arguments position false values
-    by_sign arguments position values Escape e = cc
-    by_sign arguments position values Plain e = refl
-    by_sign arguments position values Unknown e = rw e
-    by_sign arguments position values (Opens a) e = cc
-    by_sign arguments position values Closed e = cc
+    by_class : (arguments : List Arg) (position values : ℕ) (class : WordClass) → is_value (allows_hyphens_at arguments position) class ≡ true → closed_step arguments position values class ≡ value_state arguments position false values
+    by_class arguments position values Escape e = cc
+    by_class arguments position values Plain e = refl
+    by_class arguments position values Unknown e = rw e
+    by_class arguments position values (Opens a) e = cc
+    by_class arguments position values Closed e = cc
 
-option_more : (arguments : List Arg) (position : ℕ) (a : Arg) (k : ℕ) (sign : Sign) → k < (greatest a) → follows a sign ≡ true → step arguments position false (option_state position a k).pending sign ≡ option_state position a (suc k)
-option_more arguments position a k sign below e = rw (lt-ltb k (greatest a) below) (open_follows arguments position a k sign e)
+option_more : (arguments : List Arg) (position : ℕ) (a : Arg) (k : ℕ) (class : WordClass) → k < (greatest a) → follows a class ≡ true → step arguments position false (option_state position a k).pending class ≡ option_state position a (suc k)
+option_more arguments position a k class below e = rw (lt-ltb k (greatest a) below) (open_follows arguments position a k class e)
 
 run_followers : (arguments : List Arg) (position : ℕ) (a : Arg) (words rest : List (List ℕ)) (k : ℕ) → All (Follows arguments a) words → k + length words ≤ (greatest a) → run arguments (option_state position a k) (words ++ rest) ≡ run arguments (option_state position a (k + length words)) rest
 run_followers arguments position a [] rest k all fits = rw add-zero
 run_followers arguments position a (word ∷ words) rest k all fits =
-    ap (λ s. run arguments s (words ++ rest)) (option_more arguments position a k (sign_of arguments word) (omega arith) (All-head (Follows arguments a) word words all))
+    ap (λ s. run arguments s (words ++ rest)) (option_more arguments position a k (class_of arguments word) (omega arith) (All-head (Follows arguments a) word words all))
     ∙ (let same : suc k + length words ≡ k + suc (length words) = omega arith in
     rw same at (run_followers arguments position a words rest (suc k) (All-tail (Follows arguments a) word words all) (omega arith)))
 
-value_more : (arguments : List Arg) (position : ℕ) (escaped : Bool) (k : ℕ) (word : List ℕ) → suc k < limit arguments position → IsValueAt arguments position escaped word → (let state = value_state arguments position escaped k in step arguments state.position state.escaped state.pending (sign_of arguments word)) ≡ value_state arguments position escaped (suc k)
-value_more arguments position escaped k word below e = rw (lt-ltb (suc k) (limit arguments position) below) (value_step arguments position (suc k) escaped (sign_of arguments word) word refl e)
+value_more : (arguments : List Arg) (position : ℕ) (escaped : Bool) (k : ℕ) (word : List ℕ) → suc k < limit arguments position → IsValueAt arguments position escaped word → (let state = value_state arguments position escaped k in step arguments state.position state.escaped state.pending (class_of arguments word)) ≡ value_state arguments position escaped (suc k)
+value_more arguments position escaped k word below e = rw (lt-ltb (suc k) (limit arguments position) below) (value_step arguments position (suc k) escaped (class_of arguments word) word refl e)
 
 run_values : (arguments : List Arg) (position : ℕ) (escaped : Bool) (words rest : List (List ℕ)) (k : ℕ) → All (IsValueAt arguments position escaped) words → suc k + length words ≤ limit arguments position → run arguments (value_state arguments position escaped k) (words ++ rest) ≡ run arguments (value_state arguments position escaped (k + length words)) rest
 run_values arguments position escaped [] rest k all fits = rw add-zero
@@ -57,7 +57,7 @@ run_values arguments position escaped (word ∷ words) rest k all fits =
 -- the first word is read as if nothing were pending
 abbrev pub Fresh : List Arg → ℕ → Bool → Pending → List (List ℕ) → Type 0
 Fresh arguments position escaped pending [] = Unit {0}
-Fresh arguments position escaped pending (word ∷ words) = step arguments position escaped pending (sign_of arguments word) ≡ step arguments position escaped Nothing (sign_of arguments word)
+Fresh arguments position escaped pending (word ∷ words) = step arguments position escaped pending (class_of arguments word) ≡ step arguments position escaped Nothing (class_of arguments word)
 
 pub fresh_nothing : (arguments : List Arg) (position : ℕ) (escaped : Bool) (words : List (List ℕ)) → Fresh arguments position escaped Nothing words
 fresh_nothing arguments position escaped [] = tt
@@ -70,25 +70,25 @@ fresh_moved arguments position false (word ∷ words) = refl
 
 fresh_option : (arguments : List Arg) (position : ℕ) (a : Arg) (value : ℕ) (words : List (List ℕ)) → BeginsWithNoFollower arguments a words → Fresh arguments position false (OptionOpen a value) words
 fresh_option arguments position a value [] h = tt
-fresh_option arguments position a value (word ∷ words) h = open_leaves arguments position a value (sign_of arguments word) h
+fresh_option arguments position a value (word ∷ words) h = open_leaves arguments position a value (class_of arguments word) h
 
 -- after a run that is not full are words that are no values
 fresh_run : (arguments : List Arg) (position : ℕ) (escaped : Bool) (values : ℕ) (bs : List Block) → BeginsWithNoValues arguments bs → AreBlocks arguments position escaped bs → Fresh arguments position escaped (PositionalRun values) (join bs)
 fresh_run arguments position escaped values [] none are = tt
-fresh_run arguments position escaped values (Dashes word ∷ bs) none (unescaped, sign, are) = rw (unescaped, sign) refl
-fresh_run arguments position escaped values (Opened opener option options ∷ bs) none (unescaped, sign, all, fits, next, are) = rw (unescaped, sign) refl
+fresh_run arguments position escaped values (Dashes word ∷ bs) none (unescaped, class, are) = rw (unescaped, class) refl
+fresh_run arguments position escaped values (Opened opener option options ∷ bs) none (unescaped, class, all, fits, next, are) = rw (unescaped, class) refl
 fresh_run arguments position escaped values (Values first more ∷ bs) none are = absurd none
-fresh_run arguments position escaped values (Flag word ∷ bs) none (unescaped, sign, are) = elim sign [
+fresh_run arguments position escaped values (Flag word ∷ bs) none (unescaped, class, are) = elim class [
   | inl closed ↦ rw (unescaped, closed) refl
   | inr unknown ↦ rw (unescaped, unknown.0) (rw unknown.1 refl)
 ]
 
-opened_state : (arguments : List Arg) (position : ℕ) (word : List ℕ) (a : Arg) → sign_of arguments word ≡ Opens a → step arguments position false Nothing (sign_of arguments word) ≡ option_state position a 0
-opened_state arguments position word a sign = rw (sign, lt-ltb 0 (greatest a) (Opens-takes arguments word a sign)) refl
+opened_state : (arguments : List Arg) (position : ℕ) (word : List ℕ) (a : Arg) → class_of arguments word ≡ Opens a → step arguments position false Nothing (class_of arguments word) ≡ option_state position a 0
+opened_state arguments position word a class = rw (class, lt-ltb 0 (greatest a) (Opens-takes arguments word a class)) refl
 
-first_value : (arguments : List Arg) (position : ℕ) (escaped : Bool) (sign : Sign) (word : List ℕ) → sign_of arguments word ≡ sign → IsValueAt arguments position escaped word → step arguments position escaped Nothing sign ≡ value_state arguments position escaped 0
-first_value arguments position true sign word is e = refl
-first_value arguments position false sign word is e = value_step arguments position 0 false sign word is e
+first_value : (arguments : List Arg) (position : ℕ) (escaped : Bool) (class : WordClass) (word : List ℕ) → class_of arguments word ≡ class → IsValueAt arguments position escaped word → step arguments position escaped Nothing class ≡ value_state arguments position escaped 0
+first_value arguments position true class word is e = refl
+first_value arguments position false class word is e = value_step arguments position 0 false class word is e
 
 values_state : (arguments : List Arg) (position : ℕ) (escaped : Bool) (first : List ℕ) (more : List (List ℕ)) → value_state arguments position escaped (length more) ≡ after_block arguments position escaped (Values first more)
 values_state arguments position escaped first more = elim (cases_Bool (ltb (suc (length more)) (limit arguments position))) [ inl t ↦ rw t refl | inr f ↦ rw f refl ]
@@ -113,24 +113,24 @@ fresh_values arguments position escaped first more bs next are = elim (cases_Boo
 pub run_blocks : (arguments : List Arg) (bs : List Block) (position : ℕ) (escaped : Bool) (pending : Pending) → AreBlocks arguments position escaped bs → Fresh arguments position escaped pending (join bs)
     → run arguments (record { position = position; escaped = escaped; pending = pending }) (join bs) ≡ state_after arguments (record { position = position; escaped = escaped; pending = pending }) bs
 run_blocks arguments [] position escaped pending are fresh = refl
-run_blocks arguments (Dashes word ∷ bs) position escaped pending (unescaped, sign, are) fresh =
-    ap (λ s. run arguments s (join bs)) (fresh ∙ rw (unescaped, sign) refl)
+run_blocks arguments (Dashes word ∷ bs) position escaped pending (unescaped, class, are) fresh =
+    ap (λ s. run arguments s (join bs)) (fresh ∙ rw (unescaped, class) refl)
     ∙ run_blocks arguments bs position true Nothing are (fresh_nothing arguments position true (join bs))
-run_blocks arguments (Opened opener option values ∷ bs) position true pending (unescaped, sign, all, fits, next, are) fresh = cc
-run_blocks arguments (Opened opener option values ∷ bs) position false pending (unescaped, sign, all, fits, next, are) fresh =
-    ap (λ s. run arguments s (values ++ join bs)) (fresh ∙ opened_state arguments position opener option sign)
+run_blocks arguments (Opened opener option values ∷ bs) position true pending (unescaped, class, all, fits, next, are) fresh = cc
+run_blocks arguments (Opened opener option values ∷ bs) position false pending (unescaped, class, all, fits, next, are) fresh =
+    ap (λ s. run arguments s (values ++ join bs)) (fresh ∙ opened_state arguments position opener option class)
     ∙ rw zero-add at (run_followers arguments position option values (join bs) 0 all (rw zero-add fits))
     ∙ run_blocks arguments bs position false (option_state position option (length values)).pending are (fresh_options arguments position option (length values) (join bs) next)
 run_blocks arguments (Values first more ∷ bs) position escaped pending (value, all, fits, next, are) fresh =
-    ap (λ s. run arguments s (more ++ join bs)) (fresh ∙ first_value arguments position escaped (sign_of arguments first) first refl value)
+    ap (λ s. run arguments s (more ++ join bs)) (fresh ∙ first_value arguments position escaped (class_of arguments first) first refl value)
     ∙ rw zero-add at (run_values arguments position escaped more (join bs) 0 all (rw one-add fits))
     ∙ ap (λ s. run arguments s (join bs)) (values_state arguments position escaped first more)
     ∙ (let state = after_block arguments position escaped (Values first more) in run_blocks arguments bs state.position escaped state.pending are (fresh_values arguments position escaped first more bs next are))
-run_blocks arguments (Flag word ∷ bs) position true pending (unescaped, sign, are) fresh = cc
-run_blocks arguments (Flag word ∷ bs) position false pending (unescaped, sign, are) fresh =
-    ap (λ s. run arguments s (join bs)) (fresh ∙ flag_state arguments position word sign)
+run_blocks arguments (Flag word ∷ bs) position true pending (unescaped, class, are) fresh = cc
+run_blocks arguments (Flag word ∷ bs) position false pending (unescaped, class, are) fresh =
+    ap (λ s. run arguments s (join bs)) (fresh ∙ flag_state arguments position word class)
     ∙ run_blocks arguments bs position false Nothing are (fresh_nothing arguments position false (join bs))
   where
-    flag_state : (arguments : List Arg) (position : ℕ) (word : List ℕ) → ((sign_of arguments word ≡ Closed) ⊎ ((sign_of arguments word ≡ Unknown) × (allows_hyphens_at arguments position ≡ false))) → step arguments position false Nothing (sign_of arguments word) ≡ record { position = position; escaped = false; pending = Nothing }
+    flag_state : (arguments : List Arg) (position : ℕ) (word : List ℕ) → ((class_of arguments word ≡ Closed) ⊎ ((class_of arguments word ≡ Unknown) × (allows_hyphens_at arguments position ≡ false))) → step arguments position false Nothing (class_of arguments word) ≡ record { position = position; escaped = false; pending = Nothing }
     flag_state arguments position word (inl closed) = rw closed refl
     flag_state arguments position word (inr unknown) = rw (unknown.0, unknown.1) refl

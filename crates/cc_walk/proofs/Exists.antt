@@ -6,9 +6,9 @@ use Rattle.std.proofs.lemmas.List.Elements.{All-nil, All-cons}
 use Rattle.cc_arg.specs.declared.parts.ArgParts.{ArgParts as Arg}
 use Rattle.cc_walk.specs.Blocks.{AreBlocks, BeginsWithNoFollower, BeginsWithNoValues, Block, Dashes, Flag, Follows, IsValueAt, Opened, Values, follows, is_value, is_value_at, join, position_after}
 use Rattle.cc_walk.specs.Lookup.{allows_hyphens_at, greatest, limit, positional_at}
-use Rattle.cc_walk.specs.Signs.{sign_of}
-use Rattle.cc_walk.specs.declared.sign.Sign.{Sign}
-use Rattle.cc_walk.specs.declared.sign.Sign.TheVariants.{Closed, Escape, Opens, Plain, Unknown}
+use Rattle.cc_walk.specs.WordClasses.{class_of}
+use Rattle.cc_walk.specs.declared.word_class.WordClass.{WordClass}
+use Rattle.cc_walk.specs.declared.word_class.WordClass.TheVariants.{Closed, Escape, Opens, Plain, Unknown}
 
 limit_some : (arguments : List Arg) (position : ℕ) → 1 ≤ limit arguments position
 unfolding limit
@@ -59,12 +59,12 @@ cuts_none arguments = record {
 }
 
 module _ (arguments : List Arg) (word : List ℕ) (words : List (List ℕ)) (rest : Cuts arguments words) where
-  other_sign : (position : ℕ) (sign : Sign) → sign_of arguments word ≡ sign → is_value (allows_hyphens_at arguments position) sign ≡ false → OtherCut arguments position false (word ∷ words)
-  other_sign position Escape is e = let c = rest.plain position true in record { blocks = Dashes word ∷ c.blocks; are = (refl, is, c.are); spell = ap (λ s. word ∷ s) c.spell; none = tt }
-  other_sign position Plain is e = cc
-  other_sign position Unknown is e = let c = rest.plain position false in record { blocks = Flag word ∷ c.blocks; are = (refl, inr (is, e), c.are); spell = ap (λ s. word ∷ s) c.spell; none = tt }
-  other_sign position Closed is e = let c = rest.plain position false in record { blocks = Flag word ∷ c.blocks; are = (refl, inl is, c.are); spell = ap (λ s. word ∷ s) c.spell; none = tt }
-  other_sign position (Opens a) is e = let c = rest.option position a 0 (omega arith) in record {
+  other_class : (position : ℕ) (class : WordClass) → class_of arguments word ≡ class → is_value (allows_hyphens_at arguments position) class ≡ false → OtherCut arguments position false (word ∷ words)
+  other_class position Escape is e = let c = rest.plain position true in record { blocks = Dashes word ∷ c.blocks; are = (refl, is, c.are); spell = ap (λ s. word ∷ s) c.spell; none = tt }
+  other_class position Plain is e = cc
+  other_class position Unknown is e = let c = rest.plain position false in record { blocks = Flag word ∷ c.blocks; are = (refl, inr (is, e), c.are); spell = ap (λ s. word ∷ s) c.spell; none = tt }
+  other_class position Closed is e = let c = rest.plain position false in record { blocks = Flag word ∷ c.blocks; are = (refl, inl is, c.are); spell = ap (λ s. word ∷ s) c.spell; none = tt }
+  other_class position (Opens a) is e = let c = rest.option position a 0 (omega arith) in record {
     blocks = Opened word a c.values ∷ c.blocks;
     are = (refl, is, c.all, rw zero-add at c.fits, rw zero-add at c.next, c.are);
     spell = ap (λ s. word ∷ s) c.spell;
@@ -73,7 +73,7 @@ module _ (arguments : List Arg) (word : List ℕ) (words : List (List ℕ)) (res
 
   other : (position : ℕ) (escaped : Bool) → is_value_at arguments position escaped word ≡ false → OtherCut arguments position escaped (word ∷ words)
   other position true e = cc
-  other position false e = other_sign position (sign_of arguments word) refl e
+  other position false e = other_class position (class_of arguments word) refl e
 
   values : (position : ℕ) (escaped : Bool) → IsValueAt arguments position escaped word → Cut arguments position escaped (word ∷ words)
   values position escaped e = let c = rest.run position escaped 1 (limit_some arguments position) in record {
@@ -90,7 +90,7 @@ module _ (arguments : List Arg) (word : List ℕ) (words : List (List ℕ)) (res
 
   option : (position : ℕ) (a : Arg) (k : ℕ) → k ≤ (greatest a) → OptionCut arguments position a k (word ∷ words)
   option position a k fits = elim (cases_lt k (greatest a)) [
-    | inl below ↦ elim (cases_Bool (follows a (sign_of arguments word))) [
+    | inl below ↦ elim (cases_Bool (follows a (class_of arguments word))) [
       | inl t ↦ let c = rest.option position a (suc k) (omega arith) in let same : suc k + length c.values ≡ k + suc (length c.values) = omega arith in record {
         values = word ∷ c.values;
         blocks = c.blocks;

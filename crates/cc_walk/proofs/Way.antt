@@ -12,12 +12,12 @@ use Rattle.cc_walk.specs.Blocks.{follows, AreBlocks, Block, state_after, join, s
 use Rattle.cc_walk.specs.Lookup.{allows_hyphens_at, limit}
 use Rattle.cc_walk.specs.Machine.{closed_step, entered, open_step, run, run_length, node_state_step, step, value_state, walk}
 use Rattle.cc_walk.specs.Reach.{Descend, NamesNoChild, Reach, Stay}
-use Rattle.cc_walk.proofs.Dashes.{is_escape_sign, sign_escapes}
+use Rattle.cc_walk.proofs.Dashes.{is_escape_class, class_escapes}
 use Rattle.cc_command.specs.Names.{contains_name}
 use Rattle.std.specs.Prelude.{bytes_eq, codes}
-use Rattle.cc_walk.specs.Signs.{sign_of}
-use Rattle.cc_walk.specs.declared.sign.Sign.{Sign}
-use Rattle.cc_walk.specs.declared.sign.Sign.TheVariants.{Closed, Escape, Opens, Plain, Unknown}
+use Rattle.cc_walk.specs.WordClasses.{class_of}
+use Rattle.cc_walk.specs.declared.word_class.WordClass.{WordClass}
+use Rattle.cc_walk.specs.declared.word_class.WordClass.TheVariants.{Closed, Escape, Opens, Plain, Unknown}
 use Rattle.cc_walk.specs.declared.state.Pending.{Pending}
 use Rattle.cc_walk.specs.declared.state.Pending.TheVariants.{OptionOpen, PositionMoved, Nothing, PositionalRun}
 use Rattle.cc_walk.specs.declared.state.State.{State}
@@ -26,43 +26,43 @@ use Rattle.cc_walk.proofs.Cut.{run_blocks, fresh_nothing}
 value_escaped : (arguments : List Arg) (position : ℕ) (escaped : Bool) (k : ℕ) → (value_state arguments position escaped k).escaped ≡ escaped
 value_escaped arguments position escaped k = elim (cases_Bool (ltb (suc k) (limit arguments position))) [ inl t ↦ rw t refl | inr f ↦ rw f refl ]
 
-closed_escaped : (arguments : List Arg) (position values : ℕ) (sign : Sign) → (closed_step arguments position values sign).escaped ≡ is_escape_sign sign
+closed_escaped : (arguments : List Arg) (position values : ℕ) (class : WordClass) → (closed_step arguments position values class).escaped ≡ is_escape_class class
 closed_escaped arguments position values Escape = refl
 closed_escaped arguments position values (Opens a) = refl
 closed_escaped arguments position values Closed = refl
 closed_escaped arguments position values Plain = value_escaped arguments position false values
 closed_escaped arguments position values Unknown = elim (cases_Bool (allows_hyphens_at arguments position)) [ inl t ↦ rw t (value_escaped arguments position false values) | inr f ↦ rw f refl ]
 
-follows_escaped : (a : Arg) (sign : Sign) → follows a sign ≡ true → false ≡ is_escape_sign sign
+follows_escaped : (a : Arg) (class : WordClass) → follows a class ≡ true → false ≡ is_escape_class class
 follows_escaped a Escape e = cc
 follows_escaped a Plain e = refl
 follows_escaped a (Opens b) e = refl
 follows_escaped a Closed e = refl
 follows_escaped a Unknown e = refl
 
-open_escaped : (arguments : List Arg) (position : ℕ) (a : Arg) (value : ℕ) (sign : Sign) → (open_step arguments position a value sign).escaped ≡ is_escape_sign sign
-open_escaped arguments position a value sign = elim (cases_Bool (follows a sign)) [ inl t ↦ rw t (follows_escaped a sign t) | inr f ↦ rw f (closed_escaped arguments position 0 sign) ]
+open_escaped : (arguments : List Arg) (position : ℕ) (a : Arg) (value : ℕ) (class : WordClass) → (open_step arguments position a value class).escaped ≡ is_escape_class class
+open_escaped arguments position a value class = elim (cases_Bool (follows a class)) [ inl t ↦ rw t (follows_escaped a class t) | inr f ↦ rw f (closed_escaped arguments position 0 class) ]
 
-step_escaped : (arguments : List Arg) (position : ℕ) (escaped : Bool) (pending : Pending) (sign : Sign) → (step arguments position escaped pending sign).escaped ≡ (escaped || is_escape_sign sign)
-step_escaped arguments position true pending sign = value_escaped arguments position true (run_length pending)
-step_escaped arguments position false (OptionOpen a value) sign = open_escaped arguments position a value sign
-step_escaped arguments position false Nothing sign = closed_escaped arguments position 0 sign
-step_escaped arguments position false (PositionalRun values) sign = closed_escaped arguments position values sign
-step_escaped arguments position false PositionMoved sign = closed_escaped arguments position 0 sign
+step_escaped : (arguments : List Arg) (position : ℕ) (escaped : Bool) (pending : Pending) (class : WordClass) → (step arguments position escaped pending class).escaped ≡ (escaped || is_escape_class class)
+step_escaped arguments position true pending class = value_escaped arguments position true (run_length pending)
+step_escaped arguments position false (OptionOpen a value) class = open_escaped arguments position a value class
+step_escaped arguments position false Nothing class = closed_escaped arguments position 0 class
+step_escaped arguments position false (PositionalRun values) class = closed_escaped arguments position values class
+step_escaped arguments position false PositionMoved class = closed_escaped arguments position 0 class
 
-escaped_more : (arguments : List Arg) (state : State) (word : List ℕ) → (step arguments state.position state.escaped state.pending (sign_of arguments word)).escaped ≡ (state.escaped || bytes_eq word (codes "--"))
+escaped_more : (arguments : List Arg) (state : State) (word : List ℕ) → (step arguments state.position state.escaped state.pending (class_of arguments word)).escaped ≡ (state.escaped || bytes_eq word (codes "--"))
 escaped_more arguments state word =
-    step_escaped arguments state.position state.escaped state.pending (sign_of arguments word)
-    ∙ ap (λ b. state.escaped || b) (sign_escapes arguments word)
+    step_escaped arguments state.position state.escaped state.pending (class_of arguments word)
+    ∙ ap (λ b. state.escaped || b) (class_escapes arguments word)
 
 run_escaped : (arguments : List Arg) (words : List (List ℕ)) (state : State) → (run arguments state words).escaped ≡ (state.escaped || contains_name words (codes "--"))
 run_escaped arguments [] state = sym (or-false state.escaped)
 run_escaped arguments (word ∷ words) state =
-    run_escaped arguments words (step arguments state.position state.escaped state.pending (sign_of arguments word))
+    run_escaped arguments words (step arguments state.position state.escaped state.pending (class_of arguments word))
     ∙ ap (λ b. b || contains_name words (codes "--")) (escaped_more arguments state word)
     ∙ or_assoc state.escaped (bytes_eq word (codes "--")) (contains_name words (codes "--"))
 
-stays : (tree : Tree) (state : State) (word : List ℕ) → find_child tree.children word ≡ None → node_state_step (record { tree = tree; state = state }) word ≡ record { tree = tree; state = step tree.node.arguments state.position state.escaped state.pending (sign_of tree.node.arguments word) }
+stays : (tree : Tree) (state : State) (word : List ℕ) → find_child tree.children word ≡ None → node_state_step (record { tree = tree; state = state }) word ≡ record { tree = tree; state = step tree.node.arguments state.position state.escaped state.pending (class_of tree.node.arguments word) }
 stays tree state word e = ap (entered (record { tree = tree; state = state }) word) e
 
 descends : (tree child : Tree) (state : State) (word : List ℕ) → find_child tree.children word ≡ Some child → node_state_step (record { tree = tree; state = state }) word ≡ record { tree = child; state = start state.escaped }
@@ -72,7 +72,7 @@ walk_skipped : (tree : Tree) (words rest : List (List ℕ)) (state : State) → 
 walk_skipped tree [] rest state all = refl
 walk_skipped tree (word ∷ words) rest state all =
     ap (λ s. walk s (words ++ rest)) (stays tree state word (All-head (NamesNoChild tree) word words all))
-    ∙ walk_skipped tree words rest (step tree.node.arguments state.position state.escaped state.pending (sign_of tree.node.arguments word)) (All-tail (NamesNoChild tree) word words all)
+    ∙ walk_skipped tree words rest (step tree.node.arguments state.position state.escaped state.pending (class_of tree.node.arguments word)) (All-tail (NamesNoChild tree) word words all)
 
 -- the walk is at the last node, in the state after the tail
 pub walk_reach : {tree last : Tree} {words tail : List (List ℕ)} {before : Bool} → Reach tree words last tail before → (escaped : Bool) → walk (record { tree = tree; state = start escaped }) words ≡ record { tree = last; state = run last.node.arguments (start (escaped || before)) tail }

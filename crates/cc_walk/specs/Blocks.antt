@@ -2,15 +2,15 @@
 use Rattle.std.specs.Prelude.{ℕ, suc, List, [], ◌∷◌, ◌++◌, ◌≡◌, ◌+◌, ◌<◌, ◌≤◌, ◌||◌, ◌⊎◌, length, Bool, true, false, nat_lt, if◌then◌else◌}
 use Rattle.std.specs.List.{All}
 use Rattle.cc_arg.specs.declared.parts.ArgParts.{ArgParts as Arg}
-use Rattle.cc_walk.specs.declared.sign.Sign.{Sign}
-use Rattle.cc_walk.specs.declared.sign.Sign.TheVariants.{Escape, Opens, Unknown, Closed, Plain}
+use Rattle.cc_walk.specs.declared.word_class.WordClass.{WordClass}
+use Rattle.cc_walk.specs.declared.word_class.WordClass.TheVariants.{Escape, Opens, Unknown, Closed, Plain}
 use Rattle.cc_walk.specs.declared.state.Pending.TheVariants.{Nothing, OptionOpen, PositionalRun, PositionMoved}
 use Rattle.cc_walk.specs.declared.state.State.{State}
 use Rattle.cc_walk.specs.Lookup.{greatest, limit, allows_hyphens_at}
-use Rattle.cc_walk.specs.Signs.{sign_of}
+use Rattle.cc_walk.specs.WordClasses.{class_of}
 
 -- a word that an open option takes
-abbrev pub follows : Arg → Sign → Bool
+abbrev pub follows : Arg → WordClass → Bool
 follows option Escape = false
 follows option Plain = true
 follows option (Opens other) = option.allow_hyphen_values
@@ -18,7 +18,7 @@ follows option Unknown = option.allow_hyphen_values
 follows option Closed = option.allow_hyphen_values
 
 -- an unescaped word that is a positional value, by whether the position allows hyphens
-abbrev pub is_value : Bool → Sign → Bool
+abbrev pub is_value : Bool → WordClass → Bool
 is_value hyphens Escape = false
 is_value hyphens Plain = true
 is_value hyphens Unknown = hyphens
@@ -47,11 +47,11 @@ join (b ∷ bs) = words_of b ++ join bs
 
 module _ (arguments : List Arg) where
   abbrev pub Follows : Arg → List ℕ → Type 0
-  Follows option word = follows option (sign_of arguments word) ≡ true
+  Follows option word = follows option (class_of arguments word) ≡ true
 
   abbrev pub is_value_at : ℕ → Bool → List ℕ → Bool
   is_value_at position escaped word =
-      escaped || is_value (allows_hyphens_at arguments position) (sign_of arguments word)
+      escaped || is_value (allows_hyphens_at arguments position) (class_of arguments word)
 
   abbrev pub IsValueAt : ℕ → Bool → List ℕ → Type 0
   IsValueAt position escaped word = is_value_at position escaped word ≡ true
@@ -59,7 +59,7 @@ module _ (arguments : List Arg) where
   -- the next of the words, if there is one, is none that the option takes
   abbrev pub BeginsWithNoFollower : Arg → List (List ℕ) → Type 0
   BeginsWithNoFollower option [] = Unit {0}
-  BeginsWithNoFollower option (word ∷ words) = follows option (sign_of arguments word) ≡ false
+  BeginsWithNoFollower option (word ∷ words) = follows option (class_of arguments word) ≡ false
 
   abbrev pub BeginsWithNoValues : List Block → Type 0
   BeginsWithNoValues [] = Unit {0}
@@ -77,11 +77,11 @@ module _ (arguments : List Arg) where
   AreBlocks position escaped [] = Unit {0}
   AreBlocks position escaped (Dashes word ∷ bs) =
       (escaped ≡ false)
-      × (sign_of arguments word ≡ Escape)
+      × (class_of arguments word ≡ Escape)
       × AreBlocks position true bs
   AreBlocks position escaped (Opened opener option values ∷ bs) =
       (escaped ≡ false)
-      × (sign_of arguments opener ≡ Opens option)
+      × (class_of arguments opener ≡ Opens option)
       × All (Follows option) values
       × (length values ≤ greatest option)
       × (length values < greatest option → BeginsWithNoFollower option (join bs))
@@ -94,8 +94,8 @@ module _ (arguments : List Arg) where
       × AreBlocks (position_after position (suc (length more))) escaped bs
   AreBlocks position escaped (Flag word ∷ bs) =
       (escaped ≡ false)
-      × ((sign_of arguments word ≡ Closed) ⊎
-      ((sign_of arguments word ≡ Unknown) × (allows_hyphens_at arguments position ≡ false)))
+      × ((class_of arguments word ≡ Closed) ⊎
+      ((class_of arguments word ≡ Unknown) × (allows_hyphens_at arguments position ≡ false)))
       × AreBlocks position false bs
 
 -- where a node's words begin

@@ -3,13 +3,13 @@ use Rattle.std.specs.Prelude.{ℕ, suc, List, [], ◌∷◌, ◌+◌, Bool, true
 use Rattle.cc_arg.specs.declared.parts.ArgParts.{ArgParts as Arg}
 use Rattle.cc_command.specs.Tree.{Tree}
 use Rattle.cc_command.specs.Names.{find_child}
-use Rattle.cc_walk.specs.declared.sign.Sign.{Sign}
-use Rattle.cc_walk.specs.declared.sign.Sign.TheVariants.{Escape, Opens, Unknown, Closed, Plain}
+use Rattle.cc_walk.specs.declared.word_class.WordClass.{WordClass}
+use Rattle.cc_walk.specs.declared.word_class.WordClass.TheVariants.{Escape, Opens, Unknown, Closed, Plain}
 use Rattle.cc_walk.specs.declared.state.Pending.{Pending}
 use Rattle.cc_walk.specs.declared.state.Pending.TheVariants.{Nothing, OptionOpen, PositionalRun, PositionMoved}
 use Rattle.cc_walk.specs.declared.state.State.{State}
 use Rattle.cc_walk.specs.Lookup.{greatest, limit, allows_hyphens_at}
-use Rattle.cc_walk.specs.Signs.{sign_of}
+use Rattle.cc_walk.specs.WordClasses.{class_of}
 use Rattle.cc_walk.specs.Blocks.{follows, start}
 
 -- how many values the run has
@@ -41,7 +41,7 @@ option_state position option values =
     }
 
 -- an unescaped word that no option takes
-abbrev pub closed_step : List Arg → ℕ → ℕ → Sign → State
+abbrev pub closed_step : List Arg → ℕ → ℕ → WordClass → State
 closed_step arguments position values Escape =
     record { position = position; escaped = true; pending = Nothing }
 closed_step arguments position values (Opens option) =
@@ -54,26 +54,26 @@ closed_step arguments position values Unknown =
 closed_step arguments position values Plain = value_state arguments position false values
 
 -- an unescaped word while an option is open
-abbrev pub open_step : List Arg → ℕ → Arg → ℕ → Sign → State
-open_step arguments position option values sign =
-    if follows option sign then option_state position option (suc values)
-    else closed_step arguments position 0 sign
+abbrev pub open_step : List Arg → ℕ → Arg → ℕ → WordClass → State
+open_step arguments position option values class =
+    if follows option class then option_state position option (suc values)
+    else closed_step arguments position 0 class
 
 -- one word further at a node
-abbrev pub step : List Arg → ℕ → Bool → Pending → Sign → State
-step arguments position true pending sign = value_state arguments position true (run_length pending)
-step arguments position false (OptionOpen option values) sign =
-    open_step arguments position option values sign
-step arguments position false Nothing sign = closed_step arguments position 0 sign
-step arguments position false (PositionalRun values) sign =
-    closed_step arguments position values sign
-step arguments position false PositionMoved sign = closed_step arguments position 0 sign
+abbrev pub step : List Arg → ℕ → Bool → Pending → WordClass → State
+step arguments position true pending class = value_state arguments position true (run_length pending)
+step arguments position false (OptionOpen option values) class =
+    open_step arguments position option values class
+step arguments position false Nothing class = closed_step arguments position 0 class
+step arguments position false (PositionalRun values) class =
+    closed_step arguments position values class
+step arguments position false PositionMoved class = closed_step arguments position 0 class
 
 abbrev pub run : List Arg → State → List (List ℕ) → State
 run arguments state [] = state
 run arguments state (word ∷ words) =
     run arguments (step arguments state.position state.escaped state.pending
-    (sign_of arguments word)) words
+    (class_of arguments word)) words
 
 -- a node and the state there
 pub record NodeState : Type 0 where
@@ -87,7 +87,7 @@ entered here word None =
       tree = here.tree;
       state =
           step here.tree.node.arguments here.state.position here.state.escaped
-          here.state.pending (sign_of here.tree.node.arguments word);
+          here.state.pending (class_of here.tree.node.arguments word);
     }
 
 -- a word that names a child leads down, whatever is pending

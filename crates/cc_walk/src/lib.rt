@@ -2,12 +2,12 @@
 //! positional comes next, and which option still takes values.
 #![tactic(auto)]
 
-mod line;
 mod lookup;
-mod sign;
 mod state;
+mod walked;
+mod word_class;
 
-pub use crate::line::{Line, line_of};
 pub use crate::lookup::{has_long, has_short, positional_at, with_long};
-pub use crate::sign::{ArgRef, ValueCharacter, value_character};
 pub use crate::state::{Pending, State};
+pub use crate::walked::{Walked, walk};
+pub use crate::word_class::{ArgRef, ValueCharacter, value_character};

@@ -6,7 +6,7 @@ ghost use Rattle.std.specs.List.{list_any};
 ghost use Rattle.cc_command.specs.Names.{contains_name};
 ghost use Rattle.cc_walk.specs.Lookup.{has_long, has_short, is_at, positional_at, limit};
 ghost use Rattle.cc_walk.specs.Lookup.{allows_hyphens_at, greatest};
-ghost use Rattle.cc_walk.specs.Signs.{value_argument};
+ghost use Rattle.cc_walk.specs.WordClasses.{value_argument};
 
 use cc_arg::{Arg, counted_range};
 use cc_base::Text;

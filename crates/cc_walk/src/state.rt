@@ -2,11 +2,11 @@
 
 ghost use Rattle.std.specs.Prelude.{◌≡◌, ◌<◌, suc};
 ghost use Rattle.cc_walk.specs.Blocks.{start};
-ghost use Rattle.cc_walk.specs.Signs.{sign_of};
+ghost use Rattle.cc_walk.specs.WordClasses.{class_of};
 ghost use Rattle.cc_walk.specs.Machine.{value_state, option_state, closed_step, step, run_length};
 
 use crate::lookup::{allows_hyphens_at, greatest, limit};
-use crate::sign::{ArgRef, Sign, sign_of};
+use crate::word_class::{ArgRef, WordClass, class_of};
 use cc_arg::Arg;
 
 /// What may take more values after the words read so far.
@@ -99,21 +99,26 @@ impl<'a> State<'a> {
     }
 
     // After an unescaped word that no option takes, where a run of so many values comes before.
-    fn after_other(arguments: &[Arg], position: usize, values: usize, sign: Sign<'a>) -> State<'a>
+    fn after_other(
+        arguments: &[Arg],
+        position: usize,
+        values: usize,
+        class: WordClass<'a>,
+    ) -> State<'a>
         requires { position < usize.MAX }
-        ensures { result ≡ closed_step arguments.now position values sign.entry }
+        ensures { result ≡ closed_step arguments.now position values class.entry }
     {
-        let (escaped, pending) = match sign {
-            Sign::Plain => return State::after_value(arguments, position, false, values),
-            Sign::Unknown => {
+        let (escaped, pending) = match class {
+            WordClass::Plain => return State::after_value(arguments, position, false, values),
+            WordClass::Unknown => {
                 if allows_hyphens_at(arguments, position) {
                     return State::after_value(arguments, position, false, values);
                 }
                 (false, Pending::Nothing)
             }
-            Sign::Escape => (true, Pending::Nothing),
-            Sign::Opens(option) => (false, Pending::OptionOpen(option, 0)),
-            Sign::Closed => (false, Pending::Nothing),
+            WordClass::Escape => (true, Pending::Nothing),
+            WordClass::Opens(option) => (false, Pending::OptionOpen(option, 0)),
+            WordClass::Closed => (false, Pending::Nothing),
         };
         State {
             position,
@@ -126,7 +131,7 @@ impl<'a> State<'a> {
     pub(crate) fn step(self, arguments: &'a [Arg], word: &str) -> State<'a>
         requires { self.position < usize.MAX }
         ensures { result ≡ step arguments.now self.entry.position self.entry.escaped
-            self.entry.pending (sign_of arguments.now word.now) }
+            self.entry.pending (class_of arguments.now word.now) }
     {
         let State {
             position,
@@ -136,17 +141,19 @@ impl<'a> State<'a> {
         if escaped {
             return State::after_value(arguments, position, true, pending.run_length());
         }
-        let sign = sign_of(arguments, word);
+        let class = class_of(arguments, word);
         match pending {
             Pending::Nothing | Pending::PositionMoved => State::after_other(
-                arguments, position, 0, sign,
+                arguments, position, 0, class,
             ),
-            Pending::PositionalRun(values) => State::after_other(arguments, position, values, sign),
+            Pending::PositionalRun(values) => State::after_other(
+                arguments, position, values, class,
+            ),
             Pending::OptionOpen(option, values) => {
-                if sign.follows(option.get()) {
+                if class.follows(option.get()) {
                     State::after_option(position, option, values)
                 } else {
-                    State::after_other(arguments, position, 0, sign)
+                    State::after_other(arguments, position, 0, class)
                 }
             }
         }

@@ -132,11 +132,11 @@ pub use Rattle.cc_walk.specs.Blocks as WalkBlocks
 pub use Rattle.cc_walk.specs.Line as WalkLine
 pub use Rattle.cc_walk.specs.Lookup as WalkLookup
 pub use Rattle.cc_walk.specs.Reach as WalkReach
-pub use Rattle.cc_walk.specs.Signs as WalkSigns
+pub use Rattle.cc_walk.specs.WordClasses as WalkWordClasses
 pub use Rattle.cc_walk.specs.Visible as WalkVisible
 pub use Rattle.cc_walk.specs.Words as WalkWords
-pub use Rattle.cc_walk.specs.declared.sign.Sign as WalkSign
-pub use Rattle.cc_walk.specs.declared.sign.ValueCharacter as WalkValueCharacter
+pub use Rattle.cc_walk.specs.declared.word_class.WordClass as WalkWordClass
+pub use Rattle.cc_walk.specs.declared.word_class.ValueCharacter as WalkValueCharacter
 pub use Rattle.cc_walk.specs.declared.state.Pending as WalkPending
 pub use Rattle.cc_walk.specs.declared.state.State as WalkState
 pub use Rattle.cc_gather.specs.Children as OfferedChildren

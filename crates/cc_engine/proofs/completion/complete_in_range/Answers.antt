@@ -8,8 +8,8 @@ use Rattle.cc_engine.proofs.completion.complete_in_range.Goals as goal
 pub returns : goal.returns
 returns g c =
     IfOk-map c.offer_candidates.result
-    (λ found offered. completes _ c.args.command.now (tree_at c.in_ok-flat.flat 0) c.command-node.result.now (tree_at c.in_ok-flat.flat c.line_of-line.result.node) c.line_of-line.result.state
+    (λ found offered. completes _ c.args.command.now (tree_at c.in_ok-flat.flat 0) c.command-node.result.now (tree_at c.in_ok-flat.flat c.walk-line.result.node) c.walk-line.result.state
     (map string_bytes c.args.words.now) (map string_bytes c.words_before.result.now) c.args.index c.word_at-word.result.now found.items (text_at c.args.words.now c.args.index)
     c.in_ok-flat.ensures.root c.command-node.ensures
-    c.words_before.ensures c.word_at-word.ensures c.line_of-line.ensures.line c.line_of-line.ensures.only c.line_of-line.ensures.visible offered)
+    c.words_before.ensures c.word_at-word.ensures c.walk-line.ensures.line c.walk-line.ensures.only c.walk-line.ensures.visible offered)
     c.offer_candidates.ensures

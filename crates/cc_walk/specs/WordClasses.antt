@@ -2,9 +2,9 @@
 use Rattle.std.specs.Prelude.{ℕ, List, [], ◌∷◌, ◌&&◌, Bool, not, Option, Some, None, find, encode_utf8_all, if◌then◌else◌}
 use Rattle.cc_arg.specs.declared.parts.ArgParts.{ArgParts as Arg}
 use Rattle.cc_arg.specs.Arguments.{takes_values}
-use Rattle.cc_walk.specs.declared.sign.Sign.{Sign}
-use Rattle.cc_walk.specs.declared.sign.Sign.TheVariants.{Escape, Opens, Unknown, Closed, Plain}
-use Rattle.cc_walk.specs.declared.sign.ValueCharacter.{ValueCharacter}
+use Rattle.cc_walk.specs.declared.word_class.WordClass.{WordClass}
+use Rattle.cc_walk.specs.declared.word_class.WordClass.TheVariants.{Escape, Opens, Unknown, Closed, Plain}
+use Rattle.cc_walk.specs.declared.word_class.ValueCharacter.{ValueCharacter}
 use Rattle.cc_walk.specs.Lookup.{has_long, has_short}
 use Rattle.cc_walk.specs.Words.{Form, TwoHyphens, Long, Short, Other, form_of}
 
@@ -29,25 +29,25 @@ value_character arguments (c ∷ cs) =
     character_value (value_argument arguments c) cs (value_character arguments cs)
 
 -- an option is opened where its character is last
-abbrev pub last_sign : Arg → List ℕ → Sign
-last_sign argument [] = Opens argument
-last_sign argument (b ∷ bs) = Closed
+abbrev pub last_class : Arg → List ℕ → WordClass
+last_class argument [] = Opens argument
+last_class argument (b ∷ bs) = Closed
 
-abbrev pub cluster_sign : Option ValueCharacter → Sign
-cluster_sign None = Unknown
-cluster_sign (Some found) = last_sign found.argument found.after
+abbrev pub cluster_class : Option ValueCharacter → WordClass
+cluster_class None = Unknown
+cluster_class (Some found) = last_class found.argument found.after
 
-abbrev pub flag_sign : Option Arg → Bool → Sign
-flag_sign None with_equals = Unknown
-flag_sign (Some argument) with_equals =
+abbrev pub flag_class : Option Arg → Bool → WordClass
+flag_class None with_equals = Unknown
+flag_class (Some argument) with_equals =
     if takes_values argument && not with_equals then Opens argument else Closed
 
-abbrev pub sign_of_form : List Arg → Form → Sign
-sign_of_form arguments TwoHyphens = Escape
-sign_of_form arguments (Long flag with_equals) =
-    flag_sign (find (has_long flag) arguments) with_equals
-sign_of_form arguments (Short characters) = cluster_sign (value_character arguments characters)
-sign_of_form arguments Other = Plain
+abbrev pub class_of_form : List Arg → Form → WordClass
+class_of_form arguments TwoHyphens = Escape
+class_of_form arguments (Long flag with_equals) =
+    flag_class (find (has_long flag) arguments) with_equals
+class_of_form arguments (Short characters) = cluster_class (value_character arguments characters)
+class_of_form arguments Other = Plain
 
-unfoldable pub sign_of : List Arg → List ℕ → Sign
-sign_of arguments word = sign_of_form arguments (form_of word)
+unfoldable pub class_of : List Arg → List ℕ → WordClass
+class_of arguments word = class_of_form arguments (form_of word)

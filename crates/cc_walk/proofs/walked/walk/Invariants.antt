@@ -3,7 +3,7 @@ use Rattle.cc_flat.specs.Flat.{tree_at}
 use Rattle.cc_walk.specs.Machine.{walk}
 use Rattle.cc_walk.specs.NodeStates.{node_state_of}
 use Rattle.cc_walk.proofs.Whole.{walked}
-use Rattle.cc_walk.proofs.line.line_of.Given as goal
+use Rattle.cc_walk.proofs.walked.walk.Given as goal
 
 abbrev pub invariant-loop-word : goal.invariant-loop-word
 invariant-loop-word l = record {

@@ -12,7 +12,7 @@ use cc_flat::Flat;
 
 /// The node that words lead to, and the state at it.
 #[derive(Drop)]
-pub struct Line<'a> {
+pub struct Walked<'a> {
     /// The number of the node.
     pub node: usize,
     /// What the words after the last descent leave there.
@@ -25,7 +25,7 @@ pub struct Line<'a> {
 /// it. All other words after the last such word belong to the node that is reached. Allocates
 /// nothing; a word takes time that grows with the names of the node's children and with the count
 /// of its arguments.
-pub fn line_of<'a>(flat: &Flat<'a>, words: &[String]) -> Line<'a>
+pub fn walk<'a>(flat: &Flat<'a>, words: &[String]) -> Walked<'a>
     requires { IsFlat flat.now }
     ensures within { result.node < length flat.now }
     ensures line { IsLine (tree_at flat.now 0) (map string_bytes words.now)
@@ -39,7 +39,7 @@ pub fn line_of<'a>(flat: &Flat<'a>, words: &[String]) -> Line<'a>
         tree_at flat.now result.node
         ≡ visible_end (tree_at flat.now 0) (map string_bytes words.now) }
 {
-    let mut line = Line {
+    let mut line = Walked {
         node: 0,
         state: State::start(false),
     };
@@ -49,10 +49,10 @@ pub fn line_of<'a>(flat: &Flat<'a>, words: &[String]) -> Line<'a>
     line
 }
 
-impl<'a> Line<'a> {
+impl<'a> Walked<'a> {
     /// The line after one more word. A word that names a child leads to it, even where an option is
     /// open or `--` has been read.
-    fn advance(self, flat: &Flat<'a>, word: &str) -> Line<'a>
+    fn advance(self, flat: &Flat<'a>, word: &str) -> Walked<'a>
         requires flat { IsFlat flat.now }
         requires node { self.node < length flat.now }
         requires position { self.state.position < usize.MAX }
@@ -61,13 +61,13 @@ impl<'a> Line<'a> {
             ≡ node_state_step (node_state_of flat.now self.entry) word.now }
     {
         if let Some(child) = flat.find_child(self.node, word) {
-            return Line {
+            return Walked {
                 node: child,
                 state: State::start(self.state.escaped),
             };
         }
         let arguments = flat.command(self.node).get_arguments();
-        Line {
+        Walked {
             node: self.node,
             state: self.state.step(arguments, word),
         }

@@ -1,8 +1,8 @@
-//! The sign of a word: what it is to a node's arguments, whatever is before it.
+//! The class of a word: what it is to a node's arguments, whatever is before it.
 
 ghost use Rattle.std.specs.Prelude.{◌≡◌, chars, IfSome};
 ghost use Rattle.cc_walk.specs.Blocks.{follows};
-ghost use Rattle.cc_walk.specs.Signs.{cluster_sign, sign_of, sign_of_form, value_character};
+ghost use Rattle.cc_walk.specs.WordClasses.{cluster_class, class_of, class_of_form, value_character};
 ghost use Rattle.cc_walk.specs.Words.{EndsWith, Long};
 
 use crate::lookup::{value_argument, with_long};
@@ -40,9 +40,9 @@ impl<'a> ArgRef<'a> {
     }
 }
 
-/// The sign of a word: what it is to a node's arguments, whatever is before it.
+/// The class of a word: what it is to a node's arguments, whatever is before it.
 #[derive(Drop)]
-pub enum Sign<'a> {
+pub enum WordClass<'a> {
     /// `--`.
     Escape,
     /// A long word without `=`, or a short word that ends in the short of this option.
@@ -55,15 +55,16 @@ pub enum Sign<'a> {
     Plain,
 }
 
-impl<'a> Sign<'a> {
+impl<'a> WordClass<'a> {
     /// Whether an open option takes the word.
     pub(crate) fn follows(&self, option: &Arg) -> bool
         ensures { result ≡ follows option.now self.now }
     {
         match self {
-            Sign::Escape => false,
-            Sign::Plain => true,
-            Sign::Opens(_) | Sign::Unknown | Sign::Closed => option.is_allow_hyphen_values_set(),
+            WordClass::Escape => false,
+            WordClass::Plain => true,
+            WordClass::Opens(_) | WordClass::Unknown | WordClass::Closed =>
+                option.is_allow_hyphen_values_set(),
         }
     }
 }
@@ -101,54 +102,54 @@ pub fn value_character<'a, 'w>(
 }
 
 #[tactic(auto, using(crate::proofs::Cluster::opens_last, crate::proofs::Cluster::closed_before))]
-fn cluster_sign<'a>(arguments: &'a [Arg], characters: &str) -> Sign<'a>
-    ensures { result ≡ cluster_sign (value_character arguments.now (chars characters.now)) }
+fn cluster_class<'a>(arguments: &'a [Arg], characters: &str) -> WordClass<'a>
+    ensures { result ≡ cluster_class (value_character arguments.now (chars characters.now)) }
 {
     match value_character(arguments, characters) {
-        None => Sign::Unknown,
+        None => WordClass::Unknown,
         Some(found) => {
             if found.after.as_str().is_empty() {
-                Sign::Opens(found.argument)
+                WordClass::Opens(found.argument)
             } else {
-                Sign::Closed
+                WordClass::Closed
             }
         }
     }
 }
 
-fn flag_sign<'a>(arguments: &'a [Arg], flag: &str, with_equals: bool) -> Sign<'a>
-    ensures { result ≡ sign_of_form arguments.now (Long flag.now with_equals) }
+fn flag_class<'a>(arguments: &'a [Arg], flag: &str, with_equals: bool) -> WordClass<'a>
+    ensures { result ≡ class_of_form arguments.now (Long flag.now with_equals) }
 {
     match with_long(arguments, flag) {
-        None => Sign::Unknown,
+        None => WordClass::Unknown,
         Some(argument) => {
             if argument.takes_values() && !with_equals {
-                Sign::Opens(ArgRef::new(argument))
+                WordClass::Opens(ArgRef::new(argument))
             } else {
-                Sign::Closed
+                WordClass::Closed
             }
         }
     }
 }
 
 /// What the word is to a node with these arguments.
-pub(crate) fn sign_of<'a>(arguments: &'a [Arg], word: &str) -> Sign<'a>
-    ensures { result ≡ sign_of arguments.now word.now }
+pub(crate) fn class_of<'a>(arguments: &'a [Arg], word: &str) -> WordClass<'a>
+    ensures { result ≡ class_of arguments.now word.now }
 {
     let Some(after) = word.strip_prefix('-') else {
-        return Sign::Plain;
+        return WordClass::Plain;
     };
     if after.is_empty() {
-        return Sign::Plain;
+        return WordClass::Plain;
     }
     let Some(long) = after.strip_prefix('-') else {
-        return cluster_sign(arguments, after);
+        return cluster_class(arguments, after);
     };
     if long.is_empty() {
-        return Sign::Escape;
+        return WordClass::Escape;
     }
     match long.split_once('=') {
-        None => flag_sign(arguments, long, false),
-        Some((flag, _)) => flag_sign(arguments, flag, true),
+        None => flag_class(arguments, long, false),
+        Some((flag, _)) => flag_class(arguments, flag, true),
     }
 }

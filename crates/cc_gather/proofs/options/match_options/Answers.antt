@@ -3,7 +3,7 @@ use Rattle.std.proofs.lemmas.Result.{IfOk-weaker}
 use Rattle.std.proofs.lemmas.Str.Pattern.{strip_prefix_char}
 use Rattle.cc_gather.specs.Rows.{Listed}
 use Rattle.cc_gather.proofs.WordKinds.{row_plain, row_dash, row_short, row_two, row_long}
-use Rattle.cc_gather.proofs.options.option_row.Goals as goal
+use Rattle.cc_gather.proofs.options.match_options.Goals as goal
 
 pub returns-in_default : goal.returns-in_default
 returns-in_default c =

@@ -2,7 +2,7 @@ use Rattle.std.proofs.Common.{◌∙◌, sym, lit<, None}
 use Rattle.std.specs.String.{string_bytes}
 use Rattle.std.proofs.lemmas.Str.Pattern.{strip_prefix_char}
 use Rattle.cc_gather.proofs.WordKinds.{asked_plain}
-use Rattle.cc_gather.proofs.options.value_asked_after.Goals as goal
+use Rattle.cc_gather.proofs.options.value_query_after.Goals as goal
 
 pub returns-in_default : goal.returns-in_default
 returns-in_default c =

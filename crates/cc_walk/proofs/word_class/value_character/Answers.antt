@@ -2,9 +2,9 @@ use Rattle.std.proofs.Common.{ℕ, List, sym, ◌∙◌, ap, subst, Some}
 use Rattle.std.proofs.lemmas.Str.{IsUtf8-past_char}
 use Rattle.cc_arg.specs.declared.parts.ArgParts.{ArgParts as Arg}
 use Rattle.cc_walk.specs.Words.{EndsWith}
-use Rattle.cc_walk.specs.declared.sign.ValueCharacter.{ValueCharacter}
+use Rattle.cc_walk.specs.declared.word_class.ValueCharacter.{ValueCharacter}
 use Rattle.cc_walk.proofs.Cluster.{ends_more, past_end, past_found, past_none}
-use Rattle.cc_walk.proofs.sign.value_character.Goals as goal
+use Rattle.cc_walk.proofs.word_class.value_character.Goals as goal
 
 pub returns-in-Some-value_argument-clause-value : goal.returns-in-Some-value_argument-clause-value
 returns-in-Some-value_argument-clause-value c =

@@ -5,7 +5,7 @@ use Rattle.cc_walk.specs.Machine.{node_state_step, walk}
 use Rattle.cc_walk.specs.NodeStates.{node_state_of}
 use Rattle.cc_walk.proofs.Position.{node_state_position}
 use Rattle.cc_walk.proofs.Whole.{drop_more, line_there, only_line_there, visible_there}
-use Rattle.cc_walk.proofs.line.line_of.Goals as goal
+use Rattle.cc_walk.proofs.walked.walk.Goals as goal
 
 pub loop-word-preserved : goal.loop-word-preserved
 loop-word-preserved c =
