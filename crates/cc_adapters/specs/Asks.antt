@@ -1,8 +1,8 @@
 -- What adapters ask for, of an environment and some words: words again, and the index of the one to
 -- complete.
 use Rattle.std.specs.Prelude.{◌≡◌, ◌==◌, ◌-◌, ◌++◌, ℕ, List, [], ◌∷◌, length, if◌then◌else◌}
-use Rattle.cc_env.specs.Environment.{IsIndex, index_name, value_of}
-use Rattle.cc_env.specs.declared.environment.EnvValues.{EnvValues}
+use Rattle.cc_replies.specs.Environment.{IsIndex, index_name, value_of}
+use Rattle.cc_replies.specs.declared.environment.EnvValues.{EnvValues}
 
 -- these words, at this index
 abbrev pub AsksFor : List (List ℕ) → ℕ → List (List ℕ) → ℕ → Type 0

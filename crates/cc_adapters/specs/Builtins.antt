@@ -7,10 +7,10 @@ use Rattle.cc_adapters.specs.declared.builtin.Builtin.{Builtin}
 use Rattle.cc_adapters.specs.declared.builtin.Builtin.TheVariants.{Bash, Elvish, Fish}
 use Rattle.cc_adapters.specs.declared.builtin.Builtin.TheVariants.{Powershell, Zsh}
 use Rattle.cc_candidates.specs.declared.candidate.CompletionCandidate.{CompletionCandidate}
-use Rattle.cc_env.specs.Environment.{separator_of}
-use Rattle.cc_env.specs.Reply.{LinesRead, ValuesRead, ZshReplyRead}
-use Rattle.cc_env.specs.Reply.{lines_reply, values_reply, zsh_reply}
-use Rattle.cc_env.specs.declared.environment.EnvValues.{EnvValues}
+use Rattle.cc_replies.specs.Environment.{separator_of}
+use Rattle.cc_replies.specs.Reply.{LinesRead, ValuesRead, ZshReplyRead}
+use Rattle.cc_replies.specs.Reply.{lines_reply, values_reply, zsh_reply}
+use Rattle.cc_replies.specs.declared.environment.EnvValues.{EnvValues}
 use Rattle.cc_registrations.specs.BashRegistration.{BashReads, bash_registration}
 use Rattle.cc_registrations.specs.ElvishRegistration.{ElvishReads, elvish_registration}
 use Rattle.cc_registrations.specs.FishRegistration.{FishReads, fish_registration}

@@ -11,8 +11,8 @@ use crate::zsh::Zsh;
 use cc_base::{Error, Sink};
 use cc_candidates::Completers;
 use cc_command::Command;
-use cc_env::EnvValues;
 use cc_paths::Folder;
+use cc_replies::EnvValues;
 use std::alloc::Global;
 
 /// The adapters of this library. As an adapter each does what the type of its name does.

@@ -13,8 +13,8 @@ ghost use Rattle.cc_values.specs.Values.{lent_by};
 use cc_base::{Error, Sink};
 use cc_candidates::{CandidateSources, Completers};
 use cc_command::Command;
-use cc_env::EnvValues;
 use cc_paths::Folder;
+use cc_replies::EnvValues;
 use std::alloc::Global;
 
 /// An adapter for a shell: what the shell is told to run for the words of a program, and how it is

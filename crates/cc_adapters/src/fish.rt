@@ -7,9 +7,9 @@ use crate::reply::{Lines, last_index, reply_at};
 use cc_base::{Error, Sink};
 use cc_candidates::Completers;
 use cc_command::Command;
-use cc_env::EnvValues;
 use cc_paths::Folder;
 use cc_registrations::write_fish;
+use cc_replies::EnvValues;
 use std::alloc::Global;
 
 /// The adapter for fish.

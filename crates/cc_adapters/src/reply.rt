@@ -8,15 +8,15 @@ ghost use Rattle.cc_base.specs.Writes.{IsWrite, Writes};
 ghost use Rattle.cc_candidates.specs.declared.candidate.CompletionCandidate.{CompletionCandidate};
 ghost use Rattle.cc_engine.specs.Completion.{Completes};
 ghost use Rattle.cc_engine.specs.Paths.{PathsOf};
-ghost use Rattle.cc_env.specs.Reply.{lines_reply, values_reply, zsh_reply};
+ghost use Rattle.cc_replies.specs.Reply.{lines_reply, values_reply, zsh_reply};
 ghost use Rattle.cc_values.specs.Values.{lent_by};
 
 use cc_base::{Error, Sink};
 use cc_candidates::{CandidateSources, Completers, CompletionCandidate};
 use cc_command::Command;
 use cc_engine::complete;
-use cc_env::{write_lines, write_values, write_zsh_items};
 use cc_paths::Folder;
+use cc_replies::{write_lines, write_values, write_zsh_items};
 use std::alloc::Global;
 
 /// The format in which a shell reads candidates.

@@ -9,9 +9,9 @@ use crate::reply::{ZshItems, reply_at};
 use cc_base::{Error, Sink};
 use cc_candidates::Completers;
 use cc_command::Command;
-use cc_env::EnvValues;
 use cc_paths::Folder;
 use cc_registrations::write_zsh;
+use cc_replies::EnvValues;
 use std::alloc::{AllocError, Global};
 
 /// The adapter for zsh.

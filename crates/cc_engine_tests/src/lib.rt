@@ -19,6 +19,8 @@ mod offered;
 #[cfg(test)]
 mod order;
 #[cfg(test)]
+mod path_candidates;
+#[cfg(test)]
 mod paths;
 #[cfg(test)]
 mod possible;

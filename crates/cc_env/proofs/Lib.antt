@@ -1,4 +1,5 @@
+pub mod Ending
 mod Examples
-pub mod FirstLines
-pub mod ReplyLaws
-pub mod ReplyReadings
+pub mod InMemory
+pub mod LastWords
+pub mod Texts

@@ -1,10 +1,10 @@
-//! Live completion: values of environment variables, and the replies to shells.
+//! Live completion: what a program writes where its shell asks it for a registration or for
+//! candidates.
 #![tactic(auto)]
 
-mod environment;
-mod readable;
-mod reply;
+mod arguments;
+mod asked;
+mod complete_env;
+mod text;
 
-pub use crate::environment::EnvValues;
-pub use crate::readable::{are_readable_lines, are_readable_values, are_readable_zsh_items};
-pub use crate::reply::{write_lines, write_values, write_zsh_items};
+pub use crate::complete_env::CompleteEnv;

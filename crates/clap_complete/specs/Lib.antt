@@ -159,15 +159,15 @@ pub use Rattle.cc_base.specs.Found as FoundTexts
 pub use Rattle.cc_registrations.specs.Names as RegistrationNames
 pub use Rattle.cc_registrations.specs.PowershellRegistration
 pub use Rattle.cc_registrations.specs.ZshRegistration
-pub use Rattle.cc_env.specs.Environment as EnvironmentValues
-pub use Rattle.cc_env.specs.declared.environment.EnvValues
-pub use Rattle.cc_env.specs.Reply as ShellReplies
+pub use Rattle.cc_replies.specs.Environment as EnvironmentValues
+pub use Rattle.cc_replies.specs.declared.environment.EnvValues
+pub use Rattle.cc_replies.specs.Reply as ShellReplies
 pub use Rattle.cc_adapters.specs.Asks as ShellAsks
 pub use Rattle.cc_adapters.specs.Builtins as BuiltinShells
 pub use Rattle.cc_adapters.specs.Replies as AdapterReplies
 pub use Rattle.cc_adapters.specs.ShellNames
 pub use Rattle.cc_adapters.specs.Shells as OfferedShells
 pub use Rattle.cc_adapters.specs.declared.builtin.Builtin
-pub use Rattle.cc_requests.specs.Arguments as RequestArguments
-pub use Rattle.cc_requests.specs.Asked as RequestedShell
-pub use Rattle.cc_requests.specs.Steps as RequestSteps
+pub use Rattle.cc_env.specs.Arguments as RequestArguments
+pub use Rattle.cc_env.specs.Asked as RequestedShell
+pub use Rattle.cc_env.specs.Steps as RequestSteps

@@ -3,6 +3,6 @@
 pub use cc_adapters::{
     Bash, Builtin, Elvish, EnvCompleter, Fish, Powershell, ShellNames, Shells, Zsh,
 };
-pub use cc_env::{EnvValues, are_readable_lines, are_readable_values, are_readable_zsh_items};
+pub use cc_env::CompleteEnv;
 pub use cc_quote::is_plain_path;
-pub use cc_requests::CompleteEnv;
+pub use cc_replies::{EnvValues, are_readable_lines, are_readable_values, are_readable_zsh_items};

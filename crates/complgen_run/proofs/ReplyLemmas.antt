@@ -17,7 +17,7 @@ use Rattle.clap_complete.specs.Error.TheVariants as error
 use Rattle.clap_complete.specs.Failures.{Failures}
 use Rattle.clap_complete.specs.Tree.{Tree}
 use Rattle.clap_complete.specs.Writes.{IsWrite, Writes}
-use Rattle.cc_env.specs.Reply.{LinesRead, lines_reply}
+use Rattle.cc_replies.specs.Reply.{LinesRead, lines_reply}
 use Rattle.complgen_run.specs.Ends.{Ends, EndsReply}
 use Rattle.complgen_run.specs.Refusals.{Reports}
 use Rattle.complgen_run.specs.Replies.{AreFound, FindsNone, IsOutOfRange, IsReply, Paths, only_paths}

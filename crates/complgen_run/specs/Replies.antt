@@ -10,7 +10,7 @@ use Rattle.clap_complete.specs.Tree.{Tree}
 use Rattle.clap_complete.specs.ValueHint.{ValueHint}
 use Rattle.complgen_command_line.specs.Refusals.{IsRefusal}
 use Rattle.complgen_command_line.specs.declared.types.Refusal.{Refusal}
-use Rattle.cc_env.specs.Reply.{LinesRead, lines_reply}
+use Rattle.cc_replies.specs.Reply.{LinesRead, lines_reply}
 use Rattle.complgen_run.specs.Refusals.{error_line}
 
 -- the paths that may be found for a value hint and a text

@@ -8,7 +8,7 @@ ghost use Rattle.complgen_run.specs.Replies.{AreFound, FindsNone};
 
 use crate::refusals::error_refusal;
 use crate::tree_files::tree;
-use cc_env::write_lines;
+use cc_replies::write_lines;
 use clap_complete::Error;
 use clap_complete::aot::Sink;
 use clap_complete::command::Command;

@@ -1,8 +1,8 @@
 use Rattle.std.proofs.Common.{refl}
 use Rattle.cc_adapters.proofs.Replying.{replied_between}
-use Rattle.cc_env.proofs.ReplyLaws.{values_reads}
-use Rattle.cc_env.specs.Environment.{separator_of}
-use Rattle.cc_env.specs.Reply.{values_reply}
+use Rattle.cc_replies.proofs.ReplyLaws.{values_reads}
+use Rattle.cc_replies.specs.Environment.{separator_of}
+use Rattle.cc_replies.specs.Reply.{values_reply}
 use Rattle.cc_adapters.proofs.bash.BashEnvCompleter.write_complete.Goals as goal
 
 pub returns-clause-reply : goal.returns-clause-reply

@@ -1,7 +1,7 @@
 use Rattle.std.proofs.Common.{◌-◌, ◌∙◌, ap, length, refl, string_bytes, sym}
 use Rattle.std.proofs.lemmas.List.{length-map}
 use Rattle.cc_adapters.proofs.Replying.{replied_as_told}
-use Rattle.cc_env.proofs.ReplyReadings.{lines_back}
+use Rattle.cc_replies.proofs.ReplyReadings.{lines_back}
 use Rattle.cc_adapters.proofs.fish.FishEnvCompleter.write_complete.Goals as goal
 
 pub returns-clause-reply : goal.returns-clause-reply

@@ -1,7 +1,7 @@
 use Rattle.cc_adapters.proofs.Replying.{out_of_memory, replied_between}
-use Rattle.cc_env.proofs.ReplyLaws.{zsh_reads}
-use Rattle.cc_env.specs.Environment.{separator_of}
-use Rattle.cc_env.specs.Reply.{zsh_reply}
+use Rattle.cc_replies.proofs.ReplyLaws.{zsh_reads}
+use Rattle.cc_replies.specs.Environment.{separator_of}
+use Rattle.cc_replies.specs.Reply.{zsh_reply}
 use Rattle.cc_adapters.proofs.zsh.ZshEnvCompleter.write_complete.Goals as goal
 
 pub returns-clause-reply : goal.returns-clause-reply

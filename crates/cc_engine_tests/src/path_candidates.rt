@@ -1,0 +1,5 @@
+//! Tests of paths as candidates.
+
+mod completers;
+mod folders;
+mod shown;

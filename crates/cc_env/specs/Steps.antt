@@ -1,0 +1,143 @@
+-- What a program does where its environment may ask for a completion.
+use Rattle.std.specs.Prelude.{◌≡◌, ◌≢◌, ◌++◌, ⊤, ℕ, Bool, true, false, List, [], ◌∷◌, map, Option, unwrap_or, Result, Ok, Err, IfErr, IfOk}
+use Rattle.std.specs.declared.io.ErrorKind.{ErrorKind}
+use Rattle.cc_adapters.specs.Builtins.{CompleterSpec}
+use Rattle.cc_adapters.specs.Replies.{AsksInRange, AsksOutOfRange, IsReply}
+use Rattle.cc_base.specs.Collected.{collected_bytes}
+use Rattle.cc_base.specs.Sink.{add_failure}
+use Rattle.cc_base.specs.declared.collected.Collected.{Collected}
+use Rattle.cc_base.specs.declared.error.Error.{Error}
+use Rattle.cc_base.specs.declared.error.Error.TheVariants.{Memory, NoArguments, NoCompletion, Write}
+use Rattle.cc_base.specs.declared.failures.Failures.{Failures}
+use Rattle.cc_candidates.specs.declared.candidate.CompletionCandidate.{CompletionCandidate}
+use Rattle.cc_command.specs.Built.{built_tree}
+use Rattle.cc_command.specs.Names.{full_name}
+use Rattle.cc_command.specs.Tree.{Tree}
+use Rattle.cc_replies.specs.declared.environment.EnvValues.{EnvValues}
+use Rattle.cc_env.specs.Arguments.{after_dashes, program_path}
+use Rattle.cc_env.specs.Asked.{Asked, IsUnknownShell, asked_of, known, nothing, unknown}
+
+-- ---- the registration
+
+-- what a registration is made of
+pub record Names : Type 0 where
+  pub variable : List ℕ
+  pub name : List ℕ
+  pub bin : List ℕ
+  pub completer : List ℕ
+
+-- the completer that is given, else the path of the program
+abbrev pub completer_path : Option (List ℕ) → Option (List ℕ) → List ℕ → List ℕ
+completer_path completer current program = unwrap_or completer (program_path current program)
+
+-- the variable; the tree's name; the binary that is given, else the tree's full name; the completer
+abbrev pub names_of : List ℕ → Option (List ℕ) → Option (List ℕ) → Option (List ℕ) → List ℕ → Tree
+    → Names
+names_of variable bin completer current program tree = record {
+  variable = variable;
+  name = tree.node.name;
+  bin = unwrap_or bin (full_name tree.node);
+  completer = completer_path completer current program;
+}
+
+-- the text is the registration of these names, and what it is read as holds
+pub record IsRegistration (shell : CompleterSpec) (names : Names) (text : List ℕ) : Type 0 where
+  pub is : text ≡ shell.registration names.variable names.name names.bin names.completer
+  pub read_back : shell.Reads names.variable names.name names.bin names.completer
+
+-- ---- the reply
+
+-- How the reply ends, over a built tree: candidates that may be offered for what is asked for are
+-- replied, the index that is asked for is in range, and what replies are read as holds; the index
+-- is out of range; or memory ran out.
+abbrev pub RepliesAs : CompleterSpec → EnvValues → List (List ℕ)
+    → (List (List ℕ) → ℕ → List CompletionCandidate → Type 0) → Tree
+    → Result (List ℕ) Error → Type 0
+RepliesAs shell env words Offers tree (Ok text) =
+    AsksInRange tree (shell.Asks env words)
+    × IsReply (shell.Asks env words) Offers (shell.reply env) text
+    × ((candidates : List CompletionCandidate) → shell.ReplyReads env candidates)
+RepliesAs shell env words Offers tree (Err Memory) = ⊤
+RepliesAs shell env words Offers tree (Err NoCompletion) =
+    AsksOutOfRange tree (shell.Asks env words)
+RepliesAs shell env words Offers tree (Err _) = ⊥
+
+-- the tree is built, as a fact, where a text is made or the index is out of range; nothing is said
+-- where memory ran out
+abbrev pub BuiltUnlessMemory : Result (List ℕ) Error → Type 0 → Type 0
+BuiltUnlessMemory (Ok text) Built = Built
+BuiltUnlessMemory (Err Memory) Built = ⊤
+BuiltUnlessMemory (Err NoCompletion) Built = Built
+BuiltUnlessMemory (Err _) Built = ⊥
+
+-- ---- the text
+
+-- How making the text ends for a shell that is known. `Makes` says what the factory may return,
+-- `names` what the registration of a program and a tree is made of, and `Offers` which candidates
+-- may be offered over a tree.
+pub data MakesText (Makes : Result Tree Error → Type 0) (shell : CompleterSpec)
+    (names : List ℕ → Tree → Names) (env : EnvValues)
+    (Offers : Tree → List (List ℕ) → ℕ → List CompletionCandidate → Type 0)
+    : List (List ℕ) → Result (List ℕ) Error → Type 0 where
+  -- the factory fails
+  factory_failed : (arguments : List (List ℕ)) (error : Error) → Makes (Err error)
+      → MakesText Makes shell names env Offers arguments (Err error)
+  -- out of memory
+  out_of_memory : (arguments : List (List ℕ))
+      → MakesText Makes shell names env Offers arguments (Err Memory)
+  -- the factory makes a command, and there are no arguments
+  no_arguments : (tree : Tree) → Makes (Ok tree)
+      → MakesText Makes shell names env Offers [] (Err NoArguments)
+  -- no words follow a `--`: the registration
+  registered : (tree : Tree) (program : List ℕ) (rest : List (List ℕ)) (text : List ℕ)
+      → Makes (Ok tree) → after_dashes rest ≡ [] → IsRegistration shell (names program (built_tree tree)) text
+      → MakesText Makes shell names env Offers (program ∷ rest) (Ok text)
+  -- words follow: the reply to them
+  replied : (tree : Tree) (program : List ℕ) (rest : List (List ℕ))
+      (result : Result (List ℕ) Error) → Makes (Ok tree) → after_dashes rest ≢ []
+      → RepliesAs shell env (after_dashes rest) (Offers (built_tree tree)) (built_tree tree) result
+      → MakesText Makes shell names env Offers (program ∷ rest) result
+
+-- a put into memory that failed is out of memory
+abbrev pub in_memory : Result (Unit {0}) Error → Result (Unit {0}) Error
+in_memory (Err (Write _)) = Err Memory
+in_memory result = result
+
+-- the bytes of a text that was made in memory
+abbrev pub made_bytes : Result Collected Error → Result (List ℕ) Error
+made_bytes (Ok text) = Ok (collected_bytes text)
+made_bytes (Err error) = Err error
+
+-- ---- the whole call
+
+-- How the whole call ends for a shell that is known. The text is made first; nothing is written,
+-- and no write failed, where that fails.
+pub data Ends {S : Type 0} (taken : S → List ℕ) (failed : S → Failures)
+    (Makes : Result (List ℕ) Error → Type 0) (old new : S) : Result Bool Error → Type 0 where
+  -- no text is made
+  nothing_written : (error : Error) → Makes (Err error) → new ≡ old
+      → Ends taken failed Makes old new (Err error)
+  -- a write failed, which is counted with its kind; how much was written is left open
+  write_failed : (text : List ℕ) (kind : ErrorKind) → Makes (Ok text)
+      → failed new ≡ add_failure kind (failed old)
+      → Ends taken failed Makes old new (Err (Write kind))
+  -- the text is written
+  text_written : (text : List ℕ) → Makes (Ok text) → taken new ≡ taken old ++ text
+      → failed new ≡ failed old → Ends taken failed Makes old new (Ok true)
+
+-- What the whole call does, by what is asked for: nothing, a shell that there is not, or a shell.
+abbrev pub EndsAs : {S C : Type 0} → (S → List ℕ) → (S → Failures) → List (List ℕ)
+    → (C → Result (List ℕ) Error → Type 0) → Asked C → S → S → Result Bool Error → Type 0
+EndsAs taken failed names Makes nothing old new result = (result ≡ Ok false) × (new ≡ old)
+EndsAs taken failed names Makes (unknown name) old new result =
+    IfOk result (λ _. ⊥) × IfErr result (IsUnknownShell names name) × (new ≡ old)
+EndsAs taken failed names Makes (known shell) old new result =
+    Ends taken failed (Makes shell) old new result
+
+-- The same of these shells, for the name that is asked for, where one is. `Makes` says how making
+-- the text ends for a shell.
+abbrev pub Tries : {S C : Type 0} → (S → List ℕ) → (S → Failures) → (C → CompleterSpec) → List C
+    → (C → Result (List ℕ) Error → Type 0) → Option (List ℕ) → S → S → Result Bool Error → Type 0
+Tries taken failed spec shells Makes name old new result =
+    EndsAs taken failed (map (λ shell. (spec shell).name) shells) Makes
+    (asked_of (λ shell. (spec shell).named) shells name) old new result

@@ -1,0 +1,56 @@
+//! The arguments of a program.
+
+ghost use Rattle.std.specs.Prelude.{◌≡◌, ◌≤◌, ◌-◌, drop, length, map, IfOk};
+ghost use Rattle.std.specs.Option.{option_copied};
+ghost use Rattle.std.specs.String.{string_bytes};
+ghost use Rattle.cc_env.specs.Arguments.{after_dashes, has_folder, program_path};
+
+use cc_base::Text;
+use cc_paths::{join, trim_trailing};
+use std::alloc::{AllocError, Global};
+
+/// The words after the first `--`; none without one.
+pub(crate) fn after_dashes(words: &[String]) -> &[String]
+    ensures { map string_bytes result.now ≡ after_dashes (map string_bytes words.now) }
+{
+    let mut left = words;
+    while let Some((word, rest)) = left.split_first() {
+        if word.as_str() == "--" {
+            return rest;
+        }
+        left = rest;
+    }
+    left
+}
+
+/// The last texts, as many as there are said to be.
+pub(crate) fn keep_last(mut texts: Vec<String>, count: usize) -> Vec<String>
+    requires { count ≤ length texts.items }
+    ensures { result.items ≡ drop (length texts.items - count) texts.items }
+{
+    let before = texts.len() - count;
+    texts.drain(..before);
+    texts
+}
+
+/// The path by which a shell runs the program of this first argument: one that leads through a
+/// folder is joined to the current folder, where that is given. Fails where memory runs out.
+pub(crate) fn program_path(
+    alloc: Global,
+    current_dir: Option<&str>,
+    program: &str,
+) -> Result<Text, AllocError>
+    ensures { IfOk result (λ path.
+        path ≡ program_path (option_copied current_dir.entry) program.now) }
+{
+    match current_dir {
+        Some(current) if has_folder(program) => Ok(Text::from(join(alloc, current, program)?)),
+        _ => Text::copy_of(alloc, program),
+    }
+}
+
+fn has_folder(path: &str) -> bool
+    ensures { result ≡ has_folder path.now }
+{
+    trim_trailing(path).as_bytes().contains(&b'/')
+}

@@ -1,0 +1,55 @@
+//! Which candidates replies are sure to be read as.
+
+use cc_candidates::CompletionCandidate;
+use cc_replies::{are_readable_lines, are_readable_values, are_readable_zsh_items};
+use std::alloc::{AllocError, Global};
+use std::process::Abort;
+
+const VERTICAL_TAB: u8 = 11;
+
+fn candidate(alloc: Global, value: &str, help: &str) -> Result<CompletionCandidate, AllocError> {
+    let help = String::from_str(alloc, help)?;
+    Ok(CompletionCandidate::new(String::from_str(alloc, value)?).help(Some(help)))
+}
+
+// Fails unless a reply of one candidate with a help is so to bash and Elvish, to zsh, and to fish
+// and PowerShell.
+fn readable<R: Abort + AllocGlobal>(
+    rt: &R,
+    value: &str,
+    help: &str,
+    separator: u8,
+    wanted: (bool, bool, bool),
+) {
+    let one = candidate(rt.alloc(), value, help).expect(rt, "no candidate");
+    let candidates = [one];
+    assert!(rt; are_readable_values(&candidates, separator) == wanted.0);
+    assert!(rt; are_readable_zsh_items(&candidates, separator) == wanted.1);
+    assert!(rt; are_readable_lines(&candidates) == wanted.2);
+}
+
+#[test]
+fn most_candidates_are_read_by_all(rt: HostRuntime) {
+    readable(&rt, "a:b c", "d:e\tf", b'\n', (true, true, true));
+    readable(&rt, "a", "b\nc\nd", VERTICAL_TAB, (true, true, true));
+}
+
+#[test]
+fn a_help_matters_to_zsh_alone(rt: HostRuntime) {
+    readable(&rt, "a", "x\u{b}y", VERTICAL_TAB, (true, false, true));
+    readable(&rt, "a", "x\n\u{b}y", VERTICAL_TAB, (true, true, true));
+}
+
+#[test]
+fn values_matter_to_all(rt: HostRuntime) {
+    readable(&rt, "a\tb", "", b'\n', (true, true, false));
+    readable(&rt, "a\nb", "", b'\n', (false, false, false));
+    readable(&rt, "a\nb", "", VERTICAL_TAB, (true, true, false));
+    readable(&rt, "", "b", b'\n', (false, false, true));
+}
+
+#[test]
+fn zsh_has_marks_of_its_own(rt: HostRuntime) {
+    readable(&rt, "a", "b", b':', (true, false, true));
+    readable(&rt, "a", "b", b'\\', (true, false, true));
+}

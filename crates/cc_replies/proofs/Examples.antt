@@ -1,0 +1,135 @@
+-- What indexes count as, and replies as shells are sent them.
+use Rattle.std.proofs.Common.{◌≡◌, ◌++◌, ℕ, true, false, List, [], ◌∷◌, Some, None, arith, codes, refl}
+use Rattle.cc_candidates.specs.Candidate.{new_candidate}
+use Rattle.cc_candidates.specs.declared.candidate.CompletionCandidate.{CompletionCandidate}
+use Rattle.cc_replies.specs.Environment.{IsIndex}
+use Rattle.cc_replies.specs.Reply.{are_readable_lines, are_readable_values, are_readable_zsh_items, colon_help, first_line, lines_reply, shown_line}
+use Rattle.cc_replies.specs.Reply.{tab_help, values_read, values_reply, without_return, zsh_item, zsh_reply}
+use Rattle.cc_replies.proofs.ReplyReadings.{values_back}
+use Rattle.cc_base.specs.Found.{after, cut_at, with_front}
+
+-- ---- indexes
+
+two_row : IsIndex (Some (codes "2")) 2
+two_row = record { number = λ _. refl; other = λ none. absurd (none (grind arith)) }
+
+plus_row : IsIndex (Some (codes "+2")) 2
+plus_row = record { number = λ _. refl; other = λ none. absurd (none (grind arith)) }
+
+word_row : IsIndex (Some (codes "one")) 0
+word_row = record { number = grind arith; other = λ _. refl }
+
+empty_row : IsIndex (Some (codes "")) 0
+empty_row = record { number = grind arith; other = λ _. refl }
+
+minus_row : IsIndex (Some (codes "-1")) 0
+minus_row = record { number = grind arith; other = λ _. refl }
+
+-- 2 ^ 64, which no `usize` is
+large_row : IsIndex (Some (codes "18446744073709551616")) 0
+large_row = record { number = grind arith; other = λ _. refl }
+
+huge_row : IsIndex (Some (codes "99999999999999999999")) 0
+huge_row = record { number = grind arith; other = λ _. refl }
+
+unset_row : IsIndex None 0
+unset_row = refl
+
+-- ---- replies
+
+-- a candidate with a help
+abbrev helped : List ℕ → List ℕ → CompletionCandidate
+helped value help = record (new_candidate value) { help = Some help }
+
+-- two values for bash, which sets a vertical tab between them
+bash_row :
+    values_reply (11 ∷ [])
+    (new_candidate (codes "t") ∷ helped (codes "help") (codes "Print") ∷ [])
+    ≡ codes "t" ++ 11 ∷ codes "help"
+bash_row = refl
+
+elvish_row :
+    values_reply (codes "\n")
+    (new_candidate (codes "t") ∷ new_candidate (codes "help") ∷ [])
+    ≡ codes "t\nhelp"
+elvish_row = refl
+
+-- a colon in a value and one in a help
+zsh_row :
+    zsh_reply (codes "\n")
+    (helped (codes "a:b") (codes "c:d\ne") ∷ new_candidate (codes "t") ∷ [])
+    ≡ codes "a\\:b:c:d\nt"
+unfolding zsh_item colon_help after cut_at with_front first_line without_return
+zsh_row = refl
+
+fish_row :
+    lines_reply
+    (helped (codes "--help") (codes "Print help\r\nand more") ∷ new_candidate (codes "t") ∷ [])
+    ≡ codes "--help\tPrint help\nt\n"
+unfolding shown_line tab_help after cut_at with_front first_line without_return
+fish_row = refl
+
+-- ---- the candidates of `app`, which has a child `test` shown as `t`, for an empty word
+
+abbrev three : List CompletionCandidate
+three =
+    new_candidate (codes "t")
+    ∷ helped (codes "help") (codes "Print this message or the help of the given subcommand(s)")
+    ∷ helped (codes "--help") (codes "Print help") ∷ []
+
+three_elvish_row : values_reply (codes "\n") three ≡ codes "t\nhelp\n--help"
+three_elvish_row = refl
+
+three_zsh_row : zsh_reply (codes "\n") three
+    ≡ codes "t\nhelp:Print this message or the help of the given subcommand(s)\n--help:Print help"
+unfolding zsh_item colon_help after cut_at with_front first_line without_return
+three_zsh_row = refl
+
+three_fish_row : lines_reply three
+    ≡ codes "t\nhelp\tPrint this message or the help of the given subcommand(s)\n--help\tPrint help\n"
+unfolding shown_line tab_help after cut_at with_front first_line without_return
+three_fish_row = refl
+
+-- their replies are read back, with either separator that shells set
+three_values_row : are_readable_values 11 three ≡ true
+three_values_row = refl
+
+three_zsh_items_row : are_readable_zsh_items 10 three ≡ true
+unfolding after cut_at with_front first_line without_return
+three_zsh_items_row = refl
+
+three_lines_row : are_readable_lines three ≡ true
+three_lines_row = refl
+
+-- a help with the separator in its first line, and a value with a tab
+abbrev spread : List CompletionCandidate
+spread = helped (codes "a\tb") (codes "x" ++ 11 ∷ codes "y\nz") ∷ []
+
+-- bash and Elvish are sent no help, and a tab is between no values
+spread_values_row : values_read 11 (values_reply (11 ∷ []) spread) ≡ codes "a\tb" ∷ []
+spread_values_row = values_back 11 spread refl
+
+-- zsh is sent the help
+spread_zsh_items_row : are_readable_zsh_items 11 spread ≡ false
+unfolding after cut_at with_front first_line without_return
+spread_zsh_items_row = refl
+
+-- with a line feed between items that help is in one piece
+spread_zsh_row : are_readable_zsh_items 10 spread ≡ true
+unfolding after cut_at with_front first_line without_return
+spread_zsh_row = refl
+
+-- in a line a tab ends the value
+spread_lines_row : are_readable_lines spread ≡ false
+spread_lines_row = refl
+
+-- items of zsh have colons and backslashes of their own
+colon_between_row : are_readable_zsh_items 58 three ≡ false
+colon_between_row = refl
+
+-- an empty value is none, but a line may be empty before its help
+empty_value_row : are_readable_values 10 (new_candidate [] ∷ []) ≡ false
+empty_value_row = refl
+
+empty_line_row : are_readable_lines (helped [] (codes "Print") ∷ []) ≡ true
+empty_line_row = refl

@@ -1,0 +1,4 @@
+mod Examples
+pub mod FirstLines
+pub mod ReplyLaws
+pub mod ReplyReadings

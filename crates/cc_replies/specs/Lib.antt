@@ -1,0 +1,2 @@
+pub mod Environment
+pub mod Reply

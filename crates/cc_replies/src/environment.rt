@@ -1,0 +1,76 @@
+//! Values of environment variables, given by the caller.
+
+ghost use Rattle.std.specs.Prelude.{◌≡◌};
+ghost use Rattle.std.specs.Option.{option_copied};
+ghost use Rattle.std.specs.Prelude.{option_map, find};
+ghost use Rattle.std.specs.Str.{bytes_eq};
+ghost use Rattle.std.specs.String.{string_bytes};
+ghost use Rattle.cc_replies.specs.Environment.{index_name, separator_of, value_of, IsIndex, IsNumberOf};
+
+use cc_base::Items;
+
+/// Values of environment variables.
+#[derive(Drop, Debug)]
+pub struct EnvValues {
+    variables: Items<(String, String)>,
+}
+
+impl EnvValues {
+    /// These variables, each a name and a value.
+    pub fn new(variables: Vec<(String, String)>) -> EnvValues
+        ensures { result.variables ≡ variables.items }
+    {
+        EnvValues {
+            variables: Items::from(variables),
+        }
+    }
+
+    /// The value of the first variable of this name.
+    pub fn get(&self, name: &str) -> Option<&str>
+        ensures { option_copied result ≡ value_of name.now self.now }
+    {
+        let (_, value) = self.find(name)?;
+        Some(value.as_str())
+    }
+
+    fn find(&self, name: &str) -> Option<&(String, String)>
+        ensures { option_map (λ v. v.now) result
+            ≡ find (λ v. bytes_eq (string_bytes v.0) name.now) self.now.variables }
+    {
+        self.variables
+            .as_slice()
+            .iter()
+            .find(|variable| is_named(variable, name))
+    }
+
+    /// The index of the word to complete, as `_CLAP_COMPLETE_INDEX` tells it: digits, with one `+`
+    /// in front at most, that write a `usize`; else 0.
+    pub fn index(&self) -> usize
+        ensures { IsIndex (value_of index_name self.now) result }
+    {
+        let Some(text) = self.get("_CLAP_COMPLETE_INDEX") else {
+            return 0;
+        };
+        number(text)
+    }
+
+    /// What is between the values of a reply: that of `_CLAP_IFS`, else a line feed.
+    pub fn separator(&self) -> &str
+        ensures { result.now ≡ separator_of self.now }
+    {
+        self.get("_CLAP_IFS").unwrap_or("\n")
+    }
+}
+
+fn is_named(variable: &(String, String), name: &str) -> bool
+    ensures { result ≡ bytes_eq (string_bytes variable.now.0) name.now }
+{
+    variable.0.as_str() == name
+}
+
+// The number that a text writes, and 0 where it writes none.
+fn number(text: &str) -> usize
+    ensures { IsNumberOf text.now result }
+{
+    text.parse::<usize>().unwrap_or(0)
+}

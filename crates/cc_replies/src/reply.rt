@@ -1,0 +1,155 @@
+//! Replies: candidates as the shells read them.
+
+ghost use Rattle.std.specs.Prelude.{◌≡◌, IfErr, option_map};
+ghost use Rattle.std.specs.Option.{option_copied};
+ghost use Rattle.cc_base.specs.Writes.{IsWrite, Writes, as_write};
+ghost use Rattle.cc_replies.specs.Reply.{LinesRead, ValuesRead, ZshReplyRead, candidate_line};
+ghost use Rattle.cc_replies.specs.Reply.{colon_help, first_line, lines_reply, shown, tab_help};
+ghost use Rattle.cc_replies.specs.Reply.{values_reply, without_return, zsh_item, zsh_reply};
+
+use cc_base::{Error, Sink, put_piece, put_separator};
+use cc_candidates::CompletionCandidate;
+use cc_quote::{ZshReplyHelp, ZshReplyValue, put_escaped};
+use std::io::ErrorKind;
+
+/// Writes the values, with a separator before each but the first: the reply to bash and Elvish.
+/// Fails with `Write` alone, where the sink fails.
+pub fn write_values<W: Sink>(
+    sink: &mut W,
+    between: &str,
+    candidates: &[CompletionCandidate],
+) -> Result<(), Error>
+    ensures written { Writes W.taken W.failed result sink.old sink.new
+        (values_reply between.now candidates.now) }
+    ensures write_only { IfErr result IsWrite }
+    ensures read_back { ValuesRead between.now candidates.now }
+{
+    Ok(put_values(sink, between, candidates)?)
+}
+
+/// Writes the values, each with the first line of its help after a colon, with a separator before
+/// each but the first: the reply to zsh. Fails with `Write` alone, where the sink fails.
+pub fn write_zsh_items<W: Sink>(
+    sink: &mut W,
+    between: &str,
+    candidates: &[CompletionCandidate],
+) -> Result<(), Error>
+    ensures written { Writes W.taken W.failed result sink.old sink.new
+        (zsh_reply between.now candidates.now) }
+    ensures write_only { IfErr result IsWrite }
+    ensures read_back { ZshReplyRead between.now candidates.now }
+{
+    Ok(put_zsh_items(sink, between, candidates)?)
+}
+
+/// Writes a line for each candidate: its value, and the first line of its help after a tab. It is
+/// the reply to fish and PowerShell. Fails with `Write` alone, where the sink fails.
+pub fn write_lines<W: Sink>(sink: &mut W, candidates: &[CompletionCandidate]) -> Result<(), Error>
+    ensures written { Writes W.taken W.failed result sink.old sink.new
+        (lines_reply candidates.now) }
+    ensures write_only { IfErr result IsWrite }
+    ensures read_back { LinesRead candidates.now }
+{
+    Ok(put_lines(sink, candidates)?)
+}
+
+fn put_values<W: Sink>(
+    sink: &mut W,
+    between: &str,
+    candidates: &[CompletionCandidate],
+) -> Result<(), ErrorKind>
+    ensures { Writes W.taken W.failed (as_write result) sink.old sink.new
+        (values_reply between.now candidates.now) }
+{
+    let mut begun = false;
+    for candidate in candidates {
+        put_separator(sink, between, &mut begun)?;
+        put_piece(sink, candidate.get_value())?;
+    }
+    Ok(())
+}
+
+fn put_zsh_items<W: Sink>(
+    sink: &mut W,
+    between: &str,
+    candidates: &[CompletionCandidate],
+) -> Result<(), ErrorKind>
+    ensures { Writes W.taken W.failed (as_write result) sink.old sink.new
+        (zsh_reply between.now candidates.now) }
+{
+    let mut begun = false;
+    for candidate in candidates {
+        put_separator(sink, between, &mut begun)?;
+        put_zsh_item(sink, candidate)?;
+    }
+    Ok(())
+}
+
+#[tactic(auto, unfolding(crate::specs::Reply::zsh_item))]
+fn put_zsh_item<W: Sink>(sink: &mut W, candidate: &CompletionCandidate) -> Result<(), ErrorKind>
+    ensures { Writes W.taken W.failed (as_write result) sink.old sink.new
+        (zsh_item (shown candidate.now)) }
+{
+    put_escaped(sink, &ZshReplyValue, candidate.get_value())?;
+    put_colon_help(sink, candidate.get_help())
+}
+
+#[tactic(auto, unfolding(crate::specs::Reply::colon_help))]
+fn put_colon_help<W: Sink>(sink: &mut W, help: Option<&str>) -> Result<(), ErrorKind>
+    ensures { Writes W.taken W.failed (as_write result) sink.old sink.new
+        (colon_help (option_map first_line (option_copied help.entry))) }
+{
+    let Some(help) = help else {
+        return Ok(());
+    };
+    put_piece(sink, ":")?;
+    put_escaped(sink, &ZshReplyHelp, first_line(help))
+}
+
+fn put_lines<W: Sink>(sink: &mut W, candidates: &[CompletionCandidate]) -> Result<(), ErrorKind>
+    ensures { Writes W.taken W.failed (as_write result) sink.old sink.new
+        (lines_reply candidates.now) }
+{
+    for candidate in candidates {
+        put_line(sink, candidate)?;
+    }
+    Ok(())
+}
+
+#[tactic(auto, unfolding(crate::specs::Reply::shown_line))]
+fn put_line<W: Sink>(sink: &mut W, candidate: &CompletionCandidate) -> Result<(), ErrorKind>
+    ensures { Writes W.taken W.failed (as_write result) sink.old sink.new
+        (candidate_line candidate.now) }
+{
+    put_piece(sink, candidate.get_value())?;
+    put_tab_help(sink, candidate.get_help())?;
+    put_piece(sink, "\n")
+}
+
+#[tactic(auto, unfolding(crate::specs::Reply::tab_help))]
+fn put_tab_help<W: Sink>(sink: &mut W, help: Option<&str>) -> Result<(), ErrorKind>
+    ensures { Writes W.taken W.failed (as_write result) sink.old sink.new
+        (tab_help (option_map first_line (option_copied help.entry))) }
+{
+    let Some(help) = help else {
+        return Ok(());
+    };
+    put_piece(sink, "\t")?;
+    put_piece(sink, first_line(help))
+}
+
+// What is before the first line feed, and before a carriage return right before it.
+pub(crate) fn first_line(text: &str) -> &str
+    ensures { result.now ≡ first_line text.now }
+{
+    match text.split_once('\n') {
+        Some((line, _)) => without_return(line),
+        None => text,
+    }
+}
+
+fn without_return(line: &str) -> &str
+    ensures { result.now ≡ without_return line.now }
+{
+    line.strip_suffix('\r').unwrap_or(line)
+}

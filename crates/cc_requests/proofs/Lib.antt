@@ -1,5 +1,0 @@
-pub mod Ending
-mod Examples
-pub mod InMemory
-pub mod LastWords
-pub mod Texts
