@@ -1,175 +1,194 @@
 //! The blocks of a script: what is offered at a command, and the arms of its children.
 
-ghost use Rattle.std.specs.Prelude.{◌≡◌, ◌++◌, ◌<◌, suc, length, IfOk};
+ghost use Rattle.std.specs.Prelude.{◌≡◌, ◌<◌, length, IfOk};
 ghost use Rattle.std.specs.List.{flat_map};
 ghost use Rattle.std.specs.String.{string_bytes};
 ghost use Rattle.cc_base.specs.Writes.{Writes, as_write};
 ghost use Rattle.cc_command.specs.ArgumentLists.{positionals};
 ghost use Rattle.cc_flat.specs.Flat.{tree_at};
 ghost use Rattle.cc_visits.specs.Meaning.{step_of, visit_of};
-ghost use Rattle.cc_zsh.specs.Nested.{arm_begins, arms_text, below_text, block_text, case_text, children_text, nested_begins, index_text, root_text};
+ghost use Rattle.cc_zsh.specs.Nested.{arm_begins, arms_text, below_text, block_text, case_text, children_text, index_text, nested_begins, nested_ends, root_text};
 ghost use Rattle.cc_zsh.specs.Steps.{enter_text, leave_text, step_text};
 
-use crate::keys::LastNames;
 use crate::names::{write_dashed, write_label};
 use crate::options::write_arguments;
 use crate::positionals::write_positionals;
 use crate::texts::{
-    arm_ends, block_begins, block_ends, case_line, case_line_in, case_state, command_begins,
-    context_command, external_text, nested_ends, set_context, set_words, state_begins, state_ends,
+    ARM_ENDS, BLOCK_BEGINS, BLOCK_ENDS, CASE_LINE, CASE_LINE_IN, CASE_STATE, COMMAND_BEGINS,
+    CONTEXT_COMMAND, EXTERNAL_TEXT, NESTED_ENDS, SET_CONTEXT, SET_WORDS, STATE_BEGINS, STATE_ENDS,
 };
-use cc_base::{Error, Sink, as_error, put_all, put_around, put_piece, put_pieces};
+use cc_base::{Error, Sink, Text, put_around, put_piece, put_pieces};
 use cc_command::{Command, full_name};
 use cc_flat::Flat;
-use cc_visits::{PathStep, PathSteps, Visit};
+use cc_visits::{Keys, PathStep, PathSteps, Visit};
 use std::alloc::{AllocError, Global};
 use std::io::ErrorKind;
 
+// The key of a node is the name by which it is reached below its parent.
+#[derive(Drop)]
+struct LastNames;
+
+impl Keys for LastNames {
+    ghost use Rattle.cc_zsh.specs.Steps.{last_name};
+
+    ghost longer = { λ _. last_name };
+
+    fn longer(&self, alloc: Global, _key: &str, name: &str) -> Result<Text, AllocError> {
+        Text::copy_of(alloc, name)
+    }
+}
+
 #[tactic(auto, unfolding(crate::specs::Nested::root_text))]
-pub(crate) fn write_root<W: Sink>(alloc: Global, flat: &Flat<'_>, sink: &mut W) -> Result<(), Error>
+pub(crate) fn write_root<W: Sink>(alloc: Global, sink: &mut W, flat: &Flat<'_>) -> Result<(), Error>
     requires { 0 < length flat.now }
     ensures { Writes W.taken W.failed result sink.old sink.new (root_text (tree_at flat.now 0)) }
 {
     let root = flat.command(0);
-    as_error(write_block(root, root, sink))?;
+    write_block(sink, root, root)?;
     if !root.has_subcommands() {
         return Ok(());
     }
-    write_nested_begins(alloc, root, sink)?;
-    write_arms(alloc, flat, sink)?;
-    put_all(sink, nested_ends().as_bytes())
+    write_nested_begins(alloc, sink, root)?;
+    write_arms(alloc, sink, flat)?;
+    Ok(write_nested_ends(sink)?)
+}
+
+#[tactic(auto, unfolding(crate::specs::Nested::nested_ends))]
+fn write_nested_ends<W: Sink>(sink: &mut W) -> Result<(), ErrorKind>
+    ensures { Writes W.taken W.failed (as_write result) sink.old sink.new nested_ends }
+{
+    put_piece(sink, NESTED_ENDS)
 }
 
 #[tactic(auto, using(crate::proofs::ArmSteps::steps_texts))]
-fn write_arms<W: Sink>(alloc: Global, flat: &Flat<'_>, sink: &mut W) -> Result<(), Error>
+fn write_arms<W: Sink>(alloc: Global, sink: &mut W, flat: &Flat<'_>) -> Result<(), Error>
     requires { 0 < length flat.now }
     ensures { Writes W.taken W.failed result sink.old sink.new
         (arms_text (tree_at flat.now 0).node (tree_at flat.now 0).children) }
 {
     let keys = LastNames;
     let steps = PathSteps::below(alloc, flat, "", &keys)?;
-    write_steps(alloc, steps, sink)
+    write_steps(alloc, sink, steps)
 }
 
 fn write_steps<W: Sink>(
     alloc: Global,
-    mut steps: PathSteps<'_, '_, LastNames>,
     sink: &mut W,
+    mut steps: PathSteps<'_, '_, LastNames>,
 ) -> Result<(), Error>
     ensures { Writes W.taken W.failed result sink.old sink.new
         (flat_map step_text steps.entry) }
 {
     while let Some(step) = steps.next(alloc)? {
-        write_step(alloc, &step, sink)?;
+        write_step(alloc, sink, &step)?;
     }
     Ok(())
 }
 
-fn write_step<W: Sink>(alloc: Global, step: &PathStep<'_>, sink: &mut W) -> Result<(), Error>
+fn write_step<W: Sink>(alloc: Global, sink: &mut W, step: &PathStep<'_>) -> Result<(), Error>
     ensures { Writes W.taken W.failed result sink.old sink.new (step_text (step_of step.now)) }
 {
     match step {
-        PathStep::Enter(visit) => write_enter(alloc, visit, sink),
-        PathStep::Leave(visit) => as_error(write_leave(visit.command, sink)),
+        PathStep::Enter(visit) => write_enter(alloc, sink, visit),
+        PathStep::Leave(visit) => Ok(write_leave(sink, visit.command)?),
     }
 }
 
 // The arms of the children follow; `write_leave` ends the arm.
 #[tactic(auto, unfolding(crate::specs::Steps::enter_text, crate::specs::Steps::nested_opens))]
-fn write_enter<W: Sink>(alloc: Global, visit: &Visit<'_>, sink: &mut W) -> Result<(), Error>
+fn write_enter<W: Sink>(alloc: Global, sink: &mut W, visit: &Visit<'_>) -> Result<(), Error>
     ensures { Writes W.taken W.failed result sink.old sink.new (enter_text (visit_of visit.now)) }
 {
-    as_error(write_arm_begins(visit, sink))?;
+    write_arm_begins(sink, visit)?;
     if !visit.command.has_subcommands() {
         return Ok(());
     }
-    put_all(sink, "\n".as_bytes())?;
-    write_nested_begins(alloc, visit.command, sink)
+    put_piece(sink, "\n")?;
+    write_nested_begins(alloc, sink, visit.command)
 }
 
-fn write_arm_begins<W: Sink>(visit: &Visit<'_>, sink: &mut W) -> Result<(), ErrorKind>
+fn write_arm_begins<W: Sink>(sink: &mut W, visit: &Visit<'_>) -> Result<(), ErrorKind>
     ensures { Writes W.taken W.failed (as_write result) sink.old sink.new
         (arm_begins visit.now.key (block_text visit.now.above.now.node visit.now.command.now)) }
 {
-    put_around("(", visit.key.as_str(), ")\n", sink)?;
-    write_block(visit.above, visit.command, sink)
+    put_around(sink, "(", visit.key.as_str(), ")\n")?;
+    write_block(sink, visit.above, visit.command)
 }
 
-#[tactic(auto, unfolding(crate::specs::Steps::leave_text, crate::specs::Steps::nested_closes))]
-fn write_leave<W: Sink>(command: &Command, sink: &mut W) -> Result<(), ErrorKind>
+#[tactic(auto, unfolding(crate::specs::Steps::leave_text, crate::specs::Steps::nested_closes, crate::specs::Script::fixed_texts))]
+fn write_leave<W: Sink>(sink: &mut W, command: &Command) -> Result<(), ErrorKind>
     ensures { Writes W.taken W.failed (as_write result) sink.old sink.new (leave_text command.now) }
 {
-    if command.has_subcommands() {
-        put_piece(sink, nested_ends().as_bytes())?;
+    if !command.has_subcommands() {
+        return put_piece(sink, ARM_ENDS);
     }
-    put_piece(sink, arm_ends().as_bytes())
+    put_pieces(sink, &[NESTED_ENDS, ARM_ENDS])
 }
 
-#[tactic(auto, unfolding(crate::specs::Nested::block_text, crate::specs::Options::options_text, crate::specs::Options::flags_text))]
-fn write_block<W: Sink>(above: &Command, command: &Command, sink: &mut W) -> Result<(), ErrorKind>
+fn write_block<W: Sink>(sink: &mut W, above: &Command, command: &Command) -> Result<(), ErrorKind>
     ensures { Writes W.taken W.failed (as_write result) sink.old sink.new
         (block_text above.now.node command.now) }
 {
-    put_piece(sink, block_begins().as_bytes())?;
-    write_arguments(above, command, command.get_opts(), sink)?;
-    write_arguments(above, command, command.get_flags(), sink)?;
-    write_positionals(command, sink)?;
-    write_below(command, sink)?;
-    put_piece(sink, block_ends().as_bytes())
+    put_piece(sink, BLOCK_BEGINS)?;
+    write_arguments(sink, above, command, command.get_opts())?;
+    write_arguments(sink, above, command, command.get_flags())?;
+    write_positionals(sink, command)?;
+    write_below(sink, command)?;
+    put_piece(sink, BLOCK_ENDS)
 }
 
-#[tactic(auto, unfolding(crate::specs::Nested::below_text))]
-fn write_below<W: Sink>(command: &Command, sink: &mut W) -> Result<(), ErrorKind>
+#[tactic(auto, unfolding(crate::specs::Nested::below_text, crate::specs::Script::fixed_texts))]
+fn write_below<W: Sink>(sink: &mut W, command: &Command) -> Result<(), ErrorKind>
     ensures { Writes W.taken W.failed (as_write result) sink.old sink.new (below_text command.now) }
 {
     if command.has_subcommands() {
-        return write_children(command, sink);
+        return write_children(sink, command);
     }
     if command.is_allow_external_subcommands_set() {
-        return put_piece(sink, external_text().as_bytes());
+        return put_piece(sink, EXTERNAL_TEXT);
     }
     Ok(())
 }
 
-#[tactic(auto, unfolding(crate::specs::Nested::children_text))]
-fn write_children<W: Sink>(command: &Command, sink: &mut W) -> Result<(), ErrorKind>
+fn write_children<W: Sink>(sink: &mut W, command: &Command) -> Result<(), ErrorKind>
     ensures { Writes W.taken W.failed (as_write result) sink.old sink.new
         (children_text command.now.node) }
 {
-    put_piece(sink, command_begins().as_bytes())?;
-    write_label(full_name(command), sink)?;
-    put_around(state_begins(), command.get_name(), state_ends(), sink)
+    put_piece(sink, COMMAND_BEGINS)?;
+    write_label(sink, full_name(command))?;
+    put_piece(sink, STATE_BEGINS)?;
+    put_piece(sink, command.get_name())?;
+    put_piece(sink, STATE_ENDS)
 }
 
-fn write_nested_begins<W: Sink>(alloc: Global, command: &Command, sink: &mut W) -> Result<(), Error>
+fn write_nested_begins<W: Sink>(alloc: Global, sink: &mut W, command: &Command) -> Result<(), Error>
     ensures { Writes W.taken W.failed result sink.old sink.new
         (nested_begins command.now.node) }
 {
     let index = index(alloc, command)?;
-    as_error(write_case(command, index.as_str(), sink))
+    Ok(write_case(sink, command, index.as_str())?)
 }
 
 // The index of the word is in digits.
-#[tactic(auto, unfolding(crate::specs::Nested::case_text))]
 fn write_case<'a, W: Sink>(
+    sink: &mut W,
     command: &'a Command,
     index: &'a str,
-    sink: &mut W,
 ) -> Result<(), ErrorKind>
     ensures { Writes W.taken W.failed (as_write result) sink.old sink.new
         (case_text command.now.node index.now) }
 {
-    let words = [
-        case_state(),
-        command.get_name(),
-        set_words(),
-        index,
-        set_context(),
-    ];
-    put_pieces(sink, &words)?;
-    write_dashed(full_name(command), sink)?;
-    put_around(context_command(), index, case_line(), sink)?;
-    put_pieces(sink, &[index, case_line_in()])
+    put_piece(sink, CASE_STATE)?;
+    put_piece(sink, command.get_name())?;
+    put_piece(sink, SET_WORDS)?;
+    put_piece(sink, index)?;
+    put_piece(sink, SET_CONTEXT)?;
+    write_dashed(sink, full_name(command))?;
+    put_piece(sink, CONTEXT_COMMAND)?;
+    put_piece(sink, index)?;
+    put_piece(sink, CASE_LINE)?;
+    put_piece(sink, index)?;
+    put_piece(sink, CASE_LINE_IN)
 }
 
 // The index of the word that names a child: after the positionals.

@@ -1,6 +1,6 @@
 //! The functions of a script: each describes the children of a command.
 
-ghost use Rattle.std.specs.Prelude.{◌≡◌, ◌<◌, None, length, map, unwrap_or, IfOk, OnOk};
+ghost use Rattle.std.specs.Prelude.{◌≡◌, ◌<◌, None, length, map, IfOk, OnOk};
 ghost use Rattle.std.specs.List.{flat_map};
 ghost use Rattle.std.specs.Option.{option_copied};
 ghost use Rattle.std.specs.Ordering.{nat_cmp};
@@ -16,12 +16,12 @@ ghost use Rattle.cc_zsh.specs.Script.{functions_text};
 
 use crate::names::write_label;
 use crate::texts::{
-    commands_begin, describe_begins, describe_ends, entries_end, function_begins, unless_defined,
+    COMMANDS_BEGIN, DESCRIBE_BEGINS, DESCRIBE_ENDS, ENTRIES_END, FUNCTION_BEGINS, UNLESS_DEFINED,
 };
-use cc_base::{Error, Sink, as_error, put_around, put_piece};
+use cc_base::{Error, Sink, put_around, put_piece};
 use cc_command::{Command, full_name};
 use cc_flat::Flat;
-use cc_quote::{ZshHelpEscape, put_escaped_piece};
+use cc_quote::{ZshHelpEscape, put_escaped};
 use std::alloc::{AllocError, Global};
 use std::cmp::Ordering;
 use std::io::ErrorKind;
@@ -37,25 +37,25 @@ pub(crate) struct Named<'a> {
 #[tactic(auto, unfolding(crate::specs::Script::functions_text))]
 pub(crate) fn write_functions<W: Sink>(
     alloc: Global,
-    flat: &Flat<'_>,
     sink: &mut W,
+    flat: &Flat<'_>,
 ) -> Result<(), Error>
     requires { 0 < length flat.now }
     ensures { Writes W.taken W.failed result sink.old sink.new
         (functions_text (tree_at flat.now 0)) }
 {
-    as_error(write_function(&with_full_name(flat.command(0)), sink))?;
-    write_sorted(alloc, flat, sink)
+    write_function(sink, &with_full_name(flat.command(0)))?;
+    write_sorted(alloc, sink, flat)
 }
 
 #[tactic(auto, unfolding(crate::specs::Functions::sorted_functions))]
-fn write_sorted<W: Sink>(alloc: Global, flat: &Flat<'_>, sink: &mut W) -> Result<(), Error>
+fn write_sorted<W: Sink>(alloc: Global, sink: &mut W, flat: &Flat<'_>) -> Result<(), Error>
     requires { 0 < length flat.now }
     ensures { Writes W.taken W.failed result sink.old sink.new
         (flat_map function_text (sorted_functions (tree_at flat.now 0).children)) }
 {
     let sorted = sorted_commands(alloc, flat)?;
-    as_error(write_once(&sorted, sink))
+    Ok(write_once(sink, &sorted)?)
 }
 
 // The commands below the root in the order of the bytes of their full names.
@@ -106,7 +106,7 @@ fn with_full_name(command: &Command) -> Named<'_>
 }
 
 // Commands with one full name are neighbours here, so it is enough to look at the last.
-fn write_once<W: Sink>(commands: &[Named<'_>], sink: &mut W) -> Result<(), ErrorKind>
+fn write_once<W: Sink>(sink: &mut W, commands: &[Named<'_>]) -> Result<(), ErrorKind>
     ensures { Writes W.taken W.failed (as_write result) sink.old sink.new
         (flat_map function_text (once_after None (map function_named commands.now))) }
 {
@@ -116,7 +116,7 @@ fn write_once<W: Sink>(commands: &[Named<'_>], sink: &mut W) -> Result<(), Error
             continue;
         }
         last = Some(command.name);
-        write_function(command, sink)?;
+        write_function(sink, command)?;
     }
     Ok(())
 }
@@ -131,59 +131,60 @@ fn is_again(last: Option<&str>, name: &str) -> bool
     }
 }
 
-#[tactic(auto, unfolding(crate::specs::Functions::function_text))]
-fn write_function<W: Sink>(command: &Named<'_>, sink: &mut W) -> Result<(), ErrorKind>
+fn write_function<W: Sink>(sink: &mut W, command: &Named<'_>) -> Result<(), ErrorKind>
     ensures { Writes W.taken W.failed (as_write result) sink.old sink.new
         (function_text (function_named command.now)) }
 {
-    put_piece(sink, unless_defined().as_bytes())?;
-    write_label(command.name, sink)?;
-    put_piece(sink, function_begins().as_bytes())?;
-    write_label(command.name, sink)?;
-    put_piece(sink, commands_begin().as_bytes())?;
-    write_entries(command.command, sink)?;
-    put_around(describe_begins(), command.name, describe_ends(), sink)
+    put_piece(sink, UNLESS_DEFINED)?;
+    write_label(sink, command.name)?;
+    put_piece(sink, FUNCTION_BEGINS)?;
+    write_label(sink, command.name)?;
+    put_piece(sink, COMMANDS_BEGIN)?;
+    write_entries(sink, command.command)?;
+    put_piece(sink, DESCRIBE_BEGINS)?;
+    put_piece(sink, command.name)?;
+    put_piece(sink, DESCRIBE_ENDS)
 }
 
 // Where there are none, the brackets of the list stay on one line.
-#[tactic(auto, unfolding(crate::specs::Functions::entries_text), using(crate::proofs::ArmSteps::has_entries_of))]
-fn write_entries<W: Sink>(command: &Command, sink: &mut W) -> Result<(), ErrorKind>
+#[tactic(auto, unfolding(crate::specs::Functions::entries_text, crate::specs::Script::fixed_texts), using(crate::proofs::ArmSteps::has_entries_of))]
+fn write_entries<W: Sink>(sink: &mut W, command: &Command) -> Result<(), ErrorKind>
     ensures { Writes W.taken W.failed (as_write result) sink.old sink.new
         (entries_text (entries_of command.now.children)) }
 {
     if !command.has_subcommands() {
         return Ok(());
     }
-    write_children(command.get_subcommands(), sink)?;
-    put_piece(sink, entries_end().as_bytes())
+    write_children(sink, command.get_subcommands())?;
+    put_piece(sink, ENTRIES_END)
 }
 
-fn write_children<W: Sink>(children: &[Command], sink: &mut W) -> Result<(), ErrorKind>
+fn write_children<W: Sink>(sink: &mut W, children: &[Command]) -> Result<(), ErrorKind>
     ensures { Writes W.taken W.failed (as_write result) sink.old sink.new
         (flat_map entry_text (entries_of (forest_of children.now))) }
 {
     for child in children {
-        write_child(child, sink)?;
+        write_child(sink, child)?;
     }
     Ok(())
 }
 
-fn write_child<W: Sink>(child: &Command, sink: &mut W) -> Result<(), ErrorKind>
+fn write_child<W: Sink>(sink: &mut W, child: &Command) -> Result<(), ErrorKind>
     ensures { Writes W.taken W.failed (as_write result) sink.old sink.new
         (flat_map entry_text (map (entry child.now.node) (visible_names child.now.node))) }
 {
     for name in child.get_name_and_visible_aliases() {
-        write_entry(name, child, sink)?;
+        write_entry(sink, name, child)?;
     }
     Ok(())
 }
 
 #[tactic(auto, unfolding(crate::specs::Functions::entry_text))]
-fn write_entry<W: Sink>(name: &str, child: &Command, sink: &mut W) -> Result<(), ErrorKind>
+fn write_entry<W: Sink>(sink: &mut W, name: &str, child: &Command) -> Result<(), ErrorKind>
     ensures { Writes W.taken W.failed (as_write result) sink.old sink.new
         (entry_text (entry child.now.node name.now)) }
 {
-    put_around("\n'", name, ":", sink)?;
-    put_escaped_piece(&ZshHelpEscape, child.get_about().unwrap_or(""), sink)?;
-    put_piece(sink, "' \\".as_bytes())
+    put_around(sink, "\n'", name, ":")?;
+    put_escaped(sink, &ZshHelpEscape, child.get_about().unwrap_or(""))?;
+    put_piece(sink, "' \\")
 }

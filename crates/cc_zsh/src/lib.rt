@@ -2,11 +2,10 @@
 //! visible names, however deep, and a function for each command that describes its children.
 #![tactic(auto)]
 
+mod blocks;
 mod conflicts;
 mod functions;
-mod keys;
 mod names;
-mod nested;
 mod options;
 mod positionals;
 mod texts;

@@ -1,6 +1,6 @@
 //! Names: those of arguments as they are typed, and those of commands without spaces.
 
-ghost use Rattle.std.specs.Prelude.{◌≡◌, codes, unwrap_or};
+ghost use Rattle.std.specs.Prelude.{codes};
 ghost use Rattle.cc_base.specs.Bytes.{space};
 ghost use Rattle.cc_base.specs.Writes.{Writes, as_write};
 ghost use Rattle.cc_quote.specs.Escapes.{replace_byte};
@@ -9,11 +9,11 @@ ghost use Rattle.cc_zsh.specs.Options.{name_word};
 
 use cc_arg::ShownName;
 use cc_base::{Sink, put_piece, put_pieces};
-use cc_quote::{Replace, put_escaped_piece};
+use cc_quote::{Replace, put_escaped};
 use std::io::ErrorKind;
 
 /// Writes the name of an argument with the dashes before it.
-pub(crate) fn write_name<W: Sink>(name: &ShownName<'_>, sink: &mut W) -> Result<(), ErrorKind>
+pub(crate) fn write_name<W: Sink>(sink: &mut W, name: &ShownName<'_>) -> Result<(), ErrorKind>
     ensures { Writes W.taken W.failed (as_write result) sink.old sink.new (name_word name.now) }
 {
     match name {
@@ -26,8 +26,8 @@ pub(crate) fn write_name<W: Sink>(name: &ShownName<'_>, sink: &mut W) -> Result<
     }
 }
 
-/// The name of the function begins with a `_`, which the text before each occurrence of it ends in.
-pub(crate) fn write_label<W: Sink>(name: &str, sink: &mut W) -> Result<(), ErrorKind>
+/// Writes the function's name without its first `_`, with which the text before it ends.
+pub(crate) fn write_label<W: Sink>(sink: &mut W, name: &str) -> Result<(), ErrorKind>
     ensures { Writes W.taken W.failed (as_write result) sink.old sink.new
         (function_label name.now) }
 {
@@ -35,11 +35,11 @@ pub(crate) fn write_label<W: Sink>(name: &str, sink: &mut W) -> Result<(), Error
         byte: b' ',
         by: "__subcmd__",
     };
-    put_escaped_piece(&escape, name, sink)?;
-    put_piece(sink, "_commands".as_bytes())
+    put_escaped(sink, &escape, name)?;
+    put_piece(sink, "_commands")
 }
 
-pub(crate) fn write_dashed<W: Sink>(name: &str, sink: &mut W) -> Result<(), ErrorKind>
+pub(crate) fn write_dashed<W: Sink>(sink: &mut W, name: &str) -> Result<(), ErrorKind>
     ensures { Writes W.taken W.failed (as_write result) sink.old sink.new
         (replace_byte space (codes "-") name.now) }
 {
@@ -47,5 +47,5 @@ pub(crate) fn write_dashed<W: Sink>(name: &str, sink: &mut W) -> Result<(), Erro
         byte: b' ',
         by: "-",
     };
-    put_escaped_piece(&escape, name, sink)
+    put_escaped(sink, &escape, name)
 }

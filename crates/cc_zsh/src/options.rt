@@ -1,33 +1,32 @@
 //! The lines of a command's options and flags.
 
-ghost use Rattle.std.specs.Prelude.{◌≡◌, ◌++◌, flat_map, unwrap_or};
+ghost use Rattle.std.specs.Prelude.{◌≡◌, flat_map};
 ghost use Rattle.cc_base.specs.Writes.{Writes, as_write};
 ghost use Rattle.cc_command.specs.Iterators.{arguments_left};
-ghost use Rattle.cc_zsh.specs.Options.{argument_line, argument_text, help_text, name_word, repeated_text, value_sign};
-ghost use Rattle.cc_zsh.specs.Values.{values_text};
+ghost use Rattle.cc_zsh.specs.Options.{argument_line, argument_text, help_text, repeated_text, value_sign};
 
 use crate::conflicts::write_conflicts;
 use crate::names::write_name;
-use crate::texts::line_end;
+use crate::texts::LINE_END;
 use crate::values::write_values;
 use cc_arg::{Arg, ArgAction, ShownName, shown_names};
 use cc_base::{Sink, put_piece};
 use cc_command::{Arguments, Command};
-use cc_quote::{ZshHelpEscape, put_escaped_piece};
+use cc_quote::{ZshHelpEscape, put_escaped};
 use std::io::ErrorKind;
 
 pub(crate) fn write_arguments<W: Sink>(
+    sink: &mut W,
     above: &Command,
     command: &Command,
     arguments: Arguments<'_>,
-    sink: &mut W,
 ) -> Result<(), ErrorKind>
     ensures { Writes W.taken W.failed (as_write result) sink.old sink.new
         (flat_map (argument_text above.now.node command.now.node)
         (arguments_left arguments.entry)) }
 {
     for argument in arguments {
-        write_argument(above, command, argument, sink)?;
+        write_argument(sink, above, command, argument)?;
     }
     Ok(())
 }
@@ -35,39 +34,39 @@ pub(crate) fn write_arguments<W: Sink>(
 // A line for each name.
 #[tactic(auto, unfolding(crate::specs::Options::argument_text))]
 fn write_argument<W: Sink>(
+    sink: &mut W,
     above: &Command,
     command: &Command,
     argument: &Arg,
-    sink: &mut W,
 ) -> Result<(), ErrorKind>
     ensures { Writes W.taken W.failed (as_write result) sink.old sink.new
         (argument_text above.now.node command.now.node argument.now) }
 {
     for name in shown_names(argument) {
-        write_line(above, command, argument, &name, sink)?;
+        write_line(sink, above, command, argument, &name)?;
     }
     Ok(())
 }
 
-#[tactic(auto, unfolding(crate::specs::Options::argument_line))]
+#[tactic(auto, unfolding(crate::specs::Options::argument_line, crate::specs::Script::fixed_texts))]
 fn write_line<W: Sink>(
+    sink: &mut W,
     above: &Command,
     command: &Command,
     argument: &Arg,
     name: &ShownName<'_>,
-    sink: &mut W,
 ) -> Result<(), ErrorKind>
     ensures { Writes W.taken W.failed (as_write result) sink.old sink.new
         (argument_line above.now.node command.now.node argument.now name.now) }
 {
-    put_piece(sink, "'".as_bytes())?;
-    write_conflicts(above, command, argument, sink)?;
-    put_piece(sink, star(argument).as_bytes())?;
-    write_name(name, sink)?;
-    put_piece(sink, value_sign(argument, name).as_bytes())?;
-    write_help(argument, sink)?;
-    write_values(argument, sink)?;
-    put_piece(sink, line_end().as_bytes())
+    put_piece(sink, "'")?;
+    write_conflicts(sink, above, command, argument)?;
+    put_piece(sink, star(argument))?;
+    write_name(sink, name)?;
+    put_piece(sink, value_sign(argument, name))?;
+    write_help(sink, argument)?;
+    write_values(sink, argument)?;
+    put_piece(sink, LINE_END)
 }
 
 // A star, where the argument may be used again.
@@ -95,11 +94,11 @@ fn value_sign(argument: &Arg, name: &ShownName<'_>) -> &'static str
 
 // There are brackets where there is no help, too.
 #[tactic(auto, unfolding(crate::specs::Options::help_text))]
-fn write_help<W: Sink>(argument: &Arg, sink: &mut W) -> Result<(), ErrorKind>
+fn write_help<W: Sink>(sink: &mut W, argument: &Arg) -> Result<(), ErrorKind>
     ensures { Writes W.taken W.failed (as_write result) sink.old sink.new
         (help_text argument.now) }
 {
-    put_piece(sink, "[".as_bytes())?;
-    put_escaped_piece(&ZshHelpEscape, argument.get_help().unwrap_or(""), sink)?;
-    put_piece(sink, "]".as_bytes())
+    put_piece(sink, "[")?;
+    put_escaped(sink, &ZshHelpEscape, argument.get_help().unwrap_or(""))?;
+    put_piece(sink, "]")
 }

@@ -1,25 +1,22 @@
 //! The lines of a command's positionals.
 
-ghost use Rattle.std.specs.Prelude.{◌≡◌, ◌++◌, false, true, codes};
-ghost use Rattle.std.specs.List.{flat_map};
+ghost use Rattle.std.specs.Prelude.{◌≡◌, false};
 ghost use Rattle.std.specs.Option.{option_copied};
 ghost use Rattle.cc_base.specs.Writes.{Writes, as_write};
 ghost use Rattle.cc_command.specs.ArgumentLists.{positionals};
 ghost use Rattle.cc_quote.specs.ZshQuote.{zsh_replacement};
-ghost use Rattle.cc_zsh.specs.Options.{line_end};
-ghost use Rattle.cc_zsh.specs.Positionals.{count_text, is_left_out, is_positional_escaped, positional_escaped, positional_help, positional_text, positionals_text, rest_text, shown_positionals, takes_all, takes_rest, takes_several};
-ghost use Rattle.cc_zsh.specs.Values.{value_text};
+ghost use Rattle.cc_zsh.specs.Positionals.{count_text, is_left_out, is_positional_escaped, positional_escaped, positional_help, positional_text, positionals_text, rest_text, takes_all, takes_rest, takes_several};
 
-use crate::texts::line_end;
+use crate::texts::LINE_END;
 use crate::values::{range, write_value};
 use cc_arg::Arg;
 use cc_base::{Sink, put_piece, put_pieces};
 use cc_command::Command;
-use cc_quote::{ByteEscape, ZshValueEscape, put_escaped_piece};
+use cc_quote::{ByteEscape, ZshValueEscape, put_escaped};
 use std::io::ErrorKind;
 
 #[tactic(auto, unfolding(crate::specs::Positionals::positionals_text))]
-pub(crate) fn write_positionals<W: Sink>(command: &Command, sink: &mut W) -> Result<(), ErrorKind>
+pub(crate) fn write_positionals<W: Sink>(sink: &mut W, command: &Command) -> Result<(), ErrorKind>
     ensures { Writes W.taken W.failed (as_write result) sink.old sink.new
         (positionals_text command.now) }
 {
@@ -31,7 +28,7 @@ pub(crate) fn write_positionals<W: Sink>(command: &Command, sink: &mut W) -> Res
         if left_out {
             continue;
         }
-        write_positional(has_children, positional, sink)?;
+        write_positional(sink, has_children, positional)?;
     }
     Ok(())
 }
@@ -63,61 +60,61 @@ fn takes_all(has_children: bool, argument: &Arg) -> bool
     takes_rest(has_children, argument) && !argument.get_value_terminator().is_some()
 }
 
-#[tactic(auto, unfolding(crate::specs::Positionals::positional_text))]
+#[tactic(auto, unfolding(crate::specs::Positionals::positional_text, crate::specs::Script::fixed_texts))]
 fn write_positional<W: Sink>(
+    sink: &mut W,
     has_children: bool,
     argument: &Arg,
-    sink: &mut W,
 ) -> Result<(), ErrorKind>
     ensures { Writes W.taken W.failed (as_write result) sink.old sink.new
         (positional_text has_children argument.now) }
 {
-    put_piece(sink, "'".as_bytes())?;
-    write_count(has_children, argument, sink)?;
+    put_piece(sink, "'")?;
+    write_count(sink, has_children, argument)?;
     put_pieces(sink, &[":", argument.get_id()])?;
-    write_help(argument.get_help(), sink)?;
-    put_piece(sink, ":".as_bytes())?;
-    write_value(argument, sink)?;
-    put_piece(sink, line_end().as_bytes())
+    write_help(sink, argument.get_help())?;
+    put_piece(sink, ":")?;
+    write_value(sink, argument)?;
+    put_piece(sink, LINE_END)
 }
 
 #[tactic(auto, unfolding(crate::specs::Positionals::count_text))]
-fn write_count<W: Sink>(has_children: bool, argument: &Arg, sink: &mut W) -> Result<(), ErrorKind>
+fn write_count<W: Sink>(sink: &mut W, has_children: bool, argument: &Arg) -> Result<(), ErrorKind>
     ensures { Writes W.taken W.failed (as_write result) sink.old sink.new
         (count_text has_children argument.now) }
 {
     if takes_rest(has_children, argument) {
-        return write_rest(argument.get_value_terminator(), sink);
+        return write_rest(sink, argument.get_value_terminator());
     }
     if argument.is_required_set() {
         return Ok(());
     }
-    put_piece(sink, ":".as_bytes())
+    put_piece(sink, ":")
 }
 
 #[tactic(auto, unfolding(cc_quote::specs::ZshQuote::zsh_escaped_value))]
-fn write_rest<W: Sink>(terminator: Option<&str>, sink: &mut W) -> Result<(), ErrorKind>
+fn write_rest<W: Sink>(sink: &mut W, terminator: Option<&str>) -> Result<(), ErrorKind>
     ensures { Writes W.taken W.failed (as_write result) sink.old sink.new
         (rest_text (option_copied terminator.entry)) }
 {
     let Some(terminator) = terminator else {
-        return put_piece(sink, "*:".as_bytes());
+        return put_piece(sink, "*:");
     };
-    put_piece(sink, "*".as_bytes())?;
-    put_escaped_piece(&ZshValueEscape, terminator, sink)?;
-    put_piece(sink, ":".as_bytes())
+    put_piece(sink, "*")?;
+    put_escaped(sink, &ZshValueEscape, terminator)?;
+    put_piece(sink, ":")
 }
 
 #[tactic(auto, unfolding(crate::specs::Positionals::positional_escaped))]
-fn write_help<W: Sink>(help: Option<&str>, sink: &mut W) -> Result<(), ErrorKind>
+fn write_help<W: Sink>(sink: &mut W, help: Option<&str>) -> Result<(), ErrorKind>
     ensures { Writes W.taken W.failed (as_write result) sink.old sink.new
         (positional_help (option_copied help.entry)) }
 {
     let Some(help) = help else {
         return Ok(());
     };
-    put_piece(sink, " -- ".as_bytes())?;
-    put_escaped_piece(&PositionalEscape, help, sink)
+    put_piece(sink, " -- ")?;
+    put_escaped(sink, &PositionalEscape, help)
 }
 
 // The escape of a positional's help: `[`, `]` and `:` after a backslash, and `'` as `'\''`.

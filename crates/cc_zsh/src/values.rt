@@ -1,6 +1,6 @@
 //! What an argument's values may be.
 
-ghost use Rattle.std.specs.Prelude.{◌≡◌, ◌++◌, true, unwrap_or, OnOk};
+ghost use Rattle.std.specs.Prelude.{◌≡◌, ◌++◌, true, OnOk};
 ghost use Rattle.std.specs.List.{list_any};
 ghost use Rattle.cc_base.specs.Joined.{separator};
 ghost use Rattle.cc_base.specs.Writes.{Writes, as_write};
@@ -8,7 +8,7 @@ ghost use Rattle.cc_zsh.specs.Values.{first_name, hint_text, is_described, item_
 
 use cc_arg::{Arg, PossibleValue, ValueHint, ValueRange, possible_values};
 use cc_base::{Sink, Text, put_around, put_piece, put_separator};
-use cc_quote::{ZshHelpEscape, ZshValueEscape, put_escaped_piece};
+use cc_quote::{ZshHelpEscape, ZshValueEscape, put_escaped};
 use std::io::ErrorKind;
 
 // What a list tells of its values.
@@ -28,7 +28,7 @@ pub(crate) fn range(argument: &Arg) -> ValueRange
 
 /// Nothing, where the argument takes no values.
 #[tactic(auto, unfolding(crate::specs::Values::values_text))]
-pub(crate) fn write_values<W: Sink>(argument: &Arg, sink: &mut W) -> Result<(), ErrorKind>
+pub(crate) fn write_values<W: Sink>(sink: &mut W, argument: &Arg) -> Result<(), ErrorKind>
     ensures { Writes W.taken W.failed (as_write result) sink.old sink.new
         (values_text argument.now) }
 {
@@ -37,30 +37,30 @@ pub(crate) fn write_values<W: Sink>(argument: &Arg, sink: &mut W) -> Result<(), 
     }
     let least = range(argument).min_values();
     if least == 0 {
-        put_piece(sink, ":".as_bytes())?;
-        return write_one(argument, sink);
+        put_piece(sink, ":")?;
+        return write_one(sink, argument);
     }
-    write_times(least, argument, sink)
+    write_times(sink, least, argument)
 }
 
-fn write_times<W: Sink>(count: usize, argument: &Arg, sink: &mut W) -> Result<(), ErrorKind>
+fn write_times<W: Sink>(sink: &mut W, count: usize, argument: &Arg) -> Result<(), ErrorKind>
     ensures { Writes W.taken W.failed (as_write result) sink.old sink.new
         (times count (one_value argument.now)) }
 {
     let mut left = count;
     while left > 0 {
-        write_one(argument, sink)?;
+        write_one(sink, argument)?;
         left -= 1;
     }
     Ok(())
 }
 
 #[tactic(auto, unfolding(crate::specs::Values::one_value))]
-fn write_one<W: Sink>(argument: &Arg, sink: &mut W) -> Result<(), ErrorKind>
+fn write_one<W: Sink>(sink: &mut W, argument: &Arg) -> Result<(), ErrorKind>
     ensures { Writes W.taken W.failed (as_write result) sink.old sink.new (one_value argument.now) }
 {
-    put_around(":", first_name(argument.get_value_names()), ":", sink)?;
-    write_value(argument, sink)
+    put_around(sink, ":", first_name(argument.get_value_names()), ":")?;
+    write_value(sink, argument)
 }
 
 // The first value name, or a space.
@@ -74,28 +74,28 @@ fn first_name(names: &[Text]) -> &str
 }
 
 #[tactic(auto, unfolding(crate::specs::Values::value_text))]
-pub(crate) fn write_value<W: Sink>(argument: &Arg, sink: &mut W) -> Result<(), ErrorKind>
+pub(crate) fn write_value<W: Sink>(sink: &mut W, argument: &Arg) -> Result<(), ErrorKind>
     ensures { Writes W.taken W.failed (as_write result) sink.old sink.new
         (value_text argument.now) }
 {
     match possible_values(argument) {
-        Some(values) => write_list(values, sink),
-        None => put_piece(sink, hint(argument.get_value_hint()).as_bytes()),
+        Some(values) => write_list(sink, values),
+        None => put_piece(sink, hint(argument.get_value_hint())),
     }
 }
 
 #[tactic(auto, unfolding(crate::specs::Values::list_text))]
-fn write_list<W: Sink>(values: &[PossibleValue], sink: &mut W) -> Result<(), ErrorKind>
+fn write_list<W: Sink>(sink: &mut W, values: &[PossibleValue]) -> Result<(), ErrorKind>
     ensures { Writes W.taken W.failed (as_write result) sink.old sink.new (list_text values.now) }
 {
     if is_any_described(values) {
-        put_piece(sink, "((".as_bytes())?;
-        write_items(Form::Helps, values, sink)?;
-        return put_piece(sink, "))".as_bytes());
+        put_piece(sink, "((")?;
+        write_items(sink, Form::Helps, values)?;
+        return put_piece(sink, "))");
     }
-    put_piece(sink, "(".as_bytes())?;
-    write_items(Form::Names, values, sink)?;
-    put_piece(sink, ")".as_bytes())
+    put_piece(sink, "(")?;
+    write_items(sink, Form::Names, values)?;
+    put_piece(sink, ")")
 }
 
 // Whether one of the values is shown and has a help.
@@ -107,7 +107,7 @@ fn is_any_described(values: &[PossibleValue]) -> bool
         .any(|value| !value.is_hide_set() && value.get_help().is_some())
 }
 
-fn write_items<W: Sink>(form: Form, values: &[PossibleValue], sink: &mut W) -> Result<(), ErrorKind>
+fn write_items<W: Sink>(sink: &mut W, form: Form, values: &[PossibleValue]) -> Result<(), ErrorKind>
     ensures { Writes W.taken W.failed (as_write result) sink.old sink.new
         (items_text form values.now) }
 {
@@ -116,7 +116,7 @@ fn write_items<W: Sink>(form: Form, values: &[PossibleValue], sink: &mut W) -> R
         if value.is_hide_set() {
             continue;
         }
-        write_item(form, value, &mut begun, sink)?;
+        write_item(sink, form, value, &mut begun)?;
     }
     Ok(())
 }
@@ -124,20 +124,20 @@ fn write_items<W: Sink>(form: Form, values: &[PossibleValue], sink: &mut W) -> R
 // What separates the items comes before one where `begun` says that another does.
 #[tactic(auto, unfolding(crate::specs::Values::item_text))]
 fn write_item<W: Sink>(
+    sink: &mut W,
     form: Form,
     value: &PossibleValue,
     begun: &mut bool,
-    sink: &mut W,
 ) -> Result<(), ErrorKind>
     ensures written { Writes W.taken W.failed (as_write result) sink.old sink.new
         (separator (item_separator form) begun.old ++ item_text form value.now) }
     ensures begun { OnOk result (begun.new ≡ true) }
 {
-    put_separator(item_separator(form), begun, sink)?;
-    put_escaped_piece(&ZshValueEscape, value.get_name(), sink)?;
+    put_separator(sink, item_separator(form), begun)?;
+    put_escaped(sink, &ZshValueEscape, value.get_name())?;
     match form {
         Form::Names => Ok(()),
-        Form::Helps => write_help(value.get_help().unwrap_or(""), sink),
+        Form::Helps => write_help(sink, value.get_help().unwrap_or("")),
     }
 }
 
@@ -151,12 +151,12 @@ fn item_separator(form: Form) -> &'static str
 }
 
 #[tactic(auto, unfolding(crate::specs::Values::item_help))]
-fn write_help<W: Sink>(help: &str, sink: &mut W) -> Result<(), ErrorKind>
+fn write_help<W: Sink>(sink: &mut W, help: &str) -> Result<(), ErrorKind>
     ensures { Writes W.taken W.failed (as_write result) sink.old sink.new (item_help help.now) }
 {
-    put_piece(sink, "\\:\"".as_bytes())?;
-    put_escaped_piece(&ZshHelpEscape, help, sink)?;
-    put_piece(sink, "\"".as_bytes())
+    put_piece(sink, "\\:\"")?;
+    put_escaped(sink, &ZshHelpEscape, help)?;
+    put_piece(sink, "\"")
 }
 
 #[tactic(auto, unfolding(crate::specs::Values::hint_text))]

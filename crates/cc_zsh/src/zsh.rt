@@ -1,18 +1,18 @@
 //! The zsh script: a function with a block for each visible path, then a function for each command.
 
-ghost use Rattle.std.specs.Prelude.{◌≡◌, ◌++◌, ◌<◌, None, codes, length};
+ghost use Rattle.std.specs.Prelude.{◌++◌, ◌<◌, None, codes, length};
 ghost use Rattle.cc_base.specs.Writes.{Writes, as_write};
 ghost use Rattle.cc_command.specs.Names.{full_name};
 ghost use Rattle.cc_flat.specs.Flat.{tree_at};
 ghost use Rattle.cc_zsh.specs.Reads.{ZshReads};
 ghost use Rattle.cc_zsh.specs.Script.{begin_text, end_text, zsh_script};
 
+use crate::blocks::write_root;
 use crate::functions::write_functions;
-use crate::nested::write_root;
 use crate::texts::{
-    autoloads, body_begins, body_ends, compdef_begins, else_define, if_called, if_ends, then_call,
+    AUTOLOADS, BODY_BEGINS, BODY_ENDS, COMPDEF_BEGINS, ELSE_DEFINE, IF_CALLED, IF_ENDS, THEN_CALL,
 };
-use cc_base::{Error, Sink, as_error, put_all, put_around, put_pieces};
+use cc_base::{Error, Sink, put_piece, put_pieces};
 use cc_command::{Command, full_name};
 use cc_flat::Flat;
 use cc_generator::Generator;
@@ -45,43 +45,46 @@ impl Generator for Zsh {
         // Building a built command changes nothing, so every node has its full name.
         prove!(command.is_built());
         let flat = Flat::new(alloc, command)?;
-        write_script(alloc, &flat, sink)
+        write_script(alloc, sink, &flat)
     }
 }
 
-#[tactic(auto, unfolding(crate::specs::Script::script_text))]
-fn write_script<W: Sink>(alloc: Global, flat: &Flat<'_>, sink: &mut W) -> Result<(), Error>
+#[tactic(auto, unfolding(crate::specs::Script::script_text, crate::specs::Script::fixed_texts))]
+fn write_script<W: Sink>(alloc: Global, sink: &mut W, flat: &Flat<'_>) -> Result<(), Error>
     requires { 0 < length flat.now }
     ensures { Writes W.taken W.failed result sink.old sink.new (zsh_script (tree_at flat.now 0)) }
 {
     let bin_name = full_name(flat.command(0));
-    as_error(write_begin(bin_name, sink))?;
-    write_root(alloc, flat, sink)?;
-    put_all(sink, body_ends().as_bytes())?;
-    write_functions(alloc, flat, sink)?;
-    as_error(write_end(bin_name, sink))
+    write_begin(sink, bin_name)?;
+    write_root(alloc, sink, flat)?;
+    put_piece(sink, BODY_ENDS)?;
+    write_functions(alloc, sink, flat)?;
+    Ok(write_end(sink, bin_name)?)
 }
 
-#[tactic(auto, unfolding(crate::specs::Script::begin_text))]
-fn write_begin<W: Sink>(bin_name: &str, sink: &mut W) -> Result<(), ErrorKind>
+#[tactic(auto, unfolding(crate::specs::Script::begin_text, crate::specs::Script::fixed_texts))]
+fn write_begin<W: Sink>(sink: &mut W, bin_name: &str) -> Result<(), ErrorKind>
     ensures { Writes W.taken W.failed (as_write result) sink.old sink.new
         (begin_text bin_name.now) }
 {
-    let pieces = [
-        compdef_begins(),
-        bin_name,
-        autoloads(),
-        bin_name,
-        body_begins(),
-    ];
+    let pieces = [COMPDEF_BEGINS, bin_name, AUTOLOADS, bin_name, BODY_BEGINS];
     put_pieces(sink, &pieces)
 }
 
-#[tactic(auto, unfolding(crate::specs::Script::end_text))]
-fn write_end<W: Sink>(bin_name: &str, sink: &mut W) -> Result<(), ErrorKind>
+#[tactic(auto, unfolding(crate::specs::Script::end_text, crate::specs::Script::fixed_texts))]
+fn write_end<W: Sink>(sink: &mut W, bin_name: &str) -> Result<(), ErrorKind>
     ensures { Writes W.taken W.failed (as_write result) sink.old sink.new (end_text bin_name.now) }
 {
-    put_around(if_called(), bin_name, then_call(), sink)?;
-    put_around(bin_name, else_define(), bin_name, sink)?;
-    put_around(" ", bin_name, if_ends(), sink)
+    let pieces = [
+        IF_CALLED,
+        bin_name,
+        THEN_CALL,
+        bin_name,
+        ELSE_DEFINE,
+        bin_name,
+        " ",
+        bin_name,
+        IF_ENDS,
+    ];
+    put_pieces(sink, &pieces)
 }

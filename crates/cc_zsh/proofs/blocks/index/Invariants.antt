@@ -1,7 +1,7 @@
 use Rattle.std.proofs.Common.{◌≡◌, ◌≤◌, ◌+◌, suc, drop, filter, length}
 use Rattle.cc_arg.specs.Arguments.{is_positional}
 use Rattle.cc_command.specs.ArgumentLists.{positionals}
-use Rattle.cc_zsh.proofs.nested.index.Given as goal
+use Rattle.cc_zsh.proofs.blocks.index.Given as goal
 
 -- the positionals so far are counted
 abbrev pub invariant-loop-argument : goal.invariant-loop-argument

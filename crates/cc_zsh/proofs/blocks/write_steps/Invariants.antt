@@ -1,6 +1,6 @@
 use Rattle.std.proofs.Common.{◌≡◌, ◌++◌, flat_map, length}
 use Rattle.cc_zsh.specs.Steps.{step_text}
-use Rattle.cc_zsh.proofs.nested.write_steps.Given as goal
+use Rattle.cc_zsh.proofs.blocks.write_steps.Given as goal
 
 -- what was taken and what is left make the whole; no put failed
 abbrev pub invariant-loop-steps : goal.invariant-loop-steps
