@@ -97,7 +97,7 @@ pub(crate) fn two_completers(alloc: Global) -> Result<Completers, AllocError> {
     completers.push(Box::new(alloc, Asked)?)?;
     let mut lists: Vec<Box<dyn ValueCandidates>> = Vec::new(alloc);
     lists.push(Box::new(alloc, Programs)?)?;
-    Completers::new(alloc, completers, lists)
+    Ok(Completers::new(alloc, completers, lists))
 }
 
 /// What the command offers for the last of the words, with the completers `Auto` and `Asked` and a

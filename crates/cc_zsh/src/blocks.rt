@@ -7,7 +7,7 @@ ghost use Rattle.cc_base.specs.Writes.{Writes, as_write};
 ghost use Rattle.cc_command.specs.ArgumentLists.{positionals};
 ghost use Rattle.cc_flat.specs.Flat.{tree_at};
 ghost use Rattle.cc_visits.specs.Meaning.{step_of, visit_of};
-ghost use Rattle.cc_zsh.specs.Nested.{arm_begins, arms_text, below_text, block_text, case_text, children_text, nested_begins, index_text, root_text};
+ghost use Rattle.cc_zsh.specs.Nested.{arm_begins, arms_text, below_text, block_text, case_text, children_text, index_text, nested_begins, nested_ends, root_text};
 ghost use Rattle.cc_zsh.specs.Steps.{enter_text, leave_text, step_text};
 
 use crate::names::{write_dashed, write_label};
@@ -17,7 +17,7 @@ use crate::texts::{
     ARM_ENDS, BLOCK_BEGINS, BLOCK_ENDS, CASE_LINE, CASE_LINE_IN, CASE_STATE, COMMAND_BEGINS,
     CONTEXT_COMMAND, EXTERNAL_TEXT, NESTED_ENDS, SET_CONTEXT, SET_WORDS, STATE_BEGINS, STATE_ENDS,
 };
-use cc_base::{Error, Sink, Text, put_around, put_piece};
+use cc_base::{Error, Sink, Text, put_around, put_piece, put_pieces};
 use cc_command::{Command, full_name};
 use cc_flat::Flat;
 use cc_visits::{Keys, PathStep, PathSteps, Visit};
@@ -38,7 +38,7 @@ impl Keys for LastNames {
     }
 }
 
-#[tactic(auto, unfolding(crate::specs::Nested::root_text, crate::specs::Script::fixed_texts))]
+#[tactic(auto, unfolding(crate::specs::Nested::root_text))]
 pub(crate) fn write_root<W: Sink>(alloc: Global, sink: &mut W, flat: &Flat<'_>) -> Result<(), Error>
     requires { 0 < length flat.now }
     ensures { Writes W.taken W.failed result sink.old sink.new (root_text (tree_at flat.now 0)) }
@@ -50,7 +50,14 @@ pub(crate) fn write_root<W: Sink>(alloc: Global, sink: &mut W, flat: &Flat<'_>) 
     }
     write_nested_begins(alloc, sink, root)?;
     write_arms(alloc, sink, flat)?;
-    Ok(put_piece(sink, NESTED_ENDS)?)
+    Ok(write_nested_ends(sink)?)
+}
+
+#[tactic(auto, unfolding(crate::specs::Nested::nested_ends))]
+fn write_nested_ends<W: Sink>(sink: &mut W) -> Result<(), ErrorKind>
+    ensures { Writes W.taken W.failed (as_write result) sink.old sink.new nested_ends }
+{
+    put_piece(sink, NESTED_ENDS)
 }
 
 #[tactic(auto, using(crate::proofs::ArmSteps::steps_texts))]
@@ -112,10 +119,10 @@ fn write_arm_begins<W: Sink>(sink: &mut W, visit: &Visit<'_>) -> Result<(), Erro
 fn write_leave<W: Sink>(sink: &mut W, command: &Command) -> Result<(), ErrorKind>
     ensures { Writes W.taken W.failed (as_write result) sink.old sink.new (leave_text command.now) }
 {
-    if command.has_subcommands() {
-        put_piece(sink, NESTED_ENDS)?;
+    if !command.has_subcommands() {
+        return put_piece(sink, ARM_ENDS);
     }
-    put_piece(sink, ARM_ENDS)
+    put_pieces(sink, &[NESTED_ENDS, ARM_ENDS])
 }
 
 fn write_block<W: Sink>(sink: &mut W, above: &Command, command: &Command) -> Result<(), ErrorKind>
