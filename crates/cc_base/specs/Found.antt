@@ -14,7 +14,8 @@ after (byte ∷ front) (first ∷ text) = elim (byte == first) [
 
 -- the text before this ending; none where it ends otherwise
 unfoldable pub before_ending : List ℕ → List ℕ → Option (List ℕ)
-before_ending ending text = option_map (λ front. reverse front) (after (reverse ending) (reverse text))
+before_ending ending text =
+    option_map (λ front. reverse front) (after (reverse ending) (reverse text))
 
 -- a cut with some text more before it
 unfoldable pub with_front : List ℕ → Option (List ℕ × List ℕ) → Option (List ℕ × List ℕ)

@@ -1,4 +1,5 @@
--- The script of a generator outside the library, and what it reads to: a line for each long of a command.
+-- The script of a generator outside the library, and what it reads to: a line for each long of a
+-- command.
 use Rattle.std.specs.Prelude.{◌≡◌, ℕ, ◌==◌, if◌then◌else◌, List, [], ◌∷◌, ◌++◌, codes, flat_map, map}
 use Rattle.clap_complete.specs.ArgumentNames.{all_longs, long_word}
 use Rattle.clap_complete.specs.Tree.{Tree}
@@ -19,7 +20,8 @@ with_byte byte (first ∷ lines) = (byte ∷ first) ∷ lines
 -- the lines of a text, each cut before its line feed
 abbrev pub lines_of : List ℕ → List (List ℕ)
 lines_of [] = []
-lines_of (byte ∷ bytes) = if byte == 10 then [] ∷ lines_of bytes else with_byte byte (lines_of bytes)
+lines_of (byte ∷ bytes) =
+    if byte == 10 then [] ∷ lines_of bytes else with_byte byte (lines_of bytes)
 
 -- the lines of the script are the longs as they are typed
 abbrev pub ListsLongs : Tree → Type 0

@@ -119,7 +119,8 @@ questions_of_lists tree position lists pending word = record {
 abbrev pub questions : Tree → State → List ℕ → Questions
 questions tree state word =
     questions_of_lists tree state.position
-    (open_lists_by tree.node.arguments state.position state.escaped state.pending) state.pending word
+    (open_lists_by tree.node.arguments state.position state.escaped state.pending) state.pending
+    word
 
 -- the offered lists, one after another
 abbrev pub offered : Tree → ℕ → OpenLists → List ℕ → Given → List CompletionCandidate
@@ -218,7 +219,8 @@ told (paths hint text) found = found
 told _ found = []
 
 -- all that is made of the lists of completers and of the folder, where these lists are offered
-abbrev pub told_by_lists : Tree → ℕ → OpenLists → Pending → List ℕ → Given → List CompletionCandidate
+abbrev pub told_by_lists : Tree → ℕ → OpenLists → Pending → List ℕ → Given
+    → List CompletionCandidate
 told_by_lists tree position lists pending word given =
     told (positional_question (positional_at tree.node.arguments position) lists.value word)
     (positional_values (positional_at tree.node.arguments position) lists.value word
@@ -257,8 +259,8 @@ words_before node words index = drop (names_before node) (take index words)
 
 -- What may be offered for the word at the index: the words before it lead to one node and one
 -- state, to no others, and the list is one that may be offered there. Where none of those words is
--- a hidden alias at the command where it is read, the node is that of the walk by visible names. The
--- laws speak of this node and state, and of the very lists of which the result is made.
+-- a hidden alias at the command where it is read, the node is that of the walk by visible names.
+-- The laws speak of this node and state, and of the very lists of which the result is made.
 pub record Completes (lent : Lent) (root : Tree) (words : List (List ℕ)) (index : ℕ)
     (result : List CompletionCandidate) : Type 0 where
   pub tree : Tree

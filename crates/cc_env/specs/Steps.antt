@@ -90,7 +90,8 @@ pub data MakesText (Makes : Result Tree Error → Type 0) (shell : CompleterSpec
       → MakesText Makes shell names env Offers [] (Err NoArguments)
   -- no words follow a `--`: the registration
   registered : (tree : Tree) (program : List ℕ) (rest : List (List ℕ)) (text : List ℕ)
-      → Makes (Ok tree) → after_dashes rest ≡ [] → IsRegistration shell (names program (built_tree tree)) text
+      → Makes (Ok tree) → after_dashes rest ≡ []
+      → IsRegistration shell (names program (built_tree tree)) text
       → MakesText Makes shell names env Offers (program ∷ rest) (Ok text)
   -- words follow: the reply to them
   replied : (tree : Tree) (program : List ℕ) (rest : List (List ℕ))

@@ -81,8 +81,8 @@ value_candidate value = record (new_candidate value.name) { help = value.help; h
 unfoldable pub sorted : List CompletionCandidate → List CompletionCandidate
 sorted = in_order comes_before
 
--- what is made of what was returned: a completer's stays, of a list and of the possible values those stay
--- that begin with the text, and paths are sorted as one list
+-- what is made of what was returned: a completer's stays, of a list and of the possible values
+-- those stay that begin with the text, and paths are sorted as one list
 abbrev pub gathered_by : Option ArgValueCompleter → Option ArgValueCandidates
     → Option (List PossibleValue) → List ℕ → List CompletionCandidate → List CompletionCandidate
 gathered_by (Some which) list values text lent = lent

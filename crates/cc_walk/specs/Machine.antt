@@ -61,7 +61,8 @@ open_step arguments position option values class =
 
 -- one word further at a node
 abbrev pub step : List Arg → ℕ → Bool → Pending → WordClass → State
-step arguments position true pending class = value_state arguments position true (run_length pending)
+step arguments position true pending class =
+    value_state arguments position true (run_length pending)
 step arguments position false (OptionOpen option values) class =
     open_step arguments position option values class
 step arguments position false Nothing class = closed_step arguments position 0 class

@@ -1,5 +1,5 @@
-//! Tests of what the program is made of that no case of `cc_cases` can say: plans, files that are no
-//! text or very large, memory, and writers that fail.
+//! Tests of what the program is made of that no case of `cc_cases` can say: plans, files that are
+//! no text or very large, memory, and writers that fail.
 #![tactic(auto)]
 
 #[cfg(test)]

@@ -1,7 +1,8 @@
 //! Completers of paths.
 
 use crate::path_candidates::folders::Unlisted;
-use crate::path_candidates::shown::{other, returns, text, work};
+use crate::path_candidates::shown::{other, returns, text};
+use crate::paths::work;
 use cc_candidates::ValueCompleter;
 use cc_paths::{MemoryFolder, PathCompleter};
 

@@ -54,21 +54,6 @@ pub(crate) fn text(rt: &(impl Abort + AllocGlobal), text: &str) -> String {
     String::from_str(rt.alloc(), text).expect(rt, "no text")
 }
 
-/// `/w` with a file and two folders, and a home folder with a folder.
-pub(crate) fn work() -> MemoryFolder {
-    MemoryFolder::new(
-        &[
-            ("/w", &["src", ".git", "a.txt"]),
-            ("/w/src", &[]),
-            ("/w/.git", &[]),
-            ("/home/u", &["src"]),
-            ("/home/u/src", &[]),
-        ],
-        &["/w/a.txt"],
-    )
-    .with_home("/home/u")
-}
-
 /// `/o` with two files and a folder.
 pub(crate) fn other() -> MemoryFolder {
     MemoryFolder::new(
