@@ -9,20 +9,40 @@ use std::alloc::{AllocError, Global};
 /// `app` with an option for a path, options with possible values, with the completer and with the
 /// list of number 0, and the child `run`.
 pub(crate) fn command(alloc: Global) -> Result<Command, Error> {
-    let about = String::from_str(alloc, "Does it")?;
-    let command = Command::new(alloc, String::from_str(alloc, "app")?)
-        .about(about)
-        .arg(option(alloc, "root")?.value_hint(ValueHint::AnyPath))?
-        .arg(option(alloc, "color")?.value_parser(colors(alloc)?))?
-        .subcommand(child(alloc)?)?;
-    with_lent(alloc, command)
+    let command = with_arg(described(alloc), path(alloc));
+    let command = with_arg(command, color(alloc));
+    let command = with_child(command, child(alloc));
+    let key = option(alloc, "key").map(|key| key.add(ArgValueCompleter::new(0)));
+    let level = option(alloc, "level").map(|level| level.add_candidates(ArgValueCandidates::new(
+        0,
+    )));
+    with_arg(with_arg(command, key), level)
 }
 
-fn with_lent(alloc: Global, command: Command) -> Result<Command, Error> {
-    let key = option(alloc, "key")?.add(ArgValueCompleter::new(0));
-    let command = command.arg(key)?;
-    let level = option(alloc, "level")?.add_candidates(ArgValueCandidates::new(0));
-    command.arg(level)
+fn described(alloc: Global) -> Result<Command, Error> {
+    let about = String::from_str(alloc, "Does it")?;
+    Ok(Command::new(alloc, String::from_str(alloc, "app")?).about(about))
+}
+
+fn path(alloc: Global) -> Result<Arg, Error> {
+    Ok(option(alloc, "root")?.value_hint(ValueHint::AnyPath))
+}
+
+fn color(alloc: Global) -> Result<Arg, Error> {
+    let colors = colors(alloc)?;
+    Ok(option(alloc, "color")?.value_parser(colors))
+}
+
+// Functions of their own, so that few values are alive where a call may fail.
+fn with_arg(command: Result<Command, Error>, arg: Result<Arg, Error>) -> Result<Command, Error> {
+    command?.arg(arg?)
+}
+
+fn with_child(
+    command: Result<Command, Error>,
+    child: Result<Command, Error>,
+) -> Result<Command, Error> {
+    command?.subcommand(child?)
 }
 
 fn child(alloc: Global) -> Result<Command, Error> {
