@@ -37,17 +37,19 @@ finds_none old new count index _ refused = absurd refused
 pub without_completers : {B C L G : Type 0}
     (Boxes : ℕ → List ℕ → B → List CompletionCandidate → Type 0)
     (Closures : ℕ → List ℕ → C → List CompletionCandidate → Type 0)
-    (completers : List (Source B C)) (ListBoxes : L → List CompletionCandidate → Type 0)
-    (ListClosures : G → List CompletionCandidate → Type 0) (lists : List (Source L G))
-    (Finds : Paths) → completers ≡ [] → lists ≡ []
+    (completers : List B) (added : List (Source B C))
+    (ListBoxes : L → List CompletionCandidate → Type 0)
+    (ListClosures : G → List CompletionCandidate → Type 0)
+    (lists : List L) (added_lists : List (Source L G)) (Finds : Paths)
+    → (completers ≡ []) × (added ≡ []) → (lists ≡ []) × (added_lists ≡ [])
     → record {
       completes = λ which number text. ReturnsAt (Boxes number text) (Closures number text)
-          completers which;
-      lists = λ which. ReturnsAt ListBoxes ListClosures lists which;
+          completers added which;
+      lists = λ which. ReturnsAt ListBoxes ListClosures lists added_lists which;
       finds = Finds;
     } ≡ only_paths Finds
-without_completers Boxes Closures completers ListBoxes ListClosures lists Finds none no_lists =
-    rw (none, no_lists) refl
+without_completers Boxes Closures completers added ListBoxes ListClosures lists added_lists Finds none no_lists =
+    rw (none.0, none.1, no_lists.0, no_lists.1) refl
 
 -- what a call that builds the command finds, where only paths are found
 pub are_found : {A : Type 0} (items : A → List CompletionCandidate) (Finds : Paths) (lent : Lent)
