@@ -3,7 +3,7 @@ use Rattle.std.specs.Borrow.{Bor}
 use Rattle.clap.proofs.WalkLemmas.{first_value-rows}
 use Rattle.clap.specs.Words.{Text, first_of, found_of, rows_of}
 use Rattle.complgen_command_line.proofs.CommandLineLemmas.{some_found}
-use Rattle.complgen_command_line.proofs.words.text.Goals as goal
+use Rattle.complgen_command_line.proofs.parse.text.Goals as goal
 
 pub unwrap-requires : goal.unwrap-requires
 unwrap-requires c =
