@@ -2,7 +2,6 @@
 
 ghost use Rattle.std.specs.Prelude.{◌≡◌};
 ghost use Rattle.std.specs.List.{list_all};
-ghost use Rattle.std.specs.Option.{option_copied};
 ghost use Rattle.cc_command.specs.Tree.{forest_of};
 ghost use Rattle.cc_command.specs.Quiet.{are_quiet_values, is_quiet_argument, is_quiet_byte};
 ghost use Rattle.cc_command.specs.Quiet.{is_quiet_forest, is_quiet_node, is_quiet_tree};
