@@ -1,7 +1,6 @@
 -- The words of a request are none that the command line takes.
 use Rattle.std.proofs.Common.{◌≡◌, refl, subst, sym, Bool, true, false, ℕ, List, [], ◌∷◌, codes, Option}
 use Rattle.std.specs.Prelude.{◌&&◌}
-use Rattle.std.specs.Str.{bytes_eq}
 use Rattle.std.proofs.lemmas.Slice.Eq.{bytes_eq-Decides}
 use Rattle.std.proofs.Math.Bool.{and-false}
 use Rattle.clap.specs.Words.{Text, takes}

@@ -1,5 +1,5 @@
 -- The names and the paths of tree files.
-use Rattle.std.specs.Prelude.{ℕ, Bool, List, [], ◌∷◌, ◌++◌, ◌-◌, length, map, take, Option, None, Some, codes, if◌then◌else◌, nat_eq}
+use Rattle.std.specs.Prelude.{ℕ, List, [], ◌∷◌, ◌++◌, ◌-◌, length, map, take, Option, None, Some, codes, if◌then◌else◌, nat_eq}
 use Rattle.std.specs.List.{ends_with, flat_map}
 use Rattle.std.specs.Path.{path_file_name, path_join}
 

@@ -3,7 +3,8 @@
 ghost use Rattle.std.specs.Prelude.{◌≡◌, ◌++◌, IfOk, OnOk, codes, filter, map, option_map, string_bytes};
 ghost use Rattle.std.specs.Option.{option_copied};
 ghost use Rattle.cc_replies.specs.Environment.{value_of};
-ghost use Rattle.complgen_trees.specs.Folders.{is_some_text, pieces, some_text, system_folders};
+ghost use Rattle.cc_paths.specs.PathTexts.{is_absolute};
+ghost use Rattle.complgen_trees.specs.Folders.{data_folder, is_some_text, pieces, some_text, system_folders};
 ghost use Rattle.complgen_trees.specs.Folders.{tree_folders, user_folders};
 
 use cc_paths::join;
@@ -33,9 +34,9 @@ pub fn tree_folders(alloc: Global, env: &EnvValues) -> Result<Vec<String>, Alloc
     if let Some(list) = env.get("COMPLGEN_PATH") {
         return named_folders(alloc, list);
     }
-    let data = some_text(env.get("XDG_DATA_HOME"));
+    let shared = some_text(env.get("XDG_DATA_HOME"));
     let home = some_text(env.get("HOME"));
-    let mut folders = user_folders(alloc, data, home)?;
+    let mut folders = user_folders(alloc, shared, home)?;
     let list = some_text(env.get("XDG_DATA_DIRS")).unwrap_or(DEFAULT_DATA);
     push_system_folders(&mut folders, alloc, list)?;
     Ok(folders)
@@ -56,15 +57,23 @@ fn named_folders(alloc: Global, list: &str) -> Result<Vec<String>, AllocError>
     ensures { IfOk result (λ folders.
         map string_bytes folders.items ≡ filter is_some_text (pieces list.now)) }
 {
-    let mut folders = Vec::new(alloc);
     let listed = pieces(alloc, list)?;
-    for piece in listed.as_slice() {
-        if piece.is_empty() {
+    some_texts(alloc, listed.as_slice())
+}
+
+// Copies of those of the texts that are not empty.
+fn some_texts(alloc: Global, texts: &[&str]) -> Result<Vec<String>, AllocError>
+    ensures { IfOk result (λ copies. map string_bytes copies.items
+        ≡ filter is_some_text (map (λ text. text.now) texts.now)) }
+{
+    let mut copies = Vec::new(alloc);
+    for text in texts {
+        if text.is_empty() {
             continue;
         }
-        folders.push(String::from_str(alloc, piece)?)?;
+        copies.push(String::from_str(alloc, text)?)?;
     }
-    Ok(folders)
+    Ok(copies)
 }
 
 // The paths of a list with `:` between them.
@@ -77,15 +86,15 @@ fn pieces<'l>(alloc: Global, list: &'l str) -> Result<Vec<&'l str>, AllocError>
 // The folder of the user, where one is known.
 fn user_folders(
     alloc: Global,
-    data: Option<&str>,
+    shared: Option<&str>,
     home: Option<&str>,
 ) -> Result<Vec<String>, AllocError>
     ensures { IfOk result (λ folders. map string_bytes folders.items
-        ≡ user_folders (option_copied data.entry) (option_copied home.entry)) }
+        ≡ user_folders (option_copied shared.entry) (option_copied home.entry)) }
 {
     let mut folders = Vec::new(alloc);
-    match (data, home) {
-        (Some(data), _) => folders.push(join(alloc, data, DATA_FOLDER)?)?,
+    match (shared, home) {
+        (Some(shared), _) => folders.push(join(alloc, shared, DATA_FOLDER)?)?,
         (None, Some(home)) => folders.push(join(alloc, home, HOME_FOLDER)?)?,
         (None, None) => {}
     }
@@ -102,11 +111,23 @@ fn push_system_folders(
         ≡ map string_bytes folders.old.items ++ system_folders list.now) }
 {
     let listed = pieces(alloc, list)?;
-    for piece in listed.as_slice() {
-        if !piece.starts_with('/') {
+    push_data_folders(folders, alloc, listed.as_slice())
+}
+
+// Adds the folder in each of these folders of data that has an absolute path.
+fn push_data_folders(
+    folders: &mut Vec<String>,
+    alloc: Global,
+    dirs: &[&str],
+) -> Result<(), AllocError>
+    ensures { OnOk result (map string_bytes folders.new.items ≡ map string_bytes folders.old.items
+        ++ map data_folder (filter is_absolute (map (λ dir. dir.now) dirs.now))) }
+{
+    for dir in dirs {
+        if !dir.starts_with('/') {
             continue;
         }
-        folders.push(join(alloc, piece, DATA_FOLDER)?)?;
+        folders.push(join(alloc, dir, DATA_FOLDER)?)?;
     }
     Ok(())
 }
