@@ -23,7 +23,6 @@ use std::alloc::{AllocError, Global};
 ///
 /// Fails as `try_complete` does, and with `InvalidVariant` and a text that names the path where the
 /// file is not JSON or describes no command. Nothing is written where it fails, but for `Write`.
-#[tactic(auto, using(crate::proofs::ReplyLemmas::unfiled))]
 pub fn reply<D: Folder, W: Sink>(
     alloc: Global,
     env: &EnvValues,
@@ -74,7 +73,7 @@ fn not_json(alloc: Global, path: &str) -> Result<Text, AllocError>
 fn bad_form(alloc: Global, path: &str) -> Result<Text, AllocError>
     ensures { IfOk result (λ text. text ≡ bad_form_text path.now) }
 {
-    Ok(Text::from(
-        format!(in alloc; "complgen: {path}: tree: bad form (run complgen check {path})")?,
-    ))
+    Ok(Text::from(format!(in alloc;
+        "complgen: {path}: tree: bad form (run complgen check {path})"
+    )?))
 }
