@@ -33,6 +33,7 @@ const VARIABLES: [&str; 7] = [
 const OWN_PATH: &str = "own tree";
 
 // A tree file, or none.
+#[derive(Drop)]
 struct TreeFile {
     path: String,
     bytes: Option<Vec<u8>>,
