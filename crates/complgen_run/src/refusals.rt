@@ -53,8 +53,9 @@ pub(crate) fn tree_refusal(error: TreeError) -> Refusal
     }
 }
 
-/// What is printed of an error of the library.
-pub(crate) fn error_refusal(alloc: Global, error: &Error) -> Refusal
+/// What is printed of an error of the library: status 1, and the error's text as a line; that of
+/// `Memory` where there is no memory for the text.
+pub fn error_refusal(alloc: Global, error: &Error) -> Refusal
     ensures { Reports error.now result }
 {
     match error {
