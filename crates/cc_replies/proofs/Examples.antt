@@ -107,7 +107,7 @@ spread = helped (codes "a\tb") (codes "x" ++ 11 ∷ codes "y\nz") ∷ []
 
 -- bash and Elvish are sent no help, and a tab is between no values
 spread_values_row : values_read 11 (values_reply (11 ∷ []) spread) ≡ codes "a\tb" ∷ []
-spread_values_row = values_back 11 spread refl
+spread_values_row = values_back (11 ∷ []) spread 11 refl refl
 
 -- zsh is sent the help
 spread_zsh_items_row : are_readable_zsh_items 11 spread ≡ false
