@@ -3,7 +3,7 @@ use Rattle.std.proofs.Common.{◌≤◌, ◌+◌, ℕ, suc, Bool, true, false, l
 use Rattle.std.proofs.lemmas.Bool.{cases_Bool}
 use Rattle.cc_arg.specs.declared.parts.ArgParts.{ArgParts as Arg}
 use Rattle.cc_walk.specs.Blocks.{follows}
-use Rattle.cc_walk.specs.Lookup.{allows_hyphens_at, limit}
+use Rattle.cc_walk.specs.Lookup.{allows_hyphens_at, capacity_at}
 use Rattle.cc_walk.specs.Machine.{NodeState, closed_step, entered, open_step, run_length, node_state_step, step, value_state}
 use Rattle.cc_walk.specs.WordClasses.{class_of}
 use Rattle.cc_command.specs.Tree.{Tree}
@@ -14,7 +14,7 @@ use Rattle.cc_walk.specs.declared.state.Pending.{Pending}
 use Rattle.cc_walk.specs.declared.state.Pending.TheVariants.{OptionOpen, PositionMoved, Nothing, PositionalRun}
 
 value_position : (arguments : List Arg) (position : ℕ) (escaped : Bool) (k : ℕ) → (value_state arguments position escaped k).position ≤ position + 1
-value_position arguments position escaped k = elim (cases_Bool (ltb (suc k) (limit arguments position))) [ inl t ↦ rw t (omega arith) | inr f ↦ rw f (omega arith) ]
+value_position arguments position escaped k = elim (cases_Bool (ltb (suc k) (capacity_at arguments position))) [ inl t ↦ rw t (omega arith) | inr f ↦ rw f (omega arith) ]
 
 closed_position : (arguments : List Arg) (position values : ℕ) (class : WordClass) → (closed_step arguments position values class).position ≤ position + 1
 closed_position arguments position values Escape = omega arith

@@ -9,7 +9,7 @@ use Rattle.cc_arg.specs.declared.parts.ArgParts.{ArgParts as Arg}
 use Rattle.cc_command.specs.Names.{find_child}
 use Rattle.cc_command.specs.Tree.{Tree}
 use Rattle.cc_walk.specs.Blocks.{follows, AreBlocks, Block, state_after, join, start}
-use Rattle.cc_walk.specs.Lookup.{allows_hyphens_at, limit}
+use Rattle.cc_walk.specs.Lookup.{allows_hyphens_at, capacity_at}
 use Rattle.cc_walk.specs.Machine.{closed_step, entered, open_step, run, run_length, node_state_step, step, value_state, walk}
 use Rattle.cc_walk.specs.Reach.{Descend, NamesNoChild, Reach, Stay}
 use Rattle.cc_walk.proofs.Dashes.{is_escape_class, class_escapes}
@@ -24,7 +24,7 @@ use Rattle.cc_walk.specs.declared.state.State.{State}
 use Rattle.cc_walk.proofs.Cut.{run_blocks, fresh_nothing}
 
 value_escaped : (arguments : List Arg) (position : ℕ) (escaped : Bool) (k : ℕ) → (value_state arguments position escaped k).escaped ≡ escaped
-value_escaped arguments position escaped k = elim (cases_Bool (ltb (suc k) (limit arguments position))) [ inl t ↦ rw t refl | inr f ↦ rw f refl ]
+value_escaped arguments position escaped k = elim (cases_Bool (ltb (suc k) (capacity_at arguments position))) [ inl t ↦ rw t refl | inr f ↦ rw f refl ]
 
 closed_escaped : (arguments : List Arg) (position values : ℕ) (class : WordClass) → (closed_step arguments position values class).escaped ≡ is_escape_class class
 closed_escaped arguments position values Escape = refl

@@ -6,7 +6,7 @@ use Rattle.cc_walk.specs.declared.word_class.WordClass.{WordClass}
 use Rattle.cc_walk.specs.declared.word_class.WordClass.TheVariants.{Escape, Opens, Unknown, Closed, Plain}
 use Rattle.cc_walk.specs.declared.state.Pending.TheVariants.{Nothing, OptionOpen, PositionalRun, PositionMoved}
 use Rattle.cc_walk.specs.declared.state.State.{State}
-use Rattle.cc_walk.specs.Lookup.{greatest, limit, allows_hyphens_at}
+use Rattle.cc_walk.specs.Lookup.{max_values, capacity_at, allows_hyphens_at}
 use Rattle.cc_walk.specs.WordClasses.{class_of}
 
 -- a word that an open option takes
@@ -70,7 +70,7 @@ module _ (arguments : List Arg) where
 
   -- the position after k values of a position
   abbrev pub position_after : ℕ → ℕ → ℕ
-  position_after position k = if nat_lt k (limit arguments position) then position else position + 1
+  position_after position k = if nat_lt k (capacity_at arguments position) then position else position + 1
 
   -- the blocks are side by side, from this position on
   abbrev pub AreBlocks : ℕ → Bool → List Block → Type 0
@@ -83,14 +83,14 @@ module _ (arguments : List Arg) where
       (escaped ≡ false)
       × (class_of arguments opener ≡ Opens option)
       × All (Follows option) values
-      × (length values ≤ greatest option)
-      × (length values < greatest option → BeginsWithNoFollower option (join bs))
+      × (length values ≤ max_values option)
+      × (length values < max_values option → BeginsWithNoFollower option (join bs))
       × AreBlocks position false bs
   AreBlocks position escaped (Values first more ∷ bs) =
       IsValueAt position escaped first
       × All (IsValueAt position escaped) more
-      × (suc (length more) ≤ limit arguments position)
-      × (suc (length more) < limit arguments position → BeginsWithNoValues bs)
+      × (suc (length more) ≤ capacity_at arguments position)
+      × (suc (length more) < capacity_at arguments position → BeginsWithNoValues bs)
       × AreBlocks (position_after position (suc (length more))) escaped bs
   AreBlocks position escaped (Flag word ∷ bs) =
       (escaped ≡ false)
@@ -109,13 +109,13 @@ after_block arguments position escaped (Dashes word) =
 after_block arguments position escaped (Opened opener option values) = record {
   position = position;
   escaped = escaped;
-  pending = if nat_lt (length values) (greatest option) then OptionOpen option (length values)
+  pending = if nat_lt (length values) (max_values option) then OptionOpen option (length values)
       else Nothing;
 }
 after_block arguments position escaped (Values first more) = record {
   position = position_after arguments position (suc (length more));
   escaped = escaped;
-  pending = if nat_lt (suc (length more)) (limit arguments position)
+  pending = if nat_lt (suc (length more)) (capacity_at arguments position)
       then PositionalRun (suc (length more)) else if escaped then PositionMoved else Nothing;
 }
 after_block arguments position escaped (Flag word) =

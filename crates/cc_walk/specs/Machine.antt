@@ -8,7 +8,7 @@ use Rattle.cc_walk.specs.declared.word_class.WordClass.TheVariants.{Escape, Open
 use Rattle.cc_walk.specs.declared.state.Pending.{Pending}
 use Rattle.cc_walk.specs.declared.state.Pending.TheVariants.{Nothing, OptionOpen, PositionalRun, PositionMoved}
 use Rattle.cc_walk.specs.declared.state.State.{State}
-use Rattle.cc_walk.specs.Lookup.{greatest, limit, allows_hyphens_at}
+use Rattle.cc_walk.specs.Lookup.{max_values, capacity_at, allows_hyphens_at}
 use Rattle.cc_walk.specs.WordClasses.{class_of}
 use Rattle.cc_walk.specs.Blocks.{follows, start}
 
@@ -21,7 +21,7 @@ run_length PositionMoved = 0
 
 -- one more value at the position, after a run of so many
 abbrev pub value_state : List Arg → ℕ → Bool → ℕ → State
-value_state arguments position escaped values = if nat_lt (suc values) (limit arguments position)
+value_state arguments position escaped values = if nat_lt (suc values) (capacity_at arguments position)
     then record { position = position; escaped = escaped; pending = PositionalRun (suc values) }
     else record {
       position = position + 1;
@@ -36,7 +36,7 @@ option_state position option values =
     record {
       position = position;
       escaped = false;
-      pending = if nat_lt values (greatest option)
+      pending = if nat_lt values (max_values option)
           then OptionOpen option values else Nothing;
     }
 
