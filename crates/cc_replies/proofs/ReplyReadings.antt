@@ -94,6 +94,7 @@ joined_read separator ([] ∷ texts) h k = absurd (k.0 refl)
 joined_read separator ((byte ∷ text) ∷ texts) h k = joined_pieces separator (byte ∷ text) texts h.0 h.1
 
 pub values_back : (between : List ℕ) (candidates : List CompletionCandidate) → ValuesRead between candidates
+unfolding ValuesRead
 values_back between candidates separator is e =
     ap (λ b. values_read separator (values_reply b candidates)) is
     ∙ joined_read separator (map (λ candidate. candidate.value) candidates)
@@ -144,7 +145,7 @@ body_read value (Some help) h =
     ∙ ap (λ v. record { value = v; help = Some help }) (append-nil value)
 
 pub lines_back : (candidates : List CompletionCandidate) → LinesRead candidates
-unfolding lines_read lines_from shown_line
+unfolding lines_read lines_from shown_line LinesRead
 lines_back [] e = refl
 lines_back (candidate ∷ candidates) e =
     let parts = and_parts (is_readable_line candidate.value) (are_readable_lines candidates) e in
@@ -233,7 +234,7 @@ items_read [] = refl
 items_read (candidate ∷ candidates) = ap₂ (λ item items. item ∷ items) (item_read (shown candidate)) (items_read candidates)
 
 pub zsh_back : (between : List ℕ) (candidates : List CompletionCandidate) → ZshReplyRead between candidates
-unfolding zsh_read
+unfolding zsh_read ZshReplyRead
 zsh_back between candidates separator is r =
     let items : Bool = list_all (λ candidate. is_readable_zsh_item separator (shown candidate)) candidates in
     let parts = and_parts (not (separator == colon) && not (separator == backslash)) items r in

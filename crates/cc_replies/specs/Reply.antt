@@ -152,20 +152,20 @@ are_readable_lines candidates = list_all (λ candidate. is_readable_line candida
 -- ---- the laws
 
 -- with one byte between values, the reply is read as the values
-abbrev pub ValuesRead : List ℕ → List CompletionCandidate → Type 0
+unfoldable pub ValuesRead : List ℕ → List CompletionCandidate → Type 0
 ValuesRead between candidates =
     (separator : ℕ) → between ≡ separator ∷ [] → IsTrue (are_readable_values separator candidates)
     → values_read separator (values_reply between candidates)
     ≡ map (λ candidate. candidate.value) candidates
 
 -- with one byte between items, the reply is read as the values and the first lines of the helps
-abbrev pub ZshReplyRead : List ℕ → List CompletionCandidate → Type 0
+unfoldable pub ZshReplyRead : List ℕ → List CompletionCandidate → Type 0
 ZshReplyRead between candidates =
     (separator : ℕ) → between ≡ separator ∷ []
     → IsTrue (are_readable_zsh_items separator candidates)
     → zsh_read separator (zsh_reply between candidates)
     ≡ map (λ candidate. Some (shown candidate)) candidates
 
-abbrev pub LinesRead : List CompletionCandidate → Type 0
+unfoldable pub LinesRead : List CompletionCandidate → Type 0
 LinesRead candidates = IsTrue (are_readable_lines candidates)
     → lines_read (lines_reply candidates) ≡ map shown candidates
