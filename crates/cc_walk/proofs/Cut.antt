@@ -9,7 +9,7 @@ use Rattle.cc_walk.specs.Lookup.{allows_hyphens_at, max_values, capacity_at}
 use Rattle.cc_walk.specs.Machine.{closed_step, open_step, option_state, run, step, value_state}
 use Rattle.cc_walk.specs.WordClasses.{class_of}
 use Rattle.cc_walk.specs.declared.word_class.WordClass.{WordClass}
-use Rattle.cc_walk.specs.declared.word_class.WordClass.TheVariants.{Closed, Escape, Opens, Plain, Unknown}
+use Rattle.cc_walk.specs.declared.word_class.WordClass.TheVariants.{Closed, Opens, Plain, Unknown}
 use Rattle.cc_walk.specs.declared.state.Pending.{Pending}
 use Rattle.cc_walk.specs.declared.state.Pending.TheVariants.{OptionOpen, PositionMoved, Nothing, PositionalRun}
 use Rattle.cc_walk.proofs.Opens.{Opens-takes}
@@ -28,11 +28,9 @@ value_step arguments position values true class word is e = refl
 value_step arguments position values false class word is e = by_class arguments position values class (rw is at e)
   where
     by_class : (arguments : List Arg) (position values : ℕ) (class : WordClass) → is_value (allows_hyphens_at arguments position) class ≡ true → closed_step arguments position values class ≡ value_state arguments position false values
-    by_class arguments position values Escape e = cc
     by_class arguments position values Plain e = refl
     by_class arguments position values Unknown e = rw e
-    by_class arguments position values (Opens a) e = cc
-    by_class arguments position values Closed e = cc
+    by_class arguments position values _ e = cc
 
 option_more : (arguments : List Arg) (position : ℕ) (a : Arg) (k : ℕ) (class : WordClass) → k < max_values a → follows a class ≡ true → step arguments position false (option_state position a k).pending class ≡ option_state position a (suc k)
 option_more arguments position a k class below e = rw (lt-ltb k (max_values a) below) (open_follows arguments position a k class e)

@@ -7,17 +7,14 @@ use Rattle.cc_arg.specs.declared.parts.ArgParts.{ArgParts as Arg}
 use Rattle.cc_walk.specs.declared.word_class.ValueCharacter.{ValueCharacter}
 use Rattle.cc_arg.specs.Arguments.{takes_values}
 use Rattle.cc_walk.specs.declared.word_class.WordClass.{WordClass}
-use Rattle.cc_walk.specs.declared.word_class.WordClass.TheVariants.{Escape, Opens, Unknown, Closed, Plain}
+use Rattle.cc_walk.specs.declared.word_class.WordClass.TheVariants.{Escape}
 use Rattle.cc_walk.specs.Lookup.{has_long}
 use Rattle.cc_walk.specs.Words.{form_of, hyphen_form, long_form, before_equals, has_equals}
 use Rattle.cc_walk.specs.WordClasses.{cluster_class, flag_class, last_class, class_of, class_of_form, value_character}
 
 abbrev pub is_escape_class : WordClass → Bool
 is_escape_class Escape = true
-is_escape_class (Opens argument) = false
-is_escape_class Unknown = false
-is_escape_class Closed = false
-is_escape_class Plain = false
+is_escape_class _ = false
 
 last_escapes : (a : Arg) (s : List ℕ) → is_escape_class (last_class a s) ≡ false
 last_escapes a [] = refl

@@ -19,11 +19,9 @@ follows option Closed = option.allow_hyphen_values
 
 -- an unescaped word that is a positional value, by whether the position allows hyphens
 abbrev pub is_value : Bool → WordClass → Bool
-is_value hyphens Escape = false
 is_value hyphens Plain = true
 is_value hyphens Unknown = hyphens
-is_value hyphens (Opens option) = false
-is_value hyphens Closed = false
+is_value hyphens _ = false
 
 pub data Block : Type 0 where
   -- E: an unescaped `--`
@@ -62,11 +60,8 @@ module _ (arguments : List Arg) where
   BeginsWithNoFollower option (word ∷ words) = follows option (class_of arguments word) ≡ false
 
   abbrev pub BeginsWithNoValues : List Block → Type 0
-  BeginsWithNoValues [] = Unit {0}
   BeginsWithNoValues (Values first more ∷ bs) = ⊥
-  BeginsWithNoValues (Dashes word ∷ bs) = Unit {0}
-  BeginsWithNoValues (Opened opener option values ∷ bs) = Unit {0}
-  BeginsWithNoValues (Flag word ∷ bs) = Unit {0}
+  BeginsWithNoValues _ = Unit {0}
 
   -- the position after k values of a position
   abbrev pub position_after : ℕ → ℕ → ℕ
@@ -121,7 +116,7 @@ after_block arguments position escaped (Values first more) = record {
 after_block arguments position escaped (Flag word) =
     record { position = position; escaped = escaped; pending = Nothing }
 
--- the last block tells what is pending
+-- the last block says what is pending
 abbrev pub state_after : List Arg → State → List Block → State
 state_after arguments state [] = state
 state_after arguments state (b ∷ bs) =

@@ -14,10 +14,8 @@ use Rattle.cc_walk.specs.Blocks.{follows, start}
 
 -- how many values the run has
 abbrev pub run_length : Pending → ℕ
-run_length Nothing = 0
-run_length (OptionOpen option values) = 0
 run_length (PositionalRun values) = values
-run_length PositionMoved = 0
+run_length _ = 0
 
 -- one more value at the position, after a run of so many
 abbrev pub value_state : List Arg → ℕ → Bool → ℕ → State
@@ -65,10 +63,8 @@ step arguments position true pending class =
     value_state arguments position true (run_length pending)
 step arguments position false (OptionOpen option values) class =
     open_step arguments position option values class
-step arguments position false Nothing class = closed_step arguments position 0 class
-step arguments position false (PositionalRun values) class =
-    closed_step arguments position values class
-step arguments position false PositionMoved class = closed_step arguments position 0 class
+step arguments position false pending class =
+    closed_step arguments position (run_length pending) class
 
 abbrev pub run : List Arg → State → List (List ℕ) → State
 run arguments state [] = state
