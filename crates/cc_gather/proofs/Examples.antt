@@ -50,10 +50,10 @@ verbose = record (new_arg (codes "verbose")) {
 arguments : List Arg
 arguments = color ∷ verbose ∷ []
 
--- the values of a row, or the texts of what it asks for
+-- the values of a row, or the texts of what it wants
 shape : Row → List (List ℕ)
 shape (Listed candidates) = map (λ c. c.value) candidates
-shape (ValuesOf asked) = asked.argument.id ∷ asked.before ∷ asked.text ∷ []
+shape (ValuesOf wanted) = wanted.argument.id ∷ wanted.before ∷ wanted.text ∷ []
 
 nothing_typed : shape (row_of arguments (codes "")) ≡
     codes "--color" ∷ codes "--verbose" ∷ codes "--loud" ∷ codes "--noisy" ∷ codes "-c" ∷ codes "-v" ∷ []

@@ -7,22 +7,19 @@ use Rattle.std.specs.Str.{bytes_eq}
 use Rattle.std.specs.Cmp.Lexicographic.{slice_cmp, texts_ties}
 use Rattle.std.specs.BTreeSet.{BTreeSet, contains}
 use Rattle.std.specs.BTreeMap.{BTreeMap, get}
-use Rattle.std.proofs.Math.Bool.{or-false}
+use Rattle.std.proofs.Math.Bool.{or-false, or-true}
 use Rattle.std.proofs.lemmas.Bool.{cases_Bool}
-use Rattle.std.proofs.lemmas.List.{take_more, take-append-drop, length-take-le}
+use Rattle.std.proofs.lemmas.List.{take_more, take-append-drop, length-map, length-take-le, map-append}
 use Rattle.std.proofs.lemmas.List.Elements.{filter_agree}
+use Rattle.cc_base.proofs.Lists.{one_more}
 use Rattle.cc_candidates.specs.declared.candidate.CompletionCandidate.{CompletionCandidate}
 use Rattle.cc_candidates.specs.Candidate.{texts_cmp}
 use Rattle.cc_gather.specs.Finished.{share, first_of_ids, has_tag, rank_of}
 use Rattle.cc_gather.specs.Seen.{is_seen, select, first_rank}
 use Rattle.cc_gather.proofs.Ranks.{same_tags, tag_itself}
 
-or_true : (b : Bool) → (b || true) ≡ true
-or_true true = refl
-or_true false = refl
-
 by_test : (b x : Bool) → cond b true x ≡ (x || b)
-by_test true x = sym (or_true x)
+by_test true x = sym (or-true x)
 by_test false x = sym (or-false x)
 
 -- an id that is kept is seen from then on
@@ -119,13 +116,7 @@ marked_end marks xs (inl e) = ap (λ ms. select ms xs) e
 marked_end [] xs (inr e) = refl
 marked_end (m ∷ ms) xs (inr e) = ap (select (m ∷ ms)) e
 
--- a member at its index
-pub split_at : (cs : List CompletionCandidate) (i : ℕ) (c : CompletionCandidate) → i < length cs → c ≡ get_or cs i c →
-    drop i cs ≡ c ∷ drop (i + 1) cs
-split_at cs i c h is =
-    let e : suc i ≡ i + 1 = omega arith in
-    drop-cons cs i c h ∙ ap (λ k. get_or cs i c ∷ drop k cs) e ∙ ap (λ x. x ∷ drop (i + 1) cs) (sym is)
-
+-- up to a member at its index
 pub taken : (cs : List CompletionCandidate) (i : ℕ) (c : CompletionCandidate) → i < length cs → c ≡ get_or cs i c →
     take (i + 1) cs ≡ take i cs ++ c ∷ []
 taken cs i c h is = take_more cs i c h ∙ ap (λ x. take i cs ++ x ∷ []) (sym is)
@@ -150,7 +141,7 @@ marks_on before after marks more cs i c new within is count h add e push =
     ∙ ap (λ xs. select (marks ++ new ∷ []) xs ++ unseen after (first_of_ids (drop (i + 1) cs))) (taken cs i c within is)
     ∙ ap (λ xs. xs ++ unseen after (first_of_ids (drop (i + 1) cs))) (select-push marks (take i cs) new c (count ∙ sym (length-take-le i cs (omega (arith, within)))))
     ∙ append_assoc (select marks (take i cs)) (cond new (c ∷ []) []) (unseen after (first_of_ids (drop (i + 1) cs)))
-    ∙ ap (λ r. select marks (take i cs) ++ r) (by new e ∙ ap (λ xs. unseen before (first_of_ids xs)) (sym (split_at cs i c within is)))
+    ∙ ap (λ r. select marks (take i cs) ++ r) (by new e ∙ ap (λ xs. unseen before (first_of_ids xs)) (sym (one_more cs i c c within is)))
     ∙ h
   where
     by : (new : Bool) → new ≡ not (is_seen before c.id) →
@@ -193,27 +184,19 @@ rank_is (x ∷ cs) ds c = elim (cases_Bool (has_tag c.tag x)) [
     more None = refl
     more (Some p) = refl
 
-map-push : {X Y : Type 0} (f : X → Y) (xs : List X) (x : X) → map f (xs ++ x ∷ []) ≡ map f xs ++ f x ∷ []
-map-push f [] x = refl
-map-push f (y ∷ xs) x = ap (λ rest. f y ∷ rest) (map-push f xs x)
-
-length-map : {X Y : Type 0} (f : X → Y) (xs : List X) → length (map f xs) ≡ length xs
-length-map f [] = refl
-length-map f (x ∷ xs) = ap suc (length-map f xs)
-
 -- one more rank
 pub ranks_on : (cs : List CompletionCandidate) (i : ℕ) (c : CompletionCandidate) (ranks more : List ℕ) (was : Option ℕ) (n rank : ℕ) →
     i < length cs → c ≡ get_or cs i c → ranks ≡ map (λ c. rank_of cs c.tag) (take i cs) →
     was ≡ first_rank (take i cs) c.tag → n ≡ length ranks → rank ≡ unwrap_or was n → more ≡ ranks ++ rank ∷ [] →
     more ≡ map (λ c. rank_of cs c.tag) (take (i + 1) cs)
 ranks_on cs i c ranks more was n rank within is insert e len value push =
-    let whole : take i cs ++ c ∷ drop (i + 1) cs ≡ cs = ap (λ r. take i cs ++ r) (sym (split_at cs i c within is)) ∙ take-append-drop i cs in
+    let whole : take i cs ++ c ∷ drop (i + 1) cs ≡ cs = ap (λ r. take i cs ++ r) (sym (one_more cs i c c within is)) ∙ take-append-drop i cs in
     let at : rank ≡ rank_of cs c.tag =
     value ∙ ap (λ w. unwrap_or w n) e
-    ∙ ap (unwrap_or (first_rank (take i cs) c.tag)) (len ∙ ap length insert ∙ length-map (λ (c : CompletionCandidate). rank_of cs c.tag) (take i cs))
+    ∙ ap (unwrap_or (first_rank (take i cs) c.tag)) (len ∙ ap length insert ∙ length-map (take i cs) (λ c. rank_of cs c.tag))
     ∙ rank_is (take i cs) (drop (i + 1) cs) c ∙ ap (λ xs. rank_of xs c.tag) whole in
     push ∙ ap (λ k. k ++ rank ∷ []) insert ∙ ap (λ q. map (λ c. rank_of cs c.tag) (take i cs) ++ q ∷ []) at
-    ∙ sym (map-push (λ (c : CompletionCandidate). rank_of cs c.tag) (take i cs) c)
+    ∙ sym (map-append (λ (c : CompletionCandidate). rank_of cs c.tag) (take i cs) (c ∷ []))
     ∙ ap (map (λ c. rank_of cs c.tag)) (sym (taken cs i c within is))
 
 pub known_on : (before after : BTreeMap (Option (List ℕ)) ℕ) (cs : List CompletionCandidate) (i : ℕ) (c : CompletionCandidate) (ranks : List ℕ) (n : ℕ) →
@@ -224,5 +207,5 @@ pub known_on : (before after : BTreeMap (Option (List ℕ)) ℕ) (cs : List Comp
 known_on before after cs i c ranks n within is insert len h kept tag =
     kept tag ∙ ap (λ x. option_or x (cond (option_eq bytes_eq c.tag tag) (Some n) None)) (h tag)
     ∙ ap (λ k. option_or (first_rank (take i cs) tag) (cond (option_eq bytes_eq c.tag tag) (Some k) None))
-    (len ∙ ap length insert ∙ length-map (λ (c : CompletionCandidate). rank_of cs c.tag) (take i cs))
+    (len ∙ ap length insert ∙ length-map (take i cs) (λ c. rank_of cs c.tag))
     ∙ sym (first_rank-push (take i cs) c tag) ∙ ap (λ xs. first_rank xs tag) (sym (taken cs i c within is))
