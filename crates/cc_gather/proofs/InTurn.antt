@@ -1,5 +1,5 @@
 -- Ids and tags that come one after another.
-use Rattle.std.proofs.Common.{◌≡◌, ◌⊎◌, ℕ, suc, ◌+◌, ◌<◌, List, [], ◌∷◌, ◌++◌, Bool, true, false, cond, not, ◌&&◌, ◌||◌, Option, Some, None, length, take, drop, get_or, map, refl, ap, sym, ◌∙◌, inl, inr, arith, append_assoc, drop-cons}
+use Rattle.std.proofs.Common.{◌≡◌, ◌⊎◌, ℕ, suc, ◌+◌, ◌<◌, List, [], ◌∷◌, ◌++◌, Bool, true, false, cond, not, ◌&&◌, ◌||◌, Option, Some, None, length, take, drop, get_or, map, refl, ap, sym, ◌∙◌, inl, inr, arith, append_assoc}
 use Rattle.std.specs.Prelude.{filter, option_map}
 use Rattle.std.specs.Option.{option_eq, option_or, unwrap_or}
 use Rattle.std.specs.Ordering.{is_eq, nat_cmp}
@@ -21,6 +21,10 @@ use Rattle.cc_gather.proofs.Ranks.{same_tags, tag_itself}
 by_test : (b x : Bool) → cond b true x ≡ (x || b)
 by_test true x = sym (or-true x)
 by_test false x = sym (or-false x)
+
+-- those whose ids are not seen
+abbrev unseen : BTreeSet (List ℕ) → List CompletionCandidate → List CompletionCandidate
+unseen seen cs = filter (λ d. not (is_seen seen d.id)) cs
 
 -- an id that is kept is seen from then on
 pub seen_more : (before after : BTreeSet (List ℕ)) (id : List ℕ) →
@@ -64,37 +68,31 @@ unseen_more before after c cs more =
     ∙ filter_agree (λ d. not (is_seen before d.id) && not (share c.id d.id)) (λ d. not (is_seen after d.id))
     (λ d. and_not (is_seen before d.id) (share c.id d.id) ∙ ap not (sym (more d.id))) cs
 
--- a candidate with a new id stays
-pub stays : (before after : BTreeSet (List ℕ)) (c : CompletionCandidate) (cs : List CompletionCandidate) →
+-- a candidate with a new id stays, one with a seen id goes
+next_unseen : (before after : BTreeSet (List ℕ)) (c : CompletionCandidate) (cs : List CompletionCandidate) →
     ((other : Option (List ℕ)) → is_seen after other ≡ (is_seen before other || share c.id other)) →
-    true ≡ not (is_seen before c.id) →
-    filter (λ d. not (is_seen before d.id)) (first_of_ids (c ∷ cs)) ≡ c ∷ filter (λ d. not (is_seen after d.id)) (first_of_ids cs)
-stays before after c cs more new =
-    ap (λ b. cond b (c ∷ filter (λ d. not (is_seen before d.id)) (filter (λ d. not (share c.id d.id)) (first_of_ids cs)))
-    (filter (λ d. not (is_seen before d.id)) (filter (λ d. not (share c.id d.id)) (first_of_ids cs)))) (sym new)
-    ∙ ap (λ rest. c ∷ rest) (unseen_more before after c (first_of_ids cs) more)
-
--- one with a seen id goes
-pub goes : (before after : BTreeSet (List ℕ)) (c : CompletionCandidate) (cs : List CompletionCandidate) →
-    ((other : Option (List ℕ)) → is_seen after other ≡ (is_seen before other || share c.id other)) →
-    false ≡ not (is_seen before c.id) →
-    filter (λ d. not (is_seen before d.id)) (first_of_ids (c ∷ cs)) ≡ filter (λ d. not (is_seen after d.id)) (first_of_ids cs)
-goes before after c cs more old =
-    ap (λ b. cond b (c ∷ filter (λ d. not (is_seen before d.id)) (filter (λ d. not (share c.id d.id)) (first_of_ids cs)))
-    (filter (λ d. not (is_seen before d.id)) (filter (λ d. not (share c.id d.id)) (first_of_ids cs)))) (sym old)
-    ∙ unseen_more before after c (first_of_ids cs) more
+    (new : Bool) → new ≡ not (is_seen before c.id) →
+    unseen before (first_of_ids (c ∷ cs)) ≡ cond new (c ∷ []) [] ++ unseen after (first_of_ids cs)
+next_unseen before after c cs more new is =
+    let later = unseen before (filter (λ d. not (share c.id d.id)) (first_of_ids cs)) in
+    ap (λ b. cond b (c ∷ later) later) (sym is) ∙ one_or_none new later
+    ∙ ap (λ rest. cond new (c ∷ []) [] ++ rest) (unseen_more before after c (first_of_ids cs) more)
+  where
+    one_or_none : (new : Bool) (rest : List CompletionCandidate) → cond new (c ∷ rest) rest ≡ cond new (c ∷ []) [] ++ rest
+    one_or_none true rest = refl
+    one_or_none false rest = refl
 
 -- no id is seen at first
 pub none_seen : (seen : BTreeSet (List ℕ)) (cs : List CompletionCandidate) → seen.keys ≡ [] → filter (λ d. not (is_seen seen d.id)) cs ≡ cs
 none_seen seen [] e = refl
 none_seen seen (c ∷ cs) e =
-    let no : is_seen seen c.id ≡ false = unseen c.id in
+    let no : is_seen seen c.id ≡ false = not_seen c.id in
     ap (λ b. cond (not b) (c ∷ filter (λ d. not (is_seen seen d.id)) cs) (filter (λ d. not (is_seen seen d.id)) cs)) no
     ∙ ap (λ rest. c ∷ rest) (none_seen seen cs e)
   where
-    unseen : (id : Option (List ℕ)) → is_seen seen id ≡ false
-    unseen None = refl
-    unseen (Some id) = rw e refl
+    not_seen : (id : Option (List ℕ)) → is_seen seen id ≡ false
+    not_seen None = refl
+    not_seen (Some id) = rw e refl
 
 -- marks
 select-push : {X : Type 0} → (marks : List Bool) (xs : List X) (mark : Bool) (x : X) → length marks ≡ length xs →
@@ -122,9 +120,6 @@ pub taken : (cs : List CompletionCandidate) (i : ℕ) (c : CompletionCandidate) 
 taken cs i c h is = take_more cs i c h ∙ ap (λ x. take i cs ++ x ∷ []) (sym is)
 
 -- the steps of the loop
-abbrev unseen : BTreeSet (List ℕ) → List CompletionCandidate → List CompletionCandidate
-unseen seen cs = filter (λ d. not (is_seen seen d.id)) cs
-
 pub unseen_first : (seen : BTreeSet (List ℕ)) (marks : List Bool) (cs : List CompletionCandidate) → seen.keys ≡ [] → marks ≡ [] →
     select marks [] ++ filter (λ d. not (is_seen seen d.id)) (first_of_ids cs) ≡ first_of_ids cs
 unseen_first seen marks cs none empty =
@@ -141,13 +136,8 @@ marks_on before after marks more cs i c new within is count h add e push =
     ∙ ap (λ xs. select (marks ++ new ∷ []) xs ++ unseen after (first_of_ids (drop (i + 1) cs))) (taken cs i c within is)
     ∙ ap (λ xs. xs ++ unseen after (first_of_ids (drop (i + 1) cs))) (select-push marks (take i cs) new c (count ∙ sym (length-take-le i cs (omega (arith, within)))))
     ∙ append_assoc (select marks (take i cs)) (cond new (c ∷ []) []) (unseen after (first_of_ids (drop (i + 1) cs)))
-    ∙ ap (λ r. select marks (take i cs) ++ r) (by new e ∙ ap (λ xs. unseen before (first_of_ids xs)) (sym (one_more cs i c c within is)))
+    ∙ ap (λ r. select marks (take i cs) ++ r) (sym (next_unseen before after c (drop (i + 1) cs) add new e) ∙ ap (λ xs. unseen before (first_of_ids xs)) (sym (one_more cs i c c within is)))
     ∙ h
-  where
-    by : (new : Bool) → new ≡ not (is_seen before c.id) →
-        cond new (c ∷ []) [] ++ unseen after (first_of_ids (drop (i + 1) cs)) ≡ unseen before (first_of_ids (c ∷ drop (i + 1) cs))
-    by true e = sym (stays before after c (drop (i + 1) cs) add e)
-    by false e = sym (goes before after c (drop (i + 1) cs) add e)
 
 -- first ranks with one more candidate after
 pub first_rank-push : (cs : List CompletionCandidate) (c : CompletionCandidate) (tag : Option (List ℕ)) →
