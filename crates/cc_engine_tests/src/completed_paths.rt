@@ -1,4 +1,4 @@
-//! Completers of paths that are lent.
+//! Completers of paths.
 
 ghost use Rattle.std.specs.Prelude.{⊤};
 
@@ -47,42 +47,42 @@ fn system_completer(rt: &HostRuntime) -> Result<Completers, Error> {
 // What an argument of this completer offers for a word, where the paths of hints have no folder.
 fn find(
     alloc: Global,
-    lent: Result<Completers, Error>,
+    completers: Result<Completers, Error>,
     completer: usize,
     word: &str,
 ) -> Result<Vec<CompletionCandidate>, Error> {
-    let lent = lent?;
+    let completers = completers?;
     let mut command = with_positional(alloc, completer, ValueRange::new(1, 1))?;
     let words = ["app", word];
     let folder = MemoryFolder::new(&[], &[]);
-    let found = find_last(alloc, &mut command, words.as_slice(), None, &folder, &lent);
+    let found = find_last(alloc, &mut command, words.as_slice(), None, &folder, &completers);
     drop(command);
-    drop(lent);
+    drop(completers);
     found
 }
 
 // Fails unless an argument of this completer offers these values, each with a space after it.
 fn offers<R: Abort + AllocGlobal>(rt: &R, completer: usize, word: &str, wanted: &str) {
-    let lent = path_completers(rt.alloc());
-    let shown = text_of(rt, find(rt.alloc(), lent, completer, word));
+    let completers = path_completers(rt.alloc());
+    let shown = text_of(rt, find(rt.alloc(), completers, completer, word));
     assert_eq!(rt; shown.as_str(), wanted);
 }
 
 #[test]
-fn a_lent_completer_of_files_lists_its_own_folder(rt: HostRuntime) {
+fn a_completer_of_files_lists_its_own_folder(rt: HostRuntime) {
     offers(&rt, 0, "", "a.txt src/ ");
     offers(&rt, 0, ".g", ".git/ ");
     offers(&rt, 0, "~/s", "~/src/ ");
 }
 
 #[test]
-fn a_lent_completer_asks_the_callers_test(rt: HostRuntime) {
+fn a_completer_takes_the_callers_test(rt: HostRuntime) {
     offers(&rt, 1, "", "foo/ foobar ");
     offers(&rt, 1, "b", "");
 }
 
 #[test]
-fn a_completer_of_the_systems_paths_is_lent(rt: HostRuntime) {
+fn a_completer_of_the_systems_paths_is_added(rt: HostRuntime) {
     let found = find(rt.alloc(), system_completer(&rt), 0, "/dev/nul");
     assert_eq!(rt; text_of(&rt, found).as_str(), "/dev/null ");
 }

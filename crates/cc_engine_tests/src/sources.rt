@@ -1,4 +1,4 @@
-//! What the tests lend.
+//! The completers and lists of the tests.
 
 ghost use Rattle.std.specs.Prelude.{⊤};
 
@@ -33,11 +33,11 @@ impl ValueCompleter for Auto {
     }
 }
 
-/// Completes with the number of the value and the text that it is asked for, as `1:text`.
+/// Completes with the number of the value and the text, as `1:text`.
 #[derive(Drop)]
-struct Asked;
+struct Echo;
 
-impl ValueCompleter for Asked {
+impl ValueCompleter for Echo {
     ghost completes = { λ _ _ _ _. ⊤ };
 
     fn complete_at(
@@ -90,20 +90,20 @@ impl ValueCandidates for OutOfMemory {
     }
 }
 
-/// The completers `Auto` and `Asked`, and the list `Programs`.
+/// The completers `Auto` and `Echo`, and the list `Programs`.
 pub(crate) fn two_completers(alloc: Global) -> Result<Completers, AllocError> {
     let mut completers: Vec<Box<dyn ValueCompleter>> = Vec::new(alloc);
     completers.push(Box::new(alloc, Auto)?)?;
-    completers.push(Box::new(alloc, Asked)?)?;
+    completers.push(Box::new(alloc, Echo)?)?;
     let mut lists: Vec<Box<dyn ValueCandidates>> = Vec::new(alloc);
     lists.push(Box::new(alloc, Programs)?)?;
     Ok(Completers::new(alloc, completers, lists))
 }
 
-/// What the command offers for the last of the words, with the completers `Auto` and `Asked` and a
+/// What the command offers for the last of the words, with the completers `Auto` and `Echo` and a
 /// closure that completes with the text twice, and with the list `Programs` and a closure that
 /// lists `left` and `right`.
-pub(crate) fn find_with_lent(
+pub(crate) fn find_with_completers(
     alloc: Global,
     command: &mut Command,
     words: &[&str],

@@ -6,7 +6,7 @@ ghost use Rattle.cc_candidates.specs.declared.candidate.CompletionCandidate.{Com
 ghost use Rattle.cc_engine.specs.Completion.{children_question, offered_children};
 ghost use Rattle.cc_engine.specs.Completion.{positional_question, positional_values};
 ghost use Rattle.cc_engine.specs.Completion.{offered_row, row_candidates, row_question};
-ghost use Rattle.cc_values.specs.Values.{Allows, lent_by};
+ghost use Rattle.cc_values.specs.Values.{Allows, returned_by};
 
 use crate::sources::Sources;
 use cc_arg::Arg;
@@ -24,12 +24,12 @@ pub(crate) fn children<P: PathSource>(
     word: &str,
     sources: &Sources<'_, P>,
 ) -> Result<Vec<CompletionCandidate>, AllocError>
-    ensures { IfOk result (λ found. (given : List CompletionCandidate)
-        × Allows (lent_by
+    ensures { IfOk result (λ found. (returned : List CompletionCandidate)
+        × Allows (returned_by
         ⟦<Completers as CandidateSources>⟧.may_complete
         ⟦<Completers as CandidateSources>⟧.may_list sources.now.completers.now
-        (P.finds sources.now.paths.now)) (children_question offered command.now.node) given
-        × (found.items ≡ offered_children offered command.now word.now given)) }
+        (P.finds sources.now.paths.now)) (children_question offered command.now.node) returned
+        × (found.items ≡ offered_children offered command.now word.now returned)) }
 {
     if !offered {
         return Ok(Vec::new(alloc));
@@ -46,14 +46,14 @@ pub(crate) fn positional_values<P: PathSource>(
     word: &str,
     sources: &Sources<'_, P>,
 ) -> Result<Vec<CompletionCandidate>, AllocError>
-    ensures { IfOk result (λ found. (given : List CompletionCandidate)
-        × Allows (lent_by
+    ensures { IfOk result (λ found. (returned : List CompletionCandidate)
+        × Allows (returned_by
         ⟦<Completers as CandidateSources>⟧.may_complete
         ⟦<Completers as CandidateSources>⟧.may_list sources.now.completers.now
         (P.finds sources.now.paths.now))
-        (positional_question (option_copied positional.entry) number word.now) given
+        (positional_question (option_copied positional.entry) number word.now) returned
         × (found.items
-        ≡ positional_values (option_copied positional.entry) number word.now given)) }
+        ≡ positional_values (option_copied positional.entry) number word.now returned)) }
 {
     match (positional, number) {
         (Some(argument), Some(number)) => sources.values(alloc, argument, word, number),
@@ -69,22 +69,22 @@ pub(crate) fn options<P: PathSource>(
     word: &str,
     sources: &Sources<'_, P>,
 ) -> Result<Vec<CompletionCandidate>, AllocError>
-    ensures { IfOk result (λ found. (given : List CompletionCandidate)
-        × Allows (lent_by
+    ensures { IfOk result (λ found. (returned : List CompletionCandidate)
+        × Allows (returned_by
         ⟦<Completers as CandidateSources>⟧.may_complete
         ⟦<Completers as CandidateSources>⟧.may_list sources.now.completers.now
         (P.finds sources.now.paths.now))
-        (row_question (offered_row offered arguments.now word.now)) given
-        × (found.items ≡ row_candidates (offered_row offered arguments.now word.now) given)) }
+        (row_question (offered_row offered arguments.now word.now)) returned
+        × (found.items ≡ row_candidates (offered_row offered arguments.now word.now) returned)) }
 {
     if !offered {
         return Ok(Vec::new(alloc));
     }
     match match_options(alloc, arguments, word)? {
         OptionMatch::Listed(found) => Ok(found),
-        OptionMatch::ValuesOf(asked) => {
-            let values = sources.values(alloc, asked.argument, asked.text.as_str(), 0)?;
-            all_with_prefix(alloc, values, asked.before.as_str())
+        OptionMatch::ValuesOf(wanted) => {
+            let values = sources.values(alloc, wanted.argument, wanted.text.as_str(), 0)?;
+            all_with_prefix(alloc, values, wanted.before.as_str())
         }
     }
 }
