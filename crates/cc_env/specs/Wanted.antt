@@ -1,35 +1,35 @@
--- What the environment asks for, by the value of a variable.
-use Rattle.std.specs.Prelude.{find, ◌≡◌, ◌⊎◌, ◌||◌, ℕ, Bool, true, false, List, [], ◌∷◌, ◌++◌, Option, Some, None, map, codes, unwrap_or, if◌then◌else◌}
+-- What the environment wants, by the value of a variable.
+use Rattle.std.specs.Prelude.{find, ◌≡◌, ◌⊎◌, ◌||◌, ℕ, Bool, List, [], ◌++◌, Option, Some, None, map, codes, unwrap_or, if◌then◌else◌}
 use Rattle.std.specs.Path.{path_file_stem}
 use Rattle.std.specs.Str.{bytes_eq}
 use Rattle.cc_base.specs.Joined.{joined}
 use Rattle.cc_base.specs.declared.error.Error.{Error}
 use Rattle.cc_base.specs.declared.error.Error.TheVariants.{Memory, UnknownShell}
 
--- a value that asks for nothing: the empty text and `0`
-abbrev pub asks_nothing : List ℕ → Bool
-asks_nothing value = bytes_eq value [] || bytes_eq value (codes "0")
+-- a value that wants nothing: the empty text and `0`
+abbrev pub wants_nothing : List ℕ → Bool
+wants_nothing value = bytes_eq value [] || bytes_eq value (codes "0")
 
 -- the name of a shell in a value: the last piece of a path without its extension; the value where
 -- it has no such piece
 abbrev pub shell_name : List ℕ → List ℕ
 shell_name value = unwrap_or (path_file_stem value) value
 
--- the name of the shell that is asked for, where one is
-abbrev pub asked_name : Option (List ℕ) → Option (List ℕ)
-asked_name None = None
-asked_name (Some value) = if asks_nothing value then None else Some (shell_name value)
+-- the name of the shell that is wanted, where one is
+abbrev pub wanted_name : Option (List ℕ) → Option (List ℕ)
+wanted_name None = None
+wanted_name (Some value) = if wants_nothing value then None else Some (shell_name value)
 
 -- nothing; a name that no shell has; or a shell
-pub data Asked (C : Type 0) : Type 0 where
-  nothing : Asked C
-  unknown : List ℕ → Asked C
-  known : C → Asked C
+pub data Wanted (C : Type 0) : Type 0 where
+  nothing : Wanted C
+  unknown : List ℕ → Wanted C
+  known : C → Wanted C
 
 -- the first shell that has the name counts
-abbrev pub asked_of : {C : Type 0} → (C → List ℕ → Bool) → List C → Option (List ℕ) → Asked C
-asked_of named shells None = nothing
-asked_of named shells (Some name) = elim (find (λ shell. named shell name) shells) [
+abbrev pub wanted_of : {C : Type 0} → (C → List ℕ → Bool) → List C → Option (List ℕ) → Wanted C
+wanted_of named shells None = nothing
+wanted_of named shells (Some name) = elim (find (λ shell. named shell name) shells) [
   | Some shell ↦ known shell
   | None ↦ unknown name
 ]

@@ -1,33 +1,33 @@
-//! The shell that the environment asks for.
+//! The shell that the environment wants.
 
 ghost use Rattle.std.specs.Prelude.{◌≡◌, ◌++◌, true, codes, find, map, option_map};
 ghost use Rattle.std.specs.Prelude.{None, Some, IfErr, IfOk, OnOk};
 ghost use Rattle.std.specs.Option.{option_copied};
 ghost use Rattle.std.specs.String.{string_bytes};
 ghost use Rattle.cc_base.specs.Joined.{joined, separator};
-ghost use Rattle.cc_env.specs.Asked.{asked_name, asks_nothing, quoted_name, unknown_shell};
-ghost use Rattle.cc_env.specs.Asked.{IsUnknownShell};
+ghost use Rattle.cc_env.specs.Wanted.{wanted_name, wants_nothing, quoted_name, unknown_shell};
+ghost use Rattle.cc_env.specs.Wanted.{IsUnknownShell};
 
 use cc_adapters::{EnvCompleter, Shells};
 use cc_base::{Error, Text};
 use std::alloc::{AllocError, Global};
 use std::path::Path;
 
-/// The name of the shell that the value of a variable asks for, where it asks for one: the last
-/// piece of a path without its extension, or the value where it has no such piece. An empty value
-/// and `0` ask for none.
-pub(crate) fn asked_name(value: Option<&str>) -> Option<&str>
-    ensures { option_copied result ≡ asked_name (option_copied value.entry) }
+/// The name of the shell that the value of a variable wants, where it wants one: the last piece of
+/// a path without its extension, or the value where it has no such piece. An empty value and `0`
+/// want none.
+pub(crate) fn wanted_name(value: Option<&str>) -> Option<&str>
+    ensures { option_copied result ≡ wanted_name (option_copied value.entry) }
 {
     let value = value?;
-    if asks_nothing(value) {
+    if wants_nothing(value) {
         return None;
     }
     Some(Path::new(value).file_stem().unwrap_or(value))
 }
 
-fn asks_nothing(value: &str) -> bool
-    ensures { result ≡ asks_nothing value.now }
+fn wants_nothing(value: &str) -> bool
+    ensures { result ≡ wants_nothing value.now }
 {
     value == "" || value == "0"
 }

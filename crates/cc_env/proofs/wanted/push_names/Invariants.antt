@@ -1,7 +1,7 @@
 use Rattle.std.proofs.Common.{◌≡◌, ◌++◌, codes, drop, map, string_bytes}
 use Rattle.cc_base.specs.Joined.{joined_after}
-use Rattle.cc_env.specs.Asked.{quoted_name}
-use Rattle.cc_env.proofs.asked.push_names.Given as goal
+use Rattle.cc_env.specs.Wanted.{quoted_name}
+use Rattle.cc_env.proofs.wanted.push_names.Given as goal
 
 -- what was appended, and the names of the shells that are left, make the whole
 abbrev pub invariant-loop-shell : goal.invariant-loop-shell
