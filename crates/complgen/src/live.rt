@@ -92,7 +92,7 @@ fn write_requested<R: Env + Files + Eprint + AllocGlobal, D: Folder, W: Sink>(
 fn report_passed_over<R: Eprint>(rt: &R, count: usize) {
     if count > 0 {
         let _ = eprintln!(rt;
-            "complgen: {count} tree files passed over, whose names are not plain"
+            "complgen: tree files passed over, whose names are not plain: {count}"
         );
     }
 }
