@@ -1,21 +1,21 @@
 -- How writing registrations ends, one after another.
-use Rattle.std.proofs.Common.{◌≡◌, ◌∙◌, ◌⊎◌, inl, inr, refl, sym, ap, subst, ℕ, ◌+◌, ◌<◌, get_or, length, take, Bool, true, false, List, [], ◌∷◌, ◌++◌, append_assoc, map, Option, Some, None, Result, Ok, Err, IfOk, IfErr, OnOk}
-use Rattle.std.specs.List.{AllByRecursion, flat_map}
+use Rattle.std.proofs.Common.{◌≡◌, ◌∙◌, inl, inr, refl, sym, ap, subst, ℕ, ◌+◌, ◌<◌, get_or, length, take, Bool, List, [], ◌∷◌, ◌++◌, append_assoc, map, Option, None, Result, Ok, Err}
+use Rattle.std.specs.List.{flat_map}
 use Rattle.std.proofs.lemmas.Grind.{flat_map-append}
 use Rattle.std.proofs.lemmas.List.{append-nil, map-append, take_more}
 use Rattle.cc_adapters.specs.Builtins.{all_builtins, builtin_spec}
 use Rattle.cc_adapters.specs.declared.builtin.Builtin.{Builtin}
 use Rattle.cc_base.proofs.Members.{AllByRecursion-append}
-use Rattle.cc_base.specs.Writes.{CountsWrite, Writes}
+use Rattle.cc_base.specs.Writes.{CountsWrite}
 use Rattle.cc_base.specs.declared.error.Error.{Error}
-use Rattle.cc_base.specs.declared.error.Error.TheVariants.{Memory, Write}
+use Rattle.cc_base.specs.declared.error.Error.TheVariants.{Memory}
 use Rattle.cc_base.specs.declared.failures.Failures.{Failures}
 use Rattle.cc_candidates.specs.declared.candidate.CompletionCandidate.{CompletionCandidate}
 use Rattle.cc_command.specs.Built.{built_tree}
 use Rattle.cc_command.specs.Made.{new_tree}
 use Rattle.cc_command.specs.Tree.{Tree}
 use Rattle.cc_env.specs.Arguments.{program_path}
-use Rattle.cc_env.specs.Asked.{Asked, IsUnknownShell, asked_name, known, nothing, unknown}
+use Rattle.cc_env.specs.Asked.{Asked, asked_name, known, nothing, unknown}
 use Rattle.cc_env.specs.Steps.{Ends, EndsAs, IsRegistration, MakesText, Tries, names_of, nothing_written, text_written, write_failed}
 use Rattle.cc_replies.specs.Environment.{value_of}
 use Rattle.cc_replies.specs.declared.environment.EnvValues.{EnvValues}

@@ -1,5 +1,5 @@
 -- How replying to a request ends, outcome by outcome.
-use Rattle.std.proofs.Common.{◌≡◌, ◌≢◌, ◌∙◌, ◌⊎◌, inl, inr, refl, sym, ap, subst, ℕ, Bool, true, false, List, [], ◌∷◌, ◌++◌, Option, Some, None, Result, Ok, Err, IfOk, IfErr}
+use Rattle.std.proofs.Common.{◌≡◌, ◌⊎◌, inl, inr, refl, sym, subst, ℕ, Bool, false, List, [], Option, Some, None, Result, Ok, Err}
 use Rattle.std.specs.Borrow.{Bor}
 use Rattle.std.specs.Option.{option_copied}
 use Rattle.cc_adapters.specs.Builtins.{all_builtins, builtin_spec}
@@ -12,15 +12,15 @@ use Rattle.cc_candidates.specs.Sources.{ReturnsAt}
 use Rattle.cc_candidates.specs.declared.sources.Source.{Source}
 use Rattle.cc_command.specs.Tree.{Tree}
 use Rattle.cc_engine.specs.Completion.{Completes}
-use Rattle.cc_env.specs.Asked.{Asked, IsUnknownShell, asked_name, known, nothing, unknown}
+use Rattle.cc_env.specs.Asked.{Asked, asked_name, known, nothing, unknown}
 use Rattle.cc_env.specs.Steps.{Ends, EndsAs, MakesText, Tries, factory_failed, names_of, no_arguments, nothing_written, out_of_memory, registered, replied, text_written, write_failed}
 use Rattle.cc_replies.specs.Environment.{value_of}
 use Rattle.cc_replies.specs.declared.environment.EnvValues.{EnvValues}
-use Rattle.cc_tree_file.specs.TreeFile.{Describes, SpellsNone}
+use Rattle.cc_tree_file.specs.TreeFile.{Describes}
 use Rattle.cc_values.specs.Values.{Lent}
 use Rattle.complgen_live.specs.Replies.{EndsReply, MakesFor, Paths, paths_alone, requested, shell_names, variable}
 use Rattle.complgen_live.specs.Replies as outcome
-use Rattle.complgen_live.specs.TreeErrors.{DescribedBy, SaysWhy, bad_form_text, not_json_text}
+use Rattle.complgen_live.specs.TreeErrors.{DescribedBy}
 
 -- without completers and lists only paths are found
 pub without_completers : {B C L G : Type 0}
