@@ -76,9 +76,9 @@ fn write_requested<R: Env + Files + Eprint + AllocGlobal, D: Folder, W: Sink>(
     let Some(word) = called else {
         let program = words.first().map_or("complgen", |program| program.as_str());
         let known = known_names(alloc, folder, folders)?;
-        report_passed_over(rt, known.passed_over);
         let names = known.names.as_slice();
         write_registrations(alloc, env, program, current_dir, folder, names, out)?;
+        report_passed_over(rt, known.passed_over);
         return Ok(true);
     };
     let file = tree_file(rt, folders, word.as_str())?;
@@ -92,7 +92,7 @@ fn write_requested<R: Env + Files + Eprint + AllocGlobal, D: Folder, W: Sink>(
 fn report_passed_over<R: Eprint>(rt: &R, count: usize) {
     if count > 0 {
         let _ = eprintln!(rt;
-            "complgen: {count} tree files passed over, whose names are not plain"
+            "complgen: tree files passed over, whose names are not plain: {count}"
         );
     }
 }

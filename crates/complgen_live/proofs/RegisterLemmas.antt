@@ -1,25 +1,26 @@
 -- How writing registrations ends, one after another.
-use Rattle.std.proofs.Common.{◌≡◌, ◌∙◌, ◌⊎◌, inl, inr, refl, sym, ap, subst, ℕ, Bool, true, false, List, [], ◌∷◌, ◌++◌, append_assoc, map, Option, Some, None, Result, Ok, Err, IfOk, IfErr, OnOk}
-use Rattle.std.specs.List.{AllByRecursion, flat_map}
+use Rattle.std.proofs.Common.{◌≡◌, ◌∙◌, inl, inr, refl, sym, ap, subst, ℕ, ◌+◌, ◌<◌, get_or, length, take, Bool, List, [], ◌∷◌, ◌++◌, append_assoc, map, Option, None, Result, Ok, Err}
+use Rattle.std.specs.List.{flat_map}
 use Rattle.std.proofs.lemmas.Grind.{flat_map-append}
-use Rattle.std.proofs.lemmas.List.{append-nil}
+use Rattle.std.proofs.lemmas.List.{append-nil, map-append, take_more}
 use Rattle.cc_adapters.specs.Builtins.{all_builtins, builtin_spec}
 use Rattle.cc_adapters.specs.declared.builtin.Builtin.{Builtin}
 use Rattle.cc_base.proofs.Members.{AllByRecursion-append}
-use Rattle.cc_base.specs.Writes.{CountsWrite, Writes}
+use Rattle.cc_base.specs.Writes.{CountsWrite}
 use Rattle.cc_base.specs.declared.error.Error.{Error}
-use Rattle.cc_base.specs.declared.error.Error.TheVariants.{Memory, Write}
+use Rattle.cc_base.specs.declared.error.Error.TheVariants.{Memory}
 use Rattle.cc_base.specs.declared.failures.Failures.{Failures}
 use Rattle.cc_candidates.specs.declared.candidate.CompletionCandidate.{CompletionCandidate}
 use Rattle.cc_command.specs.Built.{built_tree}
 use Rattle.cc_command.specs.Made.{new_tree}
 use Rattle.cc_command.specs.Tree.{Tree}
 use Rattle.cc_env.specs.Arguments.{program_path}
-use Rattle.cc_env.specs.Asked.{Asked, IsUnknownShell, known, nothing, unknown}
-use Rattle.cc_env.specs.Steps.{Ends, EndsAs, IsRegistration, MakesText, names_of, nothing_written, text_written, write_failed}
+use Rattle.cc_env.specs.Asked.{Asked, asked_name, known, nothing, unknown}
+use Rattle.cc_env.specs.Steps.{Ends, EndsAs, IsRegistration, MakesText, Tries, names_of, nothing_written, text_written, write_failed}
+use Rattle.cc_replies.specs.Environment.{value_of}
 use Rattle.cc_replies.specs.declared.environment.EnvValues.{EnvValues}
 use Rattle.complgen_live.specs.Registrations.{RegistersAll, RegistrationReads, WritesAll, registration_of, registrations_of}
-use Rattle.complgen_live.specs.Replies.{shell_names, variable}
+use Rattle.complgen_live.specs.Replies.{requested, shell_names, variable}
 use Rattle.complgen_live.proofs.Alone.{EndsAlone, ends_alone}
 
 -- the result without what it returns
@@ -108,6 +109,21 @@ module _ {S : Type 0} (taken : S → List ℕ) (failed : S → Failures) (comple
         first.read_back second.read_back;
   }
 
+  -- the first so many of a list, and then the next
+  pub registers_next : {X : Type 0} (text : X → List ℕ) (asked : Asked Builtin) (all : List X) (i : ℕ)
+      (item : X) (name : List ℕ) (old mid new : S) (result : Result (Unit {0}) Error)
+      → i < length all → item ≡ get_or all i item → name ≡ text item
+      → RegistersAll taken failed completer (map text (take i all)) asked old mid (Ok tt)
+      → RegistersAll taken failed completer (name ∷ []) asked mid new result
+      → RegistersAll taken failed completer (map text (take (i + 1) all)) asked old new result
+  registers_next text asked all i item name old mid new result within is named first second =
+      let more : map text (take i all) ++ name ∷ [] ≡ map text (take (i + 1) all) =
+      ap (λ t. map text (take i all) ++ t ∷ []) (named ∙ ap text is)
+      ∙ sym (map-append text (take i all) (get_or all i item ∷ []))
+      ∙ ap (map text) (sym (take_more all i item within)) in
+      subst (λ names. RegistersAll taken failed completer names asked old new result) more
+      (registers_more asked (map text (take i all)) name old mid new result first second)
+
 module _ {S : Type 0} (taken : S → List ℕ) (failed : S → Failures) (current : Option (List ℕ))
     (program name : List ℕ) (env : EnvValues) (Makes : Result Tree Error → Type 0)
     (Offers : Tree → List (List ℕ) → ℕ → List CompletionCandidate → Type 0)
@@ -182,3 +198,29 @@ module _ {S : Type 0} (taken : S → List ℕ) (failed : S → Failures) (curren
   registers_one arguments (unknown called) old new (Ok done) are ends = absurd ends.0
   registers_one arguments (unknown called) old new (Err error) are ends = (ends.2, tt, ends.1)
   registers_one arguments (known shell) old new result are ends = ends_one arguments shell old new are ends
+
+  -- the same of the call as it is made: by the variable, without a binary and a completer, among
+  -- these shells
+  pub registers_tried : (arguments : List (List ℕ)) (asks_by : List ℕ)
+      (bin called : Option (List ℕ)) (shells : List Builtin) (old new : S)
+      (result : Result Bool Error) → arguments ≡ program ∷ [] → asks_by ≡ variable
+      → (bin ≡ None) × (called ≡ None) → shells ≡ all_builtins
+      → Tries taken failed builtin_spec shells
+      (λ shell. MakesText Makes (builtin_spec shell) (names_of asks_by bin called current) env Offers
+      arguments) (asked_name (value_of asks_by env)) old new result
+      → RegistersAll taken failed (program_path current program) (name ∷ []) (requested env) old new
+      (done_of result)
+  registers_tried arguments asks_by bin called shells old new result are is none all tried =
+      let by_all = subst (λ s. Tries taken failed builtin_spec s
+      (λ shell. MakesText Makes (builtin_spec shell) (names_of asks_by bin called current) env Offers
+      arguments) (asked_name (value_of asks_by env)) old new result) all tried in
+      let by_variable = subst (λ v. Tries taken failed builtin_spec all_builtins
+      (λ shell. MakesText Makes (builtin_spec shell) (names_of v bin called current) env Offers
+      arguments) (asked_name (value_of v env)) old new result) is by_all in
+      let without_bin = subst (λ b. Tries taken failed builtin_spec all_builtins
+      (λ shell. MakesText Makes (builtin_spec shell) (names_of variable b called current) env Offers
+      arguments) (asked_name (value_of variable env)) old new result) none.0 by_variable in
+      registers_one arguments (requested env) old new result are
+      (subst (λ c. Tries taken failed builtin_spec all_builtins
+      (λ shell. MakesText Makes (builtin_spec shell) (names_of variable None c current) env Offers
+      arguments) (asked_name (value_of variable env)) old new result) none.1 without_bin)

@@ -1,5 +1,7 @@
 -- How replying to a request ends, outcome by outcome.
-use Rattle.std.proofs.Common.{◌≡◌, ◌≢◌, ◌∙◌, ◌⊎◌, inl, inr, refl, sym, ap, subst, ℕ, Bool, true, false, List, [], ◌∷◌, ◌++◌, Option, Some, None, Result, Ok, Err, IfOk, IfErr}
+use Rattle.std.proofs.Common.{◌≡◌, ◌⊎◌, inl, inr, refl, sym, subst, ℕ, Bool, false, List, [], Option, Some, None, Result, Ok, Err}
+use Rattle.std.specs.Borrow.{Bor}
+use Rattle.std.specs.Option.{option_copied}
 use Rattle.cc_adapters.specs.Builtins.{all_builtins, builtin_spec}
 use Rattle.cc_adapters.specs.declared.builtin.Builtin.{Builtin}
 use Rattle.cc_base.specs.declared.error.Error.{Error}
@@ -10,14 +12,15 @@ use Rattle.cc_candidates.specs.Sources.{ReturnsAt}
 use Rattle.cc_candidates.specs.declared.sources.Source.{Source}
 use Rattle.cc_command.specs.Tree.{Tree}
 use Rattle.cc_engine.specs.Completion.{Completes}
-use Rattle.cc_env.specs.Asked.{Asked, IsUnknownShell, known, nothing, unknown}
-use Rattle.cc_env.specs.Steps.{Ends, EndsAs, MakesText, factory_failed, names_of, no_arguments, nothing_written, out_of_memory, registered, replied, text_written, write_failed}
+use Rattle.cc_env.specs.Asked.{Asked, asked_name, known, nothing, unknown}
+use Rattle.cc_env.specs.Steps.{Ends, EndsAs, MakesText, Tries, factory_failed, names_of, no_arguments, nothing_written, out_of_memory, registered, replied, text_written, write_failed}
+use Rattle.cc_replies.specs.Environment.{value_of}
 use Rattle.cc_replies.specs.declared.environment.EnvValues.{EnvValues}
-use Rattle.cc_tree_file.specs.TreeFile.{Describes, SpellsNone}
+use Rattle.cc_tree_file.specs.TreeFile.{Describes}
 use Rattle.cc_values.specs.Values.{Lent}
 use Rattle.complgen_live.specs.Replies.{EndsReply, MakesFor, Paths, paths_alone, requested, shell_names, variable}
 use Rattle.complgen_live.specs.Replies as outcome
-use Rattle.complgen_live.specs.TreeErrors.{DescribedBy, SaysWhy, bad_form_text, not_json_text}
+use Rattle.complgen_live.specs.TreeErrors.{DescribedBy}
 
 -- without completers and lists only paths are found
 pub without_completers : {B C L G : Type 0}
@@ -36,6 +39,14 @@ pub without_completers : {B C L G : Type 0}
     } ≡ paths_alone Finds
 without_completers Boxes Closures completers added ListBoxes ListClosures lists added_lists Finds none no_lists =
     rw (none.0, none.1, no_lists.0, no_lists.1) refl
+
+-- there is no tree file
+pub unfiled : {S : Type 0} (taken : S → List ℕ) (failed : S → Failures) (env : EnvValues)
+    (current : Option (List ℕ)) (Finds : Paths) (words : List (List ℕ)) (path : List ℕ) (state : S)
+    (file : Option (Bor (List ℕ))) → ((bytes : Bor (List ℕ)) → file ≡ Some bytes → ⊥)
+    → EndsReply taken failed env current Finds words path state state (option_copied file) (Ok false)
+unfiled taken failed env current Finds words path state None none = outcome.no_tree refl
+unfiled taken failed env current Finds words path state (Some bytes) none = absurd (none bytes refl)
 
 module _ {S : Type 0} (taken : S → List ℕ) (failed : S → Failures) (env : EnvValues)
     (current : Option (List ℕ)) (Finds : Paths) (words : List (List ℕ)) (path : List ℕ)
@@ -112,3 +123,27 @@ module _ {S : Type 0} (taken : S → List ℕ) (failed : S → Failures) (env : 
         → Reply result
     replies lent result is done = ends_asked (requested env) result refl
         (subst (λ l. EndsAs taken failed shell_names (MakesBy l words) (requested env) old new result) is done)
+
+    -- the same of the call as it is made: by the variable, without a binary and a completer, among
+    -- these shells
+    pub replies_tried : (lent : Lent) (asks_by : List ℕ) (bin called : Option (List ℕ))
+        (shells : List Builtin) (result : Result Bool Error) → lent ≡ paths_alone Finds
+        → asks_by ≡ variable → (bin ≡ None) × (called ≡ None) → shells ≡ all_builtins
+        → Tries taken failed builtin_spec shells
+        (λ shell. MakesText Makes (builtin_spec shell) (names_of asks_by bin called current) env
+        (Completes lent) words) (asked_name (value_of asks_by env)) old new result
+        → Reply result
+    replies_tried lent asks_by bin called shells result is by none all tried =
+        let by_all = subst (λ s. Tries taken failed builtin_spec s
+        (λ shell. MakesText Makes (builtin_spec shell) (names_of asks_by bin called current) env
+        (Completes lent) words) (asked_name (value_of asks_by env)) old new result) all tried in
+        let by_variable = subst (λ v. Tries taken failed builtin_spec all_builtins
+        (λ shell. MakesText Makes (builtin_spec shell) (names_of v bin called current) env
+        (Completes lent) words) (asked_name (value_of v env)) old new result) by by_all in
+        let without_bin = subst (λ b. Tries taken failed builtin_spec all_builtins
+        (λ shell. MakesText Makes (builtin_spec shell) (names_of variable b called current) env
+        (Completes lent) words) (asked_name (value_of variable env)) old new result) none.0 by_variable in
+        replies lent result is
+        (subst (λ c. Tries taken failed builtin_spec all_builtins
+        (λ shell. MakesText Makes (builtin_spec shell) (names_of variable None c current) env
+        (Completes lent) words) (asked_name (value_of variable env)) old new result) none.1 without_bin)

@@ -1,5 +1,5 @@
 -- Registrations of programs, by which a shell runs this program for their candidates.
-use Rattle.std.specs.Prelude.{◌≡◌, ◌++◌, ℕ, List, [], Result, Ok, Err, IfErr, IfOk, OnOk}
+use Rattle.std.specs.Prelude.{◌≡◌, ℕ, List, [], Result, IfErr, IfOk, OnOk}
 use Rattle.std.specs.List.{AllByRecursion, flat_map}
 use Rattle.cc_adapters.specs.Builtins.{builtin_spec}
 use Rattle.cc_adapters.specs.declared.builtin.Builtin.{Builtin}

@@ -5,15 +5,18 @@ use Rattle.cc_base.specs.declared.error.Error.TheVariants.{InvalidVariant, Memor
 use Rattle.cc_command.specs.Tree.{Tree}
 use Rattle.cc_tree_file.specs.TreeFile.{Describes, SpellsNone}
 
+-- before what is wrong
+unfoldable pub about_tree : List ℕ → List ℕ
+about_tree path = (codes "complgen: " ++ path) ++ codes ": tree: "
+
 -- the file at a path is no JSON
-abbrev pub not_json_text : List ℕ → List ℕ
-not_json_text path = (codes "complgen: " ++ path) ++ codes ": tree: not JSON"
+unfoldable pub not_json_text : List ℕ → List ℕ
+not_json_text path = about_tree path ++ codes "not JSON"
 
 -- its JSON describes no command
-abbrev pub bad_form_text : List ℕ → List ℕ
+unfoldable pub bad_form_text : List ℕ → List ℕ
 bad_form_text path =
-    (((codes "complgen: " ++ path) ++ codes ": tree: bad form (run complgen check ") ++ path)
-    ++ codes ")"
+    ((about_tree path ++ codes "bad form (run complgen check ") ++ path) ++ codes ")"
 
 -- the text says why these bytes, of the file at a path, describe no command
 abbrev pub SaysWhy : List ℕ → List ℕ → List ℕ → Type 0

@@ -1,6 +1,6 @@
 //! Registrations of programs, by which a shell runs this program for their candidates.
 
-ghost use Rattle.std.specs.Prelude.{◌≡◌, [], ◌∷◌, ◌++◌, IfOk, codes, map, string_bytes};
+ghost use Rattle.std.specs.Prelude.{◌≡◌, [], ◌∷◌, ◌++◌, IfErr, IfOk, map, string_bytes};
 ghost use Rattle.std.specs.Option.{option_copied};
 ghost use Rattle.cc_command.specs.Made.{new_tree};
 ghost use Rattle.cc_env.specs.Arguments.{program_path};

@@ -4,7 +4,7 @@ ghost use Rattle.std.specs.Prelude.{◌≡◌, IfOk, map, string_bytes};
 ghost use Rattle.std.specs.Option.{option_copied};
 ghost use Rattle.cc_engine.specs.Paths.{PathsOf};
 ghost use Rattle.complgen_live.specs.Replies.{EndsReply};
-ghost use Rattle.complgen_live.specs.TreeErrors.{DescribedBy, bad_form_text, not_json_text};
+ghost use Rattle.complgen_live.specs.TreeErrors.{DescribedBy, about_tree, bad_form_text, not_json_text};
 
 use cc_base::{Error, Sink, Text};
 use cc_candidates::Completers;
@@ -23,12 +23,12 @@ use std::alloc::{AllocError, Global};
 ///
 /// Fails as `try_complete` does, and with `InvalidVariant` and a text that names the path where the
 /// file is not JSON or describes no command. Nothing is written where it fails, but for `Write`.
-pub fn reply<D: Folder, W: Sink>(
+pub fn reply<'f, D: Folder, W: Sink>(
     alloc: Global,
     env: &EnvValues,
     words: Vec<String>,
-    path: &str,
-    file: Option<&[u8]>,
+    path: &'f str,
+    file: Option<&'f [u8]>,
     current_dir: Option<&str>,
     folder: &D,
     out: &mut W,
@@ -41,7 +41,8 @@ pub fn reply<D: Folder, W: Sink>(
         return Ok(false);
     };
     let completers = Completers::none(alloc);
-    CompleteEnv::with_factory(|alloc: Global| described(alloc, path, bytes)).try_complete(
+    let file = TreeFile { path, bytes };
+    CompleteEnv::with_factory(move |alloc: Global| described(alloc, file)).try_complete(
         alloc,
         words,
         current_dir,
@@ -52,28 +53,51 @@ pub fn reply<D: Folder, W: Sink>(
     )
 }
 
-// The command that the tree file at a path describes.
-fn described(alloc: Global, path: &str, bytes: &[u8]) -> Result<Command, Error>
-    ensures { DescribedBy path.now bytes.now result }
+// A tree file.
+#[derive(Clone, Copy)]
+struct TreeFile<'f> {
+    path: &'f str,
+    bytes: &'f [u8],
+}
+
+// The command that a tree file describes.
+fn described(alloc: Global, file: TreeFile<'_>) -> Result<Command, Error>
+    ensures { DescribedBy file.entry.path.now file.entry.bytes.now result }
 {
-    match read_tree(alloc, bytes) {
+    match read_tree(alloc, file.bytes) {
         Ok(command) => Ok(command),
-        Err(TreeError::NotJson) => Err(Error::InvalidVariant(not_json(alloc, path)?)),
-        Err(TreeError::BadForm) => Err(Error::InvalidVariant(bad_form(alloc, path)?)),
+        Err(TreeError::NotJson) => Err(Error::InvalidVariant(not_json(alloc, file.path)?)),
+        Err(TreeError::BadForm) => Err(Error::InvalidVariant(bad_form(alloc, file.path)?)),
         Err(TreeError::Memory) => Err(Error::Memory),
     }
 }
 
+#[tactic(auto, unfolding(crate::specs::TreeErrors::not_json_text))]
 fn not_json(alloc: Global, path: &str) -> Result<Text, AllocError>
     ensures { IfOk result (λ text. text ≡ not_json_text path.now) }
 {
-    Ok(Text::from(format!(in alloc; "complgen: {path}: tree: not JSON")?))
+    let mut text = about_tree(alloc, path)?;
+    text.push_str("not JSON")?;
+    Ok(Text::from(text))
 }
 
+#[tactic(auto, unfolding(crate::specs::TreeErrors::bad_form_text))]
 fn bad_form(alloc: Global, path: &str) -> Result<Text, AllocError>
     ensures { IfOk result (λ text. text ≡ bad_form_text path.now) }
 {
-    Ok(Text::from(format!(in alloc;
-        "complgen: {path}: tree: bad form (run complgen check {path})"
-    )?))
+    let mut text = about_tree(alloc, path)?;
+    text.push_str("bad form (run complgen check ")?;
+    text.push_str(path)?;
+    text.push_str(")")?;
+    Ok(Text::from(text))
+}
+
+#[tactic(auto, unfolding(crate::specs::TreeErrors::about_tree))]
+fn about_tree(alloc: Global, path: &str) -> Result<String, AllocError>
+    ensures { IfOk result (λ text. string_bytes text ≡ about_tree path.now) }
+{
+    let mut text = String::from_str(alloc, "complgen: ")?;
+    text.push_str(path)?;
+    text.push_str(": tree: ")?;
+    Ok(text)
 }
