@@ -1,8 +1,8 @@
 //! The calls.
 
 use crate::fixtures::{command, environment, texts};
-use crate::lent::{Keys, Levels};
 use crate::sinks::Narrow;
+use crate::sources::{Keys, Levels};
 use clap_complete::aot::{Counted, put_all};
 use clap_complete::command::Command;
 use clap_complete::engine::{Completers, MemoryFolder, ValueCandidates, ValueCompleter, complete};
@@ -85,11 +85,11 @@ pub(crate) fn call<R: Files + AllocGlobal>(
 // option, what a completer or a list returns for one, or paths.
 fn complete_word(
     alloc: Global,
-    asked: &str,
+    wanted: &str,
     command: &mut Command,
     sink: &mut Counted<Narrow>,
 ) -> Result<(), Error> {
-    let words: &[&str] = match asked {
+    let words: &[&str] = match wanted {
         "names" => &["app", ""],
         "values" => &["app", "--color", ""],
         "completer" => &["app", "--key", "k"],
@@ -103,8 +103,16 @@ fn complete_word(
     completers.push(Box::new(alloc, Keys)?)?;
     let mut lists: Vec<Box<dyn ValueCandidates>> = Vec::new(alloc);
     lists.push(Box::new(alloc, Levels)?)?;
-    let lent = Completers::new(alloc, completers, lists);
-    let found = complete(alloc, command, words, last, Some("/w"), &folder, &lent)?;
+    let completers = Completers::new(alloc, completers, lists);
+    let found = complete(
+        alloc,
+        command,
+        words,
+        last,
+        Some("/w"),
+        &folder,
+        &completers,
+    )?;
     for candidate in &found {
         put_all(sink, candidate.get_value().as_bytes())?;
         put_all(sink, b"\n")?;
@@ -128,9 +136,9 @@ fn reply(
     sink: &mut Counted<Narrow>,
 ) -> Result<(), Error> {
     let words = texts(alloc, &["app", "--root", "k"])?;
-    let asked = environment(alloc, &[("_CLAP_COMPLETE_INDEX", "2")])?;
+    let wanted = environment(alloc, &[("_CLAP_COMPLETE_INDEX", "2")])?;
     let folder = folder();
-    let lent = Completers::none(alloc);
+    let completers = Completers::none(alloc);
     match Shells::builtins().completer(shell) {
         Some(shell) => {
             shell.write_complete(
@@ -138,9 +146,9 @@ fn reply(
                 command,
                 words,
                 Some("/w"),
-                &asked,
+                &wanted,
                 &folder,
-                &lent,
+                &completers,
                 sink,
             )
         }
@@ -149,10 +157,10 @@ fn reply(
 }
 
 // What a program does which a shell asks for its registration, or for a reply.
-fn attempt(alloc: Global, asked: &str, sink: &mut Counted<Narrow>) -> Result<(), Error> {
-    let (asked, shell) = asked.split_once(' ').unwrap_or((asked, ""));
+fn attempt(alloc: Global, wanted: &str, sink: &mut Counted<Narrow>) -> Result<(), Error> {
+    let (wanted, shell) = wanted.split_once(' ').unwrap_or((wanted, ""));
     let variables = [("COMPLETE", shell), ("_CLAP_COMPLETE_INDEX", "2")];
-    let words: &[&str] = if asked == "register" {
+    let words: &[&str] = if wanted == "register" {
         &["/o'p/app"]
     } else {
         &["app", "--", "app", "--root", "k"]

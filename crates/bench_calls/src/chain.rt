@@ -86,6 +86,6 @@ fn complete_word(alloc: Global, command: &mut Command) -> Result<(), Error> {
     words.push(String::from_str(alloc, "c")?)?;
     words.push(String::from_str(alloc, "")?)?;
     let folder = MemoryFolder::new(&[], &[]);
-    let lent = Completers::none(alloc);
-    complete(alloc, command, words, 1, None, &folder, &lent).map(drop)
+    let completers = Completers::none(alloc);
+    complete(alloc, command, words, 1, None, &folder, &completers).map(drop)
 }

@@ -12,8 +12,8 @@
 mod calls;
 mod chain;
 mod fixtures;
-mod lent;
 mod sinks;
+mod sources;
 mod state;
 
 use crate::calls::{CALLS, call};
