@@ -55,7 +55,14 @@ fn find(
     let mut command = with_positional(alloc, completer, ValueRange::new(1, 1))?;
     let words = ["app", word];
     let folder = MemoryFolder::new(&[], &[]);
-    let found = find_last(alloc, &mut command, words.as_slice(), None, &folder, &completers);
+    let found = find_last(
+        alloc,
+        &mut command,
+        words.as_slice(),
+        None,
+        &folder,
+        &completers,
+    );
     drop(command);
     drop(completers);
     found

@@ -1,11 +1,11 @@
 //! Values and names from completers and lists.
 
-use crate::sources::{find_with_completers, find_without_memory, two_completers};
 use crate::numbered::{
     with_completer_and_list, with_delimiter, with_list, with_pair, with_positional, with_programs,
     with_two_options,
 };
 use crate::offered::text_of;
+use crate::sources::{find_with_completers, find_without_memory, two_completers};
 use cc_arg::ValueRange;
 use cc_base::Error;
 use cc_candidates::{
@@ -139,7 +139,11 @@ fn a_number_past_two_completers_has_no_candidates(rt: HostRuntime) {
         ArgValueCompleter::new(7).complete(alloc, &completers, ""),
         "",
     );
-    gives(&rt, ArgValueCandidates::new(7).candidates(alloc, &completers), "");
+    gives(
+        &rt,
+        ArgValueCandidates::new(7).candidates(alloc, &completers),
+        "",
+    );
     gives(
         &rt,
         SubcommandCandidates::new(7).candidates(alloc, &completers),

@@ -36,7 +36,15 @@ fn offers_for<R: Abort + AllocGlobal>(
     let alloc = rt.alloc();
     let completers = Completers::none(alloc);
     let mut command = command.expect(rt, "no command");
-    let found = complete(rt.alloc(), &mut command, words, index, None, &folder, &completers);
+    let found = complete(
+        rt.alloc(),
+        &mut command,
+        words,
+        index,
+        None,
+        &folder,
+        &completers,
+    );
     drop(command);
     assert_eq!(rt; text_of(rt, found).as_str(), wanted);
 }

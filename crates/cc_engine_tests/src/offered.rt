@@ -33,7 +33,15 @@ pub(crate) fn find_last<D: Folder>(
 ) -> Result<Vec<CompletionCandidate>, Error> {
     let index = words.len().saturating_sub(1);
     let words = to_strings(alloc, words)?;
-    complete(alloc, command, words, index, current_dir, folder, completers)
+    complete(
+        alloc,
+        command,
+        words,
+        index,
+        current_dir,
+        folder,
+        completers,
+    )
 }
 
 /// The values of the candidates that were found, each with a space after it.

@@ -35,7 +35,7 @@ const NO_COMPLETION: &str = "no completion generated\n";
 
 const NO_ARGUMENTS: &str = "no arguments\n";
 
-/// What is printed where a registration is asked for and this shell has none.
+/// What is printed where a registration is wanted and this shell has none.
 pub(crate) fn no_registration(shell: Shell) -> &'static str
     ensures { result.now ≡ error_line (UnknownShell (no_registration_text shell)) }
 {
