@@ -5,9 +5,9 @@ use Rattle.cc_base.specs.declared.error.Error.TheVariants.{LabelClash, Memory, N
 use Rattle.cc_bash.specs.Arms.{tree_arms}
 use Rattle.cc_bash.specs.CaseTable.{tree_cases, run_end}
 use Rattle.cc_bash.specs.Labels.{root_label, shared_label}
-use Rattle.cc_bash.specs.Reads.{BashReads, arm_at, position_arm, position_label}
+use Rattle.cc_bash.specs.Reads.{BashReads, arm_at, path_node_arm, path_node_label}
 use Rattle.cc_bash.specs.Script.{bash_script}
-use Rattle.cc_bash.specs.Walk.{root_position, walk}
+use Rattle.cc_bash.specs.Walk.{root_path_node, walk}
 use Rattle.cc_candidates.specs.declared.candidate.CompletionCandidate.{CompletionCandidate}
 use Rattle.cc_command.specs.Plain.{is_plain_tree}
 use Rattle.cc_command.specs.Tree.{Tree}
@@ -18,14 +18,14 @@ use Rattle.cc_walk.specs.declared.state.State.{State}
 use Rattle.cc_walk.specs.Line.{IsLine, IsOnlyLine}
 use Rattle.cc_walk.specs.Visible.{HasNoHiddenAlias}
 
--- Over the words the cases of the root's script lead to the label of the position at which the walk
--- by visible names ends. This node is at that position, and the arm at that label is its arm.
+-- Over the words the cases of the root's script lead to the label of the node at which the walk by
+-- visible names ends. This is that node, and the arm at that label is its arm.
 pub record BashLeadsTo (root : Tree) (words : List (List ℕ)) (tree : Tree) : Type 0 where
   pub label : run_end (tree_cases root) (root_label root) words
-      ≡ position_label root (walk (root_position root) words)
-  pub node : (walk (root_position root) words).tree ≡ tree
+      ≡ path_node_label root (walk (root_path_node root) words)
+  pub node : (walk (root_path_node root) words).tree ≡ tree
   pub arm : arm_at (tree_arms root) (run_end (tree_cases root) (root_label root) words)
-      ≡ Some (position_arm root (walk (root_position root) words))
+      ≡ Some (path_node_arm root (walk (root_path_node root) words))
 
 -- The tree and the bin name are plain, and none of the words before the index is a hidden alias at
 -- the command where it is read.

@@ -11,8 +11,9 @@ use Rattle.cc_command.proofs.PlainParts.{plain_tree}
 use Rattle.cc_bash.specs.Arms.{arm_of, arm_below, node_arm, tree_arms}
 use Rattle.cc_bash.specs.CaseTable.{Case, node_cases, case_below, tree_cases, next_label, run, last_or, run_end}
 use Rattle.cc_bash.specs.Labels.{Labelled, root_label, child_label, labelled_node, labelled_commands, labels, shared_label}
-use Rattle.cc_bash.specs.Reads.{arm_at, position_arm, position_label}
-use Rattle.cc_bash.specs.Walk.{Position, next_position, positions, walk, root_position, label_at, level_of}
+use Rattle.cc_bash.specs.Reads.{arm_at, path_node_arm, path_node_label}
+use Rattle.cc_bash.specs.Walk.{PathNode, next_path_node, path_nodes, walk, root_path_node}
+use Rattle.cc_bash.specs.Walk.{label_at, level_of}
 use Rattle.cc_bash.proofs.Clashes.{AllDifferBy-map, same_element, texts_differ}
 use Rattle.cc_bash.proofs.ListedNodes.{parents, siblings_listed, children_listed, children_differ}
 use Rattle.cc_bash.proofs.NextSteps.{bytes_tells, next_cases, visible_child-is, visible_child-of}
@@ -106,140 +107,141 @@ case_of_node tree node name h named =
     (flat_map-IsIn node_cases (labelled_commands tree) node _ h
     (map-IsIn make (visible_names node.tree.node) name named))
 
-found_child : (position : Position) (word : List ℕ) (child : Tree) →
-    visible_child position.tree.children word ≡ Some child →
-    next_position position word ≡ record { path = position.path ++ child.node.name ∷ []; tree = child }
-found_child position word child e = rw (next_position, e)
+found_child : (here : PathNode) (word : List ℕ) (child : Tree) →
+    visible_child here.tree.children word ≡ Some child →
+    next_path_node here word ≡ record { path = here.path ++ child.node.name ∷ []; tree = child }
+found_child here word child e = rw (next_path_node, e)
 
-found_none : (position : Position) (word : List ℕ) → visible_child position.tree.children word ≡ None →
-    next_position position word ≡ position
-found_none position word e = rw (next_position, e)
+found_none : (here : PathNode) (word : List ℕ) → visible_child here.tree.children word ≡ None →
+    next_path_node here word ≡ here
+found_none here word e = rw (next_path_node, e)
 
 pub length-more : (path : List (List ℕ)) (name : List ℕ) →
     suc (length path) ≡ length (path ++ name ∷ [])
 length-more [] name = refl
 length-more (n ∷ path) name = ap (λ k. suc k) (length-more path name)
 
--- a node of the list is at the position
-record StandsAt (tree : Tree) (position : Position) : Type 0 where
+-- a node of the list is this node
+record StandsAt (tree : Tree) (here : PathNode) : Type 0 where
   pub node : Labelled
-  pub here : IsIn (nodes tree) node
-  pub same : node.tree ≡ position.tree
-  pub label : node.label ≡ position_label tree position
-  pub level : node.level ≡ level_of position
+  pub listed : IsIn (nodes tree) node
+  pub same : node.tree ≡ here.tree
+  pub label : node.label ≡ path_node_label tree here
+  pub level : node.level ≡ level_of here
 
-root_stands : (tree : Tree) → StandsAt tree (root_position tree)
+root_stands : (tree : Tree) → StandsAt tree (root_path_node tree)
 root_stands tree = record {
   node = root_node tree;
-  here = inl refl;
+  listed = inl refl;
   same = refl;
   label =
       refl;
   level = refl;
 }
 
--- below a position where a node is, the child is
-child_stands : (tree : Tree) (position : Position) (child : Tree) → StandsAt tree position →
-    IsSibling position.tree.children child →
-    StandsAt tree (record { path = position.path ++ child.node.name ∷ []; tree = child })
-child_stands tree position child at s =
+-- below a node of the list its child is one too
+child_stands : (tree : Tree) (here : PathNode) (child : Tree) → StandsAt tree here →
+    IsSibling here.tree.children child →
+    StandsAt tree (record { path = here.path ++ child.node.name ∷ []; tree = child })
+child_stands tree here child at s =
     let sibling : IsSibling at.node.tree.children child =
     subst (λ (t : Tree). IsSibling t.children child) (sym at.same) s in
     record {
       node = labelled_node at.node.label (suc at.node.level) child;
-      here = inr (child_of tree at.node child at.here sibling);
+      listed = inr (child_of tree at.node child at.listed sibling);
       same = refl;
       label = ap (λ l. child_label l child.node.name) at.label
-          ∙ sym (label_at-more (root_label tree) position.path child.node.name);
-      level = ap (λ k. suc k) (at.level ∙ length-more position.path child.node.name);
+          ∙ sym (label_at-more (root_label tree) here.path child.node.name);
+      level = ap (λ k. suc k) (at.level ∙ length-more here.path child.node.name);
     }
 
 -- one is where a word leads
-next_stands : (tree : Tree) (position : Position) (word : List ℕ) → StandsAt tree position →
-    StandsAt tree (next_position position word)
-next_stands tree position word at = elim (option_cases (visible_child position.tree.children word)) [
-  | inl f ↦ subst (StandsAt tree) (sym (found_child position word f.0 f.1))
-      (child_stands tree position f.0 at (visible_child-of position.tree.children f.0 word f.1).0)
-  | inr absent ↦ subst (StandsAt tree) (sym (found_none position word absent)) at
+next_stands : (tree : Tree) (here : PathNode) (word : List ℕ) → StandsAt tree here →
+    StandsAt tree (next_path_node here word)
+next_stands tree here word at = elim (option_cases (visible_child here.tree.children word)) [
+  | inl f ↦ subst (StandsAt tree) (sym (found_child here word f.0 f.1))
+      (child_stands tree here f.0 at (visible_child-of here.tree.children f.0 word f.1).0)
+  | inr absent ↦ subst (StandsAt tree) (sym (found_none here word absent)) at
 ]
 
-stands_after : (tree : Tree) (words : List (List ℕ)) (position : Position) → StandsAt tree position →
-    StandsAt tree (walk position words)
-stands_after tree [] position at = at
-stands_after tree (word ∷ words) position at =
-    stands_after tree words (next_position position word) (next_stands tree position word at)
+stands_after : (tree : Tree) (words : List (List ℕ)) (here : PathNode) → StandsAt tree here →
+    StandsAt tree (walk here words)
+stands_after tree [] here at = at
+stands_after tree (word ∷ words) here at =
+    stands_after tree words (next_path_node here word) (next_stands tree here word at)
 
--- one word takes the table from the label of a position to that of the next
+-- one word takes the table from the label of a node to that of the next
 step : (tree : Tree) → IsTrue (is_plain_tree tree) → shared_label tree ≡ None →
-    (position : Position) (word : List ℕ) → StandsAt tree position →
-    next_label (tree_cases tree) (position_label tree position) word
-    ≡ position_label tree (next_position position word)
-step tree plain clear position word at =
-    elim (next_cases (tree_cases tree) (position_label tree position) word) [
+    (here : PathNode) (word : List ℕ) → StandsAt tree here →
+    next_label (tree_cases tree) (path_node_label tree here) word
+    ≡ path_node_label tree (next_path_node here word)
+step tree plain clear here word at =
+    elim (next_cases (tree_cases tree) (path_node_label tree here) word) [
       | inl h ↦
           let from = case_from tree h.0 h.1 in
           let up = parent_of tree from.0 from.1 in
-          let is_parent : up.0 ≡ at.node = one_node tree up.0 at.node clear up.1 at.here
+          let is_parent : up.0 ≡ at.node = one_node tree up.0 at.node clear up.1 at.listed
           (up.2 ∙ sym from.3 ∙ h.2 ∙ sym at.label) in
-          let sibling : IsSibling position.tree.children from.0.tree =
+          let sibling : IsSibling here.tree.children from.0.tree =
           subst (λ (t : Tree). IsSibling t.children from.0.tree)
           (ap (λ n. n.tree) is_parent ∙ at.same) up.3 in
-          let differ : IsTrue (siblings_differ position.tree.children) =
+          let differ : IsTrue (siblings_differ here.tree.children) =
           subst (λ (t : Tree). IsTrue (siblings_differ t.children)) at.same
-          (differ_at tree at.node plain at.here) in
-          let found : visible_child position.tree.children word ≡ Some from.0.tree =
-          visible_child-is position.tree.children from.0.tree word differ sibling
+          (differ_at tree at.node plain at.listed) in
+          let found : visible_child here.tree.children word ≡ Some from.0.tree =
+          visible_child-is here.tree.children from.0.tree word differ sibling
           (subst (IsIn (visible_names from.0.tree.node)) h.3 from.2) in
           let own : from.0.label ≡ child_label from.0.parent from.0.tree.node.name =
           (parents (root_label tree) 2 tree.children from.0 from.1).own in
           let name = from.0.tree.node.name in
           h.4 ∙ from.4 ∙ own ∙ ap (λ l. child_label l name) (sym from.3 ∙ h.2)
-          ∙ sym (label_at-more (root_label tree) position.path name)
-          ∙ ap (position_label tree) (sym (found_child position word from.0.tree found))
-      | inr h ↦ elim (option_cases (visible_child position.tree.children word)) [
+          ∙ sym (label_at-more (root_label tree) here.path name)
+          ∙ ap (path_node_label tree) (sym (found_child here word from.0.tree found))
+      | inr h ↦ elim (option_cases (visible_child here.tree.children word)) [
         | inl f ↦
-            let of = visible_child-of position.tree.children f.0 word f.1 in
+            let of = visible_child-of here.tree.children f.0 word f.1 in
             let sibling : IsSibling at.node.tree.children f.0 =
             subst (λ (t : Tree). IsSibling t.children f.0) (sym at.same) of.0 in
             absurd (h.1 _ (case_of_node tree (labelled_node at.node.label (suc at.node.level) f.0)
-            word (child_of tree at.node f.0 at.here sibling) of.1) at.label refl)
-        | inr absent ↦ h.0 ∙ ap (position_label tree) (sym (found_none position word absent))
+            word (child_of tree at.node f.0 at.listed sibling) of.1) at.label refl)
+        | inr absent ↦ h.0 ∙ ap (path_node_label tree) (sym (found_none here word absent))
       ]
     ]
 
 -- so any words do
 run_from : (tree : Tree) → IsTrue (is_plain_tree tree) → shared_label tree ≡ None →
-    (words : List (List ℕ)) (position : Position) → StandsAt tree position →
-    run (tree_cases tree) (position_label tree position) words
-    ≡ map (position_label tree) (positions position words)
-run_from tree plain clear [] position at = refl
-run_from tree plain clear (word ∷ words) position at =
-    ap (λ l. position_label tree position ∷ run (tree_cases tree) l words)
-    (step tree plain clear position word at)
-    ∙ ap (λ ls. position_label tree position ∷ ls)
-    (run_from tree plain clear words (next_position position word) (next_stands tree position word at))
+    (words : List (List ℕ)) (here : PathNode) → StandsAt tree here →
+    run (tree_cases tree) (path_node_label tree here) words
+    ≡ map (path_node_label tree) (path_nodes here words)
+run_from tree plain clear [] here at = refl
+run_from tree plain clear (word ∷ words) here at =
+    ap (λ l. path_node_label tree here ∷ run (tree_cases tree) l words)
+    (step tree plain clear here word at)
+    ∙ ap (λ ls. path_node_label tree here ∷ ls)
+    (run_from tree plain clear words (next_path_node here word) (next_stands tree here word at))
 
 pub table_walks : (tree : Tree) → IsTrue (is_plain_tree tree) → shared_label tree ≡ None →
     (words : List (List ℕ)) →
     run (tree_cases tree) (root_label tree) words
-    ≡ map (position_label tree) (positions (root_position tree) words)
+    ≡ map (path_node_label tree) (path_nodes (root_path_node tree) words)
 table_walks tree plain clear words =
-    run_from tree plain clear words (root_position tree) (root_stands tree)
+    run_from tree plain clear words (root_path_node tree) (root_stands tree)
 
--- the last of the positions is that of the walk
-last_position : (tree : Tree) (text : List ℕ) (position : Position) (words : List (List ℕ)) →
-    last_or text (map (position_label tree) (positions position words)) ≡ position_label tree (walk position words)
-last_position tree text position [] = refl
-last_position tree text position (word ∷ words) =
-    last_position tree (position_label tree position) (next_position position word) words
+-- the last of the nodes is that of the walk
+last_path_node : (tree : Tree) (text : List ℕ) (here : PathNode) (words : List (List ℕ)) →
+    last_or text (map (path_node_label tree) (path_nodes here words))
+    ≡ path_node_label tree (walk here words)
+last_path_node tree text here [] = refl
+last_path_node tree text here (word ∷ words) =
+    last_path_node tree (path_node_label tree here) (next_path_node here word) words
 
 pub table_ends : (tree : Tree) → IsTrue (is_plain_tree tree) → shared_label tree ≡ None →
     (words : List (List ℕ)) →
     run_end (tree_cases tree) (root_label tree) words
-    ≡ position_label tree (walk (root_position tree) words)
+    ≡ path_node_label tree (walk (root_path_node tree) words)
 table_ends tree plain clear words =
     ap (last_or (root_label tree)) (table_walks tree plain clear words)
-    ∙ last_position tree (root_label tree) (root_position tree) words
+    ∙ last_path_node tree (root_label tree) (root_path_node tree) words
 
 -- ---- the arm where the walk ends
 
@@ -276,20 +278,20 @@ arm_of_node tree node clear h =
 
 -- at the label to which words lead is the arm of the node
 pub arm_stands : (tree : Tree) → shared_label tree ≡ None → (words : List (List ℕ)) →
-    arm_at (tree_arms tree) (position_label tree (walk (root_position tree) words))
-    ≡ Some (position_arm tree (walk (root_position tree) words))
+    arm_at (tree_arms tree) (path_node_label tree (walk (root_path_node tree) words))
+    ≡ Some (path_node_arm tree (walk (root_path_node tree) words))
 arm_stands tree clear words =
-    let end : Position = walk (root_position tree) words in
-    let at : StandsAt tree end = stands_after tree words (root_position tree) (root_stands tree) in
-    ap (arm_at (tree_arms tree)) (sym at.label) ∙ arm_of_node tree at.node clear at.here
+    let end : PathNode = walk (root_path_node tree) words in
+    let at : StandsAt tree end = stands_after tree words (root_path_node tree) (root_stands tree) in
+    ap (arm_at (tree_arms tree)) (sym at.label) ∙ arm_of_node tree at.node clear at.listed
     ∙ ap (λ l. Some (arm_of l at.node.level at.node.tree)) at.label
-    ∙ ap (λ k. Some (arm_of (position_label tree end) k at.node.tree)) at.level
-    ∙ ap (λ t. Some (arm_of (position_label tree end) (level_of end) t)) at.same
+    ∙ ap (λ k. Some (arm_of (path_node_label tree end) k at.node.tree)) at.level
+    ∙ ap (λ t. Some (arm_of (path_node_label tree end) (level_of end) t)) at.same
 
 -- so it does at the label to which the table's own cases lead
 pub arm_at_end : (tree : Tree) → IsTrue (is_plain_tree tree) → shared_label tree ≡ None →
     (words : List (List ℕ)) →
     arm_at (tree_arms tree) (run_end (tree_cases tree) (root_label tree) words)
-    ≡ Some (position_arm tree (walk (root_position tree) words))
+    ≡ Some (path_node_arm tree (walk (root_path_node tree) words))
 arm_at_end tree plain clear words =
     ap (arm_at (tree_arms tree)) (table_ends tree plain clear words) ∙ arm_stands tree clear words

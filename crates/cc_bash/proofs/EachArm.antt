@@ -9,16 +9,16 @@ use Rattle.cc_generator.proofs.InOrder.{in_order-permutes}
 use Rattle.cc_command.specs.Tree.{Forest, none, more, Tree}
 use Rattle.cc_bash.specs.Arms.{Arm, arm_of, arm_below, node_arm, tree_arms}
 use Rattle.cc_bash.specs.Labels.{child_label, labelled_under, labelled_commands, root_label}
-use Rattle.cc_bash.specs.Reads.{position_arm}
-use Rattle.cc_bash.specs.Walk.{all_positions, label_at, positions_below}
+use Rattle.cc_bash.specs.Reads.{path_node_arm}
+use Rattle.cc_bash.specs.Walk.{all_path_nodes, label_at, path_nodes_below}
 use Rattle.cc_bash.proofs.CaseWalk.{label_at-more, length-more}
 
--- ---- the nodes with their labels are the positions
+-- ---- the nodes with their labels are the nodes with their paths
 
 arms_below : (tree : Tree) (path : List (List ℕ)) (label : List ℕ) (level : ℕ) (forest : Forest) →
     label ≡ label_at (root_label tree) path → level ≡ suc (suc (length path)) →
     map node_arm (labelled_under label level forest)
-    ≡ map (position_arm tree) (positions_below path forest)
+    ≡ map (path_node_arm tree) (path_nodes_below path forest)
 arms_below tree path label level none at deep = refl
 arms_below tree path label level (more node below rest) at deep =
     let root : List ℕ = root_label tree in
@@ -36,21 +36,22 @@ arms_below tree path label level (more node below rest) at deep =
     let later = arms_below tree path label level rest at deep in
     ap (λ arm. arm ∷ map node_arm (labelled_under (child_label label node.name) (suc level) below
     ++ labelled_under label level rest)) one
-    ∙ ap (λ arms. position_arm tree (record { path = own; tree = here }) ∷ arms)
+    ∙ ap (λ arms. path_node_arm tree (record { path = own; tree = here }) ∷ arms)
     (map-append node_arm (labelled_under (child_label label node.name) (suc level) below)
     (labelled_under label level rest)
     ∙ ap (λ arms. arms ++ map node_arm (labelled_under label level rest)) inner
-    ∙ ap (λ arms. map (position_arm tree) (positions_below own below) ++ arms) later
-    ∙ sym (map-append (position_arm tree) (positions_below own below) (positions_below path rest)))
+    ∙ ap (λ arms. map (path_node_arm tree) (path_nodes_below own below) ++ arms) later
+    ∙ sym (map-append (path_node_arm tree) (path_nodes_below own below)
+    (path_nodes_below path rest)))
 
 -- the arms of a tree are, but for their order, those of its nodes
-pub arms_of_positions : (tree : Tree) →
-    IsPermutation (map (position_arm tree) (all_positions tree)) (tree_arms tree)
+pub arms_of_path_nodes : (tree : Tree) →
+    IsPermutation (map (path_node_arm tree) (all_path_nodes tree)) (tree_arms tree)
 unfolding tree_arms
-arms_of_positions tree =
+arms_of_path_nodes tree =
     let sorted : List Arm = map node_arm (in_order arm_below (labelled_commands tree)) in
     IsPermutation-cons (arm_of (root_label tree) 1 tree)
-    (map (position_arm tree) (positions_below [] tree.children)) sorted
+    (map (path_node_arm tree) (path_nodes_below [] tree.children)) sorted
     (subst (λ arms. IsPermutation arms sorted)
     (arms_below tree [] (root_label tree) 2 tree.children refl refl)
     (IsPermutation-map node_arm (labelled_commands tree) (in_order arm_below (labelled_commands tree))

@@ -19,8 +19,8 @@ use Rattle.cc_bash.specs.Arms.{Arm, details_at, tree_arms, words_at, values, fil
 use Rattle.cc_bash.specs.CaseTable.{Case, run, tree_cases}
 use Rattle.cc_bash.specs.Labels.{shared_label}
 use Rattle.cc_command.specs.Quiet.{is_quiet_value}
-use Rattle.cc_bash.specs.Reads.{arm_after, position_label}
-use Rattle.cc_bash.specs.Walk.{all_positions}
+use Rattle.cc_bash.specs.Reads.{arm_after, path_node_label}
+use Rattle.cc_bash.specs.Walk.{all_path_nodes}
 use Rattle.cc_bash.specs.Reader.{pattern_of, assigned, bare_text, double_text, is_root, is_empty_reply, is_typed_reply, is_compgen_reply, mode_named, case_by, next, closed_table, read, bash_table}
 use Rattle.cc_bash.specs.Script.{case_text, offered_text, reply_text, mode_word, mode_text, moded_text, detail_text, arm_text, head_text, tail_text, script_text}
 use Rattle.cc_bash.specs.Texts.{function_begins, function_head, cases_begin, arms_begin, arms_end, unsorted_options, otherwise, sorted_options, script_ends, case_begins, case_comma, case_sets, case_ends, arm_begins, arm_words, arm_level, arm_details, arm_ends, detail_begins, detail_word_ends, keep_separator, separator_back, reply_begins, reply_ends, values_begin, values_end, offer_files, offer_word, mode_begins, mode_ends, detail_ends}
@@ -98,12 +98,12 @@ unfolding insert in_order tree_cases help_argument version_argument help_name ve
 my_app_run = refl
 
 -- the nodes of `my-app`, by their labels
-my_app_positions : map (position_label my_app) (all_positions my_app)
+my_app_path_nodes : map (path_node_label my_app) (all_path_nodes my_app)
     ≡ codes "my__app" ∷ codes "my__app__subcmd__test" ∷ codes "my__app__subcmd__help"
     ∷ codes "my__app__subcmd__help__subcmd__test" ∷ codes "my__app__subcmd__help__subcmd__help"
     ∷ []
 unfolding help_argument version_argument help_name version_name
-my_app_positions = refl
+my_app_path_nodes = refl
 
 -- at the label to which words lead is the arm of the third level
 my_app_reached : option_map (λ arm. arm.level) (arm_after

@@ -18,7 +18,7 @@ use Rattle.cc_bash.specs.Reader.{bash_cases, bash_table}
 use Rattle.cc_bash.specs.Reads.{BashReads, arm_after}
 use Rattle.cc_bash.specs.Script.{bash_script}
 use Rattle.cc_bash.proofs.CaseWalk.{arm_at_end, arm_stands, table_ends, table_walks}
-use Rattle.cc_bash.proofs.EachArm.{arms_of_positions}
+use Rattle.cc_bash.proofs.EachArm.{arms_of_path_nodes}
 use Rattle.cc_bash.proofs.Clashes.{texts_differ}
 use Rattle.cc_bash.proofs.PlainArms.{IsQuietNode, arm_readable, quiet_node}
 use Rattle.cc_bash.proofs.PlainBytes.{IsPlainText, bytes_of, child_plain, no_comma_of, no_paren_of, other_of, plain_text, root_plain, word_of}
@@ -149,7 +149,7 @@ bash_plain_reads tree clear h = record {
   table = table_back tree h;
   walks = table_walks tree h clear;
   ends = table_ends tree h clear;
-  each_arm = arms_of_positions tree;
+  each_arm = arms_of_path_nodes tree;
   arms = arm_stands tree clear;
   reached = λ quiet words. ap (λ table. arm_after table words) (table_back tree h quiet)
       ∙ arm_at_end tree h clear words;

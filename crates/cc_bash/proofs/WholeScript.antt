@@ -12,7 +12,7 @@ use Rattle.cc_bash.specs.Arms.{arm_below, arm_of, node_arm, tree_arms}
 use Rattle.cc_bash.specs.CaseTable.{case_below, node_cases, tree_cases}
 use Rattle.cc_bash.specs.Labels.{Labelled, first_again, labelled_commands, labelled_under, root_label, shared_label}
 use Rattle.cc_bash.specs.Nodes.{labelled_of}
-use Rattle.cc_bash.specs.Reads.{BashReads}
+use Rattle.cc_bash.specs.Reads.{bash_spec}
 use Rattle.cc_bash.specs.Script.{arm_text, script_text, case_text, head_text, tail_text, bash_script}
 use Rattle.cc_bash.specs.Texts.{arms_begin}
 use Rattle.cc_bash.specs.declared.nodes.LabelledNode.{LabelledNode}
@@ -75,7 +75,7 @@ clash_is tree root nodes label are =
 module _ {S : Type 0} {taken : S → List ℕ} {failed : S → Failures} where
   -- it is out of memory before anything is written
   pub generates_memory : (tree : Tree) (sink : S) →
-      Generates taken failed bash_script shared_label BashReads tree (Err Memory) sink sink
+      Generates taken failed bash_spec tree (Err Memory) sink sink
   generates_memory tree sink = record {
     ok = tt;
     reads = tt;
@@ -90,8 +90,7 @@ module _ {S : Type 0} {taken : S → List ℕ} {failed : S → Failures} where
 
   -- two nodes share a label
   pub generates_clash : (tree : Tree) (label : List ℕ) (sink : S) → shared_label tree ≡ Some label →
-      Generates taken failed bash_script shared_label BashReads tree (Err (LabelClash label))
-      sink sink
+      Generates taken failed bash_spec tree (Err (LabelClash label)) sink sink
   generates_clash tree label sink e =
       record { ok = tt; reads = tt; clashes = by (shared_label tree) e; failures = refl }
     where
@@ -107,7 +106,7 @@ module _ {S : Type 0} {taken : S → List ℕ} {failed : S → Failures} where
       map labelled_of nodes ≡ labelled_commands tree →
       shared_label tree ≡ None → Writes taken failed result old new
       (script_by root tree (map labelled_of nodes)) →
-      Generates taken failed bash_script shared_label BashReads tree result old new
+      Generates taken failed bash_spec tree result old new
   generates_script tree result old new root nodes label are clear w =
       let P : List ℕ → Type 0 = λ text. Writes taken failed result old new text in
       of result (subst P (script_is tree root nodes label are) w)
@@ -119,7 +118,7 @@ module _ {S : Type 0} {taken : S → List ℕ} {failed : S → Failures} where
       kinds (Some _) r is k = cc
 
       of : (r : Result (Unit {0}) Error) → Writes taken failed r old new (bash_script tree) →
-          Generates taken failed bash_script shared_label BashReads tree r old new
+          Generates taken failed bash_spec tree r old new
       of (Ok u) v = record {
         ok = v.ok;
         reads =

@@ -5,51 +5,51 @@ use Rattle.cc_command.specs.Names.{visible_child}
 use Rattle.cc_bash.specs.Labels.{child_label}
 
 -- a node with all below it, and the names of the nodes that lead to it from the root
-pub record Position : Type 0 where
+pub record PathNode : Type 0 where
   pub path : List (List ℕ)
   pub tree : Tree
 
 -- from a node a word leads to the child that shows it as a name; any other word leads nowhere
-abbrev pub next_position : Position → List ℕ → Position
-next_position position word = elim (visible_child position.tree.children word) [
-  | Some child ↦ record { path = position.path ++ child.node.name ∷ []; tree = child }
-  | None ↦ position
+abbrev pub next_path_node : PathNode → List ℕ → PathNode
+next_path_node here word = elim (visible_child here.tree.children word) [
+  | Some child ↦ record { path = here.path ++ child.node.name ∷ []; tree = child }
+  | None ↦ here
 ]
 
--- the position, and the positions after each of the words
-abbrev pub positions : Position → List (List ℕ) → List Position
-positions position [] = position ∷ []
-positions position (word ∷ words) = position ∷ positions (next_position position word) words
+-- the node, and the nodes after each of the words
+abbrev pub path_nodes : PathNode → List (List ℕ) → List PathNode
+path_nodes here [] = here ∷ []
+path_nodes here (word ∷ words) = here ∷ path_nodes (next_path_node here word) words
 
--- the position after all words
-abbrev pub walk : Position → List (List ℕ) → Position
-walk position [] = position
-walk position (word ∷ words) = walk (next_position position word) words
+-- the node after all words
+abbrev pub walk : PathNode → List (List ℕ) → PathNode
+walk here [] = here
+walk here (word ∷ words) = walk (next_path_node here word) words
 
 -- the root
-abbrev pub root_position : Tree → Position
-root_position tree = record { path = []; tree = tree }
+abbrev pub root_path_node : Tree → PathNode
+root_path_node tree = record { path = []; tree = tree }
 
--- the positions of siblings below a path: of a node, of those below it, then of those after it
-abbrev pub positions_below : List (List ℕ) → Forest → List Position
-positions_below path none = []
-positions_below path (more node below rest) =
+-- siblings below a path, with their paths: a node, those below it, then those after it
+abbrev pub path_nodes_below : List (List ℕ) → Forest → List PathNode
+path_nodes_below path none = []
+path_nodes_below path (more node below rest) =
     let own : List (List ℕ) = path ++ node.name ∷ [] in
-    let position : Position = record {
+    let here : PathNode = record {
       path = own;
       tree = record { node = node; children = below };
     } in
-    position ∷ (positions_below own below ++ positions_below path rest)
+    here ∷ (path_nodes_below own below ++ path_nodes_below path rest)
 
--- the positions of all nodes of a tree, the root's first
-abbrev pub all_positions : Tree → List Position
-all_positions tree = root_position tree ∷ positions_below [] tree.children
+-- all nodes of a tree, the root first
+abbrev pub all_path_nodes : Tree → List PathNode
+all_path_nodes tree = root_path_node tree ∷ path_nodes_below [] tree.children
 
 -- the label of the node to which some names lead, below a node with this label
 abbrev pub label_at : List ℕ → List (List ℕ) → List ℕ
 label_at label [] = label
 label_at label (name ∷ names) = label_at (child_label label name) names
 
--- how many names lead to a position, the root's included
-abbrev pub level_of : Position → ℕ
-level_of position = suc (length position.path)
+-- how many names lead to a node, the root's included
+abbrev pub level_of : PathNode → ℕ
+level_of here = suc (length here.path)

@@ -1,6 +1,6 @@
 //! The generator, and the whole script: its frame, in it the cases and the arms.
 
-ghost use Rattle.std.specs.Prelude.{◌++◌, ◌∷◌, codes, map, flat_map};
+ghost use Rattle.std.specs.Prelude.{◌∷◌, map, flat_map};
 ghost use Rattle.cc_base.specs.Sorting.{in_order};
 ghost use Rattle.cc_base.specs.Writes.{Writes};
 ghost use Rattle.cc_command.specs.Names.{full_name};
@@ -8,9 +8,7 @@ ghost use Rattle.cc_bash.specs.Arms.{arm_below, arm_of, node_arm};
 ghost use Rattle.cc_bash.specs.CaseTable.{case_below, node_cases};
 ghost use Rattle.cc_bash.specs.Labels.{shared_label};
 ghost use Rattle.cc_bash.specs.Nodes.{labelled_of};
-ghost use Rattle.cc_bash.specs.Reads.{BashReads};
 ghost use Rattle.cc_bash.specs.Script.{arm_text, script_text, case_text, head_text, tail_text};
-ghost use Rattle.cc_bash.specs.Script.{bash_script};
 
 use crate::arms::{sort_nodes, write_arm, write_arms};
 use crate::cases::{sorted_cases, write_cases};
@@ -32,13 +30,9 @@ use std::alloc::Global;
 pub struct Bash;
 
 impl Generator for Bash {
-    ghost script = { λ _ tree. bash_script tree };
+    ghost use Rattle.cc_bash.specs.Reads.{bash_spec};
 
-    ghost Reads = { λ _ tree. BashReads tree };
-
-    ghost clash = { λ _ tree. shared_label tree };
-
-    ghost file = { λ _ name. name ++ codes ".bash" };
+    ghost spec = { λ _. bash_spec };
 
     fn file_name(&self, alloc: Global, name: &str) -> Result<String, Error> {
         Ok([name, ".bash"].concat(alloc)?)

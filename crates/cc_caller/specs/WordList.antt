@@ -1,7 +1,9 @@
 -- The script of a generator outside the library, and what it reads to: a line for each long of a
 -- command.
-use Rattle.std.specs.Prelude.{◌≡◌, ℕ, ◌==◌, if◌then◌else◌, List, [], ◌∷◌, ◌++◌, codes, flat_map, map}
+use Rattle.std.specs.Prelude.{◌≡◌, ℕ, ◌==◌, if◌then◌else◌, List, [], ◌∷◌, ◌++◌, None, codes}
+use Rattle.std.specs.Prelude.{flat_map, map}
 use Rattle.clap_complete.specs.ArgumentNames.{all_longs, long_word}
+use Rattle.clap_complete.specs.Generators.{ShellSpec}
 use Rattle.clap_complete.specs.Tree.{Tree}
 
 -- a long as it is typed, and a line feed
@@ -26,3 +28,12 @@ lines_of (byte ∷ bytes) =
 -- the lines of the script are the longs as they are typed
 abbrev pub ListsLongs : Tree → Type 0
 ListsLongs tree = lines_of (word_list tree) ≡ map long_word (all_longs tree.node.arguments)
+
+-- what is said of the scripts
+abbrev pub word_list_spec : ShellSpec
+word_list_spec = record {
+  script = λ tree. word_list tree;
+  Reads = λ tree. ListsLongs tree;
+  clash = λ tree. None;
+  file = λ name. name ++ codes ".words";
+}

@@ -1,6 +1,6 @@
 //! A generator outside the library.
 
-ghost use Rattle.std.specs.Prelude.{◌≡◌, flat_map, map, string_bytes};
+ghost use Rattle.std.specs.Prelude.{flat_map, map, string_bytes};
 ghost use Rattle.clap_complete.specs.Writes.{Writes};
 ghost use Rattle.cc_caller.specs.WordList.{line};
 
@@ -15,16 +15,9 @@ use std::alloc::Global;
 pub struct WordList;
 
 impl Generator for WordList {
-    ghost use Rattle.std.specs.Prelude.{◌++◌, None, codes};
-    ghost use Rattle.cc_caller.specs.WordList.{ListsLongs, word_list};
+    ghost use Rattle.cc_caller.specs.WordList.{word_list_spec};
 
-    ghost script = { λ _ tree. word_list tree };
-
-    ghost Reads = { λ _ tree. ListsLongs tree };
-
-    ghost clash = { λ _ _. None };
-
-    ghost file = { λ _ name. name ++ codes ".words" };
+    ghost spec = { λ _. word_list_spec };
 
     fn file_name(&self, alloc: Global, name: &str) -> Result<String, Error> {
         Ok([name, ".words"].concat(alloc)?)

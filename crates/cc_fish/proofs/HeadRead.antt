@@ -12,7 +12,7 @@ use Rattle.cc_quote.specs.FishQuote.FishState.{bare}
 use Rattle.cc_quote.specs.FishTokens.{in_word, commands_from, fish_commands}
 use Rattle.cc_quote.proofs.FishWords.{IsSafe}
 use Rattle.cc_quote.proofs.FishCutting.{Adds, adds_word, adds_flat_map, safe_goes_on, word_ends}
-use Rattle.cc_fish.specs.Script.{slash_text, first_short, first_long, spec_word, spec_text, specs_text, optspecs_begin, optspecs_join, needs_command_begin, needs_command_parse, needs_command_end, using_subcommand_call, using_subcommand_end, head_text}
+use Rattle.cc_fish.specs.Script.{slash_text, first_short, first_long, spec_word, spec_text, specs_text, optspecs_begin, optspecs_join, needs_command_begin, needs_command_parse, needs_command_end, using_subcommand_call, using_subcommand_end, functions_text, head_text}
 use Rattle.cc_fish.specs.Table.{function_name}
 use Rattle.cc_fish.specs.Reader.{records_of, records}
 use Rattle.cc_fish.specs.Records.{Record}
@@ -24,11 +24,19 @@ use Rattle.cc_fish.proofs.RecordsRead.{Yields, yields_none, unchanged}
 
 abbrev head_around : List ℕ → List ℕ → List ℕ
 head_around function specs =
-    optspecs_begin ++ function ++ optspecs_join ++ specs ++ needs_command_begin ++ function ++ needs_command_parse ++ function ++ needs_command_end ++ function ++ using_subcommand_call ++ function ++ using_subcommand_end
+    optspecs_begin ++ function ++ optspecs_join ++ specs ++ functions_text function
 
 head_then : (function specs rest : List ℕ) → head_around function specs ++ rest
     ≡ optspecs_begin ++ (function ++ (optspecs_join ++ (specs ++ (needs_command_begin ++ (function ++ (needs_command_parse ++ (function ++ (needs_command_end ++ (function ++ (using_subcommand_call ++ (function ++ (using_subcommand_end ++ rest))))))))))))
+unfolding functions_text
 head_then function specs rest = simp append_assoc
+
+-- the pieces that are written
+pub head_parts : (function : List ℕ) (root : Tree) (arguments : List Arg) → arguments ≡ root.node.arguments
+    → has_nodes root.children ≡ true → head_around function (specs_text arguments) ≡ head_text function root
+unfolding head_text
+head_parts function root arguments are inhabited =
+    ap (λ xs. head_around function (specs_text xs)) are ∙ rw inhabited refl
 
 -- what is read in the word after these, which begins so
 abbrev read_in : List (List ℕ) → List ℕ → List ℕ → Option (List Record)

@@ -1,5 +1,5 @@
 -- The whole script of a plain tree is read back.
-use Rattle.std.proofs.Common.{◌≡◌, ℕ, Bool, List, [], ◌∷◌, ◌++◌, IsTrue, refl, ap, ◌∙◌, sym, subst, append_assoc, append-nil, Option, Some, None, Result, Ok, Err, map, flat_map, codes, not}
+use Rattle.std.proofs.Common.{◌≡◌, ℕ, Bool, List, [], ◌∷◌, ◌++◌, IsTrue, refl, ap, ◌∙◌, sym, subst, append_assoc, append-nil, Option, Some, Result, Ok, Err, map, flat_map, codes, not}
 use Rattle.std.proofs.lemmas.List.Concat.{flat_map-append}
 use Rattle.std.specs.List.{AllByRecursion}
 use Rattle.cc_base.specs.declared.error.Error.{Error}
@@ -17,7 +17,7 @@ use Rattle.cc_visits.proofs.Entered.{entered_visits}
 use Rattle.cc_visits.proofs.PlainVisits.{IsPlainVisit, plain_visits}
 use Rattle.cc_visits.proofs.SameVisits.{rekeyed-path_visits}
 use Rattle.cc_visits.proofs.VisitedPaths.{paths_cover}
-use Rattle.cc_fish.specs.Reads.{FishReads}
+use Rattle.cc_fish.specs.Reads.{FishReads, fish_spec}
 use Rattle.cc_fish.specs.Script.{seen_text, excluded_text, fish_key, key_condition, front_text, node_text, visit_text, head_text, body_text, script_text, fish_script}
 use Rattle.cc_fish.specs.Table.{function_name, condition_at, has_positionals, option_record, flag_record, child_record, child_records, node_records, table, tables}
 use Rattle.cc_fish.specs.Reader.{records}
@@ -143,9 +143,9 @@ entered_texts bin_name function root = entered_visits fish_key (visit_text bin_n
 
 -- what is taken where the script of the tree is written
 pub generated : {S : Type 0} (taken : S → List ℕ) (failed : S → Failures) (root at : Tree) (result : Result (Unit {0}) Error) (old new : S) → at ≡ root
-    → Writes taken failed result old new (fish_script at) → Generates taken failed fish_script (λ _. None) FishReads root result old new
+    → Writes taken failed result old new (fish_script at) → Generates taken failed fish_spec root result old new
 generated taken failed root at result old new is writes = of result (subst (λ tree. Writes taken failed result old new (fish_script tree)) is writes)
   where
-    of : (r : Result (Unit {0}) Error) → Writes taken failed r old new (fish_script root) → Generates taken failed fish_script (λ _. None) FishReads root r old new
+    of : (r : Result (Unit {0}) Error) → Writes taken failed r old new (fish_script root) → Generates taken failed fish_spec root r old new
     of (Ok u) w = record { ok = w.ok; reads = reads_back root; clashes = tt; failures = w.failures }
     of (Err error) w = record { ok = tt; reads = tt; clashes = w.kinds; failures = w.failures }

@@ -1,8 +1,9 @@
 -- What the fish script of a tree reads to.
-use Rattle.std.specs.Prelude.{◌≡◌, ℕ, List, [], Some}
+use Rattle.std.specs.Prelude.{◌≡◌, ℕ, List, [], ◌++◌, None, Some, codes}
 use Rattle.std.specs.List.{AllByRecursion}
 use Rattle.cc_command.specs.Names.{full_name}
 use Rattle.cc_command.specs.Tree.{Tree}
+use Rattle.cc_generator.specs.Generators.{ShellSpec}
 use Rattle.cc_visits.specs.Paths.{CoversPaths}
 use Rattle.cc_visits.specs.Visits.{Keyed, path_visits, longer_path}
 use Rattle.cc_fish.specs.Script.{fish_script}
@@ -18,3 +19,12 @@ pub record FishReads (root : Tree) : Type 0 where
   pub covers : CoversPaths root (path_visits longer_path [] root)
   pub states : (visit : Keyed (List (List ℕ))) → AllByRecursion
       (λ read. record_path read ≡ visit.key) (table (full_name root.node) visit)
+
+-- what is said of the scripts
+abbrev pub fish_spec : ShellSpec
+fish_spec = record {
+  script = λ tree. fish_script tree;
+  Reads = λ tree. FishReads tree;
+  clash = λ tree. None;
+  file = λ name. name ++ codes ".fish";
+}

@@ -1,5 +1,5 @@
 -- The text of a fish script.
-use Rattle.std.specs.Prelude.{ℕ, List, [], ◌∷◌, ◌++◌, if◌then◌else◌, Bool, true, false, not, Option, Some, None, codes, encode_utf8, filter, flat_map, map, unwrap_or}
+use Rattle.std.specs.Prelude.{⊤, ℕ, List, [], ◌∷◌, ◌++◌, if◌then◌else◌, Bool, true, false, not, Option, Some, None, codes, encode_utf8, filter, flat_map, map, unwrap_or}
 use Rattle.cc_arg.specs.declared.parts.ArgParts.{ArgParts as Arg}
 use Rattle.cc_arg.specs.declared.possible_value.PossibleValue.{PossibleValue}
 use Rattle.cc_arg.specs.declared.value_hint.ValueHint.{ValueHint}
@@ -212,15 +212,23 @@ abbrev pub specs_text : List Arg → List ℕ
 specs_text arguments =
     flat_map spec_text (filter (λ argument. not (is_positional argument)) arguments)
 
+-- from the end of the first function on: the other two
+unfoldable pub functions_text : List ℕ → List ℕ
+functions_text function =
+    needs_command_begin ++ function ++ needs_command_parse ++ function ++ needs_command_end
+    ++ function ++ using_subcommand_call ++ function ++ using_subcommand_end
+
 -- the head, where the root has children: three functions, each named after the program
 unfoldable pub head_text : List ℕ → Tree → List ℕ
 head_text function root =
-    if has_nodes root.children then
-    optspecs_begin ++ function ++ optspecs_join ++ specs_text root.node.arguments
-    ++ needs_command_begin ++ function ++ needs_command_parse ++ function ++ needs_command_end
-    ++ function
-    ++ using_subcommand_call ++ function ++ using_subcommand_end
+    if has_nodes root.children then optspecs_begin ++ function ++ optspecs_join
+    ++ specs_text root.node.arguments ++ functions_text function
     else []
+
+-- what opens the fixed texts of the other two
+unfoldable pub fixed_texts : ⊤
+unfolding needs_command_begin needs_command_parse needs_command_end using_subcommand_call using_subcommand_end
+fixed_texts = tt
 
 -- ---- the whole
 

@@ -1,7 +1,6 @@
 //! The fish script: a head where the root has children, then the records of each visible path.
 
-ghost use Rattle.std.specs.Prelude.{◌≡◌, ◌++◌, ◌<◌, None, codes, flat_map, length, IfOk, IfErr};
-ghost use Rattle.std.specs.String.{string_bytes};
+ghost use Rattle.std.specs.Prelude.{◌<◌, flat_map, length};
 ghost use Rattle.cc_base.specs.Writes.{Writes};
 ghost use Rattle.cc_command.specs.Names.{full_name};
 ghost use Rattle.cc_flat.specs.Flat.{tree_at};
@@ -24,15 +23,9 @@ use std::alloc::Global;
 pub struct Fish;
 
 impl Generator for Fish {
-    ghost use Rattle.cc_fish.specs.Reads.{FishReads};
+    ghost use Rattle.cc_fish.specs.Reads.{fish_spec};
 
-    ghost script = { λ _ root. fish_script root };
-
-    ghost Reads = { λ _ root. FishReads root };
-
-    ghost clash = { λ _ _. None };
-
-    ghost file = { λ _ name. name ++ codes ".fish" };
+    ghost spec = { λ _. fish_spec };
 
     fn file_name(&self, alloc: Global, name: &str) -> Result<String, Error> {
         Ok([name, ".fish"].concat(alloc)?)

@@ -13,7 +13,7 @@ ghost use Rattle.cc_fish.specs.Script.{
 };
 ghost use Rattle.cc_generator.specs.Subcommands.{sibling_names};
 
-use crate::texts::not_seen;
+use crate::texts::NOT_SEEN;
 use cc_command::Command;
 use std::alloc::AllocError;
 
@@ -70,6 +70,7 @@ fn push_root(front: &mut String, function: &str, command: &Command) -> Result<()
 }
 
 // Once a child's name is given, the records of the child hold in place of these.
+#[tactic(auto, unfolding(crate::specs::Script::not_seen))]
 fn push_excluded(front: &mut String, command: &Command) -> Result<(), AllocError>
     ensures { OnOk result (string_bytes front.new
         ≡ string_bytes front.old ++ excluded_text command.now.children) }
@@ -77,7 +78,7 @@ fn push_excluded(front: &mut String, command: &Command) -> Result<(), AllocError
     if !command.has_subcommands() {
         return Ok(());
     }
-    front.push_str(not_seen())?;
+    front.push_str(NOT_SEEN)?;
     push_children(front, command.get_subcommands())
 }
 

@@ -7,17 +7,18 @@ ghost use Rattle.cc_base.specs.Writes.{Writes, as_write};
 ghost use Rattle.cc_fish.specs.Script.{
   first_long,
   first_short,
+  functions_text,
   head_text,
   slash_text,
   spec_text,
 };
 
 use crate::texts::{
-    needs_command_begin, needs_command_end, needs_command_parse, optspecs_begin, optspecs_join,
-    using_subcommand_call, using_subcommand_end,
+    NEEDS_COMMAND_BEGIN, NEEDS_COMMAND_END, NEEDS_COMMAND_PARSE, OPTSPECS_BEGIN, OPTSPECS_JOIN,
+    USING_SUBCOMMAND_CALL, USING_SUBCOMMAND_END,
 };
 use cc_arg::Arg;
-use cc_base::{Sink, put_around, put_piece};
+use cc_base::{Sink, put_around, put_piece, put_pieces};
 use cc_command::Command;
 use cc_quote::{FishEscape, put_escaped};
 use std::io::ErrorKind;
@@ -35,16 +36,29 @@ pub(crate) fn write_head<W: Sink>(
     if !command.has_subcommands() {
         return Ok(());
     }
-    put_around(sink, optspecs_begin(), function, optspecs_join())?;
+    put_around(sink, OPTSPECS_BEGIN, function, OPTSPECS_JOIN)?;
     write_specs(sink, command.get_arguments())?;
-    put_around(sink, needs_command_begin(), function, needs_command_parse())?;
-    put_around(sink, function, needs_command_end(), function)?;
-    put_around(
-        sink,
-        using_subcommand_call(),
+    write_functions(sink, function)
+}
+
+// From the end of the first function on.
+#[tactic(auto, unfolding(crate::specs::Script::functions_text, crate::specs::Script::fixed_texts))]
+fn write_functions<W: Sink>(sink: &mut W, function: &str) -> Result<(), ErrorKind>
+    ensures { Writes W.taken W.failed (as_write result) sink.old sink.new
+        (functions_text function.now) }
+{
+    let pieces = [
+        NEEDS_COMMAND_BEGIN,
         function,
-        using_subcommand_end(),
-    )
+        NEEDS_COMMAND_PARSE,
+        function,
+        NEEDS_COMMAND_END,
+        function,
+        USING_SUBCOMMAND_CALL,
+        function,
+        USING_SUBCOMMAND_END,
+    ];
+    put_pieces(sink, &pieces)
 }
 
 fn write_specs<W: Sink>(sink: &mut W, arguments: &[Arg]) -> Result<(), ErrorKind>

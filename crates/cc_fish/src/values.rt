@@ -13,7 +13,7 @@ ghost use Rattle.cc_fish.specs.Script.{
   values_text,
 };
 
-use crate::texts::list_begin;
+use crate::texts::LIST_BEGIN;
 use cc_arg::{Arg, PossibleValue, ValueHint, possible_values};
 use cc_base::{Sink, put_piece, put_separator};
 use cc_quote::{put_fish_help_for_eval, put_fish_quoted_for_eval};
@@ -38,12 +38,12 @@ pub(crate) fn write_values<W: Sink>(
     }
 }
 
-#[tactic(auto, unfolding(crate::specs::Script::listed_text))]
+#[tactic(auto, unfolding(crate::specs::Script::listed_text, crate::specs::Script::list_begin))]
 fn write_listed<W: Sink>(sink: &mut W, values: &[PossibleValue]) -> Result<(), ErrorKind>
     ensures { Writes W.taken W.failed (as_write result) sink.old sink.new
         (listed_text values.now) }
 {
-    put_piece(sink, list_begin())?;
+    put_piece(sink, LIST_BEGIN)?;
     write_lines(sink, values)?;
     put_piece(sink, "\"")
 }

@@ -1,4 +1,4 @@
--- What a call that writes the script of a command tree does.
+-- The scripts of a shell, and what a call that writes the script of a command tree does.
 use Rattle.std.specs.Prelude.{◌≡◌, ◌⊎◌, ℕ, List, ◌++◌, ◌&&◌, Option, Some, None, is_some, IsTrue, Result, Err, OnOk, IfErr}
 use Rattle.cc_base.specs.declared.error.Error.{Error}
 use Rattle.cc_base.specs.declared.error.Error.TheVariants.{Memory, LabelClash}
@@ -6,6 +6,17 @@ use Rattle.cc_base.specs.declared.failures.Failures.{Failures}
 use Rattle.cc_base.specs.Writes.{CountsWrite, IsMemoryOrWrite}
 use Rattle.cc_command.specs.Tree.{Tree}
 use Rattle.cc_command.specs.Plain.{is_plain_tree}
+
+-- what is said of the scripts for a shell
+pub record ShellSpec : Type 1 where
+  -- the script of a tree
+  pub script : Tree → List ℕ
+  -- what its reader reads that script to
+  pub Reads : Tree → Type 0
+  -- the label that two nodes of a tree share, where the script needs labels of its own
+  pub clash : Tree → Option (List ℕ)
+  -- the name of the file for a program of this name
+  pub file : List ℕ → List ℕ
 
 -- the tree is built and has a bin name
 abbrev pub IsReady : Tree → Type 0
@@ -22,11 +33,10 @@ ReportsClash (Some label) result old new =
 -- back where the tree is plain; a clash of labels is reported; a failed put is counted exactly
 -- where the call returns `Write`.
 pub record Generates {S : Type 0} (taken : S → List ℕ) (failed : S → Failures)
-    (script : Tree → List ℕ) (clash : Tree → Option (List ℕ)) (Reads : Tree → Type 0) (tree : Tree)
-    (result : Result (Unit {0}) Error) (old new : S) : Type 0 where
-  pub ok : OnOk result (taken new ≡ taken old ++ script tree)
-  pub reads : OnOk result (IsTrue (is_plain_tree tree) → Reads tree)
-  pub clashes : ReportsClash (clash tree) result (taken old) (taken new)
+    (spec : ShellSpec) (tree : Tree) (result : Result (Unit {0}) Error) (old new : S) : Type 0 where
+  pub ok : OnOk result (taken new ≡ taken old ++ spec.script tree)
+  pub reads : OnOk result (IsTrue (is_plain_tree tree) → spec.Reads tree)
+  pub clashes : ReportsClash (spec.clash tree) result (taken old) (taken new)
   pub failures : CountsWrite result (failed old) (failed new)
 
 -- What a call that builds and then writes leaves: the built tree. Only where it is out of memory

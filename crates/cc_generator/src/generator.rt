@@ -1,13 +1,12 @@
 //! What every generator does.
 
-ghost use Rattle.std.specs.Prelude.{◌≡◌, ℕ, List, Option, Some, IsTrue, IfOk, IfErr, OnOk};
+ghost use Rattle.std.specs.Prelude.{◌≡◌, Some, IsTrue, IfOk, IfErr, OnOk};
 ghost use Rattle.std.specs.String.{string_bytes};
 ghost use Rattle.cc_command.specs.Plain.{is_plain_tree};
 ghost use Rattle.cc_quote.specs.PlainName.{is_plain_name};
 ghost use Rattle.cc_command.specs.Quiet.{is_quiet_tree};
-ghost use Rattle.cc_command.specs.Tree.{Tree};
 ghost use Rattle.cc_command.specs.Built.{built_under};
-ghost use Rattle.cc_generator.specs.Generators.{Generates, IsReady, LeavesBuilt};
+ghost use Rattle.cc_generator.specs.Generators.{Generates, IsReady, LeavesBuilt, ShellSpec};
 
 use cc_base::{Error, Sink};
 use cc_command::{Command, build_as};
@@ -15,22 +14,13 @@ use std::alloc::Global;
 
 /// A generator of completion scripts for one shell.
 pub trait Generator {
-    // the text of the script of a tree
-    ghost script: { Self → Tree → List ℕ };
-
-    // what reading that script gives
-    ghost Reads: { Self → Tree → Type 0 };
-
-    // the label that two nodes of a tree share, where the script needs labels of its own
-    ghost clash: { Self → Tree → Option (List ℕ) };
-
-    // the name of the file for a program of this name
-    ghost file: { Self → List ℕ → List ℕ };
+    // what is said of the scripts: their text, what they read to, their labels, their files
+    ghost spec: { Self → ShellSpec };
 
     /// The name of the file that the shell looks for, for a program of this name. Fails with
     /// `Memory` alone.
     fn file_name(&self, alloc: Global, name: &str) -> Result<String, Error>
-        ensures ok { IfOk result (λ text. string_bytes text ≡ file self.now name.now) }
+        ensures ok { IfOk result (λ text. string_bytes text ≡ (spec self.now).file name.now) }
         ensures memory { IfErr result (λ error. error ≡ Error.Memory) };
 
     /// Writes the script of a command that is built and has a bin name, piece by piece.
@@ -40,8 +30,8 @@ pub trait Generator {
     /// took before it fails with `Write` or `Memory` is left open.
     fn generate<W: Sink>(&self, alloc: Global, command: &Command, sink: &mut W) -> Result<(), Error>
         requires ready { IsReady command.now }
-        ensures { Generates W.taken W.failed (script self.now) (clash self.now) (Reads self.now)
-            command.now result sink.old sink.new };
+        ensures { Generates W.taken W.failed (spec self.now) command.now result
+            sink.old sink.new };
 
     /// The same as `generate`.
     fn try_generate<W: Sink>(
@@ -51,8 +41,8 @@ pub trait Generator {
         sink: &mut W,
     ) -> Result<(), Error>
         requires ready { IsReady command.now }
-        ensures { Generates W.taken W.failed (script self.now) (clash self.now) (Reads self.now)
-            command.now result sink.old sink.new }
+        ensures { Generates W.taken W.failed (spec self.now) command.now result
+            sink.old sink.new }
     {
         self.generate(alloc, command, sink)
     }
@@ -74,12 +64,11 @@ pub fn generate<G: Generator + Drop, W: Sink>(
     ensures built { LeavesBuilt result command.old command.new
         (built_under (Some (string_bytes bin_name)) command.old)
         (W.taken sink.old) (W.taken sink.new) }
-    ensures written { Generates W.taken W.failed
-        (G.script generator) (G.clash generator) (G.Reads generator)
+    ensures written { Generates W.taken W.failed (G.spec generator)
         (built_under (Some (string_bytes bin_name)) command.old) result sink.old sink.new }
     ensures plain { OnOk result (IsTrue (is_plain_tree command.old) →
         IsTrue (is_plain_name (string_bytes bin_name)) →
-        G.Reads generator (built_under (Some (string_bytes bin_name)) command.old)) }
+        (G.spec generator).Reads (built_under (Some (string_bytes bin_name)) command.old)) }
     ensures quiet { OnOk result (IsTrue (is_quiet_tree command.old) →
         IsTrue (is_quiet_tree (built_under (Some (string_bytes bin_name)) command.old))) }
 {

@@ -1,3 +1,2 @@
 pub mod Files
-pub mod Generators
 pub mod Shells

@@ -1,6 +1,6 @@
 //! Scripts written to files.
 
-ghost use Rattle.std.specs.Prelude.{◌≡◌, ℕ, List, Some, IsTrue, IfOk, IfErr, OnOk};
+ghost use Rattle.std.specs.Prelude.{◌≡◌, Some, IsTrue, IfOk, OnOk};
 ghost use Rattle.std.specs.Path.{path_join};
 ghost use Rattle.std.specs.String.{string_bytes};
 ghost use Rattle.cc_base.specs.declared.error.Error.{Error};
@@ -40,14 +40,14 @@ pub fn generate_to<R: Files, G: Generator + Drop>(
     out_dir: &str,
 ) -> Result<String, Error>
     ensures path { IfOk result (λ path. string_bytes path
-        ≡ path_join out_dir.now (G.file generator (string_bytes bin_name))) }
+        ≡ path_join out_dir.now ((G.spec generator).file (string_bytes bin_name))) }
     ensures built { LeavesTree result command.old command.new
         (built_under (Some (string_bytes bin_name)) command.old) }
     ensures ends { EndsFile result
-        (G.clash generator (built_under (Some (string_bytes bin_name)) command.old)) }
+        ((G.spec generator).clash (built_under (Some (string_bytes bin_name)) command.old)) }
     ensures script_reads { OnOk result (IsTrue (is_plain_tree command.old) →
         IsTrue (is_plain_name (string_bytes bin_name)) →
-        G.Reads generator (built_under (Some (string_bytes bin_name)) command.old)) }
+        (G.spec generator).Reads (built_under (Some (string_bytes bin_name)) command.old)) }
 {
     let name = generator.file_name(alloc, bin_name.as_str())?;
     let path = Path::new(out_dir).join(alloc, name.as_str())?.into_string();
@@ -66,10 +66,10 @@ fn write_file<R: Files, G: Generator + Drop>(
     ensures built { LeavesTree result command.old command.new
         (built_under (Some (string_bytes bin_name)) command.old) }
     ensures ends { EndsFile result
-        (G.clash generator (built_under (Some (string_bytes bin_name)) command.old)) }
+        ((G.spec generator).clash (built_under (Some (string_bytes bin_name)) command.old)) }
     ensures script_reads { OnOk result (IsTrue (is_plain_tree command.old) →
         IsTrue (is_plain_name (string_bytes bin_name)) →
-        G.Reads generator (built_under (Some (string_bytes bin_name)) command.old)) }
+        (G.spec generator).Reads (built_under (Some (string_bytes bin_name)) command.old)) }
 {
     let writer = BufWriter::new(alloc, LateFile::new(files, path)).map_err(|_| AllocError)?;
     let mut sink = Counted::new(writer);

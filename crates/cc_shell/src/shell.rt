@@ -1,9 +1,8 @@
 //! The shells for which scripts are written, as one type.
 
-ghost use Rattle.std.specs.Prelude.{◌≡◌, ◌++◌, ℕ, Some, None, IfOk, IfErr, IsSome, codes, find, ◌⊎◌};
+ghost use Rattle.std.specs.Prelude.{◌≡◌, Some, IfOk, IfErr, codes, find, ◌⊎◌};
 ghost use Rattle.std.specs.Option.{option_and_then, option_copied};
 ghost use Rattle.std.specs.List.{list_any};
-ghost use Rattle.std.specs.Path.{path_file_stem};
 ghost use Rattle.std.specs.Str.{bytes_eq};
 ghost use Rattle.cc_base.specs.declared.error.Error.{Error};
 ghost use Rattle.cc_arg.specs.PossibleValues.{new_possible_value};
@@ -230,15 +229,9 @@ impl fmt::Display for Shell {
 }
 
 impl Generator for Shell {
-    ghost use Rattle.cc_shell.specs.Generators.{ShellReads, shell_clash, shell_file, shell_script};
+    ghost use Rattle.cc_shell.specs.Shells.{shell_spec};
 
-    ghost script = { shell_script };
-
-    ghost Reads = { ShellReads };
-
-    ghost clash = { shell_clash };
-
-    ghost file = { shell_file };
+    ghost spec = { shell_spec };
 
     fn file_name(&self, alloc: Global, name: &str) -> Result<String, Error> {
         each_shell!(generator! self, file_name(alloc, name))

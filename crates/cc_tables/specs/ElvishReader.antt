@@ -1,8 +1,10 @@
 -- The tables that an Elvish script spells: after the bare words `completions`, `=` and `[` are
 -- groups of `&'key'=`, `{`, rows and `}`, up to `]`. A row is `cand`, a bare word and a quoted
 -- text. What follows is not read.
-use Rattle.std.specs.Prelude.{ℕ, List, [], ◌∷◌, ◌&&◌, if◌then◌else◌, Option, bytes_eq, codes}
+use Rattle.std.specs.Prelude.{ℕ, List, [], ◌∷◌, ◌++◌, ◌&&◌, if◌then◌else◌, Option, None}
+use Rattle.std.specs.Prelude.{bytes_eq, codes}
 use Rattle.cc_command.specs.Tree.{Tree}
+use Rattle.cc_generator.specs.Generators.{ShellSpec}
 use Rattle.cc_quote.specs.ElvishTokens.{elvish_tokens}
 use Rattle.cc_quote.specs.QuotedWord.{line_feeds_as_spaces}
 use Rattle.cc_quote.specs.Tokens.{Token, after_words}
@@ -58,3 +60,12 @@ offer_read offer = record (offer_row offer) { text = line_feeds_as_spaces (offer
 abbrev pub ElvishReads : Tree → Type 0
 ElvishReads tree =
     ReadsTables (elvish_tables (elvish_script tree)) (tree_tables offer_read tree) tree
+
+-- what is said of the scripts
+abbrev pub elvish_spec : ShellSpec
+elvish_spec = record {
+  script = λ tree. elvish_script tree;
+  Reads = λ tree. ElvishReads tree;
+  clash = λ tree. None;
+  file = λ name. name ++ codes ".elv";
+}

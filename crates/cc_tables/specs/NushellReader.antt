@@ -6,6 +6,7 @@ use Rattle.std.specs.Prelude.{None, if◌then◌else◌, bytes_eq, codes, is_som
 use Rattle.cc_command.specs.Tree.{Tree}
 use Rattle.cc_base.specs.Bytes.{line_feed, space, colon}
 use Rattle.cc_base.specs.Found.{after, after_mark, before_ending, pieces_from}
+use Rattle.cc_generator.specs.Generators.{ShellSpec}
 use Rattle.cc_quote.specs.QuotedWord.{line_feeds_as_spaces}
 use Rattle.cc_tables.specs.NushellScript.{Line, node_lines, nushell_script}
 use Rattle.cc_tables.specs.TableReader.{ReadsTables}
@@ -99,3 +100,12 @@ abbrev pub NushellReads : Tree → Type 0
 NushellReads tree =
     ReadsTables (nushell_blocks (nushell_script tree))
     (path_tables (codes " ") (λ tree. map line_read (node_lines tree)) tree) tree
+
+-- what is said of the scripts
+abbrev pub nushell_spec : ShellSpec
+nushell_spec = record {
+  script = λ tree. nushell_script tree;
+  Reads = λ tree. NushellReads tree;
+  clash = λ tree. None;
+  file = λ name. name ++ codes ".nu";
+}

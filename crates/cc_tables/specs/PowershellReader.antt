@@ -2,9 +2,10 @@
 -- are groups of a quoted key, `{`, rows, `break` and `}`, up to the bare word `})`. A row is a
 -- call `[CompletionResult]::new(` with four arguments and `)`. Every quote is a `'`. What follows
 -- is not read.
-use Rattle.std.specs.Prelude.{ℕ, List, [], ◌∷◌, ◌&&◌, if◌then◌else◌, Option, Some, None, option_map}
-use Rattle.std.specs.Prelude.{unwrap_or, bytes_eq, codes}
+use Rattle.std.specs.Prelude.{ℕ, List, [], ◌∷◌, ◌++◌, ◌&&◌, if◌then◌else◌, Option, Some, None}
+use Rattle.std.specs.Prelude.{option_map, unwrap_or, bytes_eq, codes}
 use Rattle.cc_command.specs.Tree.{Tree}
+use Rattle.cc_generator.specs.Generators.{ShellSpec}
 use Rattle.cc_quote.specs.PowershellTokens.{powershell_tokens}
 use Rattle.cc_quote.specs.QuotedWord.{line_feeds_as_spaces}
 use Rattle.cc_quote.specs.Tokens.{Token, after_words}
@@ -90,3 +91,12 @@ offer_read offer = record (offer_row offer) { text = line_feeds_as_spaces (offer
 abbrev pub PowershellReads : Tree → Type 0
 PowershellReads tree =
     ReadsTables (powershell_tables (powershell_script tree)) (tree_tables offer_read tree) tree
+
+-- what is said of the scripts
+abbrev pub powershell_spec : ShellSpec
+powershell_spec = record {
+  script = λ tree. powershell_script tree;
+  Reads = λ tree. PowershellReads tree;
+  clash = λ tree. None;
+  file = λ name. codes "_" ++ name ++ codes ".ps1";
+}

@@ -1,8 +1,6 @@
 //! The Elvish script: a frame, and in it a table for each visible path.
 
-ghost use Rattle.std.specs.Prelude.{◌≡◌, ◌++◌, codes, IfOk, IfErr, OnOk};
-ghost use Rattle.std.specs.String.{string_bytes};
-ghost use Rattle.cc_base.specs.Writes.{Writes, as_write};
+ghost use Rattle.std.specs.Prelude.{◌≡◌, ◌++◌};
 ghost use Rattle.cc_tables.specs.ElvishScript.{elvish_frame, offer_row, row_begin};
 ghost use Rattle.cc_tables.specs.Offers.{dashes};
 
@@ -79,17 +77,9 @@ fn row_begin(kind: Kind) -> &'static str
 pub struct Elvish;
 
 impl Generator for Elvish {
-    ghost use Rattle.std.specs.Prelude.{◌++◌, None, codes};
-    ghost use Rattle.cc_tables.specs.ElvishReader.{ElvishReads};
-    ghost use Rattle.cc_tables.specs.ElvishScript.{elvish_script};
+    ghost use Rattle.cc_tables.specs.ElvishReader.{elvish_spec};
 
-    ghost script = { λ _ tree. elvish_script tree };
-
-    ghost Reads = { λ _ tree. ElvishReads tree };
-
-    ghost clash = { λ _ _. None };
-
-    ghost file = { λ _ name. name ++ codes ".elv" };
+    ghost spec = { λ _. elvish_spec };
 
     fn file_name(&self, alloc: Global, name: &str) -> Result<String, Error> {
         Ok([name, ".elv"].concat(alloc)?)

@@ -1,7 +1,6 @@
 //! The Nushell script: a frame, and in it a block for each visible path.
 
-ghost use Rattle.std.specs.Prelude.{◌≡◌, ◌++◌, codes, false, flat_map, true, IfOk, IfErr, OnOk, MatchOption};
-ghost use Rattle.std.specs.String.{string_bytes};
+ghost use Rattle.std.specs.Prelude.{◌≡◌, ◌++◌, false, flat_map, true};
 ghost use Rattle.cc_base.specs.Writes.{Writes, as_write};
 ghost use Rattle.cc_quote.specs.QuotedWord.{line_feeds_as_spaces};
 ghost use Rattle.cc_tables.specs.NushellScript.{help_text, line_begin};
@@ -61,17 +60,9 @@ fn type_text(takes_value: bool) -> &'static str
 pub struct Nushell;
 
 impl Generator for Nushell {
-    ghost use Rattle.std.specs.Prelude.{◌++◌, None, codes};
-    ghost use Rattle.cc_tables.specs.NushellReader.{NushellReads};
-    ghost use Rattle.cc_tables.specs.NushellScript.{nushell_script};
+    ghost use Rattle.cc_tables.specs.NushellReader.{nushell_spec};
 
-    ghost script = { λ _ tree. nushell_script tree };
-
-    ghost Reads = { λ _ tree. NushellReads tree };
-
-    ghost clash = { λ _ _. None };
-
-    ghost file = { λ _ name. name ++ codes ".nu" };
+    ghost spec = { λ _. nushell_spec };
 
     fn file_name(&self, alloc: Global, name: &str) -> Result<String, Error> {
         Ok([name, ".nu"].concat(alloc)?)

@@ -1,7 +1,6 @@
 //! The PowerShell script: a frame, and in it a table for each visible path.
 
-ghost use Rattle.std.specs.Prelude.{◌≡◌, ◌++◌, codes, IfOk, IfErr, OnOk};
-ghost use Rattle.std.specs.String.{string_bytes};
+ghost use Rattle.std.specs.Prelude.{◌≡◌, ◌++◌};
 ghost use Rattle.cc_base.specs.Writes.{Writes, as_write};
 ghost use Rattle.cc_tables.specs.PowershellScript.{capital_space, kind_begin, kind_text};
 ghost use Rattle.cc_tables.specs.PowershellScript.{list_begin, offer_row, powershell_frame};
@@ -114,17 +113,9 @@ fn details_begin(kind: Kind, name: &str) -> &'static str
 pub struct PowerShell;
 
 impl Generator for PowerShell {
-    ghost use Rattle.std.specs.Prelude.{◌++◌, None, codes};
-    ghost use Rattle.cc_tables.specs.PowershellReader.{PowershellReads};
-    ghost use Rattle.cc_tables.specs.PowershellScript.{powershell_script};
+    ghost use Rattle.cc_tables.specs.PowershellReader.{powershell_spec};
 
-    ghost script = { λ _ tree. powershell_script tree };
-
-    ghost Reads = { λ _ tree. PowershellReads tree };
-
-    ghost clash = { λ _ _. None };
-
-    ghost file = { λ _ name. codes "_" ++ name ++ codes ".ps1" };
+    ghost spec = { λ _. powershell_spec };
 
     fn file_name(&self, alloc: Global, name: &str) -> Result<String, Error> {
         Ok(["_", name, ".ps1"].concat(alloc)?)

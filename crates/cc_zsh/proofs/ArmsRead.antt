@@ -5,6 +5,7 @@ use Rattle.std.proofs.lemmas.List.{map-append}
 use Rattle.cc_base.specs.Bytes.{line_feed}
 use Rattle.cc_base.proofs.Lines.{IsLine}
 use Rattle.cc_base.proofs.Lines.IsLine.{line}
+use Rattle.cc_base.specs.Found.{after as text_after}
 use Rattle.cc_command.specs.declared.node.Node.{Node}
 use Rattle.cc_command.specs.ArgumentLists.{positionals}
 use Rattle.cc_command.specs.Names.{full_name, visible_names}
@@ -18,7 +19,7 @@ use Rattle.cc_quote.proofs.PosixCutting.{IsOther, IsKept-IsOther, tokens_from, b
 use Rattle.cc_visits.specs.Visits.{Keyed, keyed, keys_below, longer_path, paths_below}
 use Rattle.cc_generator.proofs.ReadInTurn.{in_parts}
 use Rattle.cc_zsh.specs.Nested.{block_text, case_text, case_state, set_words, set_context, context_command, case_line, case_line_in, nested_ends, index_text, context_text, nested_begins, nested_text, nested_line, arm_ends, arm_text, arms_text}
-use Rattle.cc_zsh.specs.Reader.{Block, Path, State, arm_word, is_line, next, next_arm, read, text_after}
+use Rattle.cc_zsh.specs.Reader.{Block, Path, State, arm_word, is_line, next, next_arm, read}
 use Rattle.cc_zsh.specs.Reader.State.{after_block, after_nested, at_arms, at_block, between_arms, after_arms, malformed}
 use Rattle.cc_zsh.proofs.LastBytes.{before-last}
 use Rattle.cc_zsh.proofs.LinesRead.{reading}

@@ -6,6 +6,7 @@ use Rattle.cc_base.specs.Bytes.{space, underscore}
 use Rattle.cc_base.proofs.Lines.{IsLine}
 use Rattle.cc_base.proofs.Lines.IsLine.{line}
 use Rattle.cc_base.proofs.Members.{AllByRecursion-append}
+use Rattle.cc_base.specs.Found.{after as text_after}
 use Rattle.cc_command.specs.declared.node.Node.{Node}
 use Rattle.cc_command.specs.Names.{full_name}
 use Rattle.cc_command.specs.Tree.{Forest, Tree, has_nodes}
@@ -19,7 +20,7 @@ use Rattle.cc_generator.proofs.ReadInTurn.{in_parts}
 use Rattle.cc_zsh.specs.Nested.{function_label, block_begins, block_ends, external_text, command_begins, state_begins, state_ends, children_text, below_text, block_text}
 use Rattle.cc_zsh.specs.Options.{options_text, flags_text}
 use Rattle.cc_zsh.specs.Positionals.{positionals_text}
-use Rattle.cc_zsh.specs.Reader.{Block, Path, ZshOption, first_named, is_name_byte, named_function, new_block, next, next_state, option_of, state_after, read, read_option, text_after, with_word, word_of}
+use Rattle.cc_zsh.specs.Reader.{Block, Path, ZshOption, first_named, is_name_byte, named_function, new_block, next, next_state, option_of, state_after, read, read_option, with_word, word_of}
 use Rattle.cc_zsh.specs.Reader.State.{after_block, at_block, at_ret, before_blocks, in_block}
 use Rattle.cc_zsh.specs.Table.{node_rows}
 use Rattle.cc_zsh.proofs.OptionWords.{AreNameBytes, colon_none, name_byte-differs, star_none}

@@ -1,11 +1,12 @@
 -- A script that is read as the definitions say.
 use Rattle.std.proofs.Common.{◌≡◌, ◌∷◌, ◌++◌, [], List, ℕ, true, false, refl, codes, Some, None}
+use Rattle.cc_base.specs.Found.{after as text_after}
 use Rattle.cc_quote.specs.PlainName.{is_joined, is_plain_name, name_byte}
 use Rattle.cc_quote.specs.PosixTokens.{sign, byte_of, cut, posix_tokens}
 use Rattle.cc_quote.specs.Tokens.{is_word}
 use Rattle.cc_quote.specs.ZshQuote.{marks, marks_from, unmarked}
 use Rattle.cc_zsh.specs.Functions.{Entry}
-use Rattle.cc_zsh.specs.Reader.{ZshOption, after_name, all_shown, arm_word, children_of, labelled_entries, parts_at_end, entry_from, entry_of, function_name, is_line, is_name_byte, is_typed_name, named_function, next, next_arm, next_function, next_state, option_of, state_after, read, read_option, shown_of, text_after, text_before, with_typed_names, with_word, word_of, zsh_parts, zsh_shown}
+use Rattle.cc_zsh.specs.Reader.{ZshOption, after_name, all_shown, arm_word, children_of, labelled_entries, parts_at_end, entry_from, entry_of, function_name, is_line, is_name_byte, is_typed_name, named_function, next, next_arm, next_function, next_state, option_of, state_after, read, read_option, shown_of, text_before, with_typed_names, with_word, word_of, zsh_parts, zsh_shown}
 use Rattle.cc_zsh.specs.Reader.Bracket.{alone, after_equals}
 
 -- names in conflict, a flag that may be used again, a help with quotes, brackets and backslashes, and

@@ -27,7 +27,7 @@ use Rattle.cc_zsh.specs.Functions.{Function, entries_of, function_of, functions_
 use Rattle.cc_quote.specs.Escapes.{replace_byte}
 use Rattle.cc_zsh.specs.Nested.{function_label}
 use Rattle.cc_zsh.specs.Reader.{Description, Path, Shown, all_shown, children_of, labelled_entries, shown_of, with_shown, zsh_parts, zsh_shown}
-use Rattle.cc_zsh.specs.Reads.{ZshReads}
+use Rattle.cc_zsh.specs.Reads.{ZshReads, zsh_spec}
 use Rattle.cc_zsh.specs.Script.{zsh_script}
 use Rattle.cc_zsh.specs.Table.{all_shown_at, description_of, entry_row, shown_at}
 use Rattle.cc_zsh.proofs.ArmsRead.{block_at}
@@ -240,11 +240,11 @@ ready_reads_back root stays ready plain =
 pub generated : {S : Type 0} (taken : S → List ℕ) (failed : S → Failures) (root at : Tree)
     (result : Result (Unit {0}) Error) (old new : S) → StaysIfMarked root → IsReady root → at ≡ root →
     Writes taken failed result old new (zsh_script at) →
-    Generates taken failed zsh_script (λ _. None) ZshReads root result old new
+    Generates taken failed zsh_spec root result old new
 generated taken failed root at result old new stays ready is writes =
     of result (subst (λ tree. Writes taken failed result old new (zsh_script tree)) is writes)
   where
     of : (r : Result (Unit {0}) Error) → Writes taken failed r old new (zsh_script root) →
-        Generates taken failed zsh_script (λ _. None) ZshReads root r old new
+        Generates taken failed zsh_spec root r old new
     of (Ok u) w = record { ok = w.ok; reads = ready_reads_back root stays ready; clashes = tt; failures = w.failures }
     of (Err error) w = record { ok = tt; reads = tt; clashes = w.kinds; failures = w.failures }

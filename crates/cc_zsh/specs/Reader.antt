@@ -5,6 +5,7 @@ use Rattle.std.specs.Char.{is_ascii_alphanumeric}
 use Rattle.std.specs.List.{flat_map, list_all}
 use Rattle.std.specs.Option.{option_to_list}
 use Rattle.cc_base.specs.Bytes.{space, open_parenthesis, close_parenthesis, star, plus, dash, colon, equals, open_bracket, backslash, close_bracket, underscore}
+use Rattle.cc_base.specs.Found.{after as text_after}
 use Rattle.cc_quote.specs.PlainName.{is_plain_name}
 use Rattle.cc_quote.specs.PosixTokens.{is_double_quote, posix_tokens}
 use Rattle.cc_quote.specs.Tokens.{Piece, Token, is_word}
@@ -24,15 +25,6 @@ piece_text (unclosed opening text) = text
 -- the word that a token spells
 unfoldable pub word_of : Token → List ℕ
 word_of token = flat_map piece_text token
-
--- what follows these first bytes of a text; none where the text does not begin with them
-unfoldable pub text_after : List ℕ → List ℕ → Option (List ℕ)
-text_after [] text = Some text
-text_after (first ∷ rest) [] = None
-text_after (first ∷ rest) (byte ∷ text) = elim (byte == first) [
-  | true ↦ text_after rest text
-  | false ↦ None
-]
 
 -- what is before the last byte of a text, where it is this one
 unfoldable pub text_before : ℕ → List ℕ → Option (List ℕ)

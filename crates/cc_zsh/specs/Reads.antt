@@ -1,6 +1,7 @@
 -- What the zsh script of a tree reads to.
-use Rattle.std.specs.Prelude.{◌≡◌, [], map, option_map, Some}
+use Rattle.std.specs.Prelude.{◌≡◌, [], ◌++◌, map, option_map, None, Some, codes}
 use Rattle.cc_command.specs.Tree.{Tree}
+use Rattle.cc_generator.specs.Generators.{ShellSpec}
 use Rattle.cc_visits.specs.Paths.{CoversPaths}
 use Rattle.cc_visits.specs.Visits.{longer_path, path_visits}
 use Rattle.cc_zsh.specs.Functions.{tree_functions}
@@ -17,3 +18,12 @@ pub record ZshReads (root : Tree) : Type 0 where
   pub functions : option_map (λ parts. parts.descriptions) (zsh_parts (zsh_script root))
       ≡ Some (map description_of (tree_functions root))
   pub covers : CoversPaths root (path_visits longer_path [] root)
+
+-- what is said of the scripts
+abbrev pub zsh_spec : ShellSpec
+zsh_spec = record {
+  script = λ tree. zsh_script tree;
+  Reads = λ tree. ZshReads tree;
+  clash = λ tree. None;
+  file = λ name. codes "_" ++ name;
+}

@@ -1,10 +1,9 @@
 //! The zsh script: a function with a block for each visible path, then a function for each command.
 
-ghost use Rattle.std.specs.Prelude.{◌++◌, ◌<◌, None, codes, length};
+ghost use Rattle.std.specs.Prelude.{◌<◌, length};
 ghost use Rattle.cc_base.specs.Writes.{Writes, as_write};
 ghost use Rattle.cc_command.specs.Names.{full_name};
 ghost use Rattle.cc_flat.specs.Flat.{tree_at};
-ghost use Rattle.cc_zsh.specs.Reads.{ZshReads};
 ghost use Rattle.cc_zsh.specs.Script.{begin_text, end_text, zsh_script};
 
 use crate::blocks::write_root;
@@ -24,13 +23,9 @@ use std::io::ErrorKind;
 pub struct Zsh;
 
 impl Generator for Zsh {
-    ghost script = { λ _ root. zsh_script root };
+    ghost use Rattle.cc_zsh.specs.Reads.{zsh_spec};
 
-    ghost Reads = { λ _ root. ZshReads root };
-
-    ghost clash = { λ _ _. None };
-
-    ghost file = { λ _ name. codes "_" ++ name };
+    ghost spec = { λ _. zsh_spec };
 
     fn file_name(&self, alloc: Global, name: &str) -> Result<String, Error> {
         Ok(["_", name].concat(alloc)?)

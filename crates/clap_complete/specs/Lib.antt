@@ -99,7 +99,6 @@ pub use Rattle.cc_fish.specs.Script as FishScript
 pub use Rattle.cc_fish.specs.Table as FishTable
 -- the shells as one type, and scripts in files
 pub use Rattle.cc_shell.specs.Files as ScriptFiles
-pub use Rattle.cc_shell.specs.Generators as ShellGenerators
 pub use Rattle.cc_shell.specs.Shells
 pub use Rattle.cc_shell.specs.declared.shell.InvalidShell
 pub use Rattle.cc_shell.specs.declared.shell.Shell

@@ -1,5 +1,5 @@
 -- How writing the script of a tree file ends.
-use Rattle.std.proofs.Common.{◌≡◌, ◌⊎◌, inl, inr, refl, subst, ℕ, List, Option, None, Some, Result}
+use Rattle.std.proofs.Common.{◌≡◌, inl, inr, refl, subst, ℕ, List, Option, None, Some, Result}
 use Rattle.std.proofs.Common.{true, Ok, Err, OnOk}
 use Rattle.complgen_command_line.specs.declared.types.Refusal.{Refusal}
 use Rattle.clap_complete.specs.Built.{built_under}
@@ -7,14 +7,13 @@ use Rattle.clap_complete.specs.Error.{Error}
 use Rattle.clap_complete.specs.Failures.{Failures}
 use Rattle.clap_complete.specs.Generators.{Generates, ReportsClash}
 use Rattle.clap_complete.specs.Shell.{Shell}
-use Rattle.clap_complete.specs.ShellGenerators.{shell_clash, shell_script}
-use Rattle.clap_complete.specs.Shells.{shell_text}
+use Rattle.clap_complete.specs.Shells.{shell_spec, shell_text}
 use Rattle.clap_complete.specs.Tree.{Tree}
 use Rattle.clap_complete.specs.Writes.{CountsWrite}
 use Rattle.complgen_run.specs.Refusals.{Reports}
 use Rattle.complgen_run.specs.Ends.{NamedScriptReads}
 use Rattle.complgen_run.specs.Scripts.{IsScript, ScriptReads, SharesLabel}
-use Rattle.complgen_run.specs.Writing.{Finishes, Untouched}
+use Rattle.complgen_run.specs.Writing.{Finishes}
 use Rattle.complgen_run.proofs.WritingLemmas.{ends_failed, ends_rejected, ends_without_memory}
 use Rattle.complgen_run.proofs.WritingLemmas.{ends_written}
 use Rattle.cc_tree_file.specs.TreeFile.{HoldsTree}
@@ -41,10 +40,9 @@ module _ {S : Type 0} (taken : S → List ℕ) (failed : S → Failures) (shell 
   same_error e f h = cc
 
   -- what the generator does, where the file describes this command
-  abbrev Wrote : (Tree → Type 0) → Tree → Result (Unit {0}) Error → S → S → Type 0
-  Wrote Reads tree result old new =
-      Generates taken failed (shell_script shell) (shell_clash shell) Reads
-      (built_under (Some bin) tree) result old new
+  abbrev Wrote : Tree → Result (Unit {0}) Error → S → S → Type 0
+  Wrote tree result old new =
+      Generates taken failed (shell_spec shell) (built_under (Some bin) tree) result old new
 
   -- a call returns `Ok` only where no label is shared
   none_shared : (clash : Option (List ℕ)) (old new : List ℕ)
@@ -54,11 +52,11 @@ module _ {S : Type 0} (taken : S → List ℕ) (failed : S → Failures) (shell 
   none_shared (Some label) old new (inr out, unwritten) = cc
 
   -- the script is written
-  pub script_written : (Reads : Tree → Type 0) (old new : S) (file : Option (List ℕ)) (tree : Tree)
-      → HoldsTree file tree → Wrote Reads tree (Ok tt) old new → Ends old new file (Ok tt)
-  script_written Reads old new file tree held wrote =
+  pub script_written : (old new : S) (file : Option (List ℕ)) (tree : Tree)
+      → HoldsTree file tree → Wrote tree (Ok tt) old new → Ends old new file (Ok tt)
+  script_written old new file tree held wrote =
       ends_written taken failed true (SharesLabel shell bin) (IsScript shell bin) old new file tree
-      (shell_script shell (built_under (Some bin) tree)) held
+      ((shell_spec shell).script (built_under (Some bin) tree)) held
       (record { unshared = none_shared _ _ _ wrote.clashes; is = refl }) wrote.ok wrote.failures
 
   -- what is counted for one error is counted for the other, where they are the same
@@ -68,12 +66,12 @@ module _ {S : Type 0} (taken : S → List ℕ) (failed : S → Failures) (shell 
 
   -- an error where this label is shared, if any is
   failed_with : (old new : S) (file : Option (List ℕ)) (tree : Tree) (e : Error) (refusal : Refusal)
-      (clash : Option (List ℕ)) → shell_clash shell (built_under (Some bin) tree) ≡ clash
+      (clash : Option (List ℕ)) → (shell_spec shell).clash (built_under (Some bin) tree) ≡ clash
       → HoldsTree file tree → Counts e old new → ReportsClash clash (Err e) (taken old) (taken new)
       → Reports e refusal → Ends old new file (Err refusal)
   failed_with old new file tree e refusal None is held counts clashes reported =
       ends_failed taken failed true (SharesLabel shell bin) (IsScript shell bin) old new file tree
-      (shell_script shell (built_under (Some bin) tree)) e refusal refl held
+      ((shell_spec shell).script (built_under (Some bin) tree)) e refusal refl held
       (record { unshared = is; is = refl }) counts clashes reported
   failed_with old new file tree e refusal (Some label) is held counts (inl clash, unwritten)
       reported =
@@ -93,10 +91,10 @@ module _ {S : Type 0} (taken : S → List ℕ) (failed : S → Failures) (shell 
       (record { taken_same = unwritten; failed_same = as_counted old new e _ out counts })
 
   -- the generator fails
-  pub script_failed : (Reads : Tree → Type 0) (old new : S) (file : Option (List ℕ)) (tree : Tree)
-      (e : Error) (refusal : Refusal) → HoldsTree file tree → Wrote Reads tree (Err e) old new
+  pub script_failed : (old new : S) (file : Option (List ℕ)) (tree : Tree) (e : Error)
+      (refusal : Refusal) → HoldsTree file tree → Wrote tree (Err e) old new
       → Reports e refusal → Ends old new file (Err refusal)
-  script_failed Reads old new file tree e refusal held wrote reported =
-      failed_with old new file tree e refusal (shell_clash shell (built_under (Some bin) tree)) refl
+  script_failed old new file tree e refusal held wrote reported =
+      failed_with old new file tree e refusal ((shell_spec shell).clash (built_under (Some bin) tree)) refl
       held
       wrote.failures wrote.clashes reported

@@ -5,7 +5,7 @@ use Rattle.clap_complete.specs.Error.TheVariants.{LabelClash}
 use Rattle.clap_complete.specs.Plain.{is_plain_tree}
 use Rattle.clap_complete.specs.PlainName.{is_plain_name}
 use Rattle.clap_complete.specs.Shell.{Shell}
-use Rattle.clap_complete.specs.ShellGenerators.{ShellReads, shell_clash, shell_script}
+use Rattle.clap_complete.specs.Shells.{shell_spec}
 use Rattle.clap_complete.specs.Tree.{Tree}
 use Rattle.complgen_command_line.specs.declared.types.Refusal.{Refusal}
 use Rattle.complgen_run.specs.Refusals.{IsMade, error_line}
@@ -15,13 +15,13 @@ use Rattle.cc_tree_file.specs.TreeFile.{HoldsTree}
 pub record SharesLabel (shell : Shell) (bin : List ℕ) (tree : Tree) (refusal : Refusal)
     : Type 0 where
   pub label : List ℕ
-  pub shared : shell_clash shell (built_under (Some bin) tree) ≡ Some label
+  pub shared : (shell_spec shell).clash (built_under (Some bin) tree) ≡ Some label
   pub reported : IsMade (error_line (LabelClash label)) refusal
 
 -- the script of the command, built under the bin name, of which no two nodes share a label
 pub record IsScript (shell : Shell) (bin : List ℕ) (tree : Tree) (text : List ℕ) : Type 0 where
-  pub unshared : shell_clash shell (built_under (Some bin) tree) ≡ None
-  pub is : text ≡ shell_script shell (built_under (Some bin) tree)
+  pub unshared : (shell_spec shell).clash (built_under (Some bin) tree) ≡ None
+  pub is : text ≡ (shell_spec shell).script (built_under (Some bin) tree)
 
 -- the file holds a command of which the script reads back, where the command and the bin name are
 -- plain
@@ -29,4 +29,4 @@ pub record ScriptReads (shell : Shell) (bin : List ℕ) (file : Option (List ℕ
   pub tree : Tree
   pub held : HoldsTree file tree
   pub reads : IsTrue (is_plain_tree tree) → IsTrue (is_plain_name bin)
-      → ShellReads shell (built_under (Some bin) tree)
+      → (shell_spec shell).Reads (built_under (Some bin) tree)

@@ -7,16 +7,15 @@ use Rattle.cc_generator.proofs.generator.generate.Goals as goal
 
 pub returns-clause-written : goal.returns-clause-written
 returns-clause-written g c =
-    let generator = c.args.generator in
     subst (λ (tree : Tree). Generates {S = g.row.W.Denot} g.W.Sink.taken g.W.Sink.failed
-    (g.G.Generator.script generator) (g.G.Generator.clash generator) (g.G.Generator.Reads generator) tree c.generate.result c.args.sink.now c.generate.new.sink)
+    (g.G.Generator.spec c.args.generator) tree c.generate.result c.args.sink.now c.generate.new.sink)
     c.in_ok-build_as.ensures.ok c.generate.ensures
 
 pub returns-clause-plain : goal.returns-clause-plain
 returns-clause-plain g c =
     on_ok_weaker c.generate.result
     (λ reads tree_is_plain name_is_plain.
-    subst (g.G.Generator.Reads c.args.generator) c.in_ok-build_as.ensures.ok (reads (c.in_ok-build_as.ensures.plain tree_is_plain name_is_plain)))
+    subst (g.G.Generator.spec c.args.generator).Reads c.in_ok-build_as.ensures.ok (reads (c.in_ok-build_as.ensures.plain tree_is_plain name_is_plain)))
     c.generate.ensures.reads
 
 pub returns-clause-quiet : goal.returns-clause-quiet
