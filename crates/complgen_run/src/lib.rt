@@ -11,4 +11,5 @@ mod shells;
 mod tree_files;
 
 pub use crate::plans::run;
-pub use crate::refusals::error_refusal;
+pub use crate::refusals::{UNREADABLE, error_refusal, text_refusal};
+pub use crate::tree_files::tree;

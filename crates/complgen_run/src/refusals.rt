@@ -13,7 +13,7 @@ use std::alloc::{AllocError, Global};
 use std::borrow::CowStr;
 
 /// What is printed where the tree file can't be read.
-pub(crate) const UNREADABLE: &str = "tree: unreadable\n";
+pub const UNREADABLE: &str = "tree: unreadable\n";
 
 const NOT_JSON: &str = "tree: not JSON\n";
 
@@ -65,17 +65,17 @@ pub fn error_refusal(alloc: Global, error: &Error) -> Refusal
         Error::NoArguments => Refusal::from_static(1, NO_ARGUMENTS),
         Error::LabelClash(label) => {
             let label = label.as_str();
-            with_text(format!(in alloc; "two commands share the label {label}\n"))
+            text_refusal(format!(in alloc; "two commands share the label {label}\n"))
         }
         Error::UnknownShell(text) | Error::InvalidVariant(text) => {
             let text = text.as_str();
-            with_text(format!(in alloc; "{text}\n"))
+            text_refusal(format!(in alloc; "{text}\n"))
         }
     }
 }
 
-// A refusal with this text, if there was memory for it.
-fn with_text(text: Result<String, AllocError>) -> Refusal
+/// A refusal with this text and status 1, if there was memory for it.
+pub fn text_refusal(text: Result<String, AllocError>) -> Refusal
     ensures { HasText text result }
 {
     match text {

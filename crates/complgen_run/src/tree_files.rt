@@ -9,8 +9,9 @@ use clap_complete::command::Command;
 use complgen_command_line::Refusal;
 use std::alloc::Global;
 
-/// The command that a file describes; there are no bytes where it can't be read.
-pub(crate) fn tree(alloc: Global, file: Option<&[u8]>) -> Result<Command, Refusal>
+/// The command that a file describes; there are no bytes where it can't be read. Fails with status
+/// 1 and the text of the error.
+pub fn tree(alloc: Global, file: Option<&[u8]>) -> Result<Command, Refusal>
     ensures { ReadsFile (option_copied file.entry) result }
 {
     let Some(bytes) = file else {

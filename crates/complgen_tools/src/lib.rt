@@ -1,0 +1,6 @@
+//! The tools for tree files: what is wrong with one, and the scripts of all shells.
+#![tactic(auto)]
+
+mod all_scripts;
+
+pub use crate::all_scripts::scripts;
