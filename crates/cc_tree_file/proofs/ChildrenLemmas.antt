@@ -48,7 +48,7 @@ same_next None f g same = refl
 same_next (Some a) f g same = same a
 
 -- a command is its own, with the children at their key
-command_with_children : (d : Data)
+pub command_with_children : (d : Data)
     → command_of d
     ≡ (own_of d >>= (λ own. with_key (codes "subcommands") commands_of (fold with_child) d (of_node own)))
 command_with_children null = refl

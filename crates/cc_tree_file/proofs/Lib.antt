@@ -1,4 +1,5 @@
 pub mod ChildrenLemmas
+pub mod FaultLemmas
 pub mod NestingLemmas
 pub mod TreeFormExamples
 pub mod TreeFormLemmas

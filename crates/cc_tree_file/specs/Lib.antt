@@ -1,5 +1,6 @@
 pub mod ArgumentForm
 pub mod CommandForm
+pub mod Faults
 pub mod PossibleValueForm
 pub mod TreeFile
 pub mod TreeForm

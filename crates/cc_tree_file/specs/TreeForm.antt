@@ -1,7 +1,7 @@
 -- The form of a tree file: what each kind of value is read as.
 use Rattle.std.specs.Prelude.{◌≡◌, ◌&&◌, ⊤, ◌-◌, ◌^◌, ℕ, List, [], ◌∷◌, Option, Some, None}
 use Rattle.std.specs.Prelude.{Result, Ok, Err, if◌then◌else◌, nat_le, codes}
-use Rattle.std.specs.Prelude.{map, option_and_then, option_map}
+use Rattle.std.specs.Prelude.{Bool, true, is_some, map, option_and_then, option_map}
 use Rattle.std.specs.Str.{bytes_eq, chars}
 use Rattle.serde_json.specs.Data.{Data, null, boolean, number, string, array, object, Items, item}
 use Rattle.serde_json.specs.Data.{no_items}
@@ -141,21 +141,37 @@ value_or read held (Some d) = read d
 unfoldable pub field_from : {X : Type 0} → List ℕ → (Data → Option X) → Data → X → Option X
 field_from key read d held = value_or read held (get key d)
 
--- a key, and how the value at it changes a subject
+-- whether a value, where there is one, is of a kind
+abbrev pub fits_if_there : {X : Type 0} → (Data → Option X) → Option Data → Bool
+fits_if_there read None = true
+fits_if_there read (Some d) = is_some (read d)
+
+-- whether the value at a key, where there is one, is of a kind
+unfoldable pub fits_at : {X : Type 0} → List ℕ → (Data → Option X) → Data → Bool
+fits_at key read d = fits_if_there read (get key d)
+
+-- a key, whether the value at it can be read, and how it changes a subject
 pub record Setting (S : Type 0) : Type 0 where
   pub key : List ℕ
+  pub fits : Data → Bool
   pub change : Data → S → Option S
 
 -- the value at a key, read into a field
 abbrev pub setting : {S X : Type 0} → List ℕ → (Data → Option X) → (S → X) → (S → X → S) → Setting S
 setting key read field with_field = record {
   key = key;
+  fits = fits_at key read;
   change = λ d subject. option_map (with_field subject) (field_from key read d (field subject));
 }
 
 -- the keys of some settings
 abbrev pub keys_of : {S : Type 0} → List (Setting S) → List (List ℕ)
 keys_of settings = map (λ one. one.key) settings
+
+-- whether each of some settings fits, and what is known before holds
+abbrev pub all_fit : {S : Type 0} → List (Setting S) → Data → Bool → Bool
+all_fit [] d before = before
+all_fit (one ∷ settings) d before = all_fit settings d (before && one.fits d)
 
 -- a subject changed by each of some settings
 abbrev pub set_all : {S : Type 0} → List (Setting S) → Data → S → Option S

@@ -47,7 +47,9 @@ macro_rules! each_key {
     };
 }
 
-const KEYS: &[&str] = each_key!(all_keys!);
+pub(crate) use each_key;
+
+pub(crate) const KEYS: &[&str] = each_key!(all_keys!);
 
 /// The argument that an object describes. Fails with `BadForm` where it describes none, and with
 /// `Memory`.

@@ -42,7 +42,9 @@ macro_rules! each_key {
     };
 }
 
-const KEYS: &[&str] = each_key!(all_keys!);
+pub(crate) use each_key;
+
+pub(crate) const KEYS: &[&str] = each_key!(all_keys!);
 
 /// The command that an object describes, with its children. Fails with `BadForm` where it describes
 /// none, and with `Memory`.

@@ -16,6 +16,14 @@ macro_rules! set_group {
     };
 }
 
+// Checks the value at the key of each line of a group.
+macro_rules! check_group {
+    ([$asked:ident, $blank:ident, $faults:ident, $tree:ident]
+        $($key:literal $group:ident $field:ident,)*) => {
+        $(only_in!($asked $group check_field(&$blank.$field, $faults, $tree, $key)?);)*
+    };
+}
+
 // What is done for a key, where it is of the group that is asked for.
 macro_rules! only_in {
     (flags flags $done:expr) => { $done };
@@ -30,5 +38,6 @@ macro_rules! only_in {
 }
 
 pub(crate) use all_keys;
+pub(crate) use check_group;
 pub(crate) use only_in;
 pub(crate) use set_group;

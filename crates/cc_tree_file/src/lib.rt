@@ -2,15 +2,26 @@
 #![tactic(auto)]
 
 mod args;
+mod argument_check;
+mod check;
+mod command_check;
 mod commands;
 mod error;
+mod faults;
 mod keys;
 mod possible_values;
 mod values;
 
+ghost use Rattle.cc_json.specs.Seen.{view};
+ghost use Rattle.cc_tree_file.specs.CommandForm.{command_of};
 ghost use Rattle.cc_tree_file.specs.TreeFile.{ReadsTree, ReadsValue};
+ghost use Rattle.cc_tree_file.specs.TreeForm.{GivesSame};
 
+pub use crate::argument_check::argument_faults;
+pub use crate::command_check::command_faults;
 pub use crate::error::TreeError;
+pub use crate::faults::{Fault, FaultKind, Faults, ObjectKind, Step};
+pub use crate::possible_values::possible_value_faults;
 use cc_command::Command;
 use cc_json::{JsonError, Scratch, Value, read_value};
 use std::alloc::Global;
@@ -34,6 +45,14 @@ fn read_command(alloc: Global, text: &str) -> Result<Command, TreeError>
     let mut scratch = Scratch::new(alloc);
     let tree = value(alloc, text, &mut scratch)?;
     commands::command(alloc, &tree)
+}
+
+/// Returns the command that a value describes. Fails with `BadForm` where it describes none, and
+/// with `Memory`.
+pub fn tree_of(alloc: Global, tree: &Value<'_>) -> Result<Command, TreeError>
+    ensures { GivesSame result (command_of (view tree.now)) }
+{
+    commands::command(alloc, tree)
 }
 
 // The value that a text spells. It borrows from the text and, where there are escapes, from

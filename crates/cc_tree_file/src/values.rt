@@ -7,17 +7,27 @@ ghost use Rattle.cc_json.specs.Seen.{view};
 ghost use Rattle.cc_tree_file.specs.TreeForm.{Gives, GivesSame, Sets, bound_of, field_from, number_of};
 ghost use Rattle.cc_tree_file.specs.TreeForm.{only};
 
+use crate::check::check_inside;
 use crate::error::TreeError;
+use crate::faults::{FaultKind, Faults, Step};
 use cc_arg::{ArgAction, ValueHint, ValueRange};
 use cc_base::{Items, Text};
 use cc_json::{Value, is_null};
-use std::alloc::Global;
+use std::alloc::{AllocError, Global};
+
+// What the names of actions and of value hints are called in a message.
+const ACTION_NAMES: &str =
+    "one of Set, Append, SetTrue, SetFalse, Count, Help, HelpShort, HelpLong, Version";
+
+const HINT_NAMES: &str = "one of Unknown, Other, AnyPath, FilePath, DirPath, ExecutablePath, \
+    CommandName, CommandString, CommandWithArguments, Username, Hostname, Url, EmailAddress";
 
 /// A type that a value of a tree file is read into.
 pub trait FromValue: Drop {
-    ghost use Rattle.std.specs.Prelude.{Option};
+    ghost use Rattle.std.specs.Prelude.{Option, IfOk, is_some};
     ghost use Rattle.serde_json.specs.Data.{Data};
     ghost use Rattle.cc_json.specs.Seen.{view};
+    ghost use Rattle.cc_tree_file.specs.Faults.{FindsUnless};
     ghost use Rattle.cc_tree_file.specs.TreeForm.{GivesSame};
 
     // What a value of the kind is read as.
@@ -26,6 +36,26 @@ pub trait FromValue: Drop {
     /// What the value says. Fails with `BadForm` where it is of another kind, and with `Memory`.
     fn from_value(alloc: Global, value: &Value<'_>) -> Result<Self, TreeError>
         ensures { GivesSame result (form (view value.now)) };
+
+    /// What a value of the kind is called in a message.
+    fn kind() -> &'static str;
+
+    /// What a list of such values is called in a message.
+    fn kind_of_list() -> &'static str {
+        "a list"
+    }
+
+    /// Notes what is wrong with a value, where it is of another kind. Fails where memory runs out.
+    fn check<'t>(faults: &mut Faults<'t>, value: &Value<'t>) -> Result<(), AllocError>
+        ensures { IfOk result (λ _. FindsUnless (is_some (form (view value.now)))
+            faults.old faults.new) }
+    {
+        match Self::from_value(faults.allocator(), value) {
+            Ok(_) => Ok(()),
+            Err(TreeError::BadForm) => faults.note(FaultKind::OtherKind(Self::kind())),
+            Err(_) => Err(AllocError),
+        }
+    }
 }
 
 /// Sets a field to what the value at a key says; it stays where the object lacks the key. Fails as
@@ -64,6 +94,14 @@ impl FromValue for Text {
         let text = cc_json::text(value).ok_or(TreeError::BadForm)?;
         Ok(Text::copy_of(alloc, text)?)
     }
+
+    fn kind() -> &'static str {
+        "a text"
+    }
+
+    fn kind_of_list() -> &'static str {
+        "a list of texts"
+    }
 }
 
 /// `true` or `false`.
@@ -75,6 +113,10 @@ impl FromValue for bool {
     fn from_value(_alloc: Global, value: &Value<'_>) -> Result<bool, TreeError> {
         cc_json::boolean(value).ok_or(TreeError::BadForm)
     }
+
+    fn kind() -> &'static str {
+        "true or false"
+    }
 }
 
 /// A whole number that fits 64 bits.
@@ -85,6 +127,10 @@ impl FromValue for usize {
 
     fn from_value(_alloc: Global, value: &Value<'_>) -> Result<usize, TreeError> {
         number(value)
+    }
+
+    fn kind() -> &'static str {
+        "a whole number from 0 to 2^64 - 1"
     }
 }
 
@@ -104,6 +150,14 @@ impl FromValue for char {
     fn from_value(_alloc: Global, value: &Value<'_>) -> Result<char, TreeError> {
         let text = cc_json::text(value).ok_or(TreeError::BadForm)?;
         only_character(text).ok_or(TreeError::BadForm)
+    }
+
+    fn kind() -> &'static str {
+        "a text of one character"
+    }
+
+    fn kind_of_list() -> &'static str {
+        "a list of texts of one character each"
     }
 }
 
@@ -129,6 +183,15 @@ impl<T: FromValue> FromValue for Option<T> {
     fn from_value(alloc: Global, value: &Value<'_>) -> Result<Option<T>, TreeError> {
         Ok(Some(T::from_value(alloc, value)?))
     }
+
+    fn kind() -> &'static str {
+        T::kind()
+    }
+
+    #[tactic(auto, using(crate::proofs::FaultLemmas::given_where))]
+    fn check<'t>(faults: &mut Faults<'t>, value: &Value<'t>) -> Result<(), AllocError> {
+        T::check(faults, value)
+    }
 }
 
 /// A list whose items are each of the kind.
@@ -145,6 +208,21 @@ impl<T: FromValue> FromValue for Items<T> {
             list.push(T::from_value(alloc, item)?)?;
         }
         Ok(list)
+    }
+
+    fn kind() -> &'static str {
+        T::kind_of_list()
+    }
+
+    #[tactic(auto, unfolding(crate::specs::TreeForm::list_of))]
+    fn check<'t>(faults: &mut Faults<'t>, value: &Value<'t>) -> Result<(), AllocError> {
+        let Some(items) = cc_json::items(value) else {
+            return faults.note(FaultKind::OtherKind(T::kind_of_list()));
+        };
+        for (index, item) in items.iter().enumerate() {
+            check_inside::<T>(faults, Step::Item(index), item)?;
+        }
+        Ok(())
     }
 }
 
@@ -165,6 +243,10 @@ impl FromValue for ValueRange {
             return Err(TreeError::BadForm);
         }
         Ok(ValueRange::new(least, greatest))
+    }
+
+    fn kind() -> &'static str {
+        "[least, greatest] with 0 <= least <= 255 and least <= greatest, or [least, null]"
     }
 }
 
@@ -199,6 +281,10 @@ impl FromValue for ArgAction {
             _ => Err(TreeError::BadForm),
         }
     }
+
+    fn kind() -> &'static str {
+        ACTION_NAMES
+    }
 }
 
 /// The name of a value hint.
@@ -225,5 +311,9 @@ impl FromValue for ValueHint {
             "EmailAddress" => Ok(ValueHint::EmailAddress),
             _ => Err(TreeError::BadForm),
         }
+    }
+
+    fn kind() -> &'static str {
+        HINT_NAMES
     }
 }
