@@ -1,6 +1,6 @@
 //! The generator, and the whole script: its frame, in it the cases and the arms.
 
-ghost use Rattle.std.specs.Prelude.{◌∷◌, map, flat_map};
+ghost use Rattle.std.specs.Prelude.{◌≡◌, ◌∷◌, map, flat_map, IfOk};
 ghost use Rattle.cc_base.specs.Sorting.{in_order};
 ghost use Rattle.cc_base.specs.Writes.{Writes};
 ghost use Rattle.cc_command.specs.Names.{full_name};
@@ -18,12 +18,12 @@ use crate::texts::{
     ARMS_BEGIN, ARMS_END, CASES_BEGIN, FUNCTION_BEGINS, FUNCTION_HEAD, OTHERWISE, SCRIPT_ENDS,
     SORTED_OPTIONS, UNSORTED_OPTIONS,
 };
-use cc_base::{Error, Sink, put_piece, put_pieces};
+use cc_base::{Error, Sink, Text, put_piece, put_pieces};
 use cc_command::{Command, full_name};
 use cc_flat::Flat;
 use cc_generator::Generator;
 use cc_quote::{Replace, escape_text};
-use std::alloc::Global;
+use std::alloc::{AllocError, Global};
 
 /// Writes bash scripts. The file of a program `N` is `N.bash`.
 #[derive(Clone, Copy, PartialEq, Eq, Debug)]
@@ -57,6 +57,24 @@ impl Generator for Bash {
         }
         write_script(alloc, sink, command, root.as_str(), nodes)
     }
+}
+
+/// The label that two nodes of a command share, where there is one: that of the first node whose
+/// label an earlier one has. Of a command that is built under a bin name it is the label with which
+/// the generator fails, and without one it does not fail so.
+///
+/// Fails where memory runs out.
+pub fn clashing_label(alloc: Global, command: &Command) -> Result<Option<Text>, AllocError>
+    ensures { IfOk result (λ shared. shared ≡ shared_label command.now) }
+{
+    let flat = Flat::new(alloc, command)?;
+    let escape = Replace {
+        byte: b'-',
+        by: "__",
+    };
+    let root = escape_text(alloc, &escape, full_name(command))?;
+    let nodes = labelled_nodes(alloc, &flat, root.as_str())?;
+    shared_label(alloc, root.as_str(), &nodes)
 }
 
 // The root has this label, and below it are these nodes.

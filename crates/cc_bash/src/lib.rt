@@ -10,4 +10,4 @@ mod nodes;
 mod texts;
 mod words;
 
-pub use crate::bash::Bash;
+pub use crate::bash::{Bash, clashing_label};

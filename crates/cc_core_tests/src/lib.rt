@@ -35,3 +35,5 @@ mod trees;
 mod values;
 #[cfg(test)]
 mod visits;
+#[cfg(test)]
+mod warnings;

@@ -1,0 +1,10 @@
+use Rattle.std.proofs.Common.{◌≡◌, ◌++◌, drop}
+use Rattle.cc_command_warnings.specs.InCommandWarnings.{in_command}
+use Rattle.cc_command_warnings.specs.Walk.{each_from}
+use Rattle.cc_command_warnings.proofs.in_command.push_arguments.Given as goal
+
+-- what was found and what is left make the whole
+abbrev pub invariant-loop-index : goal.invariant-loop-index
+invariant-loop-index l =
+    l.found.items ++ each_from (in_command l.command l.path) l.index (drop l.index l.arguments)
+    ≡ l.initial.found.items ++ each_from (in_command l.command l.path) 0 l.command.node.arguments

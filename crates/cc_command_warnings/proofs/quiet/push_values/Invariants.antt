@@ -1,0 +1,10 @@
+use Rattle.std.proofs.Common.{◌≡◌, ◌++◌, drop}
+use Rattle.cc_command_warnings.specs.QuietWarnings.{value_list}
+use Rattle.cc_command_warnings.specs.Walk.{each_from}
+use Rattle.cc_command_warnings.proofs.quiet.push_values.Given as goal
+
+-- what was found and what is left make the whole
+abbrev pub invariant-loop-index : goal.invariant-loop-index
+invariant-loop-index l =
+    l.found.items ++ each_from (value_list l.path l.argument) l.index (drop l.index l.values)
+    ≡ l.initial.found.items ++ each_from (value_list l.path l.argument) 0 l.values

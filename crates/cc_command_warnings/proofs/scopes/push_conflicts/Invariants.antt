@@ -1,0 +1,10 @@
+use Rattle.std.proofs.Common.{◌≡◌, ◌++◌, drop}
+use Rattle.cc_command_warnings.specs.Scopes.{conflicts_of, is_known_in}
+use Rattle.cc_command_warnings.specs.Walk.{each_from}
+use Rattle.cc_command_warnings.proofs.scopes.push_conflicts.Given as goal
+
+-- what was found and what is left make the whole
+abbrev pub invariant-loop-index : goal.invariant-loop-index
+invariant-loop-index l =
+    l.found.items ++ each_from (conflicts_of (is_known_in l.seen) l.path) l.index (drop l.index l.arguments)
+    ≡ l.initial.found.items ++ each_from (conflicts_of (is_known_in l.seen) l.path) 0 l.arguments

@@ -1,0 +1,14 @@
+pub mod ArgumentNames
+pub mod CommandWarnings
+pub mod InCommandWarnings
+pub mod LoneWarnings
+pub mod Notes
+pub mod Places
+pub mod PlainWarnings
+pub mod Premises
+pub mod QuietWarnings
+pub mod QuoteWarnings
+pub mod Scopes
+pub mod SiblingNames
+pub mod Texts
+pub mod Walk

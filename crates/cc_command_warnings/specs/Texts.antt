@@ -1,0 +1,141 @@
+-- What a warning prints.
+use Rattle.std.specs.Prelude.{ℕ, List, [], ◌∷◌, ◌++◌, Option, Some, None, codes, decimal, encode_utf8}
+use Rattle.cc_command_warnings.specs.declared.place.Key.{Key}
+use Rattle.cc_command_warnings.specs.declared.place.Key.TheVariants.{BinName, Aliases, VisibleAliases, Id, Short, Long, ValueNames}
+use Rattle.cc_command_warnings.specs.declared.warning.Kind.{Kind}
+use Rattle.cc_command_warnings.specs.declared.warning.Kind.TheVariants.{BinNotPlain, NotPlain, LongWithHyphen, ShortNotPlain, Quote, TakenName, LoudValue, SharedLabel, UnescapedQuote}
+use Rattle.cc_command_warnings.specs.declared.warning.Kind.TheVariants.{TakenId, TakenLong, TakenShort, TakenByHelp, TakenByVersion, UnknownConflict, SelfConflict}
+use Rattle.cc_command_warnings.specs.declared.warning.Kind.TheVariants.{RequiredAfterOptional, LastOption, GlobalRequired, MoreNamesThanValues, CommandHintWithoutMany}
+use Rattle.cc_command_warnings.specs.declared.warning.Kind.TheVariants.{PositionalWithoutValue, NoVersion, IndexOfOption, LastBesideChildren, HiddenCommand, HiddenArgument}
+use Rattle.cc_command_warnings.specs.declared.warning.Level.{Level}
+use Rattle.cc_command_warnings.specs.declared.warning.Level.TheVariants as level
+use Rattle.cc_command_warnings.specs.declared.warning.Warning.{Warning}
+
+-- how serious a kind is
+abbrev pub level_of : Kind → Level
+level_of HiddenCommand = level.Note
+level_of HiddenArgument = level.Note
+level_of _ = level.Warning
+
+-- what a name is, by its key
+abbrev pub named : Option Key → List ℕ
+named (Some BinName) = codes "bin name"
+named (Some Aliases) = codes "alias"
+named (Some VisibleAliases) = codes "alias"
+named (Some Id) = codes "id"
+named (Some Short) = codes "short"
+named (Some Long) = codes "long"
+named (Some ValueNames) = codes "value name"
+named _ = codes "name"
+
+-- what the flags `help` and `version` are called, by the key
+abbrev pub help_name : Option Key → List ℕ
+help_name (Some Short) = codes "h"
+help_name _ = codes "help"
+
+abbrev pub version_name : Option Key → List ℕ
+version_name (Some Short) = codes "V"
+version_name _ = codes "version"
+
+-- the text that names nothing of the command
+abbrev pub fixed_text : Kind → List ℕ
+fixed_text SelfConflict = codes "an argument in conflict with itself"
+fixed_text LastOption = codes "only a positional, without short and long, can be last"
+fixed_text GlobalRequired = codes "global and required"
+fixed_text CommandHintWithoutMany =
+    codes "CommandWithArguments needs a positional that takes many"
+fixed_text PositionalWithoutValue = codes "a positional takes a value"
+fixed_text NoVersion = codes "Version, and the command has no version"
+fixed_text IndexOfOption = codes "an index of an option means nothing"
+fixed_text LastBesideChildren = codes "last and required, beside subcommands"
+fixed_text HiddenCommand =
+    codes "a script offers a hidden command all the same; live completion hides it"
+fixed_text HiddenArgument =
+    codes "a script offers a hidden argument all the same; live completion hides it"
+fixed_text _ = []
+
+-- the text of a name that is not plain
+abbrev pub plain_rule : List ℕ
+plain_rule = codes " (letters and digits, with single - or _ between them)"
+    ++ codes ": scripts may break at it"
+
+abbrev pub unplain_text : List ℕ → List ℕ
+unplain_text name = codes " `" ++ name ++ codes "` is not plain"
+
+abbrev pub is_not_plain_text : List ℕ → List ℕ
+is_not_plain_text name = unplain_text name ++ plain_rule
+
+abbrev pub not_plain_text : List ℕ → List ℕ → List ℕ
+not_plain_text named name = (codes "the " ++ named) ++ is_not_plain_text name
+
+-- the text of a value that is not quiet
+abbrev pub loud_value_text : List ℕ → List ℕ
+loud_value_text value = (codes "bash takes the value `" ++ value ++ codes "` apart")
+    ++ codes ", or reads it otherwise (plain are letters, digits and +-./:@_,=)"
+
+-- the text of a name that a command before it has
+abbrev pub taken_name_text : List ℕ → List ℕ → List ℕ
+taken_name_text name command = (codes "`" ++ name ++ codes "` is also a name of")
+    ++ (codes " the command `" ++ command ++ codes "` before it")
+
+-- the text of a name that a generated flag has, which this key leaves out
+abbrev pub taken_flag_text : List ℕ → List ℕ → List ℕ
+taken_flag_text named name = (codes "the " ++ named)
+    ++ (codes " `" ++ name ++ codes "` is also that of the flag that is added")
+
+abbrev pub taken_text : List ℕ → List ℕ → List ℕ → List ℕ
+taken_text named name key =
+    taken_flag_text named name ++ (codes "; " ++ key ++ codes " leaves it out")
+
+-- the text of a long or a short that an argument has
+abbrev pub taken_long_text : List ℕ → List ℕ → List ℕ
+taken_long_text long id = (codes "the long `" ++ long ++ codes "` is also one")
+    ++ (codes " of argument `" ++ id ++ codes "`")
+
+abbrev pub short_text : List ℕ → List ℕ
+short_text short = codes "the short `" ++ short ++ codes "`"
+
+abbrev pub taken_short_text : List ℕ → List ℕ → List ℕ
+taken_short_text short id =
+    short_text short ++ (codes " is also one of argument `" ++ id ++ codes "`")
+
+-- the text of more value names than values
+abbrev pub more_names_text : ℕ → ℕ → List ℕ
+more_names_text names greatest = (decimal names ++ codes " value names")
+    ++ (codes ", and at most " ++ decimal greatest ++ codes " value")
+
+-- the texts of what clap does not take
+abbrev pub clap_text : Option Key → Kind → List ℕ
+clap_text key (TakenId id) = codes "an earlier argument has the id `" ++ id ++ codes "`"
+clap_text key (TakenLong long id) = taken_long_text long id
+clap_text key (TakenShort short id) = taken_short_text short id
+clap_text key TakenByHelp = taken_text (named key) (help_name key) (codes "disable_help_flag")
+clap_text key TakenByVersion =
+    taken_text (named key) (version_name key) (codes "disable_version_flag")
+clap_text key (UnknownConflict id) = codes "no argument here has the id `" ++ id ++ codes "`"
+clap_text key (RequiredAfterOptional id) =
+    codes "a required positional after the optional one `" ++ id ++ codes "`"
+clap_text key (MoreNamesThanValues names greatest) = more_names_text names greatest
+clap_text key kind = fixed_text kind
+
+-- the text of a kind, where the key of its place is this one
+abbrev pub kind_text : Option Key → Kind → List ℕ
+kind_text key (BinNotPlain name) = not_plain_text (codes "bin name") name
+kind_text key (NotPlain name) = not_plain_text (named key) name
+kind_text key (LongWithHyphen long) =
+    codes "the long `" ++ long ++ codes "` begins with a hyphen: write it without"
+kind_text key (ShortNotPlain short) = codes "the short `" ++ encode_utf8 short
+    ++ codes "` is no ASCII letter or digit: scripts may break at it"
+kind_text key Quote =
+    codes "the " ++ named key ++ codes " holds a ', which breaks the zsh script"
+kind_text key (TakenName name command) = taken_name_text name command
+kind_text key (LoudValue value) = loud_value_text value
+kind_text key (SharedLabel label) = codes "two commands share the label " ++ label
+    ++ codes " of the bash script, which is not written"
+kind_text key (UnescapedQuote quote) =
+    codes "PowerShell takes " ++ encode_utf8 quote ++ codes " for a quote"
+kind_text key kind = clap_text key kind
+
+-- the text of a warning
+abbrev pub warning_text : Warning → List ℕ
+warning_text warning = kind_text warning.place.key warning.kind

@@ -1,0 +1,159 @@
+//! What clap refuses of one argument, whatever else its command has.
+
+ghost use Rattle.std.specs.Prelude.{◌≡◌, ◌++◌, None, OnOk, Some};
+ghost use Rattle.cc_command_warnings.specs.LoneWarnings.{count_key, flag_list, has_command_hint};
+ghost use Rattle.cc_command_warnings.specs.LoneWarnings.{kinds_list, names_list};
+ghost use Rattle.cc_command_warnings.specs.Places.{warning};
+ghost use Rattle.cc_command_warnings.specs.Walk.{when};
+
+use crate::place::Key;
+use crate::walk::Check;
+use crate::warning::{Kind, Warning, push_warning};
+use cc_arg::{Arg, ValueHint, counted_range};
+use cc_command::Command;
+use std::alloc::{AllocError, Global};
+
+/// What clap refuses of one argument, whatever else its command has.
+pub(crate) struct Lone;
+
+impl Check for Lone {
+    ghost use Rattle.std.specs.Prelude.{[]};
+    ghost use Rattle.cc_command_warnings.specs.LoneWarnings.{lone_argument};
+
+    ghost of_command = { λ _ path tree. [] };
+
+    ghost of_argument = { λ _. lone_argument };
+
+    fn push_command(
+        &self,
+        _found: &mut Vec<Warning>,
+        _alloc: Global,
+        _path: &[usize],
+        _command: &Command,
+    ) -> Result<(), AllocError> {
+        Ok(())
+    }
+
+    fn push_argument(
+        &self,
+        found: &mut Vec<Warning>,
+        alloc: Global,
+        path: &[usize],
+        index: usize,
+        argument: &Arg,
+    ) -> Result<(), AllocError> {
+        push_kinds(found, alloc, path, index, argument)?;
+        push_value_count(found, alloc, path, index, argument)?;
+        push_flag(found, alloc, path, index, argument)
+    }
+}
+
+// What only a positional can be or only an option, and an argument that is global and required.
+fn push_kinds(
+    found: &mut Vec<Warning>,
+    alloc: Global,
+    path: &[usize],
+    index: usize,
+    argument: &Arg,
+) -> Result<(), AllocError>
+    ensures { OnOk result (found.new.items
+        ≡ found.old.items ++ kinds_list path.now index argument.now) }
+{
+    let option = !argument.is_positional();
+    let last = argument.is_last_set() && option;
+    push_if(last, found, alloc, path, index, Key::Last, Kind::LastOption)?;
+    let indexed = option && argument.get_index().is_some();
+    push_if(
+        indexed,
+        found,
+        alloc,
+        path,
+        index,
+        Key::Index,
+        Kind::IndexOfOption,
+    )?;
+    let required = argument.is_global_set() && argument.is_required_set();
+    push_if(
+        required,
+        found,
+        alloc,
+        path,
+        index,
+        Key::Global,
+        Kind::GlobalRequired,
+    )
+}
+
+// More value names than values, and the hint of a whole command line where there is no room for
+// one.
+fn push_value_count(
+    found: &mut Vec<Warning>,
+    alloc: Global,
+    path: &[usize],
+    index: usize,
+    argument: &Arg,
+) -> Result<(), AllocError>
+    ensures { OnOk result (found.new.items
+        ≡ found.old.items ++ names_list path.now index argument.now) }
+{
+    let names = argument.get_value_names().len();
+    let greatest = counted_range(argument).max_values();
+    let more = argument.takes_values() && greatest < names;
+    let kind = Kind::MoreNamesThanValues(names, greatest);
+    push_if(more, found, alloc, path, index, Key::ValueNames, kind)?;
+    let hint = has_command_hint(argument) && !(argument.is_positional() && greatest > 1);
+    let kind = Kind::CommandHintWithoutMany;
+    push_if(hint, found, alloc, path, index, Key::ValueHint, kind)
+}
+
+fn has_command_hint(argument: &Arg) -> bool
+    ensures { result ≡ has_command_hint argument.now.value_hint }
+{
+    matches!(argument.get_value_hint(), ValueHint::CommandWithArguments)
+}
+
+// A positional that takes no value.
+fn push_flag(
+    found: &mut Vec<Warning>,
+    alloc: Global,
+    path: &[usize],
+    index: usize,
+    argument: &Arg,
+) -> Result<(), AllocError>
+    ensures { OnOk result (found.new.items
+        ≡ found.old.items ++ flag_list path.now index argument.now) }
+{
+    let flag = argument.is_positional() && !argument.takes_values();
+    let kind = Kind::PositionalWithoutValue;
+    push_if(flag, found, alloc, path, index, count_key(argument), kind)
+}
+
+// The key that says how many values an argument takes.
+fn count_key(argument: &Arg) -> Key
+    ensures { result ≡ count_key argument.now }
+{
+    if argument.get_num_args().is_some() {
+        Key::NumArgs
+    } else {
+        Key::Action
+    }
+}
+
+/// Adds a warning of this kind, where something is wrong. Fails where memory runs out.
+pub(crate) fn push_if(
+    wrong: bool,
+    found: &mut Vec<Warning>,
+    alloc: Global,
+    path: &[usize],
+    index: usize,
+    key: Key,
+    kind: Kind,
+) -> Result<(), AllocError>
+    ensures { OnOk result (found.new.items
+        ≡ found.old.items ++ when wrong (warning path.now (Some index) key None kind)) }
+{
+    if !wrong {
+        return Ok(());
+    }
+    push_warning(found, alloc, path, Some(index), key, None, kind)
+}

@@ -1,0 +1,148 @@
+//! The warnings about what the promises of scripts take for granted.
+
+ghost use Rattle.std.specs.Prelude.{◌≡◌, ◌++◌, IfOk, IsTrue, OnOk};
+ghost use Rattle.std.specs.Option.{option_copied};
+ghost use Rattle.cc_command_warnings.specs.CommandWarnings.{clap_list, command_list};
+ghost use Rattle.cc_command_warnings.specs.Notes.{are_notes};
+ghost use Rattle.cc_command_warnings.specs.Premises.{bin_list, bin_name_list, holds_premises};
+ghost use Rattle.cc_command_warnings.specs.Premises.{own_bin_list, premise_list};
+
+use crate::hidden::Hidden;
+use crate::in_command::InCommand;
+use crate::lone::Lone;
+use crate::place::{Key, Place};
+use crate::plain::{Plain, push_name};
+use crate::quiet::Quiet;
+use crate::quotes::Quotes;
+use crate::scopes::push_scope;
+use crate::walk::push_tree;
+use crate::warning::{Kind, Warning};
+use cc_base::{Items, Text};
+use cc_command::Command;
+use cc_quote::is_plain_name;
+use std::alloc::{AllocError, Global};
+
+// The path of the root.
+const ROOT: &[usize] = &[];
+
+/// The warnings about what the promises of scripts take for granted: that the names are plain, also
+/// this bin name, that possible values are quiet, and that PowerShell's script escapes each quote.
+/// There are none exactly where all of this holds. First come those about names, then those about
+/// possible values, then those about quotes; each command by command, a command before those below
+/// it.
+///
+/// Fails where memory runs out.
+#[tactic(auto, using(crate::proofs::PremisesFound::premise_notes))]
+pub fn premise_warnings(
+    alloc: Global,
+    bin: Option<&str>,
+    command: &Command,
+) -> Result<Vec<Warning>, AllocError>
+    ensures list { IfOk result (λ found.
+        found.items ≡ premise_list (option_copied bin.entry) command.now) }
+    ensures exactly { IfOk result (λ found.
+        are_notes found.items ≡ holds_premises (option_copied bin.entry) command.now) }
+{
+    let mut found = Vec::new(alloc);
+    push_premise_warnings(&mut found, alloc, bin, command)?;
+    Ok(found)
+}
+
+/// The warnings and notes about a command that is called by this bin name, where one is passed: those
+/// of `premise_warnings`; then those about what clap refuses, first of each argument alone, then of
+/// each in its command, then of those of a command together; then the notes about what is hidden. A label of the bash
+/// script that two commands share is not among them. Where there are none but notes, what the
+/// promises of scripts take for granted holds.
+///
+/// Fails where memory runs out.
+#[tactic(auto, using(crate::proofs::PremisesFound::premises_hold))]
+pub fn command_warnings(
+    alloc: Global,
+    bin: Option<&str>,
+    command: &Command,
+) -> Result<Vec<Warning>, AllocError>
+    ensures list { IfOk result (λ found.
+        found.items ≡ command_list (option_copied bin.entry) command.now) }
+    ensures premises { IfOk result (λ found. IsTrue (are_notes found.items) →
+        IsTrue (holds_premises (option_copied bin.entry) command.now)) }
+{
+    let mut found = Vec::new(alloc);
+    push_premise_warnings(&mut found, alloc, bin, command)?;
+    push_clap_warnings(&mut found, alloc, command)?;
+    push_tree(&Hidden, &mut found, alloc, ROOT, command)?;
+    Ok(found)
+}
+
+// What clap refuses: of one argument, then of an argument in its command, then of the arguments of a
+// command together.
+fn push_clap_warnings(
+    found: &mut Vec<Warning>,
+    alloc: Global,
+    command: &Command,
+) -> Result<(), AllocError>
+    ensures { OnOk result (found.new.items ≡ found.old.items ++ clap_list command.now) }
+{
+    push_tree(&Lone, found, alloc, ROOT, command)?;
+    push_tree(&InCommand, found, alloc, ROOT, command)?;
+    push_scope(found, alloc, &[], ROOT, command)
+}
+
+fn push_premise_warnings(
+    found: &mut Vec<Warning>,
+    alloc: Global,
+    bin: Option<&str>,
+    command: &Command,
+) -> Result<(), AllocError>
+    ensures { OnOk result (found.new.items
+        ≡ found.old.items ++ premise_list (option_copied bin.entry) command.now) }
+{
+    push_bin(found, alloc, bin)?;
+    push_own_bin(found, alloc, command.get_bin_name())?;
+    push_tree(&Plain, found, alloc, ROOT, command)?;
+    push_tree(&Quiet, found, alloc, ROOT, command)?;
+    push_tree(&Quotes, found, alloc, ROOT, command)
+}
+
+// The bin name of a call, which has no place in the tree.
+fn push_bin(found: &mut Vec<Warning>, alloc: Global, bin: Option<&str>) -> Result<(), AllocError>
+    ensures { OnOk result (found.new.items
+        ≡ found.old.items ++ bin_list (option_copied bin.entry)) }
+{
+    match bin {
+        Some(bin) => push_bin_name(found, alloc, bin),
+        None => Ok(()),
+    }
+}
+
+fn push_bin_name(found: &mut Vec<Warning>, alloc: Global, bin: &str) -> Result<(), AllocError>
+    ensures { OnOk result (found.new.items
+        ≡ found.old.items ++ bin_name_list bin.now) }
+{
+    if is_plain_name(bin) {
+        return Ok(());
+    }
+    let kind = Kind::BinNotPlain(Text::copy_of(alloc, bin)?);
+    let place = Place {
+        command: Items::new(alloc),
+        argument: None,
+        key: None,
+        item: None,
+    };
+    found.push(Warning { place, kind })?;
+    Ok(())
+}
+
+// The bin name of the root.
+fn push_own_bin(
+    found: &mut Vec<Warning>,
+    alloc: Global,
+    bin: Option<&str>,
+) -> Result<(), AllocError>
+    ensures { OnOk result (found.new.items
+        ≡ found.old.items ++ own_bin_list (option_copied bin.entry)) }
+{
+    match bin {
+        Some(bin) => push_name(found, alloc, ROOT, None, Key::BinName, None, bin),
+        None => Ok(()),
+    }
+}

@@ -1,0 +1,262 @@
+//! The text of a warning.
+
+ghost use Rattle.std.specs.Prelude.{◌≡◌, Some};
+ghost use Rattle.std.specs.Fmt.{DisplaysOnOk};
+ghost use Rattle.cc_command_warnings.specs.Texts.{clap_text, fixed_text, help_name, kind_text};
+ghost use Rattle.cc_command_warnings.specs.Texts.{is_not_plain_text, loud_value_text};
+ghost use Rattle.cc_command_warnings.specs.Texts.{more_names_text, named, not_plain_text, plain_rule};
+ghost use Rattle.cc_command_warnings.specs.Texts.{short_text, taken_flag_text, taken_long_text};
+ghost use Rattle.cc_command_warnings.specs.Texts.{taken_name_text, taken_short_text, taken_text, unplain_text};
+ghost use Rattle.cc_command_warnings.specs.Texts.{version_name, warning_text};
+
+use crate::place::Key;
+use crate::warning::{Kind, Warning};
+use std::fmt;
+
+/// The text of the warning, without its place.
+impl fmt::Display for Warning {
+    ghost output = { λ warning. Some (warning_text warning) };
+
+    fn fmt<W: fmt::Write>(&self, f: &mut fmt::Formatter<W>) -> fmt::Result {
+        write_kind(self.place.key, &self.kind, f)
+    }
+}
+
+fn write_kind<W: fmt::Write>(
+    key: Option<Key>,
+    kind: &Kind,
+    f: &mut fmt::Formatter<W>,
+) -> fmt::Result
+    ensures { DisplaysOnOk W.write_str_gives f.old result (Some (kind_text key kind.now)) f.new }
+{
+    let named = named(key);
+    match kind {
+        Kind::BinNotPlain(name) => write_not_plain("bin name", name.as_str(), f),
+        Kind::NotPlain(name) => write_not_plain(named, name.as_str(), f),
+        Kind::LongWithHyphen(long) => {
+            let long = long.as_str();
+            write!(
+                f,
+                "the long `{long}` begins with a hyphen: write it without"
+            )
+        }
+        Kind::ShortNotPlain(short) => {
+            write!(
+                f,
+                "the short `{short}` is no ASCII letter or digit: scripts may break at it"
+            )
+        }
+        Kind::Quote => write!(f, "the {named} holds a ', which breaks the zsh script"),
+        Kind::TakenName(name, command) => write_taken_name(name.as_str(), command.as_str(), f),
+        Kind::LoudValue(value) => write_loud_value(value.as_str(), f),
+        Kind::SharedLabel(label) => {
+            let label = label.as_str();
+            write!(
+                f,
+                "two commands share the label {label} of the bash script, which is not written"
+            )
+        }
+        Kind::UnescapedQuote(quote) => write!(f, "PowerShell takes {quote} for a quote"),
+        kind => write_clap(key, kind, f),
+    }
+}
+
+fn write_not_plain<W: fmt::Write>(named: &str, name: &str, f: &mut fmt::Formatter<W>) -> fmt::Result
+    ensures { DisplaysOnOk W.write_str_gives f.old result
+        (Some (not_plain_text named.now name.now)) f.new }
+{
+    write!(f, "the {named}")?;
+    write_is_not_plain(name, f)
+}
+
+fn write_is_not_plain<W: fmt::Write>(name: &str, f: &mut fmt::Formatter<W>) -> fmt::Result
+    ensures { DisplaysOnOk W.write_str_gives f.old result
+        (Some (is_not_plain_text name.now)) f.new }
+{
+    write_unplain(name, f)?;
+    write_plain_rule(f)
+}
+
+fn write_unplain<W: fmt::Write>(name: &str, f: &mut fmt::Formatter<W>) -> fmt::Result
+    ensures { DisplaysOnOk W.write_str_gives f.old result (Some (unplain_text name.now)) f.new }
+{
+    write!(f, " `{name}` is not plain")
+}
+
+fn write_plain_rule<W: fmt::Write>(f: &mut fmt::Formatter<W>) -> fmt::Result
+    ensures { DisplaysOnOk W.write_str_gives f.old result (Some plain_rule) f.new }
+{
+    f.write_str(" (letters and digits, with single - or _ between them)")?;
+    f.write_str(": scripts may break at it")
+}
+
+fn write_loud_value<W: fmt::Write>(value: &str, f: &mut fmt::Formatter<W>) -> fmt::Result
+    ensures { DisplaysOnOk W.write_str_gives f.old result
+        (Some (loud_value_text value.now)) f.new }
+{
+    write!(f, "bash takes the value `{value}` apart")?;
+    f.write_str(", or reads it otherwise (plain are letters, digits and +-./:@_,=)")
+}
+
+fn write_taken_name<W: fmt::Write>(
+    name: &str,
+    command: &str,
+    f: &mut fmt::Formatter<W>,
+) -> fmt::Result
+    ensures { DisplaysOnOk W.write_str_gives f.old result
+        (Some (taken_name_text name.now command.now)) f.new }
+{
+    write!(f, "`{name}` is also a name of")?;
+    write!(f, " the command `{command}` before it")
+}
+
+// What clap says of names and indexes.
+fn write_clap<W: fmt::Write>(
+    key: Option<Key>,
+    kind: &Kind,
+    f: &mut fmt::Formatter<W>,
+) -> fmt::Result
+    ensures { DisplaysOnOk W.write_str_gives f.old result (Some (clap_text key kind.now)) f.new }
+{
+    match kind {
+        Kind::TakenId(id) => {
+            let id = id.as_str();
+            write!(f, "an earlier argument has the id `{id}`")
+        }
+        Kind::TakenLong(long, id) => write_taken_long(long.as_str(), id.as_str(), f),
+        Kind::TakenShort(short, id) => write_taken_short(short.as_str(), id.as_str(), f),
+        Kind::TakenByHelp => { write_taken(named(key), help_name(key), "disable_help_flag", f) }
+        Kind::TakenByVersion => {
+            write_taken(named(key), version_name(key), "disable_version_flag", f)
+        }
+        Kind::UnknownConflict(id) => {
+            let id = id.as_str();
+            write!(f, "no argument here has the id `{id}`")
+        }
+        Kind::RequiredAfterOptional(id) => {
+            let id = id.as_str();
+            write!(f, "a required positional after the optional one `{id}`")
+        }
+        Kind::MoreNamesThanValues(names, greatest) => write_more_names(*names, *greatest, f),
+        kind => f.write_str(fixed_text(kind)),
+    }
+}
+
+fn write_taken<W: fmt::Write>(
+    named: &str,
+    name: &str,
+    key: &str,
+    f: &mut fmt::Formatter<W>,
+) -> fmt::Result
+    ensures { DisplaysOnOk W.write_str_gives f.old result
+        (Some (taken_text named.now name.now key.now)) f.new }
+{
+    write_taken_flag(named, name, f)?;
+    write!(f, "; {key} leaves it out")
+}
+
+fn write_taken_flag<W: fmt::Write>(
+    named: &str,
+    name: &str,
+    f: &mut fmt::Formatter<W>,
+) -> fmt::Result
+    ensures { DisplaysOnOk W.write_str_gives f.old result
+        (Some (taken_flag_text named.now name.now)) f.new }
+{
+    write!(f, "the {named}")?;
+    write!(f, " `{name}` is also that of the flag that is added")
+}
+
+fn write_taken_long<W: fmt::Write>(long: &str, id: &str, f: &mut fmt::Formatter<W>) -> fmt::Result
+    ensures { DisplaysOnOk W.write_str_gives f.old result
+        (Some (taken_long_text long.now id.now)) f.new }
+{
+    write!(f, "the long `{long}` is also one")?;
+    write!(f, " of argument `{id}`")
+}
+
+fn write_taken_short<W: fmt::Write>(short: &str, id: &str, f: &mut fmt::Formatter<W>) -> fmt::Result
+    ensures { DisplaysOnOk W.write_str_gives f.old result
+        (Some (taken_short_text short.now id.now)) f.new }
+{
+    write_short(short, f)?;
+    write!(f, " is also one of argument `{id}`")
+}
+
+fn write_short<W: fmt::Write>(short: &str, f: &mut fmt::Formatter<W>) -> fmt::Result
+    ensures { DisplaysOnOk W.write_str_gives f.old result (Some (short_text short.now)) f.new }
+{
+    write!(f, "the short `{short}`")
+}
+
+fn write_more_names<W: fmt::Write>(
+    names: usize,
+    greatest: usize,
+    f: &mut fmt::Formatter<W>,
+) -> fmt::Result
+    ensures { DisplaysOnOk W.write_str_gives f.old result
+        (Some (more_names_text names greatest)) f.new }
+{
+    write!(f, "{names} value names")?;
+    write!(f, ", and at most {greatest} value")
+}
+
+// What a name is, by its key.
+fn named(key: Option<Key>) -> &'static str
+    ensures { result.now ≡ named key }
+{
+    match key {
+        Some(Key::BinName) => "bin name",
+        Some(Key::Aliases | Key::VisibleAliases) => "alias",
+        Some(Key::Id) => "id",
+        Some(Key::Short) => "short",
+        Some(Key::Long) => "long",
+        Some(Key::ValueNames) => "value name",
+        _ => "name",
+    }
+}
+
+// What the flag `help` is called, by the key.
+fn help_name(key: Option<Key>) -> &'static str
+    ensures { result.now ≡ help_name key }
+{
+    match key {
+        Some(Key::Short) => "h",
+        _ => "help",
+    }
+}
+
+// What the flag `version` is called, by the key.
+fn version_name(key: Option<Key>) -> &'static str
+    ensures { result.now ≡ version_name key }
+{
+    match key {
+        Some(Key::Short) => "V",
+        _ => "version",
+    }
+}
+
+// The text that names nothing of the command.
+fn fixed_text(kind: &Kind) -> &'static str
+    ensures { result.now ≡ fixed_text kind.now }
+{
+    match kind {
+        Kind::SelfConflict => "an argument in conflict with itself",
+        Kind::LastOption => "only a positional, without short and long, can be last",
+        Kind::GlobalRequired => "global and required",
+        Kind::CommandHintWithoutMany => {
+            "CommandWithArguments needs a positional that takes many"
+        }
+        Kind::PositionalWithoutValue => "a positional takes a value",
+        Kind::NoVersion => "Version, and the command has no version",
+        Kind::IndexOfOption => "an index of an option means nothing",
+        Kind::LastBesideChildren => "last and required, beside subcommands",
+        Kind::HiddenCommand => {
+            "a script offers a hidden command all the same; live completion hides it"
+        }
+        Kind::HiddenArgument => {
+            "a script offers a hidden argument all the same; live completion hides it"
+        }
+        _ => "",
+    }
+}

@@ -1,0 +1,85 @@
+//! What is warned about, where, and by which words.
+
+use crate::checks::same;
+use crate::fixtures::tree;
+use cc_command_warnings::{Warning, command_warnings};
+use std::alloc::{AllocError, Global};
+
+// A line for each warning: the indexes of its command, that of its argument, its key, that of the
+// item, and its text.
+fn lines(alloc: Global, warnings: &[Warning]) -> Result<String, AllocError> {
+    let mut text = String::new(alloc);
+    for warning in warnings {
+        push_place(alloc, &mut text, warning)?;
+        let line = format!(in alloc; "{warning}\n")?;
+        text.push_str(line.as_str())?;
+    }
+    Ok(text)
+}
+
+fn push_place(alloc: Global, text: &mut String, warning: &Warning) -> Result<(), AllocError> {
+    for index in warning.place.command.as_slice() {
+        let step = format!(in alloc; "{index}/")?;
+        text.push_str(step.as_str())?;
+    }
+    if let Some(argument) = warning.place.argument {
+        let step = format!(in alloc; "args[{argument}].")?;
+        text.push_str(step.as_str())?;
+    }
+    if let Some(key) = warning.place.key {
+        text.push_str(key.as_str())?;
+    }
+    if let Some(item) = warning.place.item {
+        let step = format!(in alloc; "[{item}]")?;
+        text.push_str(step.as_str())?;
+    }
+    text.push_str(": ")
+}
+
+const WRONG: &str = r#"{"name": "my app", "version": "1", "args": [
+    {"id": "it's", "long": "--label", "short": "é", "aliases": ["a b"], "help": "‘x’"},
+    {"id": "to", "long": "to", "global": true, "required": true, "value_names": ["A", "B"],
+     "num_args": [1, 1], "possible_values": [{"name": "dark red"}], "conflicts_with": ["to", "no"]},
+    {"id": "to", "short": "V", "action": "SetTrue", "index": 1, "last": true, "hide": true},
+    {"id": "in"}, {"id": "out", "required": true}],
+    "subcommands": [
+    {"name": "add", "aliases": ["a"], "args": [
+        {"id": "x", "visible_aliases": ["to"], "long": "x"}]},
+    {"name": "b", "visible_aliases": ["a"], "args": [{"id": "to", "long": "to"}]}]}"#;
+
+const WARNED: &str = "\
+name: the name `my app` is not plain (letters and digits, with single - or _ between them): \
+    scripts may break at it
+1/visible_aliases[0]: `a` is also a name of the command `add` before it
+args[0].id: the id holds a ', which breaks the zsh script
+args[0].short: the short `é` is no ASCII letter or digit: scripts may break at it
+args[0].long: the long `--label` begins with a hyphen: write it without
+args[0].aliases[0]: the alias `a b` is not plain (letters and digits, with single - or _ \
+    between them): scripts may break at it
+args[1].possible_values[0]: bash takes the value `dark red` apart, or reads it otherwise (plain \
+    are letters, digits and +-./:@_,=)
+args[0].help: PowerShell takes ‘ for a quote
+args[1].global: global and required
+args[1].value_names: 2 value names, and at most 1 value
+args[2].last: only a positional, without short and long, can be last
+args[2].index: an index of an option means nothing
+args[2].short: the short `V` is also that of the flag that is added; disable_version_flag \
+    leaves it out
+args[4].required: a required positional after the optional one `in`
+args[2].id: an earlier argument has the id `to`
+args[1].conflicts_with[0]: an argument in conflict with itself
+args[1].conflicts_with[1]: no argument here has the id `no`
+0/args[0].visible_aliases[0]: the long `to` is also one of argument `to`
+args[2].hide: a script offers a hidden argument all the same; live completion hides it
+";
+
+#[test]
+fn each_warning_has_its_place_and_its_text(rt: HostRuntime) {
+    let command = tree(&rt, rt.alloc(), WRONG);
+    let found = command_warnings(rt.alloc(), None, &command).expect(&rt, "no memory");
+    let text = lines(rt.alloc(), &found).expect(&rt, "no memory");
+    same(&rt, text.as_str(), WARNED);
+    drop(text);
+    drop(found);
+    drop(command);
+}
