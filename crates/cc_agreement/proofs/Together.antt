@@ -5,7 +5,7 @@ use Rattle.cc_base.specs.declared.error.Error.{Error}
 use Rattle.cc_base.specs.declared.error.Error.TheVariants as error
 use Rattle.cc_base.specs.declared.failures.Failures.{Failures}
 use Rattle.cc_base.specs.Writes.{CountsWrite}
-use Rattle.cc_agreement.specs.Agreement.{AgreesWithBash, FailsBefore}
+use Rattle.cc_agreement.specs.Agreement.{AgreesWithBash, ArePlain, FailsBefore}
 use Rattle.cc_agreement.proofs.BashEnd.{leads}
 use Rattle.cc_agreement.proofs.HiddenBuilt.{none_when_built}
 use Rattle.cc_bash.specs.Reads.{BashReads}
@@ -17,15 +17,15 @@ use Rattle.cc_quote.specs.PlainName.{is_plain_name}
 use Rattle.cc_command.specs.Tree.{Tree}
 use Rattle.cc_command.proofs.BuiltAgain.{built_tree-again}
 use Rattle.cc_engine.specs.Completion.{Completes, Refuses, words_before}
-use Rattle.cc_values.specs.Values.{Lent}
+use Rattle.cc_values.specs.Values.{MayReturn}
 use Rattle.cc_walk.specs.Visible.{HasNoHiddenAlias}
 
 -- one tree, of which the script reads back
-agrees : (lent : Lent) (root : Tree) (words : List (List ℕ)) (index : ℕ)
+agrees : (sources : MayReturn) (root : Tree) (words : List (List ℕ)) (index : ℕ)
     (found : List CompletionCandidate) → BashReads root
     → HasNoHiddenAlias root (words_before root.node words index)
-    → Completes lent root words index found → AgreesWithBash lent root words index found
-agrees lent root words index found reads none completes = record {
+    → Completes sources root words index found → AgreesWithBash sources root words index found
+agrees sources root words index found reads none completes = record {
   tree = completes.tree;
   state = completes.state;
   line = completes.line;
@@ -59,22 +59,21 @@ all_written bin_name taken_old taken_new old mid new (Ok found) made again writt
     ∙ ap (λ tree. taken_old ++ bash_script tree) (sym (stays_built bin_name old mid new made again))
 all_written bin_name taken_old taken_new old mid new (Err e) made again written = tt
 
-pub all_agree : {A : Type 0} (items : A → List CompletionCandidate) (lent : Lent) (bin_name : List ℕ)
+pub all_agree : {A : Type 0} (items : A → List CompletionCandidate) (sources : MayReturn) (bin_name : List ℕ)
     (old mid new : Tree) (words : List (List ℕ)) (index : ℕ) (result : Result A Error)
     → mid ≡ built_under (Some bin_name) old → OnOk result (new ≡ built_tree mid)
     → (IsTrue (is_plain_tree old) → IsTrue (is_plain_name bin_name)
     → BashReads (built_under (Some bin_name) old))
-    → IfOk result (λ found. Completes lent new words index (items found))
-    → IfOk result (λ found. IsTrue (is_plain_tree old) → IsTrue (is_plain_name bin_name)
-    → HasNoHiddenAlias old (words_before old.node words index)
-    → AgreesWithBash lent new words index (items found))
-all_agree items lent bin_name old mid new words index (Ok found) made again reads completes =
+    → IfOk result (λ found. Completes sources new words index (items found))
+    → IfOk result (λ found. ArePlain old bin_name words index
+    → AgreesWithBash sources new words index (items found))
+all_agree items sources bin_name old mid new words index (Ok found) made again reads completes =
     let is : built_under (Some bin_name) old ≡ new = sym (stays_built bin_name old mid new made again) in
-    λ plain name none. agrees lent new words index (items found) (subst BashReads is (reads plain name))
+    λ plain. agrees sources new words index (items found) (subst BashReads is (reads plain.tree plain.name))
     (subst (λ (tree : Tree). HasNoHiddenAlias tree (words_before tree.node words index)) is
-    (none_when_built (Some bin_name) old (words_before old.node words index) none))
+    (none_when_built (Some bin_name) old (words_before old.node words index) plain.visible))
     completes
-all_agree items lent bin_name old mid new words index (Err e) made again reads completes = tt
+all_agree items sources bin_name old mid new words index (Err e) made again reads completes = tt
 
 -- how a second call ends that finds no candidates
 pub second_fails : {A : Type 0} (bin_name taken_old taken_new : List ℕ) (old mid new : Tree)

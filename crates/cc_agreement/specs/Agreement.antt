@@ -1,5 +1,5 @@
 -- Where the cases of a bash script lead, and the candidates there.
-use Rattle.std.specs.Prelude.{◌≡◌, ◌⊎◌, ◌++◌, ℕ, List, [], false, get_or, Some}
+use Rattle.std.specs.Prelude.{◌≡◌, ◌⊎◌, ◌++◌, ℕ, List, [], false, get_or, Some, IsTrue}
 use Rattle.cc_base.specs.declared.error.Error.{Error}
 use Rattle.cc_base.specs.declared.error.Error.TheVariants.{LabelClash, Memory, NoCompletion, Write}
 use Rattle.cc_bash.specs.Arms.{tree_arms}
@@ -9,11 +9,14 @@ use Rattle.cc_bash.specs.Reads.{BashReads, arm_at, path_node_arm, path_node_labe
 use Rattle.cc_bash.specs.Script.{bash_script}
 use Rattle.cc_bash.specs.Walk.{root_path_node, walk}
 use Rattle.cc_candidates.specs.declared.candidate.CompletionCandidate.{CompletionCandidate}
+use Rattle.cc_command.specs.Plain.{is_plain_tree}
 use Rattle.cc_command.specs.Tree.{Tree}
 use Rattle.cc_engine.specs.Completion.{Offers, is_in_range, words_before}
-use Rattle.cc_values.specs.Values.{Lent}
+use Rattle.cc_quote.specs.PlainName.{is_plain_name}
+use Rattle.cc_values.specs.Values.{MayReturn}
 use Rattle.cc_walk.specs.declared.state.State.{State}
 use Rattle.cc_walk.specs.Line.{IsLine, IsOnlyLine}
+use Rattle.cc_walk.specs.Visible.{HasNoHiddenAlias}
 
 -- Over the words the cases of the root's script lead to the label of the node at which the walk by
 -- visible names ends. This is that node, and the arm at that label is its arm.
@@ -24,16 +27,24 @@ pub record BashLeadsTo (root : Tree) (words : List (List ℕ)) (tree : Tree) : T
   pub arm : arm_at (tree_arms root) (run_end (tree_cases root) (root_label root) words)
       ≡ Some (path_node_arm root (walk (root_path_node root) words))
 
+-- The tree and the bin name are plain, and none of the words before the index is a hidden alias at
+-- the command where it is read.
+pub record ArePlain (root : Tree) (bin_name : List ℕ) (words : List (List ℕ)) (index : ℕ)
+    : Type 0 where
+  pub tree : IsTrue (is_plain_tree root)
+  pub name : IsTrue (is_plain_name bin_name)
+  pub visible : HasNoHiddenAlias root (words_before root.node words index)
+
 -- The words before the index lead to one node and one state, and to no others. The candidates are
 -- some that may be offered there for the word at the index. The bash script of the root reads back,
 -- and over the same words its cases lead to the label of this node.
-pub record AgreesWithBash (lent : Lent) (root : Tree) (words : List (List ℕ)) (index : ℕ)
+pub record AgreesWithBash (sources : MayReturn) (root : Tree) (words : List (List ℕ)) (index : ℕ)
     (found : List CompletionCandidate) : Type 0 where
   pub tree : Tree
   pub state : State
   pub line : IsLine root (words_before root.node words index) tree state
   pub only : IsOnlyLine root (words_before root.node words index) tree state
-  pub offers : Offers lent tree state (get_or words index []) found
+  pub offers : Offers sources tree state (get_or words index []) found
   pub reads : BashReads root
   pub leads : BashLeadsTo root (words_before root.node words index) tree
 

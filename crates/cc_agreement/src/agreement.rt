@@ -1,18 +1,14 @@
 //! The bash script of a command, and the candidates for a word of a command line.
 
 ghost use Rattle.std.specs.Prelude.{◌≡◌, ◌++◌, Some, length, map, string_bytes};
-ghost use Rattle.std.specs.Prelude.{IfErr, IfOk, IsTrue, OnOk};
+ghost use Rattle.std.specs.Prelude.{IfErr, IfOk, OnOk};
 ghost use Rattle.std.specs.Option.{option_copied};
-ghost use Rattle.cc_agreement.specs.Agreement.{AgreesWithBash, FailsBefore};
+ghost use Rattle.cc_agreement.specs.Agreement.{AgreesWithBash, ArePlain, FailsBefore};
 ghost use Rattle.cc_base.specs.Writes.{CountsWrite};
 ghost use Rattle.cc_bash.specs.Script.{bash_script};
 ghost use Rattle.cc_command.specs.Built.{built_under};
-ghost use Rattle.cc_command.specs.Plain.{is_plain_tree};
-ghost use Rattle.cc_quote.specs.PlainName.{is_plain_name};
-ghost use Rattle.cc_engine.specs.Completion.{words_before};
 ghost use Rattle.cc_engine.specs.Paths.{PathsOf};
-ghost use Rattle.cc_values.specs.Values.{lent_by};
-ghost use Rattle.cc_walk.specs.Visible.{HasNoHiddenAlias};
+ghost use Rattle.cc_values.specs.Values.{returned_by};
 
 use cc_base::{Error, Sink};
 use cc_bash::Bash;
@@ -51,11 +47,8 @@ pub fn bash_script_and_candidates<W: Sink, D: Folder>(
         (command.new ≡ built_under (Some (string_bytes bin_name)) command.old) }
     ensures written { OnOk result
         (W.taken sink.new ≡ W.taken sink.old ++ bash_script command.new) }
-    ensures agree { IfOk result (λ found. IsTrue (is_plain_tree command.old) →
-        IsTrue (is_plain_name (string_bytes bin_name)) →
-        HasNoHiddenAlias command.old
-        (words_before command.old.node (map string_bytes words.items) index) →
-        AgreesWithBash (lent_by
+    ensures agree { IfOk result (λ found. ArePlain command.old (string_bytes bin_name)
+        (map string_bytes words.items) index → AgreesWithBash (returned_by
         ⟦<Completers as CandidateSources>⟧.may_complete ⟦<Completers as CandidateSources>⟧.may_list
         completers.now (PathsOf (D.facts folder.now) (option_copied current_dir.entry)))
         command.new (map string_bytes words.items) index found.items) }

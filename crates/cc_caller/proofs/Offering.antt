@@ -20,7 +20,7 @@ use Rattle.clap_complete.specs.OfferedChildren.{in_candidates_order, subcommand_
 use Rattle.clap_complete.specs.Finished.{finish}
 use Rattle.clap_complete.specs.OptionRows.{Listed, row_of}
 use Rattle.clap_complete.specs.ValueParts.{front_length}
-use Rattle.clap_complete.specs.ArgumentValues.{Lent, as_value, gather, question, values}
+use Rattle.clap_complete.specs.ArgumentValues.{MayReturn, as_value, gather, question, values}
 use Rattle.clap_complete.specs.WalkBlocks.{Block, Dashes, Flag, Opened, Values, join, start, state_after}
 use Rattle.clap_complete.specs.WalkState.{State}
 use Rattle.clap_complete.specs.WalkLine.{IsLine}
@@ -68,37 +68,37 @@ as_tools [] = refl
 as_tools (name ∷ names) = ap (λ cs. tool_candidate name ∷ cs) (as_tools names)
 
 -- what is offered for the word at the root, where the completer returns these names
-at_root : (lent : Lent) (completer : ArgValueCompleter) (names : List (List ℕ)) (word : List ℕ) (found : List CompletionCandidate)
-    → ((list : List CompletionCandidate) → lent.completes completer.number 0 word list → list ≡ map new_candidate names)
-    → Offers lent (built_tree (runner completer)) (start false) word found → is_bare word ≡ true → found ≡ map tool_candidate names
+at_root : (sources : MayReturn) (completer : ArgValueCompleter) (names : List (List ℕ)) (word : List ℕ) (found : List CompletionCandidate)
+    → ((list : List CompletionCandidate) → sources.completes completer.number 0 word list → list ≡ map new_candidate names)
+    → Offers sources (built_tree (runner completer)) (start false) word found → is_bare word ≡ true → found ≡ map tool_candidate names
 unfolding positional_at help_argument help_name question front_length values gather printed printed_names printed_values subcommand_candidates in_candidates_order in_order
-at_root lent completer names word found returns (given, allowed, is) bare =
+at_root sources completer names word found returns (returned, allowed, is) bare =
     is
-    ∙ ap (λ row. finish (map (as_value [] (codes "[tool]")) given.positional ++ row_candidates row given.within)) (bare_row (built_tree (runner completer)).node.arguments word bare)
-    ∙ ap finish (append-nil (map (as_value [] (codes "[tool]")) given.positional))
-    ∙ ap (λ list. finish (map (as_value [] (codes "[tool]")) list)) (returns given.positional allowed.positional)
+    ∙ ap (λ row. finish (map (as_value [] (codes "[tool]")) returned.positional ++ row_candidates row returned.within)) (bare_row (built_tree (runner completer)).node.arguments word bare)
+    ∙ ap finish (append-nil (map (as_value [] (codes "[tool]")) returned.positional))
+    ∙ ap (λ list. finish (map (as_value [] (codes "[tool]")) list)) (returns returned.positional allowed.positional)
     ∙ ap finish (as_tools names)
     ∙ finished_same names
 
 -- THE CALL
 
 -- what a call finds, where the completer of the argument returns these names
-pub offers_tools : {A : Type 0} (items : A → List CompletionCandidate) (lent : Lent) (completer : ArgValueCompleter)
+pub offers_tools : {A : Type 0} (items : A → List CompletionCandidate) (sources : MayReturn) (completer : ArgValueCompleter)
     (names : List (List ℕ)) (word : List ℕ) (words : List (List ℕ)) (old new : Tree) (result : Result A Error)
     → old ≡ runner completer → words ≡ codes "run" ∷ word ∷ []
     → OnOk result (new ≡ built_tree old)
-    → IfOk result (λ found. Completes lent new words 1 (items found))
-    → ((list : List CompletionCandidate) → lent.completes completer.number 0 word list → list ≡ map new_candidate (names_beginning names word))
+    → IfOk result (λ found. Completes sources new words 1 (items found))
+    → ((list : List CompletionCandidate) → sources.completes completer.number 0 word list → list ≡ map new_candidate (names_beginning names word))
     → IfOk result (λ found. OffersTools names word (items found))
-offers_tools items lent completer names word words old new (Ok found) old_is words_are built completes returns =
-    let at : Completes lent (built_tree (runner completer)) (codes "run" ∷ word ∷ []) 1 (items found) =
-    subst (λ t. Completes lent t (codes "run" ∷ word ∷ []) 1 (items found)) (built ∙ ap built_tree old_is)
-    (subst (λ ws. Completes lent new ws 1 (items found)) words_are completes) in
+offers_tools items sources completer names word words old new (Ok found) old_is words_are built completes returns =
+    let at : Completes sources (built_tree (runner completer)) (codes "run" ∷ word ∷ []) 1 (items found) =
+    subst (λ t. Completes sources t (codes "run" ∷ word ∷ []) 1 (items found)) (built ∙ ap built_tree old_is)
+    (subst (λ ws. Completes sources new ws 1 (items found)) words_are completes) in
     let stays : (at.tree ≡ built_tree (runner completer)) × (at.state ≡ start false) = no_words (built_tree (runner completer)) at.tree at.state at.line in
-    at_root lent completer (names_beginning names word) word (items found) returns
-    (subst (λ state. Offers lent (built_tree (runner completer)) state word (items found)) stays.1
-    (subst (λ tree. Offers lent tree at.state word (items found)) stays.0 at.offers))
-offers_tools items lent completer names word words old new (Err e) old_is words_are built completes returns = tt
+    at_root sources completer (names_beginning names word) word (items found) returns
+    (subst (λ state. Offers sources (built_tree (runner completer)) state word (items found)) stays.1
+    (subst (λ tree. Offers sources tree at.state word (items found)) stays.0 at.offers))
+offers_tools items sources completer names word words old new (Err e) old_is words_are built completes returns = tt
 
 -- the word is there, so it fails with `Memory` alone
 pub memory_alone : {A : Type 0} (completer : ArgValueCompleter) (old new : Tree) (count : ℕ) (result : Result A Error) → old ≡ runner completer → count ≡ 2

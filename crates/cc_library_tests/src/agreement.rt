@@ -47,7 +47,7 @@ fn a_hidden_alias_is_found_where_it_is_read(rt: HostRuntime) {
     has_none(&rt, CALLED, &["j", "--flag", "go"], false);
 }
 
-// What the call returns under the bin name `app`, with nothing lent and no folders.
+// What the call returns under the bin name `app`, without completers and folders.
 fn call<W: Sink>(
     alloc: Global,
     command: &mut Command,
@@ -57,9 +57,17 @@ fn call<W: Sink>(
 ) -> Result<Vec<CompletionCandidate>, Error> {
     let bin_name = String::from_str(alloc, "app")?;
     let folder = MemoryFolder::new(&[], &[]);
-    let lent = Completers::none(alloc);
+    let completers = Completers::none(alloc);
     bash_script_and_candidates(
-        alloc, command, bin_name, words, index, None, &folder, &lent, sink,
+        alloc,
+        command,
+        bin_name,
+        words,
+        index,
+        None,
+        &folder,
+        &completers,
+        sink,
     )
 }
 

@@ -1,4 +1,4 @@
-//! Tests of adapters: what a shell is told to run, and how it is replied. Trees are tree files.
+//! Tests of adapters: what a shell runs, and how it is replied. Trees are tree files.
 
 mod completers;
 mod fixtures;

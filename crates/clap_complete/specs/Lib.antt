@@ -161,12 +161,12 @@ pub use Rattle.cc_registrations.specs.ZshRegistration
 pub use Rattle.cc_replies.specs.Environment as EnvironmentValues
 pub use Rattle.cc_replies.specs.declared.environment.EnvValues
 pub use Rattle.cc_replies.specs.Reply as ShellReplies
-pub use Rattle.cc_adapters.specs.Asks as ShellAsks
+pub use Rattle.cc_adapters.specs.Wanted as WantedWords
 pub use Rattle.cc_adapters.specs.Builtins as BuiltinShells
 pub use Rattle.cc_adapters.specs.Replies as AdapterReplies
 pub use Rattle.cc_adapters.specs.ShellNames
 pub use Rattle.cc_adapters.specs.Shells as OfferedShells
 pub use Rattle.cc_adapters.specs.declared.builtin.Builtin
 pub use Rattle.cc_env.specs.Arguments as RequestArguments
-pub use Rattle.cc_env.specs.Asked as RequestedShell
+pub use Rattle.cc_env.specs.Wanted as WantedShell
 pub use Rattle.cc_env.specs.Steps as RequestSteps

@@ -2,10 +2,13 @@
 //! describes.
 #![tactic(auto)]
 
+mod live;
+
 use clap_complete::aot::Counted;
 use clap_complete::engine::RealFolder;
 use complgen_command_line::{Refusal, WRITE_FAILED, plan};
 use complgen_run::run;
+use complgen_trees::is_request;
 use std::alloc::AllocError;
 use std::convert::AsStr;
 use std::env::{self, Env};
@@ -24,9 +27,13 @@ fn main(rt: HostRuntime) -> ExitCode {
     }
 }
 
-// Does what the command line asks for.
-fn carry_out<R: Env + Files + Print + AllocGlobal>(rt: &R) -> Result<(), Refusal> {
+// Does what the command line asks for, or what a shell requests.
+fn carry_out<R: Env + Files + Print + Eprint + AllocGlobal>(rt: &R) -> Result<(), Refusal> {
     let words = words(rt)?;
+    let env = live::environment(rt)?;
+    if is_request(&env, words.as_slice()) {
+        return live::complete(rt, &env, words);
+    }
     let plan = plan(rt.alloc(), words.as_slice())?;
     let file = contents(rt, plan.tree())?;
     let out = BufWriter::new(rt.alloc(), io::writer(rt)).map_err(|_| AllocError)?;

@@ -6,7 +6,7 @@ use Rattle.std.specs.String.{string_bytes}
 use Rattle.complgen_command_line.specs.declared.types.Plan.{Plan}
 use Rattle.complgen_command_line.specs.declared.types.Plan.TheVariants.{Candidates}
 use Rattle.complgen_command_line.specs.declared.types.Refusal.{Refusal}
-use Rattle.clap_complete.specs.ArgumentValues.{Lent}
+use Rattle.clap_complete.specs.ArgumentValues.{MayReturn}
 use Rattle.clap_complete.specs.Built.{built_tree}
 use Rattle.clap_complete.specs.CandidateSources.{ReturnsAt}
 use Rattle.clap_complete.specs.CandidateSource.{Source}
@@ -52,14 +52,14 @@ without_completers Boxes Closures completers added ListBoxes ListClosures lists 
     rw (none.0, none.1, no_lists.0, no_lists.1) refl
 
 -- what a call that builds the command finds, where only paths are found
-pub are_found : {A : Type 0} (items : A → List CompletionCandidate) (Finds : Paths) (lent : Lent)
+pub are_found : {A : Type 0} (items : A → List CompletionCandidate) (Finds : Paths) (sources : MayReturn)
     (words : List (String Global)) (index : ℕ) (old new : Tree) (result : Result A Error)
-    → lent ≡ only_paths Finds
-    → IfOk result (λ found. Completes lent new (map string_bytes words) index (items found))
+    → sources ≡ only_paths Finds
+    → IfOk result (λ found. Completes sources new (map string_bytes words) index (items found))
     → OnOk result (new ≡ built_tree old)
     → OnOk result (is_in_range new.node (length words) index ≡ true)
     → IfOk result (λ found. AreFound Finds (map string_bytes words) index old (items found))
-are_found items Finds lent words index old new (Ok found) is completes built ranges = record {
+are_found items Finds sources words index old new (Ok found) is completes built ranges = record {
   in_range = subst (λ tree.
       is_in_range tree.node (length (map string_bytes words)) index ≡ true) built
       (subst (λ count. is_in_range new.node count index ≡ true)
@@ -68,16 +68,16 @@ are_found items Finds lent words index old new (Ok found) is completes built ran
       Completes (only_paths Finds) tree (map string_bytes words) index (items found)) built
       (subst (λ l. Completes l new (map string_bytes words) index (items found)) is completes);
 }
-are_found items Finds lent words index old new (Err e) is completes built ranges = tt
+are_found items Finds sources words index old new (Err e) is completes built ranges = tt
 
 -- how carrying out a plan of candidates ends, where these words are handed on
 pub ends_plan : {S : Type 0} (taken : S → List ℕ) (failed : S → Failures) (Finds : Paths)
     (plan : Plan) (index : ℕ) (path : String Global) (words : Vec (String Global) Global)
-    (given : List (String Global)) (file : Option (List ℕ)) (old new : S)
-    (result : Result (Unit {0}) Refusal) → plan ≡ Candidates index path words → given ≡ words.items
-    → EndsReply taken failed Finds (map string_bytes given) index file old new result
+    (passed : List (String Global)) (file : Option (List ℕ)) (old new : S)
+    (result : Result (Unit {0}) Refusal) → plan ≡ Candidates index path words → passed ≡ words.items
+    → EndsReply taken failed Finds (map string_bytes passed) index file old new result
     → Ends taken failed Finds plan file old new result
-ends_plan taken failed Finds plan index path words given file old new result is all ends =
+ends_plan taken failed Finds plan index path words passed file old new result is all ends =
     subst (λ p. Ends taken failed Finds p file old new result) (sym is)
     (subst (λ ws. EndsReply taken failed Finds (map string_bytes ws) index file old new result)
     all ends)

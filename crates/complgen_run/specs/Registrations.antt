@@ -4,7 +4,7 @@ use Rattle.clap_complete.specs.Builtin.{Builtin}
 use Rattle.clap_complete.specs.BuiltinShells.{all_builtins, builtin_spec}
 use Rattle.clap_complete.specs.Error.TheVariants.{UnknownShell}
 use Rattle.clap_complete.specs.Failures.{Failures}
-use Rattle.clap_complete.specs.RequestedShell.{unknown_shell}
+use Rattle.clap_complete.specs.WantedShell.{unknown_shell}
 use Rattle.clap_complete.specs.Shell.{Shell}
 use Rattle.clap_complete.specs.Shells.{shell_text}
 use Rattle.clap_complete.specs.Tree.{Tree}

@@ -1,6 +1,6 @@
--- The candidates for a word of a command line, where no completers are lent, and their reply.
+-- The candidates for a word of a command line, where there are no completers, and their reply.
 use Rattle.std.specs.Prelude.{⊤, ◌≡◌, ℕ, List, [], true, false, length}
-use Rattle.clap_complete.specs.ArgumentValues.{Lent}
+use Rattle.clap_complete.specs.ArgumentValues.{MayReturn}
 use Rattle.clap_complete.specs.Built.{built_tree}
 use Rattle.clap_complete.specs.Completion.{Completes, is_in_range}
 use Rattle.clap_complete.specs.CompletionCandidate.{CompletionCandidate}
@@ -17,8 +17,8 @@ use Rattle.complgen_run.specs.Refusals.{error_line}
 abbrev pub Paths : Type 1
 Paths = ValueHint → List ℕ → List CompletionCandidate → Type 0
 
--- no completer and no list is lent, so that no number has candidates; paths are found
-abbrev pub only_paths : Paths → Lent
+-- there is no completer and no list, so that no number has candidates; paths are found
+abbrev pub only_paths : Paths → MayReturn
 only_paths Finds = record {
   completes = λ which number text found. found ≡ [];
   lists = λ which found. found ≡ [];

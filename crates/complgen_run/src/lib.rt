@@ -11,3 +11,4 @@ mod shells;
 mod tree_files;
 
 pub use crate::plans::run;
+pub use crate::refusals::error_refusal;

@@ -35,7 +35,7 @@ const NO_COMPLETION: &str = "no completion generated\n";
 
 const NO_ARGUMENTS: &str = "no arguments\n";
 
-/// What is printed where a registration is asked for and this shell has none.
+/// What is printed where a registration is wanted and this shell has none.
 pub(crate) fn no_registration(shell: Shell) -> &'static str
     ensures { result.now ≡ error_line (UnknownShell (no_registration_text shell)) }
 {
@@ -53,8 +53,9 @@ pub(crate) fn tree_refusal(error: TreeError) -> Refusal
     }
 }
 
-/// What is printed of an error of the library.
-pub(crate) fn error_refusal(alloc: Global, error: &Error) -> Refusal
+/// What is printed of an error of the library: status 1, and the error's text as a line; that of
+/// `Memory` where there is no memory for the text.
+pub fn error_refusal(alloc: Global, error: &Error) -> Refusal
     ensures { Reports error.now result }
 {
     match error {

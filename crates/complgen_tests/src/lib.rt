@@ -7,6 +7,8 @@ mod checks;
 #[cfg(test)]
 mod lines;
 #[cfg(test)]
+mod own_tree;
+#[cfg(test)]
 mod runs;
 #[cfg(test)]
 mod scripts;

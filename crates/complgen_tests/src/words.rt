@@ -14,8 +14,8 @@ pub(crate) fn plan_of(rt: &impl Abort, alloc: Global, words: &[&str]) -> Result<
     plan(alloc, words.as_slice())
 }
 
-// The refusal of these words; fails where there is a plan.
-fn refusal_of(rt: &impl Abort, alloc: Global, words: &[&str]) -> Refusal {
+/// The refusal of these words; fails where there is a plan.
+pub(crate) fn refusal_of(rt: &impl Abort, alloc: Global, words: &[&str]) -> Refusal {
     match plan_of(rt, alloc, words) {
         Ok(_) => panic!(rt; "a plan"),
         Err(refusal) => refusal,

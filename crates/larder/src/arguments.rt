@@ -34,10 +34,10 @@ pub(crate) fn positional(alloc: Global, id: &str, value: &str, help: &str) -> Re
 /// Possible values, each with its help.
 pub(crate) fn possible_values(
     alloc: Global,
-    told: &[(&str, &str)],
+    with_helps: &[(&str, &str)],
 ) -> Result<Vec<PossibleValue>, Error> {
     let mut values = Vec::new(alloc);
-    for (name, help) in told {
+    for (name, help) in with_helps {
         let name = String::from_str(alloc, name)?;
         let help = String::from_str(alloc, help)?;
         values.push(PossibleValue::new(name).help(help))?;

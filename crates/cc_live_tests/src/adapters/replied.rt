@@ -10,7 +10,7 @@ use cc_replies::EnvValues;
 use std::alloc::{AllocError, Global};
 use std::process::Abort;
 
-/// Fails unless the reply for the words is this text, where the index is told by its variable.
+/// Fails unless the reply for the words is this text, where its variable has the index.
 pub(crate) fn replies<R: Abort + AllocGlobal, E: EnvCompleter>(
     rt: &R,
     shell: &E,
@@ -39,7 +39,7 @@ pub(crate) fn refuses<R: Abort + AllocGlobal, E: EnvCompleter>(
     assert!(rt; sink.as_slice().is_empty());
 }
 
-/// Writes the reply for the words, where the index is told by its variable.
+/// Writes the reply for the words, where its variable has the index.
 pub(crate) fn reply<E: EnvCompleter, W: Sink>(
     alloc: Global,
     shell: &E,
@@ -52,7 +52,7 @@ pub(crate) fn reply<E: EnvCompleter, W: Sink>(
     let words = to_strings(alloc, words)?;
     let values = environment(alloc, index)?;
     let folder = MemoryFolder::new(&[], &[]);
-    let lent = Completers::none(alloc);
+    let completers = Completers::none(alloc);
     let done = shell.write_complete(
         alloc,
         &mut command,
@@ -60,7 +60,7 @@ pub(crate) fn reply<E: EnvCompleter, W: Sink>(
         None,
         &values,
         &folder,
-        &lent,
+        &completers,
         sink,
     );
     drop(command);

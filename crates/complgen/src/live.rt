@@ -1,0 +1,144 @@
+//! Requests of shells: registrations of all programs that have a tree file, and the candidates for
+//! a word of one of them.
+
+use crate::{contents, home};
+use clap_complete::Error;
+use clap_complete::aot::{Counted, Sink};
+use clap_complete::engine::{Folder, RealFolder};
+use clap_complete::env::EnvValues;
+use complgen_command_line::{Refusal, WRITE_FAILED};
+use complgen_live::{reply, write_registrations};
+use complgen_run::error_refusal;
+use complgen_trees::{
+    OWN_TREE, command_name, known_names, request_words, tree_folders, tree_paths,
+};
+use std::alloc::AllocError;
+use std::convert::AsStr;
+use std::env::{self, Env, VarError};
+use std::io::{self, BufWriter};
+use std::rt::Files;
+
+// The variables that shells set, and those that say where tree files lie.
+const VARIABLES: [&str; 7] = [
+    "COMPLETE",
+    "_CLAP_COMPLETE_INDEX",
+    "_CLAP_IFS",
+    "COMPLGEN_PATH",
+    "XDG_DATA_HOME",
+    "XDG_DATA_DIRS",
+    "HOME",
+];
+
+// What the path of the built-in tree is said to be.
+const OWN_PATH: &str = "own tree";
+
+// A tree file, or none.
+#[derive(Drop)]
+struct TreeFile {
+    path: String,
+    bytes: Option<Vec<u8>>,
+}
+
+/// Writes what a shell requests. Where the program has no tree file nothing is written or printed,
+/// and the status is 1: the shell goes on without candidates.
+pub(crate) fn complete<R: Env + Files + Print + Eprint + AllocGlobal>(
+    rt: &R,
+    env: &EnvValues,
+    words: Vec<String>,
+) -> Result<(), Refusal> {
+    let folders = tree_folders(rt.alloc(), env)?;
+    let folder = RealFolder::new(rt, home(rt)?);
+    let out = BufWriter::new(rt.alloc(), io::writer(rt)).map_err(|_| AllocError)?;
+    let mut out = Counted::new(out);
+    match write_requested(rt, env, words, folders.as_slice(), &folder, &mut out) {
+        Ok(true) => out
+            .flush()
+            .map_err(|_| Refusal::from_static(1, WRITE_FAILED)),
+        Ok(false) => Err(Refusal::from_static(1, "")),
+        Err(error) => Err(error_refusal(rt.alloc(), &error)),
+    }
+}
+
+// Writes the registrations, or the reply where words follow the `--`. Returns whether anything was
+// written.
+fn write_requested<R: Env + Files + Eprint + AllocGlobal, D: Folder, W: Sink>(
+    rt: &R,
+    env: &EnvValues,
+    words: Vec<String>,
+    folders: &[String],
+    folder: &D,
+    out: &mut W,
+) -> Result<bool, Error> {
+    let alloc = rt.alloc();
+    let current = env::current_dir(rt).ok();
+    let current_dir = current.as_ref().map(|path| path.as_str());
+    let called = request_words(words.as_slice()).and_then(|words| words.first());
+    let Some(word) = called else {
+        let program = words.first().map_or("complgen", |program| program.as_str());
+        let known = known_names(alloc, folder, folders)?;
+        let names = known.names.as_slice();
+        write_registrations(alloc, env, program, current_dir, folder, names, out)?;
+        report_passed_over(rt, known.passed_over);
+        return Ok(true);
+    };
+    let file = tree_file(rt, folders, word.as_str())?;
+    let bytes = file.bytes.as_ref().map(Vec::as_slice);
+    let path = file.path.as_str();
+    reply(alloc, env, words, path, bytes, current_dir, folder, out)
+}
+
+// Says how many tree files are passed over, as their names are not plain. The names are not
+// printed: they may hold what a terminal takes for a command.
+fn report_passed_over<R: Eprint>(rt: &R, count: usize) {
+    if count > 0 {
+        let _ = eprintln!(rt;
+            "complgen: tree files passed over, whose names are not plain: {count}"
+        );
+    }
+}
+
+// The first tree file that can be read of the program that a word calls; else the built-in tree,
+// where that is this program.
+fn tree_file<R: Files + AllocGlobal>(
+    rt: &R,
+    folders: &[String],
+    word: &str,
+) -> Result<TreeFile, AllocError> {
+    let alloc = rt.alloc();
+    for path in tree_paths(alloc, folders, word)? {
+        if let Some(bytes) = contents(rt, path.as_str()).map_err(|_| AllocError)? {
+            return Ok(TreeFile {
+                path,
+                bytes: Some(bytes),
+            });
+        }
+    }
+    let mut bytes = None;
+    if command_name(word) == Some("complgen") {
+        bytes = Some(String::from_str(alloc, OWN_TREE)?.into_bytes());
+    }
+    Ok(TreeFile {
+        path: String::from_str(alloc, OWN_PATH)?,
+        bytes,
+    })
+}
+
+/// The values of the variables that a request is read from.
+pub(crate) fn environment<R: Env + AllocGlobal>(rt: &R) -> Result<EnvValues, AllocError> {
+    let mut variables = Vec::new(rt.alloc());
+    for name in VARIABLES {
+        if let Some(value) = variable(rt, name)? {
+            variables.push((String::from_str(rt.alloc(), name)?, value))?;
+        }
+    }
+    Ok(EnvValues::new(variables))
+}
+
+// The value of a variable that is set, where it is UTF-8.
+fn variable<R: Env + AllocGlobal>(rt: &R, name: &str) -> Result<Option<String>, AllocError> {
+    match env::var(rt, name) {
+        Ok(value) => Ok(Some(value)),
+        Err(VarError::OutOfMemory) => Err(AllocError),
+        Err(_) => Ok(None),
+    }
+}

@@ -1,0 +1,4 @@
+pub mod Folders
+pub mod KnownNames
+pub mod Requests
+pub mod TreeFiles

@@ -1,0 +1,25 @@
+-- When the words of the command line are a request of a shell.
+use Rattle.std.specs.Prelude.{ℕ, Bool, true, false, not, ◌&&◌, List, [], ◌∷◌, Option, None, Some, codes, if◌then◌else◌}
+use Rattle.std.specs.Str.{bytes_eq}
+
+-- a value of the variable that names a shell: set, not empty and not `0`
+abbrev pub names_shell : Option (List ℕ) → Bool
+names_shell None = false
+names_shell (Some value) = not (bytes_eq value []) && not (bytes_eq value (codes "0"))
+
+-- the program's name alone, or with a `--` after it
+abbrev pub begins_request : List (List ℕ) → Bool
+begins_request [] = true
+begins_request (program ∷ []) = true
+begins_request (program ∷ (word ∷ words)) = bytes_eq word (codes "--")
+
+-- by the value of the variable and the words it is a request
+abbrev pub is_request : Option (List ℕ) → List (List ℕ) → Bool
+is_request value words = names_shell value && begins_request words
+
+-- the words after the `--` that follows the program's name; none where another word follows it
+abbrev pub request_words : List (List ℕ) → Option (List (List ℕ))
+request_words [] = None
+request_words (program ∷ []) = None
+request_words (program ∷ (word ∷ words)) =
+    if bytes_eq word (codes "--") then Some words else None
