@@ -1,4 +1,4 @@
--- The node at the here to which visible names lead.
+-- The node to which visible names lead.
 use Rattle.std.proofs.Common.{◌≡◌, ◌∙◌, ap, sym, refl, ℕ, List, [], ◌∷◌, ◌++◌, Option, Some, None}
 use Rattle.std.specs.Prelude.{unwrap_or}
 use Rattle.cc_command.specs.Tree.{Tree}

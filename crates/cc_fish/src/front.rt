@@ -70,7 +70,6 @@ fn push_root(front: &mut String, function: &str, command: &Command) -> Result<()
 }
 
 // Once a child's name is given, the records of the child hold in place of these.
-#[tactic(auto, unfolding(crate::specs::Script::not_seen))]
 fn push_excluded(front: &mut String, command: &Command) -> Result<(), AllocError>
     ensures { OnOk result (string_bytes front.new
         ≡ string_bytes front.old ++ excluded_text command.now.children) }

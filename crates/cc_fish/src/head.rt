@@ -1,6 +1,6 @@
 //! What a script begins with, where the root has children.
 
-ghost use Rattle.std.specs.Prelude.{◌≡◌, ◌++◌, filter, flat_map, not, codes, [], if◌then◌else◌};
+ghost use Rattle.std.specs.Prelude.{◌≡◌, filter, flat_map, not, codes, [], if◌then◌else◌};
 ghost use Rattle.cc_arg.specs.Arguments.{is_positional, takes_values};
 ghost use Rattle.cc_arg.specs.ShownNames.{shown_longs, shown_shorts};
 ghost use Rattle.cc_base.specs.Writes.{Writes, as_write};

@@ -1,7 +1,6 @@
 //! What a record says of an option's values.
 
 ghost use Rattle.std.specs.Prelude.{◌≡◌, ◌++◌, ◌∷◌, [], not, true, unwrap_or, OnOk, Some};
-ghost use Rattle.std.specs.Option.{option_copied};
 ghost use Rattle.cc_base.specs.Bytes.{line_feed};
 ghost use Rattle.cc_base.specs.Joined.{separator};
 ghost use Rattle.cc_base.specs.Writes.{Writes, as_write};
@@ -38,7 +37,7 @@ pub(crate) fn write_values<W: Sink>(
     }
 }
 
-#[tactic(auto, unfolding(crate::specs::Script::listed_text, crate::specs::Script::list_begin))]
+#[tactic(auto, unfolding(crate::specs::Script::listed_text))]
 fn write_listed<W: Sink>(sink: &mut W, values: &[PossibleValue]) -> Result<(), ErrorKind>
     ensures { Writes W.taken W.failed (as_write result) sink.old sink.new
         (listed_text values.now) }
