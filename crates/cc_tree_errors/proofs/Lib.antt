@@ -1,0 +1,2 @@
+pub mod CheckLemmas
+pub mod WalkLemmas

@@ -1,0 +1,10 @@
+use Rattle.std.proofs.Common.{◌≡◌, ◌∙◌, None, ap, is_some}
+use Rattle.cc_json.specs.Seen.{view}
+use Rattle.cc_tree_file.specs.CommandForm.{command_of}
+use Rattle.cc_tree_errors.proofs.checking.check_value.Goals as goal
+
+pub returns-in_ok-placed_errors-in-Err-BadForm : goal.returns-in_ok-placed_errors-in-Err-BadForm
+returns-in_ok-placed_errors-in-Err-BadForm c =
+    let none : command_of (view c.args.value.now) ≡ None =
+    rw c.in-Err-BadForm.field-0-is at c.in-Err-BadForm.ensures in
+    (c.in_ok-placed_errors-in-Err-BadForm.ensures ∙ ap is_some none, none)

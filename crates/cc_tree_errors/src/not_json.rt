@@ -1,0 +1,152 @@
+//! Why a text is no JSON.
+
+ghost use Rattle.std.specs.Prelude.{◌≡◌, IfOk, false};
+ghost use Rattle.cc_tree_file.specs.Faults.{is_nil};
+
+use crate::checking::placed_errors;
+use crate::finding::{Finding, Level, PlacedFinding, place};
+use cc_json::{Scratch, Value};
+use cc_tree_file::Step;
+use json::Reader;
+use std::alloc::{AllocError, Global};
+
+/// Returns what is wrong with bytes that are no UTF-8 from this offset on, or no JSON: one error at
+/// this place. Fails where memory runs out.
+pub fn one_error(alloc: Global, offset: usize, text: &str) -> Result<Vec<PlacedFinding>, AllocError>
+    ensures { IfOk result (λ found. is_nil found.items ≡ false) }
+{
+    let path = String::from_str(alloc, "the file")?;
+    let text = String::from_str(alloc, text)?;
+    let mut found = Vec::new(alloc);
+    found.push(PlacedFinding {
+        level: Level::Error,
+        offset,
+        path,
+        text,
+    })?;
+    Ok(found)
+}
+
+/// Returns why a text that no value is read from is no JSON. Fails where memory runs out.
+pub fn json_errors(alloc: Global, text: &str) -> Result<Vec<PlacedFinding>, AllocError>
+    ensures { IfOk result (λ found. is_nil found.items ≡ false) }
+{
+    let mut scratch = Scratch::new(alloc);
+    let mut reader = Reader::new(text, &mut scratch)?;
+    match Value::read(alloc, &mut reader, 127) {
+        Ok(value) => after_value(alloc, text, &value, &mut reader),
+        Err(json::Error::OutOfMemory) => Err(AllocError),
+        Err(_) => {
+            let offset = reader.offset().min(text.len());
+            one_error(alloc, offset, why_no_json(text.as_bytes(), offset))
+        }
+    }
+}
+
+// What is wrong with a text from which a value was read.
+fn after_value(
+    alloc: Global,
+    text: &str,
+    value: &Value<'_>,
+    reader: &mut Reader<'_>,
+) -> Result<Vec<PlacedFinding>, AllocError>
+    ensures { IfOk result (λ found. is_nil found.items ≡ false) }
+{
+    if reader.next().is_some() {
+        let offset = reader.offset().min(text.len());
+        return one_error(alloc, offset, "not JSON: something follows the value");
+    }
+    range_error(alloc, text, value)
+}
+
+// The first number out of range. In a value that is read it would be of another kind, so it stands
+// in a member that a later one hides, or in a value that is wrong as well.
+fn range_error(
+    alloc: Global,
+    text: &str,
+    value: &Value<'_>,
+) -> Result<Vec<PlacedFinding>, AllocError>
+    ensures { IfOk result (λ found. is_nil found.items ≡ false) }
+{
+    let found = placed_errors(alloc, text, value)?;
+    if !found.is_empty() {
+        return Ok(found);
+    }
+    let mut path = Vec::new(alloc);
+    let _ = push_out_of_range(&mut path, value)?;
+    let said = String::from_str(alloc, "number out of range")?;
+    let finding = Finding {
+        level: Level::Error,
+        path,
+        at_key: false,
+        text: said,
+    };
+    let mut found = Vec::new(alloc);
+    found.push(place(alloc, text, value, finding)?)?;
+    Ok(found)
+}
+
+// Appends the steps to the first number out of range, where there is one; whether there is.
+#[cycle(range)]
+fn push_out_of_range<'t>(path: &mut Vec<Step<'t>>, value: &Value<'t>) -> Result<bool, AllocError> {
+    match value {
+        Value::Number(_) => Ok(value.as_f64().is_some_and(|number| !number.is_finite())),
+        Value::Array(items) => push_in_items(path, items),
+        Value::Object(members) => push_in_members(path, members),
+        _ => Ok(false),
+    }
+}
+
+#[cycle(range)]
+fn push_in_items<'t>(path: &mut Vec<Step<'t>>, items: &Vec<Value<'t>>) -> Result<bool, AllocError> {
+    for (index, item) in items.iter().enumerate() {
+        path.push(Step::Item(index))?;
+        if push_out_of_range(path, item)? {
+            return Ok(true);
+        }
+        let _ = path.pop();
+    }
+    Ok(false)
+}
+
+#[cycle(range)]
+fn push_in_members<'t>(
+    path: &mut Vec<Step<'t>>,
+    members: &Vec<(&'t str, Value<'t>)>,
+) -> Result<bool, AllocError> {
+    for (index, member) in members.iter().enumerate() {
+        path.push(Step::Member(member.0, index))?;
+        if push_out_of_range(path, &member.1)? {
+            return Ok(true);
+        }
+        let _ = path.pop();
+    }
+    Ok(false)
+}
+
+// Why no value goes on at an offset, where it is one of the frequent mistakes.
+fn why_no_json(bytes: &[u8], offset: usize) -> &'static str {
+    match bytes.get(offset).copied() {
+        None => "not JSON: the text ends within the value",
+        Some(239) => "not JSON: the text begins with a byte order mark, which JSON has not",
+        Some(b'/') | Some(b'#') => "not JSON: JSON has no comments",
+        Some(b'\'') => "not JSON: a text is written in double quotes",
+        Some(b']') | Some(b'}') if follows_comma(&bytes[..offset]) => {
+            "not JSON: a comma before the end of a list or an object"
+        }
+        Some(b'"') => {
+            "not JSON: a comma or a colon is missing before this text, or the text has a bad escape"
+        }
+        Some(b'[') | Some(b'{') => "not JSON: nested deeper than 127, or a comma is missing",
+        Some(_) => "not JSON",
+    }
+}
+
+// Whether the last of some bytes, blanks left out, is a comma.
+fn follows_comma(before: &[u8]) -> bool {
+    let last = before
+        .iter()
+        .rev()
+        .find(|byte| !matches!(**byte, b' ' | b'\t' | b'\r' | b'\n'));
+    matches!(last, Some(b','))
+}
