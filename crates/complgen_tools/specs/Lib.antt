@@ -1,1 +1,2 @@
 pub mod AllScripts
+pub mod Checking

@@ -2,5 +2,8 @@
 #![tactic(auto)]
 
 mod all_scripts;
+mod checking;
+mod lines;
 
 pub use crate::all_scripts::scripts;
+pub use crate::checking::check;

@@ -1,0 +1,116 @@
+-- What a check of a tree file finds and prints, and how it ends.
+use Rattle.std.specs.Prelude.{◌≡◌, ◌+◌, ◌++◌, ◌&&◌, ◌==◌, ℕ, Bool, false, List, [], Option, Some, None}
+use Rattle.std.specs.Prelude.{IsTrue, Result, Ok, Err, codes, count_by, decimal, map, not, reverse}
+use Rattle.std.specs.Prelude.{string_bytes, length, min, take, take_while}
+use Rattle.std.specs.List.{flat_map}
+use Rattle.std.specs.declared.io.ErrorKind.{ErrorKind}
+use Rattle.cc_base.specs.Sink.{Failures, add_failure}
+use Rattle.cc_base.specs.declared.error.Error.TheVariants.{Write}
+use Rattle.cc_command.specs.Tree.{Tree}
+use Rattle.cc_command_warnings.specs.Notes.{are_notes}
+use Rattle.cc_command_warnings.specs.Texts.{level_of, warning_text}
+use Rattle.cc_command_warnings.specs.declared.warning.Level.TheVariants as warning
+use Rattle.cc_command_warnings.specs.declared.warning.Level.{Level as WarningLevel}
+use Rattle.cc_command_warnings.specs.declared.warning.Warning.{Warning}
+use Rattle.cc_tree_errors.specs.Checks.{DescribesNone}
+use Rattle.cc_tree_errors.specs.Places.{begins_character}
+use Rattle.cc_tree_errors.specs.declared.finding.Level.{Level}
+use Rattle.cc_tree_errors.specs.declared.finding.Level.TheVariants as level
+use Rattle.cc_tree_errors.specs.declared.finding.PlacedFinding.{PlacedFinding}
+use Rattle.cc_tree_file.specs.Faults.{is_nil}
+use Rattle.cc_tree_file.specs.TreeFile.{Describes}
+use Rattle.cc_tree_warnings.specs.Promises.{HoldPremises}
+use Rattle.cc_tree_warnings.specs.TreeWarnings.{warnings_of}
+use Rattle.complgen_command_line.specs.Refusals.{IsOutOfMemory, IsRefusal}
+use Rattle.complgen_command_line.specs.declared.types.Refusal.{Refusal}
+use Rattle.complgen_run.specs.Refusals.{error_line, unreadable_line}
+use Rattle.complgen_run.specs.Writing.{Untouched}
+
+-- ---- lines
+
+-- the word for a level
+abbrev pub level_text : Level → List ℕ
+level_text level.Note = codes "note"
+level_text level.Warning = codes "warning"
+level_text level.Error = codes "error"
+
+-- the line of what comes after some bytes, from 1, and its column in characters, from 1
+abbrev pub line_after : List ℕ → ℕ
+line_after before = count_by (λ byte. byte == 10) before + 1
+
+abbrev pub column_after : List ℕ → ℕ
+column_after before =
+    count_by begins_character (take_while (λ byte. not (byte == 10)) (reverse before)) + 1
+
+-- a finding as a line, `LINE:COLUMN: LEVEL: PATH: TEXT`
+abbrev pub finding_line : List ℕ → PlacedFinding → List ℕ
+finding_line bytes finding =
+    ((((((decimal (line_after (take (min finding.offset (length bytes)) bytes)) ++ codes ":")
+    ++ decimal (column_after (take (min finding.offset (length bytes)) bytes))) ++ codes ": ")
+    ++ level_text finding.level) ++ codes ": ") ++ string_bytes finding.path)
+    ++ (codes ": " ++ (string_bytes finding.text ++ codes "\n"))
+
+-- findings, a line each
+abbrev pub finding_lines : List ℕ → List PlacedFinding → List ℕ
+finding_lines bytes found = flat_map (finding_line bytes) found
+
+-- ---- what is found
+
+-- the level of a finding, and its text
+abbrev pub said : PlacedFinding → Level × List ℕ
+said finding = (finding.level, string_bytes finding.text)
+
+-- the level of a warning as one of a finding
+abbrev pub as_level : WarningLevel → Level
+as_level warning.Warning = level.Warning
+as_level warning.Note = level.Note
+
+-- the level of a warning, and its text
+abbrev pub warning_said : Warning → Level × List ℕ
+warning_said warning = (as_level (level_of warning.kind), warning_text warning)
+
+-- What is said of a command in a file without errors: keys that stand twice, then the warnings and
+-- notes about the command; and whether that is nothing but notes.
+pub record Warns (bin : Option (List ℕ)) (tree : Tree) (doubles found : List PlacedFinding)
+    (clean : Bool) : Type 0 where
+  pub warnings : List PlacedFinding
+  pub all : found ≡ doubles ++ warnings
+  pub said : map said warnings ≡ map warning_said (warnings_of bin tree)
+  pub is_clean : clean ≡ (is_nil doubles && are_notes (warnings_of bin tree))
+
+-- What a check finds in the bytes of a tree file, and whether that is nothing but notes.
+pub data Finds (bin : Option (List ℕ)) (bytes : List ℕ) (found : List PlacedFinding) (clean : Bool)
+    : Type 0 where
+  -- errors, at least one: the bytes describe no command
+  errors : DescribesNone bytes → is_nil found ≡ false → clean ≡ false → Finds bin bytes found clean
+  -- the bytes describe a command
+  described : (tree : Tree) (doubles : List PlacedFinding) → Describes bytes (Some tree)
+      → Warns bin tree doubles found clean → Finds bin bytes found clean
+
+-- the bytes describe a command for which each premise of what scripts promise holds
+pub record AreSound (bin : Option (List ℕ)) (file : Option (List ℕ)) : Type 0 where
+  pub bytes : List ℕ
+  pub tree : Tree
+  pub is_file : file ≡ Some bytes
+  pub described : Describes bytes (Some tree)
+  pub premises : HoldPremises bin tree
+
+-- ---- the outcome
+
+-- How a check of a tree file ends.
+pub data EndsCheck {S : Type 0} (taken : S → List ℕ) (failed : S → Failures) (bin : Option (List ℕ))
+    (old new : S) : Option (List ℕ) → Result Bool Refusal → Type 0 where
+  -- the file can't be read, and nothing is printed
+  unreadable : (refusal : Refusal) → IsRefusal unreadable_line refusal
+      → Untouched taken failed old new → EndsCheck taken failed bin old new None (Err refusal)
+  -- out of memory; some lines may be printed
+  out_of_memory : (bytes : List ℕ) (refusal : Refusal) → IsOutOfMemory refusal
+      → failed new ≡ failed old → EndsCheck taken failed bin old new (Some bytes) (Err refusal)
+  -- a write failed, which is counted with its kind
+  write_failed : (bytes : List ℕ) (kind : ErrorKind) (refusal : Refusal)
+      → IsRefusal (error_line (Write kind)) refusal → failed new ≡ add_failure kind (failed old)
+      → EndsCheck taken failed bin old new (Some bytes) (Err refusal)
+  -- each finding is printed
+  printed : (bytes : List ℕ) (found : List PlacedFinding) (clean : Bool)
+      → Finds bin bytes found clean → taken new ≡ taken old ++ finding_lines bytes found
+      → failed new ≡ failed old → EndsCheck taken failed bin old new (Some bytes) (Ok clean)
