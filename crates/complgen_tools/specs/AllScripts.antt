@@ -3,7 +3,8 @@ use Rattle.std.specs.Prelude.{◌≡◌, ◌++◌, ℕ, List, [], ◌∷◌, IsT
 use Rattle.std.specs.List.{flat_map}
 use Rattle.std.specs.Path.{path_join}
 use Rattle.std.specs.declared.io.ErrorKind.{ErrorKind}
-use Rattle.cc_base.specs.Sink.{Failures, add_failure}
+use Rattle.cc_base.specs.Sink.{add_failure}
+use Rattle.cc_base.specs.declared.failures.Failures.{Failures}
 use Rattle.cc_base.specs.declared.error.Error.{Error}
 use Rattle.cc_base.specs.declared.error.Error.TheVariants.{LabelClash, Write}
 use Rattle.cc_command.specs.Plain.{is_plain_tree}

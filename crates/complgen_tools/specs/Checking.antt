@@ -4,7 +4,8 @@ use Rattle.std.specs.Prelude.{IsTrue, Result, Ok, Err, codes, count_by, decimal,
 use Rattle.std.specs.Prelude.{string_bytes, length, min, take, take_while}
 use Rattle.std.specs.List.{flat_map}
 use Rattle.std.specs.declared.io.ErrorKind.{ErrorKind}
-use Rattle.cc_base.specs.Sink.{Failures, add_failure}
+use Rattle.cc_base.specs.Sink.{add_failure}
+use Rattle.cc_base.specs.declared.failures.Failures.{Failures}
 use Rattle.cc_base.specs.declared.error.Error.TheVariants.{Write}
 use Rattle.cc_command.specs.Tree.{Tree}
 use Rattle.cc_command_warnings.specs.Notes.{are_notes}

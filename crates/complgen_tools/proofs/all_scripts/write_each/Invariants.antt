@@ -7,11 +7,11 @@ use Rattle.complgen_tools.proofs.all_scripts.write_each.Given as goal
 -- was; the shells that are left have no labels, and where their scripts read back, all do
 abbrev pub invariant-loop-shell : goal.invariant-loop-shell
 invariant-loop-shell g l = record {
-  whole : g.W.Sink.taken l.out ++ path_lines l.bin.now l.folder.now (drop l.shell-index l.shells)
-      ≡ g.W.Sink.taken l.initial.out ++ path_lines l.bin.now l.folder.now l.shells;
+  whole : g.W.Sink.taken l.out ++ path_lines l.bin l.folder (drop l.shell-index l.shells)
+      ≡ g.W.Sink.taken l.initial.out ++ path_lines l.bin l.folder l.shells;
   failures : g.W.Sink.failed l.out ≡ g.W.Sink.failed l.initial.out;
   command : l.command ≡ l.initial.command;
   no_labels : AllByRecursion HasNoLabels (drop l.shell-index l.shells);
-  reads : AllByRecursion (ReadsBack l.bin.now l.initial.command) (drop l.shell-index l.shells)
-      → AllByRecursion (ReadsBack l.bin.now l.initial.command) l.shells;
+  reads : AllByRecursion (ReadsBack l.bin l.initial.command) (drop l.shell-index l.shells)
+      → AllByRecursion (ReadsBack l.bin l.initial.command) l.shells;
 }
