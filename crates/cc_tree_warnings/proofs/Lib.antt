@@ -1,1 +1,2 @@
+pub mod BuiltAgain
 pub mod NoWarnings

@@ -1,4 +1,5 @@
-//! The warnings about a described command, that of two commands with one label of bash included.
+//! The warnings about a described command, that of two commands with one label of bash included,
+//! and a call that writes a script only where there are none.
 #![tactic(auto)]
 
 ghost use Rattle.std.specs.Prelude.{◌≡◌, ◌⊎◌, ◌++◌, IfOk, IsTrue, OnErr, OnOk, Some};
@@ -11,6 +12,9 @@ ghost use Rattle.cc_bash.specs.Labels.{shared_label};
 ghost use Rattle.cc_tree_warnings.specs.Promises.{HoldPremises};
 ghost use Rattle.cc_tree_warnings.specs.TreeWarnings.{built_as, called, label_list, warnings_of};
 
+mod scripts;
+
+pub use crate::scripts::write_if_no_warnings;
 use cc_base::Items;
 use cc_bash::clashing_label;
 use cc_command::{Command, build_as, full_name};

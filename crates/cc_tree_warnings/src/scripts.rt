@@ -1,0 +1,45 @@
+//! A script that is written only where there are no warnings.
+
+ghost use Rattle.std.specs.Prelude.{◌≡◌, IfErr, IfOk, IsTrue, None, Some};
+ghost use Rattle.std.specs.String.{string_bytes};
+ghost use Rattle.cc_base.specs.Writes.{IsMemoryOrWrite};
+ghost use Rattle.cc_command.specs.Built.{built_under};
+ghost use Rattle.cc_command_warnings.specs.Notes.{are_notes};
+ghost use Rattle.cc_bash.specs.Labels.{shared_label};
+ghost use Rattle.cc_tree_warnings.specs.TreeWarnings.{warnings_of};
+
+use crate::tree_warnings;
+use cc_base::{Error, Sink};
+use cc_command::Command;
+use cc_command_warnings::are_notes;
+use cc_generator::{Generator, generate};
+use std::alloc::Global;
+
+/// Writes the generator's script for a command that is called by this bin name, where
+/// `tree_warnings` finds none but notes, and returns whether it did: `Ok(false)` where it finds
+/// others, and then nothing is written. A script that is written reads back.
+///
+/// Fails with `Memory` and `Write` alone, where the generator has no labels, or those of the bash
+/// script.
+pub fn write_if_no_warnings<G: Generator + Drop, W: Sink>(
+    alloc: Global,
+    generator: G,
+    command: &mut Command,
+    bin_name: String,
+    sink: &mut W,
+) -> Result<bool, Error>
+    ensures writes { IfOk result (λ done.
+        done ≡ are_notes (warnings_of (Some (string_bytes bin_name)) command.old)) }
+    ensures reads { IfOk result (λ done. IsTrue done →
+        G.Reads generator (built_under (Some (string_bytes bin_name)) command.old)) }
+    ensures errors { (shared_label (built_under (Some (string_bytes bin_name)) command.old) ≡ None →
+        G.clash generator (built_under (Some (string_bytes bin_name)) command.old) ≡ None) →
+        IfErr result IsMemoryOrWrite }
+{
+    let found = tree_warnings(alloc, Some(bin_name.as_str()), command)?;
+    if !are_notes(&found) {
+        return Ok(false);
+    }
+    generate(alloc, generator, command, bin_name, sink)?;
+    Ok(true)
+}
