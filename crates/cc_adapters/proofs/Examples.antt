@@ -1,6 +1,6 @@
--- What an adapter asks for, and which names it has, by example.
+-- What an adapter wants, and which names it has, by example.
 use Rattle.std.proofs.Common.{◌≡◌, [], ◌∷◌, true, false, codes, refl}
-use Rattle.cc_adapters.specs.Asks.{with_next}
+use Rattle.cc_adapters.specs.Wanted.{with_next}
 use Rattle.cc_adapters.specs.Builtins.{builtin_spec}
 use Rattle.cc_adapters.specs.declared.builtin.Builtin.TheVariants.{Powershell}
 
@@ -9,8 +9,8 @@ next_word : with_next (codes "app" ∷ []) 1 ≡ codes "app" ∷ [] ∷ []
 next_word = refl
 
 -- that of `app` itself
-told_word : with_next (codes "app" ∷ []) 0 ≡ codes "app" ∷ []
-told_word = refl
+indexed_word : with_next (codes "app" ∷ []) 0 ≡ codes "app" ∷ []
+indexed_word = refl
 
 -- ---- names
 

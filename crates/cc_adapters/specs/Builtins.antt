@@ -1,7 +1,7 @@
 -- The adapters of this library as one type: each does what the adapter of its name does.
 use Rattle.std.specs.Prelude.{ℕ, Bool, List, [], ◌∷◌, codes}
 use Rattle.std.specs.Str.{bytes_eq}
-use Rattle.cc_adapters.specs.Asks.{AsksAtIndex, AsksAtLast, AsksAtNext}
+use Rattle.cc_adapters.specs.Wanted.{WantsAtIndex, WantsAtLast, WantsAtNext}
 use Rattle.cc_adapters.specs.ShellNames.{is_powershell}
 use Rattle.cc_adapters.specs.declared.builtin.Builtin.{Builtin}
 use Rattle.cc_adapters.specs.declared.builtin.Builtin.TheVariants.{Bash, Elvish, Fish}
@@ -31,8 +31,8 @@ pub record CompleterSpec : Type 1 where
   pub registration : List ℕ → List ℕ → List ℕ → List ℕ → List ℕ
   -- what it is read as
   pub Reads : List ℕ → List ℕ → List ℕ → List ℕ → Type 0
-  -- the words that are asked for, and the index of the one to complete
-  pub Asks : EnvValues → List (List ℕ) → List (List ℕ) → ℕ → Type 0
+  -- the words that are wanted, and the index of the one to complete
+  pub Wants : EnvValues → List (List ℕ) → List (List ℕ) → ℕ → Type 0
   -- the reply of some candidates
   pub reply : EnvValues → List CompletionCandidate → List ℕ
   -- what it is read as
@@ -44,7 +44,7 @@ bash_spec = record {
   named = λ name. bytes_eq name (codes "bash");
   registration = λ variable name bin completer. bash_registration variable name bin completer;
   Reads = λ variable name bin completer. BashReads variable name bin completer;
-  Asks = λ env words asked index. AsksAtIndex env words asked index;
+  Wants = λ env words wanted index. WantsAtIndex env words wanted index;
   reply = λ env found. values_reply (separator_of env) found;
   ReplyReads = λ env found. ValuesRead (separator_of env) found;
 }
@@ -55,7 +55,7 @@ elvish_spec = record {
   named = λ name. bytes_eq name (codes "elvish");
   registration = λ variable name bin completer. elvish_registration variable bin completer;
   Reads = λ variable name bin completer. ElvishReads variable bin completer;
-  Asks = λ env words asked index. AsksAtIndex env words asked index;
+  Wants = λ env words wanted index. WantsAtIndex env words wanted index;
   reply = λ env found. values_reply (separator_of env) found;
   ReplyReads = λ env found. ValuesRead (separator_of env) found;
 }
@@ -66,7 +66,7 @@ fish_spec = record {
   named = λ name. bytes_eq name (codes "fish");
   registration = λ variable name bin completer. fish_registration variable bin completer;
   Reads = λ variable name bin completer. FishReads variable bin completer;
-  Asks = λ env words asked index. AsksAtLast words asked index;
+  Wants = λ env words wanted index. WantsAtLast words wanted index;
   reply = λ env found. lines_reply found;
   ReplyReads = λ env found. LinesRead found;
 }
@@ -77,7 +77,7 @@ powershell_spec = record {
   named = λ name. is_powershell name;
   registration = λ variable name bin completer. powershell_registration variable bin completer;
   Reads = λ variable name bin completer. PowershellReads variable bin completer;
-  Asks = λ env words asked index. AsksAtLast words asked index;
+  Wants = λ env words wanted index. WantsAtLast words wanted index;
   reply = λ env found. lines_reply found;
   ReplyReads = λ env found. LinesRead found;
 }
@@ -88,7 +88,7 @@ zsh_spec = record {
   named = λ name. bytes_eq name (codes "zsh");
   registration = λ variable name bin completer. zsh_registration variable name bin completer;
   Reads = λ variable name bin completer. ZshReads variable name bin completer;
-  Asks = λ env words asked index. AsksAtNext env words asked index;
+  Wants = λ env words wanted index. WantsAtNext env words wanted index;
   reply = λ env found. zsh_reply (separator_of env) found;
   ReplyReads = λ env found. ZshReplyRead (separator_of env) found;
 }

@@ -1,5 +1,5 @@
-pub mod Asks
 pub mod Builtins
 pub mod Replies
 pub mod ShellNames
 pub mod Shells
+pub mod Wanted

@@ -42,6 +42,7 @@ impl EnvCompleter for Bash {
         write_bash(sink, variable, name, bin, completer)
     }
 
+    #[tactic(auto, using(cc_replies::proofs::ReplyReadings::values_back))]
     fn write_complete<D: Folder, W: Sink>(
         &self,
         alloc: Global,

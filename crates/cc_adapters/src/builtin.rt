@@ -31,11 +31,11 @@ pub enum Builtin {
 }
 
 // The shells in their order: each variant is named as its adapter. `$part!` makes of them what is
-// asked for.
+// wanted.
 macro_rules! each_builtin {
-    ($part:ident! $($asked:tt)*) => {
+    ($part:ident! $($wanted:tt)*) => {
         $part! {
-            [$($asked)*]
+            [$($wanted)*]
             Bash Elvish Fish Powershell Zsh
         }
     };

@@ -42,6 +42,7 @@ impl EnvCompleter for Elvish {
         write_elvish(alloc, sink, variable, bin, completer)
     }
 
+    #[tactic(auto, using(cc_replies::proofs::ReplyReadings::values_back))]
     fn write_complete<D: Folder, W: Sink>(
         &self,
         alloc: Global,

@@ -8,7 +8,7 @@ ghost use Rattle.cc_base.specs.Writes.{Writes};
 ghost use Rattle.cc_candidates.specs.declared.candidate.CompletionCandidate.{CompletionCandidate};
 ghost use Rattle.cc_engine.specs.Completion.{Completes};
 ghost use Rattle.cc_engine.specs.Paths.{PathsOf};
-ghost use Rattle.cc_values.specs.Values.{lent_by};
+ghost use Rattle.cc_values.specs.Values.{returned_by};
 
 use cc_base::{Error, Sink};
 use cc_candidates::{CandidateSources, Completers};
@@ -17,8 +17,8 @@ use cc_paths::Folder;
 use cc_replies::EnvValues;
 use std::alloc::Global;
 
-/// An adapter for a shell: what the shell is told to run for the words of a program, and how it is
-/// replied to.
+/// An adapter for a shell: what the shell runs for the words of a program, and how it is replied
+/// to.
 pub trait EnvCompleter {
     // what is said of the adapter: its names, its registration, which words it completes, its reply
     ghost spec: { Self → CompleterSpec };
@@ -32,8 +32,8 @@ pub trait EnvCompleter {
     fn is(&self, name: &str) -> bool
         ensures { result ≡ (spec self.now).named name.now };
 
-    /// Writes the registration: the text that tells the shell to run the completer, with the
-    /// variable set to the shell's name, for the words of the binary. The name makes the names of
+    /// Writes the registration: the text by which the shell runs the completer, with the variable
+    /// set to the shell's name, for the words of the binary. The name makes the names of
     /// functions in the text, with `_` for `-` (bash and zsh).
     ///
     /// Fails with `Write` where the sink fails, and with `Memory`. How much the sink took before
@@ -52,11 +52,11 @@ pub trait EnvCompleter {
         ensures read_back { (spec self.now).Reads variable.now name.now bin.now completer.now };
 
     /// Writes the reply for the words of a command line: the candidates for the word that the shell
-    /// asks for, of the command, which is built first.
+    /// completes, of the command, which is built first.
     ///
-    /// Fails with `NoCompletion` where no word, or the program's name, is at the index that is
-    /// asked for; the command is built all the same. Fails with `Memory`, and the command is then
-    /// as it was or built. In either case nothing is written. Fails with `Write` where the sink
+    /// Fails with `NoCompletion` where no word, or the program's name, is at the wanted index; the
+    /// command is built all the same. Fails with `Memory`, and the command is then as it was or
+    /// built. In either case nothing is written. Fails with `Write` where the sink
     /// fails; how much it took before is left open.
     fn write_complete<D: Folder, W: Sink>(
         &self,
@@ -70,7 +70,7 @@ pub trait EnvCompleter {
         sink: &mut W,
     ) -> Result<(), Error>
         ensures reply { Replies W.taken W.failed result sink.old sink.new command.old command.new
-            ((spec self.now).Asks env.now (map string_bytes words.items)) (Completes (lent_by
+            ((spec self.now).Wants env.now (map string_bytes words.items)) (Completes (returned_by
             ⟦<Completers as CandidateSources>⟧.may_complete
             ⟦<Completers as CandidateSources>⟧.may_list completers.now
             (PathsOf (D.facts folder.now) (option_copied current_dir.entry)))

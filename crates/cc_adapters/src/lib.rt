@@ -1,4 +1,4 @@
-//! Live completion: what each shell is told to run, and how it is replied to.
+//! Live completion: what each shell runs, and how it is replied to.
 #![tactic(auto)]
 
 mod bash;

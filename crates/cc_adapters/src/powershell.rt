@@ -41,6 +41,7 @@ impl EnvCompleter for Powershell {
         write_powershell(alloc, sink, variable, bin, completer)
     }
 
+    #[tactic(auto, using(cc_replies::proofs::ReplyReadings::lines_back))]
     fn write_complete<D: Folder, W: Sink>(
         &self,
         alloc: Global,

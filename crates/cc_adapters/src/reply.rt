@@ -2,14 +2,14 @@
 
 ghost use Rattle.std.specs.Prelude.{◌≡◌, ◌-◌, ℕ, IfErr, List, length, map, string_bytes};
 ghost use Rattle.std.specs.Option.{option_copied};
-ghost use Rattle.cc_adapters.specs.Asks.{AsksFor};
+ghost use Rattle.cc_adapters.specs.Wanted.{WantsThese};
 ghost use Rattle.cc_adapters.specs.Replies.{Replies};
 ghost use Rattle.cc_base.specs.Writes.{IsWrite, Writes};
 ghost use Rattle.cc_candidates.specs.declared.candidate.CompletionCandidate.{CompletionCandidate};
 ghost use Rattle.cc_engine.specs.Completion.{Completes};
 ghost use Rattle.cc_engine.specs.Paths.{PathsOf};
 ghost use Rattle.cc_replies.specs.Reply.{lines_reply, values_reply, zsh_reply};
-ghost use Rattle.cc_values.specs.Values.{lent_by};
+ghost use Rattle.cc_values.specs.Values.{returned_by};
 
 use cc_base::{Error, Sink};
 use cc_candidates::{CandidateSources, Completers, CompletionCandidate};
@@ -81,7 +81,7 @@ pub(crate) fn reply_at<D: Folder, F: ReplyFormat, W: Sink>(
     sink: &mut W,
 ) -> Result<(), Error>
     ensures { Replies W.taken W.failed result sink.old sink.new command.old command.new
-        (AsksFor (map string_bytes words.items) index) (Completes (lent_by
+        (WantsThese (map string_bytes words.items) index) (Completes (returned_by
         ⟦<Completers as CandidateSources>⟧.may_complete ⟦<Completers as CandidateSources>⟧.may_list
         completers.now (PathsOf (D.facts folder.now) (option_copied current_dir.entry)))
         command.new) (F.text format.now) }
@@ -100,7 +100,7 @@ pub(crate) fn reply_at<D: Folder, F: ReplyFormat, W: Sink>(
 
 /// The index of the last word; 0 where there is none.
 pub(crate) fn last_index(words: &[String]) -> usize
-    ensures { result ≡ length words.now - 1 }
+    ensures { result ≡ length (map string_bytes words.now) - 1 }
 {
     words.len().saturating_sub(1)
 }

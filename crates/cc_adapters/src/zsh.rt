@@ -1,7 +1,7 @@
 //! The adapter for zsh.
 
 ghost use Rattle.std.specs.Prelude.{◌≡◌, IfOk, map, string_bytes};
-ghost use Rattle.cc_adapters.specs.Asks.{with_next};
+ghost use Rattle.cc_adapters.specs.Wanted.{with_next};
 ghost use Rattle.cc_adapters.specs.Builtins.{zsh_spec};
 
 use crate::env_completer::EnvCompleter;
@@ -44,6 +44,7 @@ impl EnvCompleter for Zsh {
         write_zsh(alloc, sink, variable, name, bin, completer)
     }
 
+    #[tactic(auto, using(cc_replies::proofs::ReplyReadings::zsh_back))]
     fn write_complete<D: Folder, W: Sink>(
         &self,
         alloc: Global,
@@ -73,8 +74,8 @@ impl EnvCompleter for Zsh {
 
 // The words, with an empty one after them where the index is their number.
 fn with_next(alloc: Global, mut words: Vec<String>, index: usize) -> Result<Vec<String>, AllocError>
-    ensures { IfOk result (λ asked.
-        map string_bytes asked.items ≡ with_next (map string_bytes words.items) index) }
+    ensures { IfOk result (λ wanted.
+        map string_bytes wanted.items ≡ with_next (map string_bytes words.items) index) }
 {
     if index == words.len() {
         words.push(String::new(alloc))?;

@@ -1,7 +1,7 @@
 //! An argument: its builders and getters.
 
 ghost use Rattle.std.specs.Prelude.{◌≡◌, [], ◌∷◌, ◌++◌, Some, None, Option, unwrap_or};
-ghost use Rattle.std.specs.Prelude.{IfOk, IfErr, OnOk};
+ghost use Rattle.std.specs.Prelude.{IfOk, IfErr};
 ghost use Rattle.std.specs.Option.{option_map, option_copied};
 ghost use Rattle.std.specs.String.{string_bytes};
 ghost use Rattle.cc_arg.specs.Aliases.{shorts_left, longs_left};
@@ -10,7 +10,7 @@ ghost use Rattle.cc_arg.specs.Arguments.{takes_values, filled, possible_values};
 
 use crate::action::ArgAction;
 use crate::aliases::{LongAndVisibleAliases, ShortAndVisibleAliases};
-use crate::parts::ArgParts;
+use crate::parts::{ArgParts, text_of};
 use crate::possible_value::PossibleValue;
 use crate::range::ValueRange;
 use crate::value_hint::ValueHint;
@@ -314,7 +314,7 @@ impl Arg {
     pub fn get_long(&self) -> Option<&str>
         ensures { option_copied result ≡ self.now.long }
     {
-        self.parts.long.as_ref().map(|long| long.as_str())
+        text_of(&self.parts.long)
     }
 
     /// The longs that are shown besides the long.
@@ -345,7 +345,7 @@ impl Arg {
     pub fn get_help(&self) -> Option<&str>
         ensures { option_copied result ≡ self.now.help }
     {
-        self.parts.help.as_ref().map(|help| help.as_str())
+        text_of(&self.parts.help)
     }
 
     /// What the argument does; `Set` where nothing was said.
@@ -380,20 +380,14 @@ impl Arg {
     pub fn get_value_terminator(&self) -> Option<&str>
         ensures { option_copied result ≡ self.now.value_terminator }
     {
-        self.parts
-            .value_terminator
-            .as_ref()
-            .map(|terminator| terminator.as_str())
+        text_of(&self.parts.value_terminator)
     }
 
     /// The heading of the argument.
     pub fn get_help_heading(&self) -> Option<&str>
         ensures { option_copied result ≡ self.now.help_heading }
     {
-        self.parts
-            .help_heading
-            .as_ref()
-            .map(|heading| heading.as_str())
+        text_of(&self.parts.help_heading)
     }
 
     /// The character between several values in one word.

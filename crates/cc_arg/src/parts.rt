@@ -1,6 +1,7 @@
 //! What one argument holds.
 
 ghost use Rattle.std.specs.Prelude.{◌≡◌, IfOk};
+ghost use Rattle.std.specs.Option.{option_copied};
 ghost use Rattle.cc_arg.specs.Arguments.{new_arg};
 
 use crate::action::ArgAction;
@@ -68,100 +69,134 @@ pub struct ArgParts {
     pub allow_hyphen_values: bool,
 }
 
-// One line for each part besides the id: its kind, which says how it is copied, with the first
-// value of those kinds that leave it open. `$all!` makes of the lines what is asked for.
-macro_rules! each_part {
-    ($all:ident! $($asked:tt)*) => {
-        $all! {
-            [$($asked)*]
-            short: plain(None),
-            short_aliases: characters,
-            visible_short_aliases: characters,
-            long: text,
-            aliases: texts,
-            visible_aliases: texts,
-            help: text,
-            action: plain(None),
-            num_args: plain(None),
-            value_names: texts,
-            possible_values: values,
-            value_hint: plain(ValueHint::Unknown),
-            value_terminator: text,
-            help_heading: text,
-            value_delimiter: plain(None),
-            completer: plain(None),
-            candidates: plain(None),
-            index: plain(None),
-            display_order: plain(None),
-            conflicts: texts,
-            required: plain(false),
-            last: plain(false),
-            global: plain(false),
-            hide: plain(false),
-            allow_hyphen_values: plain(false),
-        }
-    };
-}
-
-// The parts of an argument of which only the id was given.
-macro_rules! first_parts {
-    ([$id:ident, $alloc:ident] $($part:ident: $kind:ident $(($first:expr))?,)*) => {
-        ArgParts {
-            $id,
-            $($part: first!($kind $(($first))?, $alloc),)*
-        }
-    };
-}
-
-// The first value of a part.
-macro_rules! first {
-    (plain($first:expr), $alloc:ident) => { $first };
-    (text, $alloc:ident) => { None };
-    (values, $alloc:ident) => { None };
-    ($items:ident, $alloc:ident) => { Items::new($alloc) };
-}
-
-// A copy of all parts.
-macro_rules! copied_parts {
-    ([$parts:ident, $alloc:ident] $($part:ident: $kind:ident $(($first:expr))?,)*) => {
-        ArgParts {
-            id: $parts.id.try_clone($alloc)?,
-            $($part: copy!($kind $parts.$part, $alloc),)*
-        }
-    };
-}
-
-// A copy of a part.
-macro_rules! copy {
-    (plain $part:expr, $alloc:ident) => { $part };
-    (characters $part:expr, $alloc:ident) => { Items::copy_of($alloc, $part.as_slice())? };
-    (text $part:expr, $alloc:ident) => { copy_of_some($alloc, &$part)? };
-    (texts $part:expr, $alloc:ident) => { Items::copy_of_texts($alloc, $part.as_slice())? };
-    (values $part:expr, $alloc:ident) => { copy_of_given($alloc, &$part)? };
-}
-
 impl ArgParts {
     /// An argument with this id and nothing else; its lists allocate from `alloc`.
     pub fn new(alloc: Global, id: Text) -> ArgParts
         ensures { result ≡ new_arg id }
     {
-        each_part!(first_parts! id, alloc)
+        ArgParts {
+            id,
+            short: None,
+            short_aliases: Items::new(alloc),
+            visible_short_aliases: Items::new(alloc),
+            long: None,
+            aliases: Items::new(alloc),
+            visible_aliases: Items::new(alloc),
+            help: None,
+            action: None,
+            num_args: None,
+            value_names: Items::new(alloc),
+            possible_values: None,
+            value_hint: ValueHint::Unknown,
+            value_terminator: None,
+            help_heading: None,
+            value_delimiter: None,
+            completer: None,
+            candidates: None,
+            index: None,
+            display_order: None,
+            conflicts: Items::new(alloc),
+            required: false,
+            last: false,
+            global: false,
+            hide: false,
+            allow_hyphen_values: false,
+        }
     }
 
     // An equal copy.
     pub(crate) fn try_clone(&self, alloc: Global) -> Result<ArgParts, AllocError>
         ensures { IfOk result (λ copy. copy ≡ self.now) }
     {
-        Ok(each_part!(copied_parts! self, alloc))
+        let (id, long, aliases, visible_aliases) = copy_longs(alloc, self)?;
+        let (short_aliases, visible_short_aliases, help, help_heading) = copy_shorts(alloc, self)?;
+        let (value_names, possible_values, value_terminator, conflicts) = copy_values(alloc, self)?;
+        Ok(ArgParts {
+            id,
+            short: self.short,
+            short_aliases,
+            visible_short_aliases,
+            long,
+            aliases,
+            visible_aliases,
+            help,
+            action: self.action,
+            num_args: self.num_args,
+            value_names,
+            possible_values,
+            value_hint: self.value_hint,
+            value_terminator,
+            help_heading,
+            value_delimiter: self.value_delimiter,
+            completer: self.completer,
+            candidates: self.candidates,
+            index: self.index,
+            display_order: self.display_order,
+            conflicts,
+            required: self.required,
+            last: self.last,
+            global: self.global,
+            hide: self.hide,
+            allow_hyphen_values: self.allow_hyphen_values,
+        })
     }
 }
 
-// A copy of a text, where there is one.
-fn copy_of_some(alloc: Global, text: &Option<Text>) -> Result<Option<Text>, AllocError>
-    ensures { IfOk result (λ copy. copy ≡ text.now) }
+// The parts that own memory are copied in three groups, since a function's check grows with the
+// values that it owns at each call that may fail.
+
+type Longs = (Text, Option<Text>, Items<Text>, Items<Text>);
+
+type ShortsAndHelp = (Items<char>, Items<char>, Option<Text>, Option<Text>);
+
+type Values = (
+    Items<Text>,
+    Option<Items<PossibleValue>>,
+    Option<Text>,
+    Items<Text>,
+);
+
+// A copy of the id, the long and its aliases.
+fn copy_longs(alloc: Global, parts: &ArgParts) -> Result<Longs, AllocError>
+    ensures { IfOk result (λ copy. (copy.0 ≡ parts.now.id) × (copy.1 ≡ parts.now.long)
+        × (copy.2 ≡ parts.now.aliases) × (copy.3 ≡ parts.now.visible_aliases)) }
 {
-    match text {
-        Some(text) => Ok(Some(text.try_clone(alloc)?)),
-        None => Ok(None),
-    }
+    let id = parts.id.try_clone(alloc)?;
+    let long = Text::copy_of_some(alloc, text_of(&parts.long))?;
+    let aliases = Items::copy_of_texts(alloc, parts.aliases.as_slice())?;
+    let visible_aliases = Items::copy_of_texts(alloc, parts.visible_aliases.as_slice())?;
+    Ok((id, long, aliases, visible_aliases))
+}
+
+// A copy of the aliases of the short, the help and its heading.
+fn copy_shorts(alloc: Global, parts: &ArgParts) -> Result<ShortsAndHelp, AllocError>
+    ensures { IfOk result (λ copy. (copy.0 ≡ parts.now.short_aliases)
+        × (copy.1 ≡ parts.now.visible_short_aliases) × (copy.2 ≡ parts.now.help)
+        × (copy.3 ≡ parts.now.help_heading)) }
+{
+    let short_aliases = Items::copy_of(alloc, parts.short_aliases.as_slice())?;
+    let visible_aliases = Items::copy_of(alloc, parts.visible_short_aliases.as_slice())?;
+    let help = Text::copy_of_some(alloc, text_of(&parts.help))?;
+    let help_heading = Text::copy_of_some(alloc, text_of(&parts.help_heading))?;
+    Ok((short_aliases, visible_aliases, help, help_heading))
+}
+
+// A copy of the value names, the possible values, the terminator and the conflicts.
+fn copy_values(alloc: Global, parts: &ArgParts) -> Result<Values, AllocError>
+    ensures { IfOk result (λ copy. (copy.0 ≡ parts.now.value_names)
+        × (copy.1 ≡ parts.now.possible_values) × (copy.2 ≡ parts.now.value_terminator)
+        × (copy.3 ≡ parts.now.conflicts)) }
+{
+    let value_names = Items::copy_of_texts(alloc, parts.value_names.as_slice())?;
+    let possible_values = copy_of_given(alloc, &parts.possible_values)?;
+    let value_terminator = Text::copy_of_some(alloc, text_of(&parts.value_terminator))?;
+    let conflicts = Items::copy_of_texts(alloc, parts.conflicts.as_slice())?;
+    Ok((value_names, possible_values, value_terminator, conflicts))
+}
+
+// The text of a field, where it has one.
+pub(crate) fn text_of(field: &Option<Text>) -> Option<&str>
+    ensures { option_copied result ≡ field.now }
+{
+    field.as_ref().map(|text| text.as_str())
 }

@@ -1,6 +1,7 @@
 -- What building adds to a tree: the arguments `help` and `version`, and the child `help`.
 use Rattle.std.specs.Prelude.{ℕ, suc, List, [], ◌∷◌, ◌++◌, Bool, true, false, not, if◌then◌else◌, ◌&&◌, Option, Some, is_some}
 use Rattle.cc_arg.specs.declared.parts.ArgParts.{ArgParts as Arg}
+use Rattle.cc_arg.specs.declared.action.ArgAction.{ArgAction}
 use Rattle.cc_arg.specs.declared.action.ArgAction.TheVariants.{Help, Version}
 use Rattle.cc_arg.specs.Arguments.{new_arg}
 use Rattle.cc_command.specs.declared.node.Node.{Node}
@@ -9,25 +10,23 @@ use Rattle.cc_command.specs.Names.{has_child, joined_name}
 use Rattle.cc_command.specs.Made.{new_node}
 use Rattle.cc_command.specs.Texts.{help_name, help_short, help_help, help_about, version_name, version_short, version_help, last_order}
 
--- the flag that shows the help
-unfoldable pub help_argument : Arg
-help_argument = record (new_arg help_name) {
-  short = Some help_short;
-  long = Some help_name;
-  help = Some help_help;
-  action = Some Help;
+-- a flag with this id, which is its long too, a short, a help and an action
+abbrev pub generated_flag : List ℕ → ℕ → List ℕ → ArgAction → Arg
+generated_flag id short help action = record (new_arg id) {
+  short = Some short;
+  long = Some id;
+  help = Some help;
+  action = Some action;
   display_order = Some last_order;
 }
 
+-- the flag that shows the help
+unfoldable pub help_argument : Arg
+help_argument = generated_flag help_name help_short help_help Help
+
 -- the flag that shows the version
 unfoldable pub version_argument : Arg
-version_argument = record (new_arg version_name) {
-  short = Some version_short;
-  long = Some version_name;
-  help = Some version_help;
-  action = Some Version;
-  display_order = Some last_order;
-}
+version_argument = generated_flag version_name version_short version_help Version
 
 -- the flag `help`, unless it is disabled
 abbrev pub generated_help : Node → List Arg

@@ -1,6 +1,7 @@
 pub mod Additions
 pub mod ArgumentLists
 pub mod Built
+pub mod Escaped
 pub mod Generated
 pub mod Iterators
 pub mod Made

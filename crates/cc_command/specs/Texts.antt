@@ -1,5 +1,5 @@
 -- The texts of what building adds.
-use Rattle.std.specs.Prelude.{ℕ, List, codes}
+use Rattle.std.specs.Prelude.{⊤, ℕ, List, codes}
 
 -- the name, the id and the long of what shows the help
 unfoldable pub help_name : List ℕ
@@ -20,6 +20,11 @@ version_name = codes "version"
 -- the help of the flag `version`
 unfoldable pub version_help : List ℕ
 version_help = codes "Print version"
+
+-- what opens each of them
+unfoldable pub fixed_texts : ⊤
+unfolding help_name help_help help_about version_name version_help
+fixed_texts = tt
 
 -- the short of the flag `help`: `h`
 abbrev pub help_short : ℕ

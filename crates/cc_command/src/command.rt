@@ -8,6 +8,7 @@ mod build;
 mod builders;
 mod children;
 mod conflicts;
+mod escaped;
 mod getters;
 mod iterators;
 mod plain;
@@ -16,8 +17,10 @@ mod quiet;
 pub use crate::command::build::build_as;
 pub use crate::command::builders::{add_argument, add_child};
 pub use crate::command::conflicts::first_with_id;
+pub use crate::command::escaped::unescaped_quote;
 pub use crate::command::getters::{full_name, has_name};
 pub use crate::command::iterators::{Arguments, NameAndVisibleAliases};
+pub use crate::command::quiet::is_quiet_value;
 use crate::node::Node;
 use cc_base::Text;
 use std::alloc::Global;
@@ -63,6 +66,14 @@ impl Command {
             children: Vec::new(alloc),
         }
     }
+}
+
+/// What the command holds besides its children. A free function, so that `clap_complete` need not
+/// re-export it.
+pub fn node_of(command: &Command) -> &Node
+    ensures { result.now ≡ command.now.node }
+{
+    &command.node
 }
 
 /// A command of this node alone, which is not built; its list of children allocates from `alloc`. A

@@ -9,13 +9,14 @@ use Rattle.std.proofs.lemmas.Bool.Decides.{Decides-eqb}
 use Rattle.std.proofs.lemmas.List.{take-append-drop}
 use Rattle.std.proofs.lemmas.Slice.Eq.{starts_is}
 use Rattle.std.proofs.lemmas.Str.{IsUtf8-nil, IsUtf8-past_char, IsUtf8-string_bytes, encodes-chars}
+use Rattle.cc_base.specs.Bytes.{dash, equals}
 use Rattle.cc_arg.specs.declared.parts.ArgParts.{ArgParts as Arg}
 use Rattle.cc_arg.specs.declared.possible_value.PossibleValue.{PossibleValue}
 use Rattle.cc_arg.specs.Arguments.{possible_values}
 use Rattle.cc_arg.specs.Printed.{printed}
 use Rattle.cc_arg.specs.ShownNames.{shown_longs, shown_shorts}
 use Rattle.cc_base.specs.Sorting.{in_order}
-use Rattle.cc_base.proofs.Members.{Contains-from_IsIn, IsIn-append_left, IsIn-append_right, AllByRecursion-append, AllByRecursion-flat_map, AllByRecursion-from_IsIn, AllByRecursion-map}
+use Rattle.cc_base.proofs.Members.{Contains-from_IsIn, IsIn-append_left, IsIn-append_right, AllByRecursion-append, AllByRecursion-flat_map, AllByRecursion-from_IsIn, AllByRecursion-map, AllByRecursion-weaker}
 use Rattle.cc_base.proofs.Sorted.{AllByRecursion-in_order}
 use Rattle.cc_candidates.specs.Beginning.{begins}
 use Rattle.cc_candidates.specs.Candidate.{candidate_cmp}
@@ -30,10 +31,11 @@ use Rattle.cc_gather.specs.Numbers.{is_number}
 use Rattle.cc_gather.specs.Options.{hidden_candidates, long_candidate, long_candidates, longs, short_candidate, short_candidates, shorts}
 use Rattle.cc_gather.specs.Rows.{Listed, Row, ValuesOf, after_equals, after_one_dash, after_two_dashes, value_query_after, cluster_row, flag_row, long_row, with_prefix, row_of, short_row, without_end}
 use Rattle.cc_gather.proofs.FirstOfIds.{all-first_of_ids}
-use Rattle.cc_gather.proofs.Law.{all-shown}
+use Rattle.cc_gather.proofs.Law.{all-shown, passing}
 use Rattle.cc_gather.proofs.WordKinds.{ends_past_dash, with_end}
+use Rattle.cc_values.proofs.LastPosition.{begins_so, so_begins}
 use Rattle.cc_values.specs.Parts.{front, front_length, part}
-use Rattle.cc_values.specs.Values.{Allows, Lent, Question, as_value, candidates, completer, gather, gathered_by, is_path, nothing, paths, question, question_by, question_of_hint, sorted, value_candidate, values}
+use Rattle.cc_values.specs.Values.{Allows, MayReturn, Question, as_value, candidates, completer, gather, gathered_by, is_path, nothing, paths, question, question_by, question_of_hint, sorted, value_candidate, values}
 use Rattle.cc_walk.specs.declared.word_class.ValueCharacter.{ValueCharacter}
 use Rattle.cc_walk.specs.declared.state.Pending.{Pending}
 use Rattle.cc_walk.specs.declared.state.Pending.TheVariants.{Nothing, OptionOpen, PositionalRun, PositionMoved}
@@ -42,7 +44,7 @@ use Rattle.cc_walk.specs.Lookup.{positional_at}
 use Rattle.cc_walk.specs.WordClasses.{character_value, value_argument, value_character}
 use Rattle.cc_walk.specs.Words.{EndsWith, before_equals}
 use Rattle.cc_engine.specs.declared.open_lists.OpenLists.{OpenLists}
-use Rattle.cc_engine.specs.Completion.{AreAllowed, BeginsOrIsTold, Given, candidates_for, finished_with, questions_of_lists, offered, offered_children, offered_row, open_question, opened_values, positional_question, positional_values, questions, row_candidates, row_question, told}
+use Rattle.cc_engine.specs.Completion.{AreAllowed, BeginsOrIsCompleted, Returned, candidates_for, finished_last, questions_of_lists, offered, offered_children, offered_row, open_question, opened_values, positional_question, positional_values, questions, row_candidates, row_question, completed}
 use Rattle.cc_engine.specs.OpenLists.{least, open_lists_by}
 
 abbrev Candidates : Type 0
@@ -54,32 +56,20 @@ IsOfBeginning P word = (c : CompletionCandidate) → begins word c ≡ true → 
 
 -- TEXTS
 
-starts : (s p rest : List ℕ) → s ≡ p ++ rest → starts_with nat_eq s p ≡ true
-starts s p rest e = (starts_is Decides-eqb s p (starts_with nat_eq s p) refl).1 rest e
-
-started : (s p : List ℕ) → starts_with nat_eq s p ≡ true → s ≡ p ++ drop (length p) s
-started s p e = (starts_is Decides-eqb s p (starts_with nat_eq s p) refl).0 e
-
 put_before : (before text word value : List ℕ) → before ++ text ≡ word → starts_with nat_eq value text ≡ true → starts_with nat_eq (before ++ value) word ≡ true
 put_before before text word value is e =
-    let rest = drop (length text) value in
-    starts (before ++ value) word rest
-    (ap (λ v. before ++ v) (started value text e) ∙ sym (append_assoc before text rest) ∙ ap (λ w. w ++ rest) is)
+    let (rest, split) = begins_so value text e in
+    so_begins (before ++ value) word rest
+    (ap (λ v. before ++ v) split ∙ sym (append_assoc before text rest) ∙ ap (λ w. w ++ rest) is)
 
 -- LISTS
 
 all_of : {X : Type 0} (P : X → Type 0) → ((x : X) → P x) → (xs : List X) → AllByRecursion P xs
-all_of P h [] = tt
-all_of P h (x ∷ xs) = (h x, all_of P h xs)
+all_of P h xs = AllByRecursion-from_IsIn P xs (λ x _. h x)
 
 all_passed : (P : CompletionCandidate → Type 0) (p : CompletionCandidate → Bool) → ((c : CompletionCandidate) → p c ≡ true → P c)
     → (cs : Candidates) → AllByRecursion P (filter p cs)
-all_passed P p ok [] = tt
-all_passed P p ok (c ∷ cs) = by (p c) refl (all_passed P p ok cs)
-  where
-    by : (b : Bool) → p c ≡ b → AllByRecursion P (filter p cs) → AllByRecursion P (if b then c ∷ filter p cs else filter p cs)
-    by true e h = (ok c e, h)
-    by false e h = h
+all_passed P p ok cs = AllByRecursion-weaker (λ c. p c ≡ true) P ok (filter p cs) (passing p cs)
 
 all_unmapped : {X Y : Type 0} (P : Y → Type 0) (f : X → Y) (xs : List X) → AllByRecursion P (map f xs) → AllByRecursion (λ x. P (f x)) xs
 all_unmapped P f [] h = tt
@@ -100,23 +90,23 @@ all_dedup P same (x ∷ xs) h = all_dedup_from P same x xs h.0 h.1
 
 -- THE CHILDREN
 
-all_subcommands : (P : CompletionCandidate → Type 0) (word : List ℕ) → IsOfBeginning P word → (tree : Tree) (lent : Candidates)
-    → AllByRecursion P (subcommand_candidates tree lent word)
+all_subcommands : (P : CompletionCandidate → Type 0) (word : List ℕ) → IsOfBeginning P word → (tree : Tree) (programs : Candidates)
+    → AllByRecursion P (subcommand_candidates tree programs word)
 unfolding subcommand_candidates in_candidates_order
-all_subcommands P word ok tree lent =
-    let kept = filter (begins word) (children_candidates tree.node tree.children ++ external tree.node lent) in
+all_subcommands P word ok tree programs =
+    let kept = filter (begins word) (children_candidates tree.node tree.children ++ external tree.node programs) in
     all_dedup P (eq_by_cmp candidate_cmp) (in_order (λ x y. is_lt (candidate_cmp x y)) kept)
     (AllByRecursion-in_order (λ x y. is_lt (candidate_cmp x y)) P kept
-    (all_passed P (begins word) ok (children_candidates tree.node tree.children ++ external tree.node lent)))
+    (all_passed P (begins word) ok (children_candidates tree.node tree.children ++ external tree.node programs)))
 
-all_children : (P : CompletionCandidate → Type 0) (word : List ℕ) → IsOfBeginning P word → (offers : Bool) (tree : Tree) (given : Candidates)
-    → AllByRecursion P (offered_children offers tree word given)
-all_children P word ok true tree given = all_subcommands P word ok tree given
-all_children P word ok false tree given = tt
+all_children : (P : CompletionCandidate → Type 0) (word : List ℕ) → IsOfBeginning P word → (offers : Bool) (tree : Tree) (returned : Candidates)
+    → AllByRecursion P (offered_children offers tree word returned)
+all_children P word ok true tree returned = all_subcommands P word ok tree returned
+all_children P word ok false tree returned = tt
 
 -- THE VALUES OF AN ARGUMENT
 
-module _ (lent : Lent) (P : CompletionCandidate → Type 0) (arg : Arg) (number : ℕ) (word : List ℕ) (given : Candidates) (ok : IsOfBeginning P word) where
+module _ (sources : MayReturn) (P : CompletionCandidate → Type 0) (arg : Arg) (number : ℕ) (word : List ℕ) (returned : Candidates) (ok : IsOfBeginning P word) where
   abbrev typed : List ℕ
   typed = part arg.value_delimiter word
 
@@ -130,50 +120,48 @@ module _ (lent : Lent) (P : CompletionCandidate → Type 0) (arg : Arg) (number 
   all_made : (cs : Candidates) → AllByRecursion P (map made (filter (begins typed) cs))
   all_made cs = AllByRecursion-map P made (filter (begins typed) cs) (all_passed (λ c. P (made c)) (begins typed) made_begins cs)
 
-  by_hint : (b : Bool) → Allows lent (question_of_hint b arg.value_hint typed) given
-      → AllByRecursion P (told (question_of_hint b arg.value_hint typed) (map made (sorted given))) → AllByRecursion P (map made (sorted given))
+  by_hint : (b : Bool) → Allows sources (question_of_hint b arg.value_hint typed) returned
+      → AllByRecursion P (completed (question_of_hint b arg.value_hint typed) (map made (sorted returned))) → AllByRecursion P (map made (sorted returned))
   unfolding sorted in_order
   by_hint true allowed h = h
   by_hint false allowed h = subst (λ g. AllByRecursion P (map made (sorted g))) (sym allowed) tt
 
   by_sources : (one : Option ArgValueCompleter) (list : Option ArgValueCandidates) (possible : Option (List PossibleValue))
-      → Allows lent (question_by one list possible arg.value_hint number typed) given
-      → AllByRecursion P (told (question_by one list possible arg.value_hint number typed) (map made (gathered_by one list possible typed given)))
-      → AllByRecursion P (map made (gathered_by one list possible typed given))
+      → Allows sources (question_by one list possible arg.value_hint number typed) returned
+      → AllByRecursion P (completed (question_by one list possible arg.value_hint number typed) (map made (gathered_by one list possible typed returned)))
+      → AllByRecursion P (map made (gathered_by one list possible typed returned))
   by_sources (Some which) list possible allowed h = h
-  by_sources None (Some which) possible allowed h = all_made given
+  by_sources None (Some which) possible allowed h = all_made returned
   by_sources None None (Some possible) allowed h = all_made (map value_candidate possible)
   by_sources None None None allowed h = by_hint (is_path arg.value_hint) allowed h
 
-  all_values : Allows lent (question arg number typed) given → AllByRecursion P (told (question arg number typed) (values arg word given)) → AllByRecursion P (values arg word given)
+  all_values : Allows sources (question arg number typed) returned → AllByRecursion P (completed (question arg number typed) (values arg word returned)) → AllByRecursion P (values arg word returned)
   unfolding question values gather
   all_values allowed h = by_sources arg.completer arg.candidates (possible_values arg) allowed h
 
-all_positional : (lent : Lent) (P : CompletionCandidate → Type 0) (word : List ℕ) → IsOfBeginning P word
-    → (positional : Option Arg) (number : Option ℕ) (given : Candidates)
-    → Allows lent (positional_question positional number word) given
-    → AllByRecursion P (told (positional_question positional number word) (positional_values positional number word given))
-    → AllByRecursion P (positional_values positional number word given)
-all_positional lent P word ok None number given allowed h = tt
-all_positional lent P word ok (Some arg) None given allowed h = tt
-all_positional lent P word ok (Some arg) (Some number) given allowed h = all_values lent P arg number word given ok allowed h
+all_positional : (sources : MayReturn) (P : CompletionCandidate → Type 0) (word : List ℕ) → IsOfBeginning P word
+    → (positional : Option Arg) (number : Option ℕ) (returned : Candidates)
+    → Allows sources (positional_question positional number word) returned
+    → AllByRecursion P (completed (positional_question positional number word) (positional_values positional number word returned))
+    → AllByRecursion P (positional_values positional number word returned)
+all_positional sources P word ok None number returned allowed h = tt
+all_positional sources P word ok (Some arg) None returned allowed h = tt
+all_positional sources P word ok (Some arg) (Some number) returned allowed h = all_values sources P arg number word returned ok allowed h
 
-all_opened : (lent : Lent) (P : CompletionCandidate → Type 0) (word : List ℕ) → IsOfBeginning P word
-    → (pending : Pending) (given : Candidates)
-    → Allows lent (open_question pending word) given
-    → AllByRecursion P (told (open_question pending word) (opened_values pending word given))
-    → AllByRecursion P (opened_values pending word given)
-all_opened lent P word ok Nothing given allowed h = tt
-all_opened lent P word ok (PositionalRun count) given allowed h = tt
-all_opened lent P word ok PositionMoved given allowed h = tt
-all_opened lent P word ok (OptionOpen option count) given allowed h = all_values lent P option count word given ok allowed h
+all_opened : (sources : MayReturn) (P : CompletionCandidate → Type 0) (word : List ℕ) → IsOfBeginning P word
+    → (pending : Pending) (returned : Candidates)
+    → Allows sources (open_question pending word) returned
+    → AllByRecursion P (completed (open_question pending word) (opened_values pending word returned))
+    → AllByRecursion P (opened_values pending word returned)
+all_opened sources P word ok (OptionOpen option count) returned allowed h = all_values sources P option count word returned ok allowed h
+all_opened sources P word ok _ returned allowed h = tt
 
 -- THE OPTIONS
 
--- what is listed is so, and what is asked for follows the text before it
+-- what is listed is so, and what is wanted follows the text before it
 abbrev Fits : (CompletionCandidate → Type 0) → List ℕ → Row → Type 0
 Fits P word (Listed found) = AllByRecursion P found
-Fits P word (ValuesOf asked) = asked.before ++ asked.text ≡ word
+Fits P word (ValuesOf wanted) = wanted.before ++ wanted.text ≡ word
 
 all_shorts : (P : CompletionCandidate → Type 0) (before : List ℕ) → IsOfBeginning P before → (arguments : List Arg) → AllByRecursion P (shorts before arguments)
 unfolding shorts
@@ -182,7 +170,7 @@ all_shorts P before ok arguments =
     (all_of (λ a. AllByRecursion P (short_candidates before a))
     (λ a. AllByRecursion-map P (short_candidate before a) (shown_shorts a)
     (all_of (λ s. P (short_candidate before a s))
-    (λ s. ok (short_candidate before a s) (starts (before ++ encode_utf8 s) before (encode_utf8 s) refl)) (shown_shorts a))) arguments)
+    (λ s. ok (short_candidate before a s) (so_begins (before ++ encode_utf8 s) before (encode_utf8 s) refl)) (shown_shorts a))) arguments)
 
 all_longs : (P : CompletionCandidate → Type 0) → ((a : Arg) (hidden : Bool) (name : List ℕ) → P (long_candidate a hidden name))
     → (arguments : List Arg) → AllByRecursion P (longs arguments)
@@ -196,16 +184,16 @@ all_longs P ok arguments =
     (all_of (λ a. AllByRecursion P (hidden_candidates a))
     (λ a. AllByRecursion-map P (long_candidate a true) a.aliases (all_of (λ name. P (long_candidate a true name)) (ok a true) a.aliases)) arguments))
 
-equals_split : (s t : List ℕ) → after_equals s ≡ Some t → before_equals s ++ (61 ∷ t) ≡ s
+equals_split : (s t : List ℕ) → after_equals s ≡ Some t → before_equals s ++ (equals ∷ t) ≡ s
 equals_split [] t h = cc
-equals_split (c ∷ s) t h = by (c == 61) refl h (equals_split s t)
+equals_split (c ∷ s) t h = by (c == equals) refl h (equals_split s t)
   where
-    by : (b : Bool) → (c == 61) ≡ b → (if b then Some s else after_equals s) ≡ Some t → (after_equals s ≡ Some t → before_equals s ++ (61 ∷ t) ≡ s)
-        → (if b then [] else c ∷ before_equals s) ++ (61 ∷ t) ≡ c ∷ s
-    by true e h more = let is : s ≡ t = cc in ap (λ x. x ∷ t) (sym (eqb-true c 61 e)) ∙ ap (λ r. c ∷ r) (sym is)
+    by : (b : Bool) → (c == equals) ≡ b → (if b then Some s else after_equals s) ≡ Some t → (after_equals s ≡ Some t → before_equals s ++ (equals ∷ t) ≡ s)
+        → (if b then [] else c ∷ before_equals s) ++ (equals ∷ t) ≡ c ∷ s
+    by true e h more = let is : s ≡ t = cc in ap (λ x. x ∷ t) (sym (eqb-true c equals e)) ∙ ap (λ r. c ∷ r) (sym is)
     by false e h more = ap (λ r. c ∷ r) (more h)
 
-flag_fits : (P : CompletionCandidate → Type 0) (named : Option Arg) (flag text long : List ℕ) → flag ++ (61 ∷ text) ≡ long
+flag_fits : (P : CompletionCandidate → Type 0) (named : Option Arg) (flag text long : List ℕ) → flag ++ (equals ∷ text) ≡ long
     → Fits P (codes "--" ++ long) (flag_row named flag text)
 flag_fits P None flag text long is = tt
 flag_fits P (Some argument) flag text long is = ap (λ r. codes "--" ++ r) (append_assoc flag (codes "=") text ∙ is)
@@ -216,15 +204,15 @@ long_fits P arguments long None e ok = all_passed P (begins (codes "--" ++ long)
 long_fits P arguments long (Some text) e ok =
     flag_fits P (find (has_own_long (before_equals long)) arguments) (before_equals long) text long (equals_split long text e)
 
-two_fits : (P : CompletionCandidate → Type 0) (arguments : List Arg) (t : List ℕ) → IsOfBeginning P (45 ∷ 45 ∷ t) → Fits P (45 ∷ 45 ∷ t) (after_two_dashes arguments t)
+two_fits : (P : CompletionCandidate → Type 0) (arguments : List Arg) (t : List ℕ) → IsOfBeginning P (dash ∷ dash ∷ t) → Fits P (dash ∷ dash ∷ t) (after_two_dashes arguments t)
 two_fits P arguments [] ok =
-    all_longs P (λ a hidden name. ok (long_candidate a hidden name) (starts (codes "--" ++ name) (45 ∷ 45 ∷ []) name refl)) arguments
+    all_longs P (λ a hidden name. ok (long_candidate a hidden name) (so_begins (codes "--" ++ name) (dash ∷ dash ∷ []) name refl)) arguments
 two_fits P arguments (c ∷ t) ok = long_fits P arguments (c ∷ t) (after_equals (c ∷ t)) refl ok
 
-asked_whole : (argument : Arg) (before after : List ℕ) → (value_query_after argument before after).before ++ (value_query_after argument before after).text ≡ before ++ after
-asked_whole argument before [] = refl
-asked_whole argument before (c ∷ s) = elim (cases_Bool (c == 61)) [
-  | inl t ↦ rw t (append_assoc before (codes "=") s ∙ ap (λ x. before ++ (x ∷ s)) (sym (eqb-true c 61 t)))
+wanted_whole : (argument : Arg) (before after : List ℕ) → (value_query_after argument before after).before ++ (value_query_after argument before after).text ≡ before ++ after
+wanted_whole argument before [] = refl
+wanted_whole argument before (c ∷ s) = elim (cases_Bool (c == equals)) [
+  | inl t ↦ rw t (append_assoc before (codes "=") s ∙ ap (λ x. before ++ (x ∷ s)) (sym (eqb-true c equals t)))
   | inr f ↦ rw f refl
 ]
 
@@ -252,53 +240,52 @@ short_fits P arguments after valid ok = by (is_number after)
     listed (Some found) e =
         let word : List ℕ = codes "-" ++ after in
         let ends : EndsWith after found.after = subst (λ s. EndsWith s found.after) (encodes-chars after valid) (value_ends arguments (chars after) found e) in
-        asked_whole found.argument (without_end word found.after) found.after ∙ with_end word found.after (ends_past_dash word after found.after refl ends)
+        wanted_whole found.argument (without_end word found.after) found.after ∙ with_end word found.after (ends_past_dash word after found.after refl ends)
 
     by : (b : Bool) → Fits P (codes "-" ++ after) (if b then Listed [] else cluster_row arguments (codes "-" ++ after) (value_character arguments (chars after)))
     by true = tt
     by false = listed (value_character arguments (chars after)) refl
 
-past_dash : (after : List ℕ) → IsUtf8 (45 ∷ after) → IsUtf8 after
+past_dash : (after : List ℕ) → IsUtf8 (dash ∷ after) → IsUtf8 after
 unfolding lib.Utf8.encode
-past_dash after valid = IsUtf8-past_char (45 ∷ after) after 45 valid refl
+past_dash after valid = IsUtf8-past_char (dash ∷ after) after dash valid refl
 
-dash_fits : (P : CompletionCandidate → Type 0) (arguments : List Arg) (s : List ℕ) → IsUtf8 (45 ∷ s) → IsOfBeginning P (45 ∷ s) → Fits P (45 ∷ s) (after_one_dash arguments s)
+dash_fits : (P : CompletionCandidate → Type 0) (arguments : List Arg) (s : List ℕ) → IsUtf8 (dash ∷ s) → IsOfBeginning P (dash ∷ s) → Fits P (dash ∷ s) (after_one_dash arguments s)
 dash_fits P arguments [] valid ok =
     AllByRecursion-append P (shorts (codes "-") arguments) (longs arguments) (all_shorts P (codes "-") ok arguments)
-    (all_longs P (λ a hidden name. ok (long_candidate a hidden name) (starts (codes "--" ++ name) (45 ∷ []) (45 ∷ name) refl)) arguments)
-dash_fits P arguments (c ∷ s) valid ok = by (c == 45) refl
+    (all_longs P (λ a hidden name. ok (long_candidate a hidden name) (so_begins (codes "--" ++ name) (dash ∷ []) (dash ∷ name) refl)) arguments)
+dash_fits P arguments (c ∷ s) valid ok = by (c == dash) refl
   where
-    by : (b : Bool) → (c == 45) ≡ b → Fits P (45 ∷ c ∷ s) (if b then after_two_dashes arguments s else short_row arguments (c ∷ s))
+    by : (b : Bool) → (c == dash) ≡ b → Fits P (dash ∷ c ∷ s) (if b then after_two_dashes arguments s else short_row arguments (c ∷ s))
     by true e =
-        subst (λ x. IsOfBeginning P (45 ∷ x ∷ s) → Fits P (45 ∷ x ∷ s) (after_two_dashes arguments s)) (sym (eqb-true c 45 e)) (two_fits P arguments s) ok
+        subst (λ x. IsOfBeginning P (dash ∷ x ∷ s) → Fits P (dash ∷ x ∷ s) (after_two_dashes arguments s)) (sym (eqb-true c dash e)) (two_fits P arguments s) ok
     by false e = short_fits P arguments (c ∷ s) (past_dash (c ∷ s) valid) ok
 
 row_fits : (P : CompletionCandidate → Type 0) (arguments : List Arg) (word : List ℕ) → IsUtf8 word → IsOfBeginning P word → Fits P word (row_of arguments word)
 unfolding row_of
 row_fits P arguments [] valid ok =
-    all_of P (λ c. ok c (starts c.value [] c.value refl)) (longs arguments ++ shorts (codes "-") arguments)
-row_fits P arguments (c ∷ s) valid ok = by (c == 45) refl
+    all_of P (λ c. ok c (so_begins c.value [] c.value refl)) (longs arguments ++ shorts (codes "-") arguments)
+row_fits P arguments (c ∷ s) valid ok = by (c == dash) refl
   where
-    by : (b : Bool) → (c == 45) ≡ b → Fits P (c ∷ s) (if b then after_one_dash arguments s else Listed [])
+    by : (b : Bool) → (c == dash) ≡ b → Fits P (c ∷ s) (if b then after_one_dash arguments s else Listed [])
     by true e =
-        subst (λ x. IsUtf8 (x ∷ s) → IsOfBeginning P (x ∷ s) → Fits P (x ∷ s) (after_one_dash arguments s)) (sym (eqb-true c 45 e)) (dash_fits P arguments s) valid ok
+        subst (λ x. IsUtf8 (x ∷ s) → IsOfBeginning P (x ∷ s) → Fits P (x ∷ s) (after_one_dash arguments s)) (sym (eqb-true c dash e)) (dash_fits P arguments s) valid ok
     by false e = tt
 
-told_unmapped : (P : CompletionCandidate → Type 0) (f : CompletionCandidate → CompletionCandidate) (asked : Question) (cs : Candidates)
-    → AllByRecursion P (told asked (map f cs)) → AllByRecursion (λ c. P (f c)) (told asked cs)
-told_unmapped P f nothing cs h = tt
-told_unmapped P f (completer which number text) cs h = all_unmapped P f cs h
-told_unmapped P f (candidates which) cs h = tt
-told_unmapped P f (paths hint text) cs h = all_unmapped P f cs h
+completed_unmapped : (P : CompletionCandidate → Type 0) (f : CompletionCandidate → CompletionCandidate) (wanted : Question) (cs : Candidates)
+    → AllByRecursion P (completed wanted (map f cs)) → AllByRecursion (λ c. P (f c)) (completed wanted cs)
+completed_unmapped P f (completer which number text) cs h = all_unmapped P f cs h
+completed_unmapped P f (paths hint text) cs h = all_unmapped P f cs h
+completed_unmapped P f _ cs h = tt
 
-all_row : (lent : Lent) (P : CompletionCandidate → Type 0) (word : List ℕ) → IsOfBeginning P word → (row : Row) → Fits P word row → (given : Candidates)
-    → Allows lent (row_question row) given → AllByRecursion P (told (row_question row) (row_candidates row given)) → AllByRecursion P (row_candidates row given)
-all_row lent P word ok (Listed found) fits given allowed h = fits
-all_row lent P word ok (ValuesOf asked) fits given allowed h =
-    AllByRecursion-map P (with_prefix asked.before) (values asked.argument asked.text given)
-    (all_values lent (λ c. P (with_prefix asked.before c)) asked.argument 0 asked.text given
-    (λ c e. ok (with_prefix asked.before c) (put_before asked.before asked.text word c.value fits e)) allowed
-    (told_unmapped P (with_prefix asked.before) (row_question (ValuesOf asked)) (values asked.argument asked.text given) h))
+all_row : (sources : MayReturn) (P : CompletionCandidate → Type 0) (word : List ℕ) → IsOfBeginning P word → (row : Row) → Fits P word row → (returned : Candidates)
+    → Allows sources (row_question row) returned → AllByRecursion P (completed (row_question row) (row_candidates row returned)) → AllByRecursion P (row_candidates row returned)
+all_row sources P word ok (Listed found) fits returned allowed h = fits
+all_row sources P word ok (ValuesOf wanted) fits returned allowed h =
+    AllByRecursion-map P (with_prefix wanted.before) (values wanted.argument wanted.text returned)
+    (all_values sources (λ c. P (with_prefix wanted.before c)) wanted.argument 0 wanted.text returned
+    (λ c e. ok (with_prefix wanted.before c) (put_before wanted.before wanted.text word c.value fits e)) allowed
+    (completed_unmapped P (with_prefix wanted.before) (row_question (ValuesOf wanted)) (values wanted.argument wanted.text returned) h))
 
 offered_fits : (P : CompletionCandidate → Type 0) (offers : Bool) (arguments : List Arg) (word : List ℕ) → IsUtf8 word → IsOfBeginning P word
     → Fits P word (offered_row offers arguments word)
@@ -312,57 +299,54 @@ unfolding finish group
 all_finished P cs h =
     AllByRecursion-in_order (comes_before (first_of_ids (shown_or_all cs))) P (first_of_ids (shown_or_all cs)) (all-first_of_ids P (shown_or_all cs) (all-shown P cs h))
 
-all_finished_with : (P : CompletionCandidate → Type 0) (pending : Pending) (word : List ℕ) (given others : Candidates)
-    → AllByRecursion P (opened_values pending word given) → AllByRecursion P others → AllByRecursion P (finished_with pending word given others)
-all_finished_with P Nothing word given others h k = all_finished P others k
-all_finished_with P (PositionalRun count) word given others h k = all_finished P others k
-all_finished_with P PositionMoved word given others h k = all_finished P others k
-all_finished_with P (OptionOpen option count) word given others h k = by (nat_le (least option) count)
+all_finished_last : (P : CompletionCandidate → Type 0) (pending : Pending) (word : List ℕ) (returned besides : Candidates)
+    → AllByRecursion P (opened_values pending word returned) → AllByRecursion P besides → AllByRecursion P (finished_last pending word returned besides)
+all_finished_last P (OptionOpen option count) word returned besides h k = by (nat_le (least option) count)
   where
-    by : (enough : Bool) → AllByRecursion P (if enough then finish (values option word given ++ finish others) else finish (values option word given))
-    by true =
-        all_finished P (values option word given ++ finish others)
-        (AllByRecursion-append P (values option word given) (finish others) h (all_finished P others k))
-    by false = all_finished P (values option word given) h
+    by : (enough : Bool) → AllByRecursion P (if enough then values option word returned ++ finish besides else values option word returned)
+    by true = AllByRecursion-append P (values option word returned) (finish besides) h (all_finished P besides k)
+    by false = h
+all_finished_last P _ word returned besides h k = k
 
 -- THE LAW
 
-all_offered : (lent : Lent) (P : CompletionCandidate → Type 0) (word : List ℕ) → IsUtf8 word → IsOfBeginning P word
-    → (tree : Tree) (position : ℕ) (lists : OpenLists) (pending : Pending) (given : Given)
-    → AreAllowed lent (questions_of_lists tree position lists pending word) given
-    → AllByRecursion P (told (positional_question (positional_at tree.node.arguments position) lists.value word)
-    (positional_values (positional_at tree.node.arguments position) lists.value word given.positional))
-    → AllByRecursion P (told (row_question (offered_row lists.options tree.node.arguments word)) (row_candidates (offered_row lists.options tree.node.arguments word) given.within))
-    → AllByRecursion P (offered tree position lists word given)
-all_offered lent P word valid ok tree position lists pending given allowed values within =
-    let positional = positional_values (positional_at tree.node.arguments position) lists.value word given.positional in
-    let children = offered_children lists.children tree word given.children in
-    AllByRecursion-append P (children ++ positional) (row_candidates (offered_row lists.options tree.node.arguments word) given.within)
-    (AllByRecursion-append P children positional (all_children P word ok lists.children tree given.children)
-    (all_positional lent P word ok (positional_at tree.node.arguments position) lists.value given.positional allowed.positional values))
-    (all_row lent P word ok (offered_row lists.options tree.node.arguments word) (offered_fits P lists.options tree.node.arguments word valid ok) given.within allowed.within within)
+all_offered : (sources : MayReturn) (P : CompletionCandidate → Type 0) (word : List ℕ) → IsUtf8 word → IsOfBeginning P word
+    → (tree : Tree) (position : ℕ) (lists : OpenLists) (pending : Pending) (returned : Returned)
+    → AreAllowed sources (questions_of_lists tree position lists pending word) returned
+    → AllByRecursion P (completed (positional_question (positional_at tree.node.arguments position) lists.value word)
+    (positional_values (positional_at tree.node.arguments position) lists.value word returned.positional))
+    → AllByRecursion P (completed (row_question (offered_row lists.options tree.node.arguments word)) (row_candidates (offered_row lists.options tree.node.arguments word) returned.within))
+    → AllByRecursion P (offered tree position lists word returned)
+all_offered sources P word valid ok tree position lists pending returned allowed values within =
+    let positional = positional_values (positional_at tree.node.arguments position) lists.value word returned.positional in
+    let children = offered_children lists.children tree word returned.children in
+    AllByRecursion-append P (children ++ positional) (row_candidates (offered_row lists.options tree.node.arguments word) returned.within)
+    (AllByRecursion-append P children positional (all_children P word ok lists.children tree returned.children)
+    (all_positional sources P word ok (positional_at tree.node.arguments position) lists.value returned.positional allowed.positional values))
+    (all_row sources P word ok (offered_row lists.options tree.node.arguments word) (offered_fits P lists.options tree.node.arguments word valid ok) returned.within allowed.within within)
 
-pub begins_or_is_told : (lent : Lent) (tree : Tree) (state : State) (word : List ℕ) (given : Given) (found : Candidates) → IsUtf8 word
-    → AreAllowed lent (questions tree state word) given → found ≡ candidates_for tree state word given
-    → BeginsOrIsTold tree state word given found
-begins_or_is_told lent tree state word given found valid allowed is =
+pub begins_or_is_completed : (sources : MayReturn) (tree : Tree) (state : State) (word : List ℕ) (returned : Returned) (found : Candidates) → IsUtf8 word
+    → AreAllowed sources (questions tree state word) returned → found ≡ candidates_for tree state word returned
+    → BeginsOrIsCompleted tree state word returned found
+begins_or_is_completed sources tree state word returned found valid allowed is =
     let lists = open_lists_by tree.node.arguments state.position state.escaped state.pending in
-    let positional = told (positional_question (positional_at tree.node.arguments state.position) lists.value word)
-    (positional_values (positional_at tree.node.arguments state.position) lists.value word given.positional) in
-    let within = told (row_question (offered_row lists.options tree.node.arguments word)) (row_candidates (offered_row lists.options tree.node.arguments word) given.within) in
-    let opened = told (open_question state.pending word) (opened_values state.pending word given.opened) in
+    let positional = completed (positional_question (positional_at tree.node.arguments state.position) lists.value word)
+    (positional_values (positional_at tree.node.arguments state.position) lists.value word returned.positional) in
+    let within = completed (row_question (offered_row lists.options tree.node.arguments word)) (row_candidates (offered_row lists.options tree.node.arguments word) returned.within) in
+    let opened = completed (open_question state.pending word) (opened_values state.pending word returned.opened) in
     let P : CompletionCandidate → Type 0 = λ c. (begins word c ≡ true) ⊎ Contains (positional ++ (within ++ opened)) c in
     let ok : IsOfBeginning P word = λ c e. inl e in
     let all : Candidates = positional ++ (within ++ opened) in
     subst (AllByRecursion P) (sym is)
-    (all_finished_with P state.pending word given.opened (offered tree state.position lists word given)
-    (all_opened lent P word ok state.pending given.opened allowed.opened
+    (all_finished P (finished_last state.pending word returned.opened (offered tree state.position lists word returned))
+    (all_finished_last P state.pending word returned.opened (offered tree state.position lists word returned)
+    (all_opened sources P word ok state.pending returned.opened allowed.opened
     (AllByRecursion-from_IsIn P opened
     (λ c h. inr (Contains-from_IsIn all c (IsIn-append_right positional (within ++ opened) c (IsIn-append_right within opened c h))))))
-    (all_offered lent P word valid ok tree state.position lists state.pending given allowed
+    (all_offered sources P word valid ok tree state.position lists state.pending returned allowed
     (AllByRecursion-from_IsIn P positional (λ c h. inr (Contains-from_IsIn all c (IsIn-append_left positional (within ++ opened) c h))))
     (AllByRecursion-from_IsIn P within
-    (λ c h. inr (Contains-from_IsIn all c (IsIn-append_right positional (within ++ opened) c (IsIn-append_left within opened c h)))))))
+    (λ c h. inr (Contains-from_IsIn all c (IsIn-append_right positional (within ++ opened) c (IsIn-append_left within opened c h))))))))
 
 -- a word of a list of texts is text
 pub text_at : {Z : Type 0} (words : List (String Z)) (index : ℕ) → IsUtf8 (get_or (map string_bytes words) index [])

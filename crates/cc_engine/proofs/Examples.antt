@@ -1,5 +1,6 @@
 -- What is offered for a word, on small trees.
 use Rattle.std.proofs.Common.{◌≡◌, ℕ, List, [], ◌∷◌, Some, codes, map, true, false, refl}
+use Rattle.std.specs.Prelude.{⊤}
 use Rattle.std.specs.Path.{path_file_name, path_join, split_last_component, trim_trailing}
 use Rattle.std.specs.Str.{chars}
 use Rattle.cc_arg.specs.declared.action.ArgAction.TheVariants.{SetTrue}
@@ -27,26 +28,35 @@ use Rattle.cc_paths.specs.PathTexts.{word_prefix}
 use Rattle.cc_values.specs.Parts.{front_length}
 use Rattle.cc_values.specs.Values.{completer, gather, nothing, paths, question, sorted, values}
 use Rattle.cc_walk.specs.Blocks.{start}
-use Rattle.cc_walk.specs.Lookup.{allows_hyphens_at, limit, positional_at}
+use Rattle.cc_walk.specs.Lookup.{allows_hyphens_at, capacity_at, positional_at}
 use Rattle.cc_walk.specs.Machine.{NodeState, walk}
 use Rattle.cc_walk.specs.WordClasses.{class_of}
-use Rattle.cc_engine.specs.Completion.{Given, Questions, candidates_for, is_in_range, questions, words_before}
+use Rattle.cc_engine.specs.Completion.{Returned, Questions, candidates_for, is_in_range, questions, words_before}
+
+-- what opens each definition
+unfoldable definitions : ⊤
+unfolding help_argument help_name help_about help_help subcommand_candidates in_candidates_order
+    in_order insert finish shown_or_all group positional_at row_of longs shorts lib.Utf8.encode
+    class_of capacity_at allows_hyphens_at chars values gather front_length printed printed_names
+    printed_values printed_after_name question groups path_join path_file_name
+    split_last_component trim_trailing word_prefix sorted is_number
+definitions = tt
 
 -- where these words lead from the root
 abbrev node_state_after : Tree → List (List ℕ) → NodeState
 node_state_after root words = walk (record { tree = root; state = start false }) words
 
--- what the word after these words asks
-abbrev value_asked_after : Tree → List (List ℕ) → List ℕ → Questions
-value_asked_after root words word =
+-- what is wanted for the word after these words
+abbrev questions_after : Tree → List (List ℕ) → List ℕ → Questions
+questions_after root words word =
     questions (node_state_after root words).tree (node_state_after root words).state word
 
--- the values of the candidates for the word after these words, where these lists are given
-abbrev offered_after : Tree → List (List ℕ) → List ℕ → Given → List (List ℕ)
-offered_after root words word given =
-    map (λ c. c.value) (candidates_for (node_state_after root words).tree (node_state_after root words).state word given)
+-- the values of the candidates for the word after these words, where these lists are returned
+abbrev offered_after : Tree → List (List ℕ) → List ℕ → Returned → List (List ℕ)
+offered_after root words word returned =
+    map (λ c. c.value) (candidates_for (node_state_after root words).tree (node_state_after root words).state word returned)
 
-abbrev no_lists : Given
+abbrev no_lists : Returned
 no_lists = record { children = []; positional = []; within = []; opened = [] }
 
 abbrev with : Tree → Arg → Tree
@@ -64,8 +74,8 @@ zeroth = record { number = 0 }
 -- `app` with a child `test` that is shown as `t` too
 abbrev test : Tree
 test =
-    let given = new_tree (codes "test") in
-    record given { node = record given.node { visible_aliases = codes "t" ∷ [] } }
+    let returned = new_tree (codes "test") in
+    record returned { node = record returned.node { visible_aliases = codes "t" ∷ [] } }
 
 abbrev app : Tree
 app = built_tree (with_child (new_tree (codes "app")) test)
@@ -74,49 +84,46 @@ app = built_tree (with_child (new_tree (codes "app")) test)
 
 -- the program's name is not completed, unless there is none, and no word past the last
 program_name : is_in_range app.node 2 0 ≡ false
-unfolding help_argument help_name
+unfolding definitions
 program_name = refl
 
 past_the_last : is_in_range app.node 1 1 ≡ false
-unfolding help_argument help_name
+unfolding definitions
 past_the_last = refl
 
 last_word : is_in_range app.node 2 1 ≡ true
-unfolding help_argument help_name
+unfolding definitions
 last_word = refl
 
 no_program_name : is_in_range (record app.node { no_binary_name = true }) 1 0 ≡ true
-unfolding help_argument help_name
+unfolding definitions
 no_program_name = refl
 
 words_after_the_name : words_before app.node (codes "app" ∷ codes "--" ∷ codes "te" ∷ []) 2
     ≡ codes "--" ∷ []
-unfolding help_argument help_name
+unfolding definitions
 words_after_the_name = refl
 
 all_words : words_before (record app.node { no_binary_name = true }) (codes "--" ∷ codes "te" ∷ []) 1
     ≡ codes "--" ∷ []
-unfolding help_argument help_name
+unfolding definitions
 all_words = refl
 
 -- CHILDREN
 
 -- the first name of each child by the candidates' order, then the help flag
 empty_word : offered_after app [] [] no_lists ≡ codes "t" ∷ codes "help" ∷ codes "--help" ∷ []
-unfolding help_argument help_name help_about help_help subcommand_candidates in_candidates_order
-    in_order insert finish shown_or_all group positional_at row_of longs shorts lib.Utf8.encode
+unfolding definitions
 empty_word = refl
 
 -- after `--` no option
 after_dashes : offered_after app (codes "--" ∷ []) [] no_lists ≡ codes "t" ∷ codes "help" ∷ []
-unfolding help_argument help_name help_about help_help subcommand_candidates in_candidates_order
-    in_order insert finish shown_or_all group positional_at class_of
+unfolding definitions
 after_dashes = refl
 
 -- at a child without children that `--` precedes, nothing
 at_a_child : offered_after app (codes "--" ∷ codes "test" ∷ []) [] no_lists ≡ []
-unfolding help_argument help_name help_about help_help subcommand_candidates in_candidates_order
-    in_order insert finish shown_or_all group positional_at class_of
+unfolding definitions
 at_a_child = refl
 
 -- A POSITIONAL
@@ -133,10 +140,7 @@ hyphens = built_tree (with (with (with (new_tree (codes "app")) (option (codes "
 -- the word that leaves the option is the first positional's value
 second_positional : offered_after hyphens (codes "--opt" ∷ codes "-z" ∷ []) [] no_lists
     ≡ codes "x" ∷ codes "y" ∷ codes "--opt" ∷ codes "--help" ∷ []
-unfolding help_argument help_name help_about help_help subcommand_candidates in_candidates_order
-    in_order insert finish shown_or_all group positional_at row_of longs shorts class_of limit
-    allows_hyphens_at chars values gather front_length printed printed_names printed_values
-    printed_after_name lib.Utf8.encode
+unfolding definitions
 second_positional = refl
 
 -- `app` with a positional of the completer 0 and no flag
@@ -150,22 +154,21 @@ pair = record (new_arg (codes "pair")) { num_args = Some (exactly 2) }
 abbrev kinds : Arg
 kinds = record (new_arg (codes "kinds")) { value_delimiter = Some 44; completer = Some zeroth }
 
--- the second of two values is asked for as number 1
-second_value : (value_asked_after (completed pair) (codes "a" ∷ []) []).positional ≡ completer 0 1 []
-unfolding class_of limit positional_at question front_length
+-- the second of two values has the number 1
+second_value : (questions_after (completed pair) (codes "a" ∷ []) []).positional ≡ completer 0 1 []
+unfolding definitions
 second_value = refl
 
--- only what follows the last delimiter is asked for
-last_part : (value_asked_after (completed kinds) [] (codes "a,b,c")).positional
+-- only what follows the last delimiter is completed
+last_part : (questions_after (completed kinds) [] (codes "a,b,c")).positional
     ≡ completer 0 0 (codes "c")
-unfolding positional_at question front_length lib.Utf8.encode
+unfolding definitions
 last_part = refl
 
 -- and is after the parts before it
 after_parts : map (λ c. c.value) (values kinds (codes "a,b,c") (new_candidate (codes "cc") ∷ []))
     ≡ codes "a,b,cc" ∷ []
-unfolding values gather front_length printed printed_names printed_values printed_after_name
-    lib.Utf8.encode
+unfolding definitions
 after_parts = refl
 
 -- `app` with a positional that is a file's path, and no flag
@@ -173,9 +176,9 @@ abbrev files : Tree
 files = built_tree (without_help (with (new_tree (codes "app"))
     (record (new_arg (codes "file")) { value_hint = FilePath })))
 
--- a hint of files asks for paths
-file_path : (value_asked_after files [] (codes "sr")).positional ≡ paths FilePath (codes "sr")
-unfolding positional_at question front_length
+-- a hint of files wants paths
+file_path : (questions_after files [] (codes "sr")).positional ≡ paths FilePath (codes "sr")
+unfolding definitions
 file_path = refl
 
 -- the folder holds `.git` and `src`, which are folders, and `a.txt`
@@ -188,22 +191,18 @@ folder_paths = grouped_candidates [] false
 -- what is found there: a file, then the folders, of which one is hidden
 found_paths : map (λ c. c.value) folder_paths
     ≡ codes "a.txt" ∷ codes ".git/" ∷ codes "src/" ∷ []
-unfolding groups in_order insert path_join path_file_name split_last_component trim_trailing
-    word_prefix
+unfolding definitions
 found_paths = refl
 
 -- of these paths the visible ones
 visible_paths : offered_after files [] [] (record no_lists { positional = folder_paths })
     ≡ codes "a.txt" ∷ codes "src/" ∷ []
-unfolding groups path_join path_file_name split_last_component trim_trailing word_prefix row_of
-    positional_at subcommand_candidates in_candidates_order in_order insert
-    finish shown_or_all group longs shorts values gather sorted front_length printed printed_names
-    printed_values printed_after_name
+unfolding definitions
 visible_paths = refl
 
 -- AN OPEN OPTION
 
-auto : CompletionCandidate
+abbrev auto : CompletionCandidate
 auto = record (new_candidate (codes "auto")) {
   id = Some (codes "arg::col");
   tag = Some (codes "Auto");
@@ -219,16 +218,14 @@ options = built_tree (with (with (new_tree (codes "app"))
     }))
     (record (option (codes "port")) { help_heading = Some (codes "Net") }))
 
-first_value : (value_asked_after options (codes "--col" ∷ []) []).opened ≡ completer 0 0 []
-unfolding help_argument help_name class_of question front_length
+first_value : (questions_after options (codes "--col" ∷ []) []).opened ≡ completer 0 0 []
+unfolding definitions
 first_value = refl
 
 -- the value has the id of `--col`, which goes only after the others are finished
 finished_twice : offered_after options (codes "--col" ∷ []) [] (record no_lists { opened = auto ∷ [] })
     ≡ codes "auto" ∷ codes "--help" ∷ codes "--port" ∷ []
-unfolding help_argument help_name help_about help_help subcommand_candidates in_candidates_order
-    in_order insert finish shown_or_all group positional_at row_of longs shorts class_of values gather
-    front_length printed printed_names printed_values printed_after_name auto lib.Utf8.encode
+unfolding definitions
 finished_twice = refl
 
 -- WITHIN A WORD
@@ -240,27 +237,26 @@ colors = built_tree (without_help (with (with (new_tree (codes "app"))
     (record (option (codes "color")) { short = Some 49; completer = Some zeroth }))
     (record (new_arg (codes "count")) { allow_hyphen_values = true; completer = Some zeroth })))
 
--- the value of a long is asked for as its first
-long_value : (value_asked_after colors [] (codes "--color=a")).within ≡ completer 0 0 (codes "a")
-unfolding row_of positional_at longs question front_length
+-- the value of a long is its first
+long_value : (questions_after colors [] (codes "--color=a")).within ≡ completer 0 0 (codes "a")
+unfolding definitions
 long_value = refl
 
 -- and its candidates are after the long
 after_the_long : offered_after colors [] (codes "--color=a")
     (record no_lists { within = new_candidate (codes "auto") ∷ [] })
     ≡ codes "--color=auto" ∷ []
-unfolding row_of positional_at subcommand_candidates in_candidates_order in_order insert finish
-    shown_or_all group longs values gather front_length printed printed_names printed_values printed_after_name
+unfolding definitions
 after_the_long = refl
 
--- a number asks nothing of the options, also where its first digit is a short that takes values
-number_of_no_option : (value_asked_after colors [] (codes "-15")).within ≡ nothing
-unfolding row_of positional_at is_number
+-- a number wants nothing of the options, also where its first digit is a short that takes values
+number_of_no_option : (questions_after colors [] (codes "-15")).within ≡ nothing
+unfolding definitions
 number_of_no_option = refl
 
 -- it is the positional's
-number_of_a_positional : (value_asked_after colors [] (codes "-15")).positional ≡ completer 0 0 (codes "-15")
-unfolding positional_at question front_length
+number_of_a_positional : (questions_after colors [] (codes "-15")).positional ≡ completer 0 0 (codes "-15")
+unfolding definitions
 number_of_a_positional = refl
 
 -- OPTIONS
@@ -285,71 +281,54 @@ colored = built_tree (with (with (new_tree (codes "app"))
 -- of an argument's names the first
 first_names : offered_after colored [] [] no_lists
     ≡ codes "--color" ∷ codes "--verbose" ∷ codes "--help" ∷ []
-unfolding help_argument help_name help_about help_help subcommand_candidates in_candidates_order
-    in_order insert finish shown_or_all group positional_at row_of longs shorts lib.Utf8.encode
+unfolding definitions
 first_names = refl
 
 -- the shorts come first after a dash
 after_a_dash : offered_after colored [] (codes "-") no_lists
     ≡ codes "-c" ∷ codes "-v" ∷ codes "-h" ∷ []
-unfolding help_argument help_name help_about help_help subcommand_candidates in_candidates_order
-    in_order insert finish shown_or_all group positional_at row_of longs shorts lib.Utf8.encode
+unfolding definitions
 after_a_dash = refl
 
 -- a hidden alias where nothing else begins so
 hidden_alias : offered_after colored [] (codes "--no") no_lists ≡ codes "--noisy" ∷ []
-unfolding help_argument help_name help_about help_help subcommand_candidates in_candidates_order
-    in_order insert finish shown_or_all group positional_at row_of longs lib.Utf8.encode
+unfolding definitions
 hidden_alias = refl
 
 -- of the values of a long the visible one
 values_of_a_long : offered_after colored [] (codes "--color=") no_lists
     ≡ codes "--color=auto" ∷ []
-unfolding help_argument help_name help_about help_help subcommand_candidates in_candidates_order
-    in_order insert finish shown_or_all group positional_at row_of longs values gather front_length
-    printed printed_names printed_values printed_after_name lib.Utf8.encode
+unfolding definitions
 values_of_a_long = refl
 
 -- the hidden one where no visible one begins so
 hidden_value : offered_after colored [] (codes "--color=n") no_lists ≡ codes "--color=never" ∷ []
-unfolding help_argument help_name help_about help_help subcommand_candidates in_candidates_order
-    in_order insert finish shown_or_all group positional_at row_of longs values gather front_length
-    printed printed_names printed_values printed_after_name lib.Utf8.encode
+unfolding definitions
 hidden_value = refl
 
 -- the values of a short after another
 values_of_a_short : offered_after colored [] (codes "-vc=a") no_lists ≡ codes "-vc=auto" ∷ []
-unfolding help_argument help_name help_about help_help subcommand_candidates in_candidates_order
-    in_order insert finish shown_or_all group positional_at row_of shorts is_number chars values
-    gather front_length printed printed_names printed_values printed_after_name lib.Utf8.encode
+unfolding definitions
 values_of_a_short = refl
 
 -- an option that needs a value leaves nothing but its values
 values_alone : offered_after colored (codes "--color" ∷ []) [] no_lists ≡ codes "auto" ∷ []
-unfolding help_argument help_name help_about help_help subcommand_candidates in_candidates_order
-    in_order insert finish shown_or_all group positional_at row_of class_of chars values gather
-    front_length printed printed_names printed_values printed_after_name lib.Utf8.encode
+unfolding definitions
 values_alone = refl
 
 -- a `=` closes the option
 closed_option : offered_after colored (codes "-c=" ∷ []) [] no_lists
     ≡ codes "--color" ∷ codes "--verbose" ∷ codes "--help" ∷ []
-unfolding help_argument help_name help_about help_help subcommand_candidates in_candidates_order
-    in_order insert finish shown_or_all group positional_at row_of longs shorts class_of chars
-    lib.Utf8.encode
+unfolding definitions
 closed_option = refl
 
 -- nothing begins with a number
 negative_number : offered_after colored [] (codes "-1") no_lists ≡ []
-unfolding help_argument help_name help_about help_help subcommand_candidates in_candidates_order
-    in_order insert finish shown_or_all group positional_at row_of shorts is_number chars
-    lib.Utf8.encode
+unfolding definitions
 negative_number = refl
 
 with_exponent : offered_after colored [] (codes "-5e3") no_lists ≡ []
-unfolding help_argument help_name help_about help_help subcommand_candidates in_candidates_order
-    in_order insert finish shown_or_all group positional_at row_of shorts is_number chars
-    lib.Utf8.encode
+unfolding definitions
 with_exponent = refl
 
 -- ODD WORDS
@@ -357,28 +336,23 @@ with_exponent = refl
 -- `app` with a child `test` that has a hidden alias `tst` and a flag `--deep`
 abbrev deep : Tree
 deep =
-    let given = with (new_tree (codes "test")) (record (option (codes "deep")) { action = Some SetTrue }) in
+    let child = with (new_tree (codes "test")) (record (option (codes "deep")) { action = Some SetTrue }) in
     built_tree (with_child (new_tree (codes "app"))
-    (record given { node = record given.node { aliases = codes "tst" ∷ [] } }))
+    (record child { node = record child.node { aliases = codes "tst" ∷ [] } }))
 
 -- a hidden alias leads down
 below_a_hidden_alias : offered_after deep (codes "tst" ∷ []) [] no_lists
     ≡ codes "--deep" ∷ codes "--help" ∷ []
-unfolding help_argument help_name help_about help_help subcommand_candidates in_candidates_order
-    in_order insert finish shown_or_all group positional_at row_of longs shorts lib.Utf8.encode
+unfolding definitions
 below_a_hidden_alias = refl
 
 -- so does a name after `--`, where no option is left
 below_a_name : offered_after deep (codes "--" ∷ codes "test" ∷ []) [] no_lists ≡ []
-unfolding help_argument help_name help_about help_help subcommand_candidates in_candidates_order
-    in_order insert finish shown_or_all group positional_at class_of
+unfolding definitions
 below_a_name = refl
 
 -- `-` is the option's value, so the first positional is next, which has no values to offer
 dash_as_a_value : offered_after hyphens (codes "--opt" ∷ codes "-" ∷ []) [] no_lists
     ≡ codes "--opt" ∷ codes "--help" ∷ []
-unfolding help_argument help_name help_about help_help subcommand_candidates in_candidates_order
-    in_order insert finish shown_or_all group positional_at row_of longs shorts class_of limit
-    allows_hyphens_at chars values gather sorted front_length printed printed_names printed_values
-    printed_after_name lib.Utf8.encode
+unfolding definitions
 dash_as_a_value = refl

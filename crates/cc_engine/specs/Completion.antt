@@ -1,5 +1,5 @@
--- What is offered for the word at an index: what it asks of those who lend candidates, and the list
--- that is made of what they return.
+-- What is offered for the word at an index: from which sources candidates come, and the list that is
+-- made of what these return.
 use Rattle.std.specs.Prelude.{ℕ, List, [], ◌++◌, map, take, drop, get_or, ◌≡◌, ◌⊎◌, ◌&&◌, nat_le, nat_lt, Bool, false, true, Contains, Option, Some, None, if◌then◌else◌}
 use Rattle.std.specs.List.{list_any, AllByRecursion}
 use Rattle.cc_arg.specs.declared.parts.ArgParts.{ArgParts as Arg}
@@ -15,7 +15,7 @@ use Rattle.cc_gather.specs.Children.{subcommand_candidates}
 use Rattle.cc_gather.specs.Finished.{finish, first_of_ids, is_shown, shown_or_all, AreGrouped, AreShown, ShareNone}
 use Rattle.cc_gather.specs.Rows.{Row, Listed, ValuesOf, with_prefix, row_of}
 use Rattle.cc_values.specs.Parts.{part}
-use Rattle.cc_values.specs.Values.{Allows, Lent, Question, nothing, candidates, completer, paths, question, values}
+use Rattle.cc_values.specs.Values.{Allows, MayReturn, Question, nothing, candidates, completer, paths, question, values}
 use Rattle.cc_walk.specs.declared.state.Pending.{Pending}
 use Rattle.cc_walk.specs.declared.state.Pending.TheVariants.{OptionOpen}
 use Rattle.cc_walk.specs.declared.state.State.{State}
@@ -27,21 +27,21 @@ use Rattle.cc_engine.specs.OpenLists.{least, open_lists_by}
 
 -- THE CHILDREN
 
--- the lent list of this number
+-- the list of this number
 abbrev pub list_question : Option SubcommandCandidates → Question
 list_question None = nothing
 list_question (Some list) = candidates list.number
 
--- the children ask for a lent list where the command takes names of other programs
+-- the list of other programs, where the command takes their names
 abbrev pub children_question : Bool → Node → Question
 children_question offered node =
     if offered && node.allow_external_subcommands then list_question node.candidates else nothing
 
--- the children's names that begin with the word, and those of the lent list
+-- the children's names that begin with the word, and those of the list of other programs
 abbrev pub offered_children : Bool → Tree → List ℕ → List CompletionCandidate
     → List CompletionCandidate
-offered_children offered tree word given =
-    if offered then subcommand_candidates tree given word else []
+offered_children offered tree word returned =
+    if offered then subcommand_candidates tree returned word else []
 
 -- THE VALUES OF THE POSITIONAL
 
@@ -53,9 +53,9 @@ positional_question (Some argument) (Some number) word =
 
 abbrev pub positional_values : Option Arg → Option ℕ → List ℕ → List CompletionCandidate
     → List CompletionCandidate
-positional_values None number word given = []
-positional_values (Some argument) None word given = []
-positional_values (Some argument) (Some number) word given = values argument word given
+positional_values None number word returned = []
+positional_values (Some argument) None word returned = []
+positional_values (Some argument) (Some number) word returned = values argument word returned
 
 -- THE OPTIONS
 
@@ -66,13 +66,13 @@ offered_row offered arguments word = if offered then row_of arguments word else 
 -- values within the word are the first of their argument
 abbrev pub row_question : Row → Question
 row_question (Listed found) = nothing
-row_question (ValuesOf asked) =
-    question asked.argument 0 (part asked.argument.value_delimiter asked.text)
+row_question (ValuesOf wanted) =
+    question wanted.argument 0 (part wanted.argument.value_delimiter wanted.text)
 
 abbrev pub row_candidates : Row → List CompletionCandidate → List CompletionCandidate
-row_candidates (Listed found) given = found
-row_candidates (ValuesOf asked) given =
-    map (with_prefix asked.before) (values asked.argument asked.text given)
+row_candidates (Listed found) returned = found
+row_candidates (ValuesOf wanted) returned =
+    map (with_prefix wanted.before) (values wanted.argument wanted.text returned)
 
 -- THE OPEN OPTION
 
@@ -84,8 +84,8 @@ open_question _ word = nothing
 
 -- THE WORD
 
--- what a word asks: for the children, the positional, a value within an option's word, the open
--- option
+-- what is wanted for a word: for the children, the positional, a value within an option's word, the
+-- open option
 pub record Questions : Type 0 where
   pub children : Question
   pub positional : Question
@@ -93,20 +93,20 @@ pub record Questions : Type 0 where
   pub opened : Question
 
 -- a list for each question
-pub record Given : Type 0 where
+pub record Returned : Type 0 where
   pub children : List CompletionCandidate
   pub positional : List CompletionCandidate
   pub within : List CompletionCandidate
   pub opened : List CompletionCandidate
 
 -- each list may be returned for its question
-pub record AreAllowed (lent : Lent) (asked : Questions) (given : Given) : Type 0 where
-  pub children : Allows lent asked.children given.children
-  pub positional : Allows lent asked.positional given.positional
-  pub within : Allows lent asked.within given.within
-  pub opened : Allows lent asked.opened given.opened
+pub record AreAllowed (sources : MayReturn) (wanted : Questions) (returned : Returned) : Type 0 where
+  pub children : Allows sources wanted.children returned.children
+  pub positional : Allows sources wanted.positional returned.positional
+  pub within : Allows sources wanted.within returned.within
+  pub opened : Allows sources wanted.opened returned.opened
 
--- what the offered lists ask
+-- what is wanted for the offered lists
 abbrev pub questions_of_lists : Tree → ℕ → OpenLists → Pending → List ℕ → Questions
 questions_of_lists tree position lists pending word = record {
   children = children_question lists.children tree.node;
@@ -115,7 +115,7 @@ questions_of_lists tree position lists pending word = record {
   opened = open_question pending word;
 }
 
--- what the word at a node asks, where the words before it lead to this state
+-- what is wanted for the word at a node, where the words before it lead to this state
 abbrev pub questions : Tree → State → List ℕ → Questions
 questions tree state word =
     questions_of_lists tree state.position
@@ -123,49 +123,49 @@ questions tree state word =
     word
 
 -- the offered lists, one after another
-abbrev pub offered : Tree → ℕ → OpenLists → List ℕ → Given → List CompletionCandidate
-offered tree position lists word given =
-    (offered_children lists.children tree word given.children
+abbrev pub offered : Tree → ℕ → OpenLists → List ℕ → Returned → List CompletionCandidate
+offered tree position lists word returned =
+    (offered_children lists.children tree word returned.children
     ++ positional_values
-    (positional_at tree.node.arguments position) lists.value word given.positional)
-    ++ row_candidates (offered_row lists.options tree.node.arguments word) given.within
+    (positional_at tree.node.arguments position) lists.value word returned.positional)
+    ++ row_candidates (offered_row lists.options tree.node.arguments word) returned.within
 
--- finished: the values of an option that has too few alone; those of one that may end here, and
--- after them the finished others; else the others
-abbrev pub finished_with : Pending → List ℕ → List CompletionCandidate → List CompletionCandidate
+-- the list whose finishing is offered: the values of an option that has too few alone; those of one
+-- that may end here, and after them what is offered besides, finished; else what is offered besides
+abbrev pub finished_last : Pending → List ℕ → List CompletionCandidate → List CompletionCandidate
     → List CompletionCandidate
-finished_with (OptionOpen option count) word given others =
-    if nat_le (least option) count then finish (values option word given ++ finish others)
-    else finish (values option word given)
-finished_with _ word given others = finish others
+finished_last (OptionOpen option count) word returned besides =
+    if nat_le (least option) count then values option word returned ++ finish besides
+    else values option word returned
+finished_last _ word returned besides = besides
 
 -- what is offered besides the values of an open option
-abbrev pub besides : Tree → State → List ℕ → Given → List CompletionCandidate
-besides tree state word given =
+abbrev pub besides : Tree → State → List ℕ → Returned → List CompletionCandidate
+besides tree state word returned =
     offered tree state.position
-    (open_lists_by tree.node.arguments state.position state.escaped state.pending) word given
+    (open_lists_by tree.node.arguments state.position state.escaped state.pending) word returned
 
--- what is offered for the word, where these lists are given
-abbrev pub candidates_for : Tree → State → List ℕ → Given → List CompletionCandidate
-candidates_for tree state word given =
-    finished_with state.pending word given.opened (besides tree state word given)
+-- what is offered for the word, where these lists are returned
+abbrev pub candidates_for : Tree → State → List ℕ → Returned → List CompletionCandidate
+candidates_for tree state word returned =
+    finish (finished_last state.pending word returned.opened (besides tree state word returned))
 
 -- the lists that may be offered for the word at a node
-abbrev pub Offers : Lent → Tree → State → List ℕ → List CompletionCandidate → Type 0
-Offers lent tree state word result =
-    (given : Given) × AreAllowed lent (questions tree state word) given
-    × (result ≡ candidates_for tree state word given)
+abbrev pub Offers : MayReturn → Tree → State → List ℕ → List CompletionCandidate → Type 0
+Offers sources tree state word result =
+    (returned : Returned) × AreAllowed sources (questions tree state word) returned
+    × (result ≡ candidates_for tree state word returned)
 
 -- the lists that may be offered for the word, the values of an open option aside
-pub record AreOffered (lent : Lent) (tree : Tree) (position : ℕ) (lists : OpenLists) (word : List ℕ)
+pub record AreOffered (sources : MayReturn) (tree : Tree) (position : ℕ) (lists : OpenLists) (word : List ℕ)
     (found : List CompletionCandidate) : Type 0 where
   pub children : List CompletionCandidate
-  pub children_given : Allows lent (children_question lists.children tree.node) children
+  pub children_returned : Allows sources (children_question lists.children tree.node) children
   pub positional : List CompletionCandidate
-  pub positional_given : Allows lent
+  pub positional_returned : Allows sources
       (positional_question (positional_at tree.node.arguments position) lists.value word) positional
   pub within : List CompletionCandidate
-  pub within_given : Allows lent
+  pub within_returned : Allows sources
       (row_question (offered_row lists.options tree.node.arguments word)) within
   pub is : found ≡ (offered_children lists.children tree word children
       ++ positional_values (positional_at tree.node.arguments position) lists.value word positional)
@@ -175,73 +175,65 @@ pub record AreOffered (lent : Lent) (tree : Tree) (position : ℕ) (lists : Open
 
 -- the values of an open option; none where no option is open
 abbrev pub opened_values : Pending → List ℕ → List CompletionCandidate → List CompletionCandidate
-opened_values (OptionOpen option count) word given = values option word given
-opened_values _ word given = []
+opened_values (OptionOpen option count) word returned = values option word returned
+opened_values _ word returned = []
 
 -- all that is gathered for the word: the values of an open option, and what is offered besides
-abbrev pub all_gathered : Tree → State → List ℕ → Given → List CompletionCandidate
-all_gathered tree state word given =
-    opened_values state.pending word given.opened ++ besides tree state word given
+abbrev pub all_gathered : Tree → State → List ℕ → Returned → List CompletionCandidate
+all_gathered tree state word returned =
+    opened_values state.pending word returned.opened ++ besides tree state word returned
 
--- where the values of an open option share no id with the others, all is finished once
-abbrev pub FinishesOnce : Tree → State → List ℕ → Given → List CompletionCandidate → Type 0
-FinishesOnce tree state word given result =
-    ShareNone (opened_values state.pending word given.opened) (besides tree state word given)
-    → result ≡ finish (all_gathered tree state word given)
-
--- the list whose finishing is the result
-abbrev pub finished_last : Pending → List ℕ → List CompletionCandidate → List CompletionCandidate
-    → List CompletionCandidate
-finished_last (OptionOpen option count) word given others =
-    if nat_le (least option) count then values option word given ++ finish others
-    else values option word given
-finished_last _ word given others = others
+-- where the values of an open option share no id with what is offered besides, all is finished once
+abbrev pub FinishesOnce : Tree → State → List ℕ → Returned → List CompletionCandidate → Type 0
+FinishesOnce tree state word returned result =
+    ShareNone (opened_values state.pending word returned.opened) (besides tree state word returned)
+    → result ≡ finish (all_gathered tree state word returned)
 
 -- The result is sorted: of those candidates the visible ones if any is, and of each id the first,
 -- by the rank of their tags and then by display order; those that tie keep their order. What is
 -- offered besides the values of an open option is sorted so before it comes after them.
-abbrev pub IsSorted : Tree → State → List ℕ → Given → List CompletionCandidate → Type 0
-IsSorted tree state word given result =
+abbrev pub IsSorted : Tree → State → List ℕ → Returned → List CompletionCandidate → Type 0
+IsSorted tree state word returned result =
     AreGrouped (first_of_ids (shown_or_all
-    (finished_last state.pending word given.opened (besides tree state word given)))) result
-    × AreGrouped (first_of_ids (shown_or_all (besides tree state word given)))
-    (finish (besides tree state word given))
+    (finished_last state.pending word returned.opened (besides tree state word returned)))) result
+    × AreGrouped (first_of_ids (shown_or_all (besides tree state word returned)))
+    (finish (besides tree state word returned))
 
 -- where a visible candidate is gathered, no hidden one is in the result
-abbrev pub ShowsVisible : Tree → State → List ℕ → Given → List CompletionCandidate → Type 0
-ShowsVisible tree state word given result =
-    list_any is_shown (all_gathered tree state word given) ≡ true → AreShown result
+abbrev pub ShowsVisible : Tree → State → List ℕ → Returned → List CompletionCandidate → Type 0
+ShowsVisible tree state word returned result =
+    list_any is_shown (all_gathered tree state word returned) ≡ true → AreShown result
 
 -- what is made of the list of a completer or a folder; nothing of any other list
-abbrev pub told : Question → List CompletionCandidate → List CompletionCandidate
-told (completer which number text) found = found
-told (paths hint text) found = found
-told _ found = []
+abbrev pub completed : Question → List CompletionCandidate → List CompletionCandidate
+completed (completer which number text) found = found
+completed (paths hint text) found = found
+completed _ found = []
 
 -- all that is made of the lists of completers and of the folder, where these lists are offered
-abbrev pub told_by_lists : Tree → ℕ → OpenLists → Pending → List ℕ → Given
+abbrev pub completed_by_lists : Tree → ℕ → OpenLists → Pending → List ℕ → Returned
     → List CompletionCandidate
-told_by_lists tree position lists pending word given =
-    told (positional_question (positional_at tree.node.arguments position) lists.value word)
+completed_by_lists tree position lists pending word returned =
+    completed (positional_question (positional_at tree.node.arguments position) lists.value word)
     (positional_values (positional_at tree.node.arguments position) lists.value word
-    given.positional)
-    ++ (told (row_question (offered_row lists.options tree.node.arguments word))
-    (row_candidates (offered_row lists.options tree.node.arguments word) given.within)
-    ++ told (open_question pending word) (opened_values pending word given.opened))
+    returned.positional)
+    ++ (completed (row_question (offered_row lists.options tree.node.arguments word))
+    (row_candidates (offered_row lists.options tree.node.arguments word) returned.within)
+    ++ completed (open_question pending word) (opened_values pending word returned.opened))
 
 -- the same for the word at a node, where the words before it lead to this state
-abbrev pub told_candidates : Tree → State → List ℕ → Given → List CompletionCandidate
-told_candidates tree state word given =
-    told_by_lists tree state.position
+abbrev pub completed_candidates : Tree → State → List ℕ → Returned → List CompletionCandidate
+completed_candidates tree state word returned =
+    completed_by_lists tree state.position
     (open_lists_by tree.node.arguments state.position state.escaped state.pending)
-    state.pending word given
+    state.pending word returned
 
 -- each candidate of the result begins with the word, or is made of the list of a completer or of
 -- the folder
-abbrev pub BeginsOrIsTold : Tree → State → List ℕ → Given → List CompletionCandidate → Type 0
-BeginsOrIsTold tree state word given result =
+abbrev pub BeginsOrIsCompleted : Tree → State → List ℕ → Returned → List CompletionCandidate → Type 0
+BeginsOrIsCompleted tree state word returned result =
     AllByRecursion (λ c. (begins word c ≡ true) ⊎ Contains
-    (told_candidates tree state word given) c) result
+    (completed_candidates tree state word returned) c) result
 
 -- THE WORDS
 
@@ -261,7 +253,7 @@ words_before node words index = drop (names_before node) (take index words)
 -- state, to no others, and the list is one that may be offered there. Where none of those words is
 -- a hidden alias at the command where it is read, the node is that of the walk by visible names.
 -- The laws speak of this node and state, and of the very lists of which the result is made.
-pub record Completes (lent : Lent) (root : Tree) (words : List (List ℕ)) (index : ℕ)
+pub record Completes (sources : MayReturn) (root : Tree) (words : List (List ℕ)) (index : ℕ)
     (result : List CompletionCandidate) : Type 0 where
   pub tree : Tree
   pub state : State
@@ -269,11 +261,11 @@ pub record Completes (lent : Lent) (root : Tree) (words : List (List ℕ)) (inde
   pub only : IsOnlyLine root (words_before root.node words index) tree state
   pub visible : HasNoHiddenAlias root (words_before root.node words index)
       → tree ≡ visible_end root (words_before root.node words index)
-  pub offers : Offers lent tree state (get_or words index []) result
+  pub offers : Offers sources tree state (get_or words index []) result
   pub grouped : IsSorted tree state (get_or words index []) offers.0 result
   pub once : FinishesOnce tree state (get_or words index []) offers.0 result
   pub shows_visible : ShowsVisible tree state (get_or words index []) offers.0 result
-  pub begins_or_told : BeginsOrIsTold tree state (get_or words index []) offers.0 result
+  pub begins_or_completed : BeginsOrIsCompleted tree state (get_or words index []) offers.0 result
 
 -- How a call that builds the tree and finds no candidates ends: out of memory, with the tree as it
 -- was or built; or with the tree built and the index out of range.

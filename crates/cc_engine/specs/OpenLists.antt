@@ -11,7 +11,7 @@ use Rattle.cc_engine.specs.declared.open_lists.OpenLists.{OpenLists}
 abbrev pub least : Arg → ℕ
 least argument = (range_of argument).least
 
--- the positional, where there is one, asks for no more values than these
+-- the positional, where there is one, needs no more values than these
 abbrev pub has_enough : Option Arg → ℕ → Bool
 has_enough None count = true
 has_enough (Some argument) count = nat_le (least argument) count

@@ -4,9 +4,9 @@ ghost use Rattle.std.specs.Prelude.{◌≡◌, ◌++◌, nat_le, IfOk, if◌then
 ghost use Rattle.cc_gather.specs.Finished.{finish};
 ghost use Rattle.cc_engine.specs.OpenLists.{least};
 ghost use Rattle.cc_engine.specs.Completion.{AreOffered, Offers};
-ghost use Rattle.cc_values.specs.Values.{lent_by};
+ghost use Rattle.cc_values.specs.Values.{returned_by};
 
-use crate::asking::{children, options, positional_values};
+use crate::offered_lists::{children, options, positional_values};
 use crate::open_lists::OpenLists;
 use crate::sources::Sources;
 use cc_arg::{Arg, counted_range};
@@ -25,19 +25,19 @@ pub(crate) fn offer_candidates<P: PathSource>(
     word: &str,
     sources: &Sources<'_, P>,
 ) -> Result<Vec<CompletionCandidate>, AllocError>
-    ensures { IfOk result (λ found. Offers (lent_by
+    ensures { IfOk result (λ found. Offers (returned_by
         ⟦<Completers as CandidateSources>⟧.may_complete
         ⟦<Completers as CandidateSources>⟧.may_list sources.now.completers.now
         (P.finds sources.now.paths.now))
         command.now state.now word.now found.items) }
 {
     let lists = OpenLists::new(command.get_arguments(), state);
-    let others = besides_open_option(alloc, command, state.position, &lists, word, sources)?;
+    let besides = besides_open_option(alloc, command, state.position, &lists, word, sources)?;
     let Pending::OptionOpen(option, count) = &state.pending else {
-        return finish(alloc, others);
+        return finish(alloc, besides);
     };
     let values = sources.values(alloc, option.get(), word, *count)?;
-    finish_values(alloc, option.get(), *count, values, others)
+    finish_values(alloc, option.get(), *count, values, besides)
 }
 
 // Candidates for the next value of the open option, of which there are so many; once it has its
@@ -47,13 +47,13 @@ fn finish_values(
     option: &Arg,
     count: usize,
     values: Vec<CompletionCandidate>,
-    others: Vec<CompletionCandidate>,
+    besides: Vec<CompletionCandidate>,
 ) -> Result<Vec<CompletionCandidate>, AllocError>
-    ensures { IfOk result (λ found. found.items ≡ (if nat_le (least option.now) count
-        then finish (values.items ++ finish others.items) else finish values.items)) }
+    ensures { IfOk result (λ found. found.items ≡ finish (if nat_le (least option.now) count
+        then values.items ++ finish besides.items else values.items)) }
 {
     if counted_range(option).min_values() <= count {
-        return finish_after(alloc, values, others);
+        return finish_after(alloc, values, besides);
     }
     finish(alloc, values)
 }
@@ -67,7 +67,7 @@ fn besides_open_option<P: PathSource>(
     word: &str,
     sources: &Sources<'_, P>,
 ) -> Result<Vec<CompletionCandidate>, AllocError>
-    ensures { IfOk result (λ found. AreOffered (lent_by
+    ensures { IfOk result (λ found. AreOffered (returned_by
         ⟦<Completers as CandidateSources>⟧.may_complete
         ⟦<Completers as CandidateSources>⟧.may_list sources.now.completers.now
         (P.finds sources.now.paths.now))

@@ -6,7 +6,7 @@ ghost use Rattle.cc_command.specs.Built.{built_tree};
 ghost use Rattle.cc_engine.specs.Completion.{Completes, Refuses, is_in_range, names_before, words_before};
 ghost use Rattle.cc_engine.specs.Paths.{PathsOf};
 ghost use Rattle.cc_gather.specs.Finished.{Differ};
-ghost use Rattle.cc_values.specs.Values.{lent_by};
+ghost use Rattle.cc_values.specs.Values.{returned_by};
 
 use crate::candidates::offer_candidates;
 use crate::folder_paths::FolderPaths;
@@ -41,7 +41,7 @@ pub fn complete<D: Folder>(
     folder: &D,
     completers: &Completers,
 ) -> Result<Vec<CompletionCandidate>, Error>
-    ensures candidates { IfOk result (λ found. Completes (lent_by
+    ensures candidates { IfOk result (λ found. Completes (returned_by
         ⟦<Completers as CandidateSources>⟧.may_complete ⟦<Completers as CandidateSources>⟧.may_list
         completers.now (PathsOf (D.facts folder.now) (option_copied current_dir.entry)))
         command.new (map string_bytes words.items) index found.items) }
@@ -93,7 +93,7 @@ fn complete_in_range<P: PathSource>(
     sources: &Sources<'_, P>,
 ) -> Result<Vec<CompletionCandidate>, AllocError>
     requires { is_in_range command.now.node (length words.now) index ≡ true }
-    ensures { IfOk result (λ found. Completes (lent_by
+    ensures { IfOk result (λ found. Completes (returned_by
         ⟦<Completers as CandidateSources>⟧.may_complete
         ⟦<Completers as CandidateSources>⟧.may_list sources.now.completers.now
         (P.finds sources.now.paths.now))

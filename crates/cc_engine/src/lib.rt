@@ -1,10 +1,10 @@
 //! The candidates for a word of a command line.
 #![tactic(auto)]
 
-mod asking;
 mod candidates;
 mod completion;
 mod folder_paths;
+mod offered_lists;
 mod open_lists;
 mod sources;
 

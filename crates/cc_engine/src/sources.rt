@@ -2,7 +2,7 @@
 
 ghost use Rattle.std.specs.Prelude.{IfOk, true};
 ghost use Rattle.cc_engine.specs.Completion.{children_question};
-ghost use Rattle.cc_values.specs.Values.{Allows, ArgumentValues, lent_by};
+ghost use Rattle.cc_values.specs.Values.{Allows, ArgumentValues, returned_by};
 
 use cc_arg::Arg;
 use cc_candidates::{CandidateSources, Completers, CompletionCandidate};
@@ -26,7 +26,7 @@ impl<'a, P: PathSource> Sources<'a, P> {
         word: &str,
         number: usize,
     ) -> Result<Vec<CompletionCandidate>, AllocError>
-        ensures { IfOk result (λ found. ArgumentValues (lent_by
+        ensures { IfOk result (λ found. ArgumentValues (returned_by
             ⟦<Completers as CandidateSources>⟧.may_complete
             ⟦<Completers as CandidateSources>⟧.may_list self.now.completers.now
             (P.finds self.now.paths.now))
@@ -41,7 +41,7 @@ impl<'a, P: PathSource> Sources<'a, P> {
         alloc: Global,
         command: &Command,
     ) -> Result<Vec<CompletionCandidate>, AllocError>
-        ensures { IfOk result (λ found. Allows (lent_by
+        ensures { IfOk result (λ found. Allows (returned_by
             ⟦<Completers as CandidateSources>⟧.may_complete
             ⟦<Completers as CandidateSources>⟧.may_list self.now.completers.now
             (P.finds self.now.paths.now))

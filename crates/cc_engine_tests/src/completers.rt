@@ -1,6 +1,6 @@
-//! Values and names that are lent.
+//! Values and names from completers and lists.
 
-use crate::lent::{find_with_lent, find_without_memory, two_completers};
+use crate::sources::{find_with_completers, find_without_memory, two_completers};
 use crate::numbered::{
     with_completer_and_list, with_delimiter, with_list, with_pair, with_positional, with_programs,
     with_two_options,
@@ -24,7 +24,7 @@ fn offers<R: Abort + AllocGlobal>(
     wanted: &str,
 ) {
     let mut command = command.expect(rt, "no command");
-    let found = find_with_lent(rt.alloc(), &mut command, words);
+    let found = find_with_completers(rt.alloc(), &mut command, words);
     drop(command);
     assert_eq!(rt; text_of(rt, found).as_str(), wanted);
 }
@@ -99,7 +99,7 @@ fn closures_have_the_numbers_after_the_others(rt: HostRuntime) {
 }
 
 #[test]
-fn a_number_past_what_is_lent_offers_nothing(rt: HostRuntime) {
+fn a_number_past_what_is_added_offers_nothing(rt: HostRuntime) {
     let one = ValueRange::new(1, 1);
     offers(&rt, with_positional(rt.alloc(), 7, one), &["app", ""], "");
     offers(&rt, with_list(rt.alloc(), 7), &["app", ""], "");
@@ -117,38 +117,38 @@ fn gives<R: Abort + AllocGlobal>(
 }
 
 #[test]
-fn a_number_of_what_is_lent(rt: HostRuntime) {
+fn a_number_of_what_is_added(rt: HostRuntime) {
     let alloc = rt.alloc();
-    let lent = two_completers(alloc).expect(&rt, "nothing is lent");
-    let asked = ArgValueCompleter::new(1);
-    gives(&rt, asked.complete(alloc, &lent, "a"), "0:a ");
-    gives(&rt, asked.complete_at(alloc, &lent, 3, "a"), "3:a ");
-    let list = ArgValueCandidates::new(0).candidates(alloc, &lent);
+    let completers = two_completers(alloc).expect(&rt, "nothing is added");
+    let echo = ArgValueCompleter::new(1);
+    gives(&rt, echo.complete(alloc, &completers, "a"), "0:a ");
+    gives(&rt, echo.complete_at(alloc, &completers, 3, "a"), "3:a ");
+    let list = ArgValueCandidates::new(0).candidates(alloc, &completers);
     gives(&rt, list, "tee tar cat tee ");
-    let programs = SubcommandCandidates::new(0).candidates(alloc, &lent);
+    let programs = SubcommandCandidates::new(0).candidates(alloc, &completers);
     gives(&rt, programs, "tee tar cat tee ");
-    drop(lent);
+    drop(completers);
 }
 
 #[test]
 fn a_number_past_two_completers_has_no_candidates(rt: HostRuntime) {
     let alloc = rt.alloc();
-    let lent = two_completers(alloc).expect(&rt, "nothing is lent");
+    let completers = two_completers(alloc).expect(&rt, "nothing is added");
     gives(
         &rt,
-        ArgValueCompleter::new(7).complete(alloc, &lent, ""),
+        ArgValueCompleter::new(7).complete(alloc, &completers, ""),
         "",
     );
-    gives(&rt, ArgValueCandidates::new(7).candidates(alloc, &lent), "");
+    gives(&rt, ArgValueCandidates::new(7).candidates(alloc, &completers), "");
     gives(
         &rt,
-        SubcommandCandidates::new(7).candidates(alloc, &lent),
+        SubcommandCandidates::new(7).candidates(alloc, &completers),
         "",
     );
-    drop(lent);
+    drop(completers);
 }
 
-// Fails unless what is lent is out of memory, and the command is built all the same.
+// Fails unless the completers run out of memory, and the command is built all the same.
 fn runs_out<R: Abort + AllocGlobal>(rt: &R, command: Result<Command, Error>) {
     let mut command = command.expect(rt, "no command");
     let words = ["app", ""];

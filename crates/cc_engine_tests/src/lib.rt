@@ -3,13 +3,11 @@
 #![tactic(auto)]
 
 #[cfg(test)]
+mod completed_paths;
+#[cfg(test)]
 mod completers;
 #[cfg(test)]
 mod fixtures;
-#[cfg(test)]
-mod lent;
-#[cfg(test)]
-mod lent_paths;
 #[cfg(test)]
 mod numbered;
 #[cfg(test)]
@@ -26,3 +24,5 @@ mod paths;
 mod possible;
 #[cfg(test)]
 mod printed;
+#[cfg(test)]
+mod sources;

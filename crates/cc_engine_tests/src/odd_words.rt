@@ -34,9 +34,9 @@ fn offers_for<R: Abort + AllocGlobal>(
     let index = words.len().saturating_sub(1);
     let folder = MemoryFolder::new(&[], &[]);
     let alloc = rt.alloc();
-    let lent = Completers::none(alloc);
+    let completers = Completers::none(alloc);
     let mut command = command.expect(rt, "no command");
-    let found = complete(rt.alloc(), &mut command, words, index, None, &folder, &lent);
+    let found = complete(rt.alloc(), &mut command, words, index, None, &folder, &completers);
     drop(command);
     assert_eq!(rt; text_of(rt, found).as_str(), wanted);
 }

@@ -29,11 +29,11 @@ pub(crate) fn find_last<D: Folder>(
     words: &[&str],
     current_dir: Option<&str>,
     folder: &D,
-    lent: &Completers,
+    completers: &Completers,
 ) -> Result<Vec<CompletionCandidate>, Error> {
     let index = words.len().saturating_sub(1);
     let words = to_strings(alloc, words)?;
-    complete(alloc, command, words, index, current_dir, folder, lent)
+    complete(alloc, command, words, index, current_dir, folder, completers)
 }
 
 /// The values of the candidates that were found, each with a space after it.

@@ -34,7 +34,7 @@ pub(crate) fn other() -> MemoryFolder {
 fn a_folder_that_is_out_of_memory(rt: HostRuntime) {
     let folder = work().out_of_memory();
     let alloc = rt.alloc();
-    let lent = Completers::none(alloc);
+    let completers = Completers::none(alloc);
     let mut command = read(rt.alloc(), FILE).expect(&rt, "no command");
     let words = ["app", ""];
     let found = find_last(
@@ -43,7 +43,7 @@ fn a_folder_that_is_out_of_memory(rt: HostRuntime) {
         words.as_slice(),
         Some("/w"),
         &folder,
-        &lent,
+        &completers,
     );
     assert!(rt; matches!(found, Err(Error::Memory)) && command.is_built());
     drop(command);

@@ -1,12 +1,12 @@
 -- How the whole call ends, outcome by outcome.
-use Rattle.std.proofs.Common.{◌≡◌, ◌++◌, ◌∙◌, ap, sym, subst, ℕ, Bool, true, false, List, Option, Some, None, Result, Ok, Err, IfErr, find, map}
+use Rattle.std.proofs.Common.{◌≡◌, ◌++◌, ◌∙◌, ap, sym, subst, ℕ, Bool, true, List, Option, Some, None, Result, Ok, Err, find, map}
 use Rattle.cc_adapters.specs.Builtins.{CompleterSpec}
 use Rattle.cc_base.specs.Writes.{IsWrite, Writes}
 use Rattle.cc_base.specs.declared.error.Error.{Error}
 use Rattle.cc_base.specs.declared.error.Error.TheVariants.{Write}
 use Rattle.cc_base.specs.declared.failures.Failures.{Failures}
-use Rattle.cc_env.specs.Asked.{Asked, known, unknown}
-use Rattle.cc_env.specs.Steps.{Ends, EndsAs, Tries, nothing_written, text_written, write_failed}
+use Rattle.cc_env.specs.Wanted.{Wanted, known, unknown}
+use Rattle.cc_env.specs.Steps.{Ends, EndsAs, Tries, text_written, write_failed}
 
 module _ {S : Type 0} (taken : S → List ℕ) (failed : S → Failures) where
   -- a put that fails
@@ -24,17 +24,17 @@ module _ {S : Type 0} (taken : S → List ℕ) (failed : S → Failures) where
       text_written made makes (writes.ok ∙ ap (λ t. taken old ++ t) same) writes.failures
 
   module _ {C : Type 0} (spec : C → CompleterSpec) (shells : List C) (Makes : C → Result (List ℕ) Error → Type 0) (old new : S) where
-    -- what is asked for by a name
-    abbrev asked_by : List ℕ → Option C → Asked C
-    asked_by name found = elim found [
+    -- what is wanted by a name
+    abbrev wanted_by : List ℕ → Option C → Wanted C
+    wanted_by name found = elim found [
       | Some shell ↦ known shell
       | None ↦ unknown name
     ]
 
-    -- a shell is asked for
-    pub tries_known : (result : Result Bool Error) (asked : Option (List ℕ)) (name : List ℕ) (shell : C)
-        → Some name ≡ asked → find (λ s. (spec s).named name) shells ≡ Some shell → Ends taken failed (Makes shell) old new result
-        → Tries taken failed spec shells Makes asked old new result
-    tries_known result asked name shell is found ends =
+    -- a shell is wanted
+    pub tries_known : (result : Result Bool Error) (wanted : Option (List ℕ)) (name : List ℕ) (shell : C)
+        → Some name ≡ wanted → find (λ s. (spec s).named name) shells ≡ Some shell → Ends taken failed (Makes shell) old new result
+        → Tries taken failed spec shells Makes wanted old new result
+    tries_known result wanted name shell is found ends =
         subst (λ a. Tries taken failed spec shells Makes a old new result) is
-        (subst (λ f. EndsAs taken failed (map (λ s. (spec s).name) shells) Makes (asked_by name f) old new result) (sym found) ends)
+        (subst (λ f. EndsAs taken failed (map (λ s. (spec s).name) shells) Makes (wanted_by name f) old new result) (sym found) ends)

@@ -3,7 +3,8 @@ use Rattle.std.proofs.Common.{◌≡◌, ℕ, suc, ◌-◌, ◌≤◌, Bool, tru
 use Rattle.std.proofs.lemmas.List.{length-map}
 use Rattle.std.proofs.lemmas.List.{drop-map}
 use Rattle.std.specs.Prelude.{bytes_eq}
-use Rattle.cc_env.specs.Arguments.{after_dashes, asked_words}
+use Rattle.cc_base.proofs.Cases.{choose}
+use Rattle.cc_env.specs.Arguments.{after_dashes}
 
 abbrev Words : Type 0
 Words = List (List ℕ)
@@ -12,10 +13,6 @@ Words = List (List ℕ)
 pub record AreLast (words all : Words) : Type 0 where
   pub fewer : length words ≤ length all
   pub last : drop (length all - length words) all ≡ words
-
--- one of two, by a test
-abbrev choose : Bool → Words → Words → Words
-choose test first second = elim test [ true ↦ first | false ↦ second ]
 
 -- one word more before them
 one_more : (word : List ℕ) (words all : Words) → AreLast words all → AreLast words (word ∷ all)
@@ -42,19 +39,19 @@ pub after_dashes_last : (words : Words) → AreLast (after_dashes words) words
 after_dashes_last [] = record { fewer = omega arith; last = refl }
 after_dashes_last (word ∷ words) = by_test (bytes_eq word (codes "--")) word words (after_dashes_last words)
 
-pub asked_words_last : (arguments : Words) → AreLast (asked_words arguments) arguments
-asked_words_last [] = record { fewer = omega arith; last = refl }
-asked_words_last (program ∷ words) = one_more program (after_dashes words) words (after_dashes_last words)
+-- the words after the program, of texts by their bytes
+module _ {X : Type 0} (f : X → List ℕ) (arguments : List X) (program : X) (rest words : List X)
+    (split : arguments ≡ program ∷ rest) (is : map f words ≡ after_dashes (map f rest)) where
+  pub fewer : length words ≤ length arguments
+  fewer =
+      omega (arith, (after_dashes_last (map f rest)).fewer, ap length is, ap length split, length-map words f, length-map rest f)
 
--- the same of texts, by their bytes
-pub asked_fewer : {X : Type 0} (f : X → List ℕ) (arguments words : List X) → map f words ≡ asked_words (map f arguments) → length words ≤ length arguments
-asked_fewer f arguments words is =
-    omega (arith, (asked_words_last (map f arguments)).fewer, ap length is, length-map words f, length-map arguments f)
-
-pub asked_kept : {X : Type 0} (f : X → List ℕ) (arguments words : List X) → map f words ≡ asked_words (map f arguments) → map f (drop (length arguments - length words) arguments) ≡ asked_words (map f arguments)
-asked_kept f arguments words is =
-    let same : length arguments - length words ≡ length (map f arguments) - length (asked_words (map f arguments)) =
-    omega (arith, ap length is, length-map words f, length-map arguments f) in
-    sym (drop-map f (length arguments - length words) arguments)
-    ∙ ap (λ n. drop n (map f arguments)) same
-    ∙ (asked_words_last (map f arguments)).last
+  pub last_kept : map f (drop (length arguments - length words) arguments) ≡ after_dashes (map f rest)
+  last_kept =
+      let last = one_more (f program) (after_dashes (map f rest)) (map f rest) (after_dashes_last (map f rest)) in
+      let same : length arguments - length words ≡ length (f program ∷ map f rest) - length (after_dashes (map f rest)) =
+      omega (arith, ap length is, ap length split, length-map words f, length-map rest f) in
+      ap (λ a. map f (drop (length arguments - length words) a)) split
+      ∙ sym (drop-map f (length arguments - length words) (program ∷ rest))
+      ∙ ap (λ n. drop n (f program ∷ map f rest)) same
+      ∙ last.last

@@ -1,5 +1,5 @@
 -- How making the text ends, outcome by outcome.
-use Rattle.std.proofs.Common.{◌≡◌, ◌≢◌, ◌==◌, ◌⊎◌, inl, inr, refl, sym, ap, ◌∙◌, subst, ℕ, Bool, true, false, List, [], ◌∷◌, length, map, Result, Ok, Err, IfErr, IfOk}
+use Rattle.std.proofs.Common.{◌≡◌, ◌≢◌, ◌==◌, ◌⊎◌, inl, inr, sym, ap, ◌∙◌, subst, ℕ, true, false, List, [], ◌∷◌, length, map, Result, Ok, Err, IfErr, IfOk}
 use Rattle.std.proofs.lemmas.Bool.{eqb-true, eq-eqb}
 use Rattle.std.proofs.lemmas.List.{length-map, nil_from_length}
 use Rattle.cc_adapters.specs.Builtins.{CompleterSpec}
@@ -11,19 +11,19 @@ use Rattle.cc_candidates.specs.declared.candidate.CompletionCandidate.{Completio
 use Rattle.cc_command.specs.Built.{built_tree}
 use Rattle.cc_command.specs.Tree.{Tree}
 use Rattle.cc_replies.specs.declared.environment.EnvValues.{EnvValues}
-use Rattle.cc_env.specs.Arguments.{after_dashes, asked_words}
+use Rattle.cc_env.specs.Arguments.{after_dashes}
 use Rattle.cc_env.specs.Steps.{BuiltUnlessMemory, IsRegistration, MakesText, Names, RepliesAs, made_bytes}
 use Rattle.cc_env.specs.Steps.{factory_failed, no_arguments, out_of_memory, registered, replied}
 
 abbrev Words : Type 0
 Words = List (List ℕ)
 
--- no texts have no bytes to tell, and some texts have
-none_asked : {X : Type 0} (f : X → List ℕ) (texts : List X) (words : Words) → map f texts ≡ words → (length texts == 0) ≡ true → words ≡ []
-none_asked f texts words is none = sym is ∙ ap (map f) (nil_from_length texts (eqb-true (length texts) 0 none))
+-- no texts have no bytes, and some texts have
+no_words : {X : Type 0} (f : X → List ℕ) (texts : List X) (words : Words) → map f texts ≡ words → (length texts == 0) ≡ true → words ≡ []
+no_words f texts words is none = sym is ∙ ap (map f) (nil_from_length texts (eqb-true (length texts) 0 none))
 
-some_asked : {X : Type 0} (f : X → List ℕ) (texts : List X) (words : Words) → map f texts ≡ words → (length texts == 0) ≡ false → words ≢ []
-some_asked f texts words is some none =
+some_words : {X : Type 0} (f : X → List ℕ) (texts : List X) (words : Words) → map f texts ≡ words → (length texts == 0) ≡ false → words ≢ []
+some_words f texts words is some none =
     let empty : true ≡ false = sym (eq-eqb (length texts) 0 (sym (length-map texts f) ∙ ap length (is ∙ none))) ∙ some in cc
 
 module _ (Makes : Result Tree Error → Type 0) (shell : CompleterSpec)
@@ -56,7 +56,7 @@ module _ (Makes : Result Tree Error → Type 0) (shell : CompleterSpec)
       subst (λ e. MakesText Makes shell names env Offers (program ∷ rest) (Err e)) (sym memory)
       (out_of_memory (program ∷ rest))
 
-  -- where no words are asked for, the registration
+  -- where no words are wanted, the registration
   pub text_registered : {X : Type 0} (f : X → List ℕ) (arguments : List X) (program : X) (rest words : List X)
       (tree command : Tree) (path : List ℕ) (result : Result Collected Error)
       → Makes (Ok tree) → command ≡ built_tree tree → arguments ≡ program ∷ rest
@@ -64,10 +64,10 @@ module _ (Makes : Result Tree Error → Type 0) (shell : CompleterSpec)
       → IfOk result (λ text. IsRegistration shell (names path command) (collected_bytes text))
       → IfErr result (λ error. error ≡ Memory)
       → MakesText Makes shell names env Offers (map f arguments) (made_bytes result)
-  text_registered f arguments program rest words tree command path result makes is split asked none same made memory =
+  text_registered f arguments program rest words tree command path result makes is split wanted none same made memory =
       subst (λ a. MakesText Makes shell names env Offers (map f a) (made_bytes result)) (sym split)
       (registration_ends tree command (f program) (map f rest) result makes is
-      (none_asked f words (after_dashes (map f rest)) asked none)
+      (no_words f words (after_dashes (map f rest)) wanted none)
       (subst (λ p. IfOk result (λ text. IsRegistration shell (names p command) (collected_bytes text))) same made) memory)
 
   -- the reply over the command that was made
@@ -97,10 +97,9 @@ module _ (Makes : Result Tree Error → Type 0) (shell : CompleterSpec)
       (kept : Words) (tree command after : Tree) (result : Result (List ℕ) Error)
       → Makes (Ok tree) → command ≡ built_tree tree → built_tree command ≡ command
       → arguments ≡ program ∷ rest → map f words ≡ after_dashes (map f rest) → (length words == 0) ≡ false
-      → kept ≡ asked_words (map f arguments) → BuiltUnlessMemory result (after ≡ built_tree command)
+      → kept ≡ after_dashes (map f rest) → BuiltUnlessMemory result (after ≡ built_tree command)
       → RepliesAs shell env kept (Offers after) after result → MakesText Makes shell names env Offers (map f arguments) result
-  text_replied f arguments program rest words kept tree command after result makes is whole split asked some same built replies =
+  text_replied f arguments program rest words kept tree command after result makes is whole split wanted some same built replies =
       subst (λ a. MakesText Makes shell names env Offers (map f a) result) (sym split)
-      (reply_ends tree command after (f program) (map f rest) kept result makes is whole
-      (same ∙ ap (λ a. asked_words (map f a)) split)
-      (some_asked f words (after_dashes (map f rest)) asked some) built replies)
+      (reply_ends tree command after (f program) (map f rest) kept result makes is whole same
+      (some_words f words (after_dashes (map f rest)) wanted some) built replies)

@@ -1,4 +1,4 @@
--- What the arguments of a program tell: the words of a command line, and the path of the program.
+-- What the arguments of a program hold: the words of a command line, and the path of the program.
 use Rattle.std.specs.Prelude.{ℕ, Bool, true, false, List, [], ◌∷◌, Option, Some, None, codes, if◌then◌else◌}
 use Rattle.std.specs.List.{list_any}
 use Rattle.std.specs.Path.{path_join, trim_trailing}
@@ -13,17 +13,12 @@ after_dashes (word ∷ words) = elim (bytes_eq word (codes "--")) [
   | false ↦ after_dashes words
 ]
 
--- the words after the first `--` that follows the first argument, which is the program's path
-abbrev pub asked_words : List (List ℕ) → List (List ℕ)
-asked_words [] = []
-asked_words (program ∷ words) = after_dashes words
-
 -- a path that leads through a folder: it holds a slash before its trailing slashes and `.` pieces
 abbrev pub has_folder : List ℕ → Bool
 has_folder path = list_any is_slash (trim_trailing path)
 
 -- the path by which a shell runs the program: one that leads through a folder is joined to the
--- current folder, where that is given; a name alone is looked up by the shell
+-- current folder, where there is one; a name alone is looked up by the shell
 abbrev pub program_path : Option (List ℕ) → List ℕ → List ℕ
 program_path None program = program
 program_path (Some current) program =

@@ -1,3 +1,3 @@
 pub mod Arguments
-pub mod Asked
 pub mod Steps
+pub mod Wanted

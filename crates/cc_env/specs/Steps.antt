@@ -1,8 +1,8 @@
--- What a program does where its environment may ask for a completion.
+-- What a program does where its environment may want a completion.
 use Rattle.std.specs.Prelude.{◌≡◌, ◌≢◌, ◌++◌, ⊤, ℕ, Bool, true, false, List, [], ◌∷◌, map, Option, unwrap_or, Result, Ok, Err, IfErr, IfOk}
 use Rattle.std.specs.declared.io.ErrorKind.{ErrorKind}
 use Rattle.cc_adapters.specs.Builtins.{CompleterSpec}
-use Rattle.cc_adapters.specs.Replies.{AsksInRange, AsksOutOfRange, IsReply}
+use Rattle.cc_adapters.specs.Replies.{WantsInRange, WantsOutOfRange, IsReply}
 use Rattle.cc_base.specs.Collected.{collected_bytes}
 use Rattle.cc_base.specs.Sink.{add_failure}
 use Rattle.cc_base.specs.declared.collected.Collected.{Collected}
@@ -15,7 +15,7 @@ use Rattle.cc_command.specs.Names.{full_name}
 use Rattle.cc_command.specs.Tree.{Tree}
 use Rattle.cc_replies.specs.declared.environment.EnvValues.{EnvValues}
 use Rattle.cc_env.specs.Arguments.{after_dashes, program_path}
-use Rattle.cc_env.specs.Asked.{Asked, IsUnknownShell, asked_of, known, nothing, unknown}
+use Rattle.cc_env.specs.Wanted.{Wanted, IsUnknownShell, wanted_of, known, nothing, unknown}
 
 -- ---- the registration
 
@@ -26,11 +26,11 @@ pub record Names : Type 0 where
   pub bin : List ℕ
   pub completer : List ℕ
 
--- the completer that is given, else the path of the program
+-- the completer that is set, else the path of the program
 abbrev pub completer_path : Option (List ℕ) → Option (List ℕ) → List ℕ → List ℕ
 completer_path completer current program = unwrap_or completer (program_path current program)
 
--- the variable; the tree's name; the binary that is given, else the tree's full name; the completer
+-- the variable; the tree's name; the binary that is set, else the tree's full name; the completer
 abbrev pub names_of : List ℕ → Option (List ℕ) → Option (List ℕ) → Option (List ℕ) → List ℕ → Tree
     → Names
 names_of variable bin completer current program tree = record {
@@ -47,19 +47,19 @@ pub record IsRegistration (shell : CompleterSpec) (names : Names) (text : List �
 
 -- ---- the reply
 
--- How the reply ends, over a built tree: candidates that may be offered for what is asked for are
--- replied, the index that is asked for is in range, and what replies are read as holds; the index
--- is out of range; or memory ran out.
+-- How the reply ends, over a built tree: candidates that may be offered for what is wanted are
+-- replied, the wanted index is in range, and what replies are read as holds; the index is out of
+-- range; or memory ran out.
 abbrev pub RepliesAs : CompleterSpec → EnvValues → List (List ℕ)
     → (List (List ℕ) → ℕ → List CompletionCandidate → Type 0) → Tree
     → Result (List ℕ) Error → Type 0
 RepliesAs shell env words Offers tree (Ok text) =
-    AsksInRange tree (shell.Asks env words)
-    × IsReply (shell.Asks env words) Offers (shell.reply env) text
+    WantsInRange tree (shell.Wants env words)
+    × IsReply (shell.Wants env words) Offers (shell.reply env) text
     × ((candidates : List CompletionCandidate) → shell.ReplyReads env candidates)
 RepliesAs shell env words Offers tree (Err Memory) = ⊤
 RepliesAs shell env words Offers tree (Err NoCompletion) =
-    AsksOutOfRange tree (shell.Asks env words)
+    WantsOutOfRange tree (shell.Wants env words)
 RepliesAs shell env words Offers tree (Err _) = ⊥
 
 -- the tree is built, as a fact, where a text is made or the index is out of range; nothing is said
@@ -126,19 +126,19 @@ pub data Ends {S : Type 0} (taken : S → List ℕ) (failed : S → Failures)
   text_written : (text : List ℕ) → Makes (Ok text) → taken new ≡ taken old ++ text
       → failed new ≡ failed old → Ends taken failed Makes old new (Ok true)
 
--- What the whole call does, by what is asked for: nothing, a shell that there is not, or a shell.
+-- What the whole call does, by what is wanted: nothing, a shell that there is not, or a shell.
 abbrev pub EndsAs : {S C : Type 0} → (S → List ℕ) → (S → Failures) → List (List ℕ)
-    → (C → Result (List ℕ) Error → Type 0) → Asked C → S → S → Result Bool Error → Type 0
+    → (C → Result (List ℕ) Error → Type 0) → Wanted C → S → S → Result Bool Error → Type 0
 EndsAs taken failed names Makes nothing old new result = (result ≡ Ok false) × (new ≡ old)
 EndsAs taken failed names Makes (unknown name) old new result =
     IfOk result (λ _. ⊥) × IfErr result (IsUnknownShell names name) × (new ≡ old)
 EndsAs taken failed names Makes (known shell) old new result =
     Ends taken failed (Makes shell) old new result
 
--- The same of these shells, for the name that is asked for, where one is. `Makes` says how making
+-- The same of these shells, for the name that is wanted, where one is. `Makes` says how making
 -- the text ends for a shell.
 abbrev pub Tries : {S C : Type 0} → (S → List ℕ) → (S → Failures) → (C → CompleterSpec) → List C
     → (C → Result (List ℕ) Error → Type 0) → Option (List ℕ) → S → S → Result Bool Error → Type 0
 Tries taken failed spec shells Makes name old new result =
     EndsAs taken failed (map (λ shell. (spec shell).name) shells) Makes
-    (asked_of (λ shell. (spec shell).named) shells name) old new result
+    (wanted_of (λ shell. (spec shell).named) shells name) old new result

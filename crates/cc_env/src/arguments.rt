@@ -34,7 +34,7 @@ pub(crate) fn keep_last(mut texts: Vec<String>, count: usize) -> Vec<String>
 }
 
 /// The path by which a shell runs the program of this first argument: one that leads through a
-/// folder is joined to the current folder, where that is given. Fails where memory runs out.
+/// folder is joined to the current folder, where there is one. Fails where memory runs out.
 pub(crate) fn program_path(
     alloc: Global,
     current_dir: Option<&str>,

@@ -1,4 +1,4 @@
-//! A program that completes its own command line where the environment asks for it.
+//! A program that completes its own command line where the environment requests it.
 
 ghost use Rattle.std.specs.Prelude.{◌≡◌, Some, None, codes, map, string_bytes};
 ghost use Rattle.std.specs.Option.{option_copied};
@@ -6,11 +6,11 @@ ghost use Rattle.cc_adapters.specs.Builtins.{all_builtins};
 ghost use Rattle.cc_engine.specs.Completion.{Completes};
 ghost use Rattle.cc_engine.specs.Paths.{PathsOf};
 ghost use Rattle.cc_replies.specs.Environment.{value_of};
-ghost use Rattle.cc_env.specs.Asked.{asked_name};
+ghost use Rattle.cc_env.specs.Wanted.{wanted_name};
 ghost use Rattle.cc_env.specs.Steps.{MakesText, Tries, names_of};
-ghost use Rattle.cc_values.specs.Values.{lent_by};
+ghost use Rattle.cc_values.specs.Values.{returned_by};
 
-use crate::asked::{asked_name, known_shell};
+use crate::wanted::{known_shell, wanted_name};
 use cc_adapters::{Builtin, EnvCompleter, Shells};
 use cc_base::{Error, Sink, Text, put_all};
 use cc_candidates::{CandidateSources, Completers};
@@ -19,11 +19,10 @@ use cc_paths::Folder;
 use cc_replies::EnvValues;
 use std::alloc::Global;
 
-/// What a program does where its environment asks for a completion.
+/// What a program does where its environment requests a completion.
 ///
-/// A shell that is told to do so runs the program with a variable set to the shell's name: without
-/// words for the registration, and with the words of a command line, after a `--`, for the
-/// candidates.
+/// A shell runs the program with a variable set to the shell's name: without words for the
+/// registration, and with the words of a command line, after a `--`, for the candidates.
 #[derive(Drop)]
 pub struct CompleteEnv<'s, F, E> {
     pub(crate) factory: F,
@@ -98,11 +97,11 @@ impl<'s, F, E> CompleteEnv<'s, F, E> {
 }
 
 impl<'s, F: Fn(Global) -> Result<Command, Error> + Drop, E: EnvCompleter> CompleteEnv<'s, F, E> {
-    /// Writes a registration or a reply, where the environment asks for one, and returns whether it
+    /// Writes a registration or a reply, where the environment requests one, and returns whether it
     /// does.
     ///
-    /// 1. Where the variable is not set, empty or `0`, nothing is asked for: nothing is written,
-    ///    and `false` returned.
+    /// 1. Where the variable is not set, empty or `0`, nothing is wanted: nothing is written, and
+    ///    `false` returned.
     /// 2. The last piece of its value, as of a path and without its extension, names the shell.
     /// 3. The factory makes the command, which is built.
     /// 4. Where words follow the first `--` after the first argument, the reply to these words is
@@ -110,16 +109,16 @@ impl<'s, F: Fn(Global) -> Result<Command, Error> + Drop, E: EnvCompleter> Comple
     ///
     /// `args` are the arguments of the program, its name first. `current_dir` is where relative
     /// paths begin; without it they have no candidates. `env` has the value of the variable, and
-    /// those of `_CLAP_COMPLETE_INDEX` and `_CLAP_IFS`, which registrations set. `folder` is asked
-    /// for paths, `completers` for values. Nothing else may be written to `out`.
+    /// those of `_CLAP_COMPLETE_INDEX` and `_CLAP_IFS`, which registrations set. `folder`
+    /// has the paths, `completers` the values. Nothing else may be written to `out`.
     ///
     /// A registration is made of the variable, the command's name, the binary and the completer, as
     /// `bin` and `completer` say. A completer that was not set and leads through a folder, as
-    /// `./app` does, is joined to the current folder where that is given.
+    /// `./app` does, is joined to the current folder where there is one.
     ///
     /// Fails, in this order: with `UnknownShell` where no shell has the name; as the factory does;
-    /// with `NoArguments` where the list of arguments is empty; with `NoCompletion` where the shell
-    /// asks for a word that is not there, or for the program's name. Nothing is written then, nor
+    /// with `NoArguments` where the list of arguments is empty; with `NoCompletion` where the word
+    /// to complete is not there, or is the program's name. Nothing is written then, nor
     /// where the call fails with `Memory`. Fails with `Write` where the sink fails; how much it
     /// took is left open.
     pub fn try_complete<D: Folder, W: Sink>(
@@ -136,14 +135,14 @@ impl<'s, F: Fn(Global) -> Result<Command, Error> + Drop, E: EnvCompleter> Comple
         ensures { Tries W.taken W.failed E.spec self.entry.shells.0.now (λ shell. MakesText
             (λ made. F.post self.entry.factory alloc made) (E.spec shell)
             (names_of self.entry.variable.now self.entry.bin self.entry.completer
-            (option_copied current_dir.entry)) env.now (Completes (lent_by
+            (option_copied current_dir.entry)) env.now (Completes (returned_by
             ⟦<Completers as CandidateSources>⟧.may_complete
             ⟦<Completers as CandidateSources>⟧.may_list completers.now
             (PathsOf (D.facts folder.now) (option_copied current_dir.entry))))
             (map string_bytes args.items))
-            (asked_name (value_of self.entry.variable.now env.now)) out.old out.new result }
+            (wanted_name (value_of self.entry.variable.now env.now)) out.old out.new result }
     {
-        let Some(name) = asked_name(env.get(self.variable)) else {
+        let Some(name) = wanted_name(env.get(self.variable)) else {
             return Ok(false);
         };
         let shell = known_shell(alloc, &self.shells, name)?;

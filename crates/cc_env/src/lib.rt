@@ -1,10 +1,9 @@
-//! Live completion: what a program writes where its shell asks it for a registration or for
-//! candidates.
+//! Live completion: what a program writes where its shell requests a registration or candidates.
 #![tactic(auto)]
 
 mod arguments;
-mod asked;
 mod complete_env;
 mod text;
+mod wanted;
 
 pub use crate::complete_env::CompleteEnv;

@@ -9,7 +9,7 @@ ghost use Rattle.cc_engine.specs.Completion.{Completes};
 ghost use Rattle.cc_engine.specs.Paths.{PathsOf};
 ghost use Rattle.cc_env.specs.Steps.{BuiltUnlessMemory, IsRegistration, MakesText, RepliesAs};
 ghost use Rattle.cc_env.specs.Steps.{completer_path, in_memory, made_bytes, names_of};
-ghost use Rattle.cc_values.specs.Values.{lent_by};
+ghost use Rattle.cc_values.specs.Values.{returned_by};
 
 use crate::arguments::{after_dashes, keep_last, program_path};
 use crate::complete_env::CompleteEnv;
@@ -37,7 +37,7 @@ impl<'s, F: Fn(Global) -> Result<Command, Error>, E: EnvCompleter> CompleteEnv<'
         requires { F.IsAlwaysCallable self.now.factory }
         ensures { MakesText (λ made. F.post self.now.factory alloc made) (E.spec shell.now)
             (names_of self.now.variable.now self.now.bin self.now.completer
-            (option_copied current_dir.entry)) env.now (Completes (lent_by
+            (option_copied current_dir.entry)) env.now (Completes (returned_by
             ⟦<Completers as CandidateSources>⟧.may_complete
             ⟦<Completers as CandidateSources>⟧.may_list completers.now
             (PathsOf (D.facts folder.now) (option_copied current_dir.entry))))
@@ -137,7 +137,7 @@ fn reply<E: EnvCompleter, D: Folder>(
     completers: &Completers,
 ) -> Result<Collected, Error>
     ensures replied { RepliesAs (E.spec shell.now) env.now (map string_bytes words.items)
-        (Completes (lent_by ⟦<Completers as CandidateSources>⟧.may_complete
+        (Completes (returned_by ⟦<Completers as CandidateSources>⟧.may_complete
         ⟦<Completers as CandidateSources>⟧.may_list completers.now
         (PathsOf (D.facts folder.now) (option_copied current_dir.entry))) command.new)
         command.new (made_bytes result) }

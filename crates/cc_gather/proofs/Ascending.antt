@@ -1,10 +1,11 @@
 -- Candidates whose ids ascend share none.
-use Rattle.std.proofs.Common.{◌≡◌, ◌∙◌, ◌&&◌, ℕ, Bool, true, false, List, [], ◌∷◌, Option, Some, None, ap, refl}
+use Rattle.std.proofs.Common.{◌≡◌, ◌∙◌, ℕ, true, false, List, [], ◌∷◌, Option, Some, None, ap, refl}
 use Rattle.std.proofs.Common.{Ordering, Less, Equal, Greater}
 use Rattle.std.specs.Cmp.{IsTotalOrder}
 use Rattle.std.specs.Cmp.Lexicographic.{nat_list_cmp_total, options_total, texts_ties}
 use Rattle.std.specs.List.{AllByRecursion}
 use Rattle.std.specs.Ordering.{is_eq, is_lt}
+use Rattle.std.proofs.lemmas.Bool.{and_parts}
 use Rattle.cc_candidates.specs.Candidate.{texts_cmp}
 use Rattle.cc_candidates.specs.declared.candidate.CompletionCandidate.{CompletionCandidate}
 use Rattle.cc_gather.specs.Finished.{first_of_ids, share, Differ, SharesNone}
@@ -18,14 +19,6 @@ less : (o : Ordering) → is_lt o ≡ true → o ≡ Less
 less Less h = refl
 less Equal h = cc
 less Greater h = cc
-
-first_holds : (a b : Bool) → (a && b) ≡ true → a ≡ true
-first_holds true b h = refl
-first_holds false b h = h
-
-second_holds : (a b : Bool) → (a && b) ≡ true → b ≡ true
-second_holds true b h = h
-second_holds false b h = cc
 
 -- the ids come after this one
 abbrev AreAfter : Option (List ℕ) → List CompletionCandidate → Type 0
@@ -41,9 +34,9 @@ ascending_after : (last : Option (List ℕ)) (cs : List CompletionCandidate)
     → ascend_from last cs ≡ true → AreAfter last cs
 ascending_after last [] h = tt
 ascending_after last (c ∷ cs) h =
-    let before = less (texts_cmp last c.id) (first_holds (is_lt (texts_cmp last c.id)) (ascend_from c.id cs) h) in
-    let rest = second_holds (is_lt (texts_cmp last c.id)) (ascend_from c.id cs) h in
-    (before, after_earlier last c.id cs before (ascending_after c.id cs rest))
+    let parts = and_parts (is_lt (texts_cmp last c.id)) (ascend_from c.id cs) h in
+    let before = less (texts_cmp last c.id) parts.0 in
+    (before, after_earlier last c.id cs before (ascending_after c.id cs parts.1))
 
 apart : (one other : Option (List ℕ)) → texts_cmp one other ≡ Less → share one other ≡ false
 apart None other h = refl
@@ -59,7 +52,7 @@ ascending_differ : (last : Option (List ℕ)) (cs : List CompletionCandidate)
     → ascend_from last cs ≡ true → Differ cs
 ascending_differ last [] h = tt
 ascending_differ last (c ∷ cs) h =
-    let rest = second_holds (is_lt (texts_cmp last c.id)) (ascend_from c.id cs) h in
+    let rest = (and_parts (is_lt (texts_cmp last c.id)) (ascend_from c.id cs) h).1 in
     (shares_none c cs (ascending_after c.id cs rest), ascending_differ c.id cs rest)
 
 pub ascending_stay : (cs : List CompletionCandidate)

@@ -1,5 +1,6 @@
 -- Filters of lists in pieces.
-use Rattle.std.proofs.Common.{◌≡◌, ℕ, suc, ◌+◌, ◌<◌, Bool, true, false, cond, List, [], ◌∷◌, ◌++◌, filter, length, drop, get_or, refl, ap, sym, ◌∙◌, append_assoc, drop-cons, arith}
+use Rattle.std.proofs.Common.{◌≡◌, ℕ, ◌+◌, ◌<◌, Bool, true, false, cond, List, [], ◌∷◌, ◌++◌, filter, length, drop, get_or, refl, ap, sym, ◌∙◌, append_assoc}
+use Rattle.cc_base.proofs.Lists.{one_more}
 use Rattle.cc_command.specs.declared.node.Node.{Node}
 use Rattle.cc_command.specs.Tree.{Tree, forest_of}
 use Rattle.cc_candidates.specs.declared.candidate.CompletionCandidate.{CompletionCandidate}
@@ -29,9 +30,7 @@ pub child_added : (p : CompletionCandidate → Bool) (node : Node) (found after 
     after ≡ found ++ filter p (child_candidates node child.node) →
     after ++ filter p (children_candidates node (forest_of (drop (i + 1) siblings))) ≡ whole
 child_added p node found after whole siblings i child within is h push =
-    let e : suc i ≡ i + 1 = omega arith in
-    let split : drop i siblings ≡ child ∷ drop (i + 1) siblings =
-    drop-cons siblings i child within ∙ ap (λ k. get_or siblings i child ∷ drop k siblings) e ∙ ap (λ x. x ∷ drop (i + 1) siblings) (sym is) in
+    let split = one_more siblings i child child within is in
     let rest = children_candidates node (forest_of (drop (i + 1) siblings)) in
     ap (λ r. r ++ filter p rest) push ∙ append_assoc found (filter p (child_candidates node child.node)) (filter p rest)
     ∙ ap (λ r. found ++ r) (sym (filter-append p (child_candidates node child.node) rest)

@@ -10,6 +10,7 @@ use Rattle.std.specs.Cmp.Lexicographic.{texts_ties, same_text, nat_list_cmp_tota
 use Rattle.std.proofs.lemmas.Cmp.{tied_itself}
 use Rattle.std.proofs.lemmas.Bool.{cases_Bool}
 use Rattle.cc_base.specs.Sorting.{insert, in_order}
+use Rattle.cc_base.proofs.Members.{AllByRecursion-filter}
 use Rattle.cc_base.proofs.Sorted.{AllByRecursion-in_order}
 use Rattle.cc_gather.specs.Finished.{share, first_of_ids, SharesNone, ShareNone, Differ}
 
@@ -17,17 +18,10 @@ kept_all : (c : CompletionCandidate) (ds : List CompletionCandidate) → SharesN
 kept_all c [] h = refl
 kept_all c (d ∷ ds) h = let e = h.0 in rw e (ap (λ r. d ∷ r) (kept_all c ds h.1))
 
-all_filter : (c : CompletionCandidate) (p : CompletionCandidate → Bool) (ds : List CompletionCandidate) → SharesNone c ds → SharesNone c (filter p ds)
-all_filter c p [] h = tt
-all_filter c p (d ∷ ds) h = by (p d) (all_filter c p ds h.1)
-  where
-    by : (b : Bool) → SharesNone c (filter p ds) → SharesNone c (cond b (d ∷ filter p ds) (filter p ds))
-    by true r = (h.0, r)
-    by false r = r
-
-all_first : (c : CompletionCandidate) (ds : List CompletionCandidate) → SharesNone c ds → SharesNone c (first_of_ids ds)
-all_first c [] h = tt
-all_first c (d ∷ ds) h = (h.0, all_filter c (λ x. not (share d.id x.id)) (first_of_ids ds) (all_first c ds h.1))
+-- what is so of each is so of each of the first of ids
+pub all-first_of_ids : (P : CompletionCandidate → Type 0) (cs : List CompletionCandidate) → AllByRecursion P cs → AllByRecursion P (first_of_ids cs)
+all-first_of_ids P [] h = tt
+all-first_of_ids P (c ∷ cs) h = (h.0, AllByRecursion-filter P (λ d. not (share c.id d.id)) (first_of_ids cs) (all-first_of_ids P cs h.1))
 
 -- where no two share an id, each list is thinned by itself
 pub first_of_ids-append : (cs ds : List CompletionCandidate) → ShareNone cs ds →
@@ -36,14 +30,14 @@ first_of_ids-append [] ds h = refl
 first_of_ids-append (c ∷ cs) ds h =
     ap (λ r. c ∷ filter (λ d. not (share c.id d.id)) r) (first_of_ids-append cs ds h.1)
     ∙ ap (λ r. c ∷ r) (filter-append (λ d. not (share c.id d.id)) (first_of_ids cs) (first_of_ids ds)
-    ∙ ap (λ r. filter (λ d. not (share c.id d.id)) (first_of_ids cs) ++ r) (kept_all c (first_of_ids ds) (all_first c ds h.0)))
+    ∙ ap (λ r. filter (λ d. not (share c.id d.id)) (first_of_ids cs) ++ r) (kept_all c (first_of_ids ds) (all-first_of_ids (λ d. share c.id d.id ≡ false) ds h.0)))
 
 differ_filter : (p : CompletionCandidate → Bool) (cs : List CompletionCandidate) → Differ cs → Differ (filter p cs)
 differ_filter p [] h = tt
 differ_filter p (c ∷ cs) h = by (p c) (differ_filter p cs h.1)
   where
     by : (b : Bool) → Differ (filter p cs) → Differ (cond b (c ∷ filter p cs) (filter p cs))
-    by true r = (all_filter c p cs h.0, r)
+    by true r = (AllByRecursion-filter (λ d. share c.id d.id ≡ false) p cs h.0, r)
     by false r = r
 
 none_left : (c : CompletionCandidate) (cs : List CompletionCandidate) → SharesNone c (filter (λ d. not (share c.id d.id)) cs)
@@ -63,19 +57,6 @@ first_of_ids-differ (c ∷ cs) = (none_left c (first_of_ids cs), differ_filter (
 pub first_of_ids-stays : (cs : List CompletionCandidate) → Differ cs → first_of_ids cs ≡ cs
 first_of_ids-stays [] h = refl
 first_of_ids-stays (c ∷ cs) h = ap (λ r. c ∷ filter (λ d. not (share c.id d.id)) r) (first_of_ids-stays cs h.1) ∙ ap (λ r. c ∷ r) (kept_all c cs h.0)
-
-pub all_kept : {X : Type 0} (P : X → Type 0) (p : X → Bool) (xs : List X) → AllByRecursion P xs → AllByRecursion P (filter p xs)
-all_kept P p [] h = tt
-all_kept P p (x ∷ xs) h = by (p x) (all_kept P p xs h.1)
-  where
-    by : (b : Bool) → AllByRecursion P (filter p xs) → AllByRecursion P (cond b (x ∷ filter p xs) (filter p xs))
-    by true r = (h.0, r)
-    by false r = r
-
--- what is so of each is so of each of the first of ids
-pub all-first_of_ids : (P : CompletionCandidate → Type 0) (cs : List CompletionCandidate) → AllByRecursion P cs → AllByRecursion P (first_of_ids cs)
-all-first_of_ids P [] h = tt
-all-first_of_ids P (c ∷ cs) h = (h.0, all_kept P (λ d. not (share c.id d.id)) (first_of_ids cs) (all-first_of_ids P cs h.1))
 
 -- an id is shared both ways
 share_back : (a b : Option (List ℕ)) → share a b ≡ false → share b a ≡ false

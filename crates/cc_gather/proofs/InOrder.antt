@@ -31,7 +31,7 @@ module _ {X : Type 0} (P : X → Type 0) (lt by : X → X → Bool) (alike : (x 
   in_order-alike (x ∷ xs) h =
       insert-alike x (in_order lt xs) h.0 (AllByRecursion-in_order lt P xs h.1) ∙ ap (insert by x) (in_order-alike xs h.1)
 
--- a filter does not insert_id the order, where no two that it keeps are told apart
+-- a filter does not see the order, where no two that it keeps are ordered
 module _ {X : Type 0} (P : X → Type 0) (by : X → X → Bool) (p : X → Bool)
     (alone : (x y : X) → P x → P y → by y x ≡ true → p x ≡ true → p y ≡ true → ⊥) where
   filter-insert : (x : X) (ys : List X) → P x → AllByRecursion P ys → filter p (insert by x ys) ≡ filter p (x ∷ ys)

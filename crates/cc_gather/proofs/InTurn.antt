@@ -1,5 +1,5 @@
 -- Ids and tags that come one after another.
-use Rattle.std.proofs.Common.{◌≡◌, ◌⊎◌, ℕ, suc, ◌+◌, ◌<◌, List, [], ◌∷◌, ◌++◌, Bool, true, false, cond, not, ◌&&◌, ◌||◌, Option, Some, None, length, take, drop, get_or, map, refl, ap, sym, ◌∙◌, inl, inr, arith, append_assoc, drop-cons}
+use Rattle.std.proofs.Common.{◌≡◌, ◌⊎◌, ℕ, suc, ◌+◌, ◌<◌, List, [], ◌∷◌, ◌++◌, Bool, true, false, cond, not, ◌&&◌, ◌||◌, Option, Some, None, length, take, drop, get_or, map, refl, ap, sym, ◌∙◌, inl, inr, arith, append_assoc}
 use Rattle.std.specs.Prelude.{filter, option_map}
 use Rattle.std.specs.Option.{option_eq, option_or, unwrap_or}
 use Rattle.std.specs.Ordering.{is_eq, nat_cmp}
@@ -7,23 +7,24 @@ use Rattle.std.specs.Str.{bytes_eq}
 use Rattle.std.specs.Cmp.Lexicographic.{slice_cmp, texts_ties}
 use Rattle.std.specs.BTreeSet.{BTreeSet, contains}
 use Rattle.std.specs.BTreeMap.{BTreeMap, get}
-use Rattle.std.proofs.Math.Bool.{or-false}
+use Rattle.std.proofs.Math.Bool.{or-false, or-true}
 use Rattle.std.proofs.lemmas.Bool.{cases_Bool}
-use Rattle.std.proofs.lemmas.List.{take_more, take-append-drop, length-take-le}
+use Rattle.std.proofs.lemmas.List.{take_more, take-append-drop, length-map, length-take-le, map-append}
 use Rattle.std.proofs.lemmas.List.Elements.{filter_agree}
+use Rattle.cc_base.proofs.Lists.{one_more}
 use Rattle.cc_candidates.specs.declared.candidate.CompletionCandidate.{CompletionCandidate}
 use Rattle.cc_candidates.specs.Candidate.{texts_cmp}
 use Rattle.cc_gather.specs.Finished.{share, first_of_ids, has_tag, rank_of}
 use Rattle.cc_gather.specs.Seen.{is_seen, select, first_rank}
 use Rattle.cc_gather.proofs.Ranks.{same_tags, tag_itself}
 
-or_true : (b : Bool) → (b || true) ≡ true
-or_true true = refl
-or_true false = refl
-
 by_test : (b x : Bool) → cond b true x ≡ (x || b)
-by_test true x = sym (or_true x)
+by_test true x = sym (or-true x)
 by_test false x = sym (or-false x)
+
+-- those whose ids are not seen
+abbrev unseen : BTreeSet (List ℕ) → List CompletionCandidate → List CompletionCandidate
+unseen seen cs = filter (λ d. not (is_seen seen d.id)) cs
 
 -- an id that is kept is seen from then on
 pub seen_more : (before after : BTreeSet (List ℕ)) (id : List ℕ) →
@@ -67,37 +68,31 @@ unseen_more before after c cs more =
     ∙ filter_agree (λ d. not (is_seen before d.id) && not (share c.id d.id)) (λ d. not (is_seen after d.id))
     (λ d. and_not (is_seen before d.id) (share c.id d.id) ∙ ap not (sym (more d.id))) cs
 
--- a candidate with a new id stays
-pub stays : (before after : BTreeSet (List ℕ)) (c : CompletionCandidate) (cs : List CompletionCandidate) →
+-- a candidate with a new id stays, one with a seen id goes
+next_unseen : (before after : BTreeSet (List ℕ)) (c : CompletionCandidate) (cs : List CompletionCandidate) →
     ((other : Option (List ℕ)) → is_seen after other ≡ (is_seen before other || share c.id other)) →
-    true ≡ not (is_seen before c.id) →
-    filter (λ d. not (is_seen before d.id)) (first_of_ids (c ∷ cs)) ≡ c ∷ filter (λ d. not (is_seen after d.id)) (first_of_ids cs)
-stays before after c cs more new =
-    ap (λ b. cond b (c ∷ filter (λ d. not (is_seen before d.id)) (filter (λ d. not (share c.id d.id)) (first_of_ids cs)))
-    (filter (λ d. not (is_seen before d.id)) (filter (λ d. not (share c.id d.id)) (first_of_ids cs)))) (sym new)
-    ∙ ap (λ rest. c ∷ rest) (unseen_more before after c (first_of_ids cs) more)
-
--- one with a seen id goes
-pub goes : (before after : BTreeSet (List ℕ)) (c : CompletionCandidate) (cs : List CompletionCandidate) →
-    ((other : Option (List ℕ)) → is_seen after other ≡ (is_seen before other || share c.id other)) →
-    false ≡ not (is_seen before c.id) →
-    filter (λ d. not (is_seen before d.id)) (first_of_ids (c ∷ cs)) ≡ filter (λ d. not (is_seen after d.id)) (first_of_ids cs)
-goes before after c cs more old =
-    ap (λ b. cond b (c ∷ filter (λ d. not (is_seen before d.id)) (filter (λ d. not (share c.id d.id)) (first_of_ids cs)))
-    (filter (λ d. not (is_seen before d.id)) (filter (λ d. not (share c.id d.id)) (first_of_ids cs)))) (sym old)
-    ∙ unseen_more before after c (first_of_ids cs) more
+    (new : Bool) → new ≡ not (is_seen before c.id) →
+    unseen before (first_of_ids (c ∷ cs)) ≡ cond new (c ∷ []) [] ++ unseen after (first_of_ids cs)
+next_unseen before after c cs more new is =
+    let later = unseen before (filter (λ d. not (share c.id d.id)) (first_of_ids cs)) in
+    ap (λ b. cond b (c ∷ later) later) (sym is) ∙ one_or_none new later
+    ∙ ap (λ rest. cond new (c ∷ []) [] ++ rest) (unseen_more before after c (first_of_ids cs) more)
+  where
+    one_or_none : (new : Bool) (rest : List CompletionCandidate) → cond new (c ∷ rest) rest ≡ cond new (c ∷ []) [] ++ rest
+    one_or_none true rest = refl
+    one_or_none false rest = refl
 
 -- no id is seen at first
 pub none_seen : (seen : BTreeSet (List ℕ)) (cs : List CompletionCandidate) → seen.keys ≡ [] → filter (λ d. not (is_seen seen d.id)) cs ≡ cs
 none_seen seen [] e = refl
 none_seen seen (c ∷ cs) e =
-    let no : is_seen seen c.id ≡ false = unseen c.id in
+    let no : is_seen seen c.id ≡ false = not_seen c.id in
     ap (λ b. cond (not b) (c ∷ filter (λ d. not (is_seen seen d.id)) cs) (filter (λ d. not (is_seen seen d.id)) cs)) no
     ∙ ap (λ rest. c ∷ rest) (none_seen seen cs e)
   where
-    unseen : (id : Option (List ℕ)) → is_seen seen id ≡ false
-    unseen None = refl
-    unseen (Some id) = rw e refl
+    not_seen : (id : Option (List ℕ)) → is_seen seen id ≡ false
+    not_seen None = refl
+    not_seen (Some id) = rw e refl
 
 -- marks
 select-push : {X : Type 0} → (marks : List Bool) (xs : List X) (mark : Bool) (x : X) → length marks ≡ length xs →
@@ -119,21 +114,12 @@ marked_end marks xs (inl e) = ap (λ ms. select ms xs) e
 marked_end [] xs (inr e) = refl
 marked_end (m ∷ ms) xs (inr e) = ap (select (m ∷ ms)) e
 
--- a member at its index
-pub split_at : (cs : List CompletionCandidate) (i : ℕ) (c : CompletionCandidate) → i < length cs → c ≡ get_or cs i c →
-    drop i cs ≡ c ∷ drop (i + 1) cs
-split_at cs i c h is =
-    let e : suc i ≡ i + 1 = omega arith in
-    drop-cons cs i c h ∙ ap (λ k. get_or cs i c ∷ drop k cs) e ∙ ap (λ x. x ∷ drop (i + 1) cs) (sym is)
-
+-- up to a member at its index
 pub taken : (cs : List CompletionCandidate) (i : ℕ) (c : CompletionCandidate) → i < length cs → c ≡ get_or cs i c →
     take (i + 1) cs ≡ take i cs ++ c ∷ []
 taken cs i c h is = take_more cs i c h ∙ ap (λ x. take i cs ++ x ∷ []) (sym is)
 
 -- the steps of the loop
-abbrev unseen : BTreeSet (List ℕ) → List CompletionCandidate → List CompletionCandidate
-unseen seen cs = filter (λ d. not (is_seen seen d.id)) cs
-
 pub unseen_first : (seen : BTreeSet (List ℕ)) (marks : List Bool) (cs : List CompletionCandidate) → seen.keys ≡ [] → marks ≡ [] →
     select marks [] ++ filter (λ d. not (is_seen seen d.id)) (first_of_ids cs) ≡ first_of_ids cs
 unseen_first seen marks cs none empty =
@@ -150,13 +136,8 @@ marks_on before after marks more cs i c new within is count h add e push =
     ∙ ap (λ xs. select (marks ++ new ∷ []) xs ++ unseen after (first_of_ids (drop (i + 1) cs))) (taken cs i c within is)
     ∙ ap (λ xs. xs ++ unseen after (first_of_ids (drop (i + 1) cs))) (select-push marks (take i cs) new c (count ∙ sym (length-take-le i cs (omega (arith, within)))))
     ∙ append_assoc (select marks (take i cs)) (cond new (c ∷ []) []) (unseen after (first_of_ids (drop (i + 1) cs)))
-    ∙ ap (λ r. select marks (take i cs) ++ r) (by new e ∙ ap (λ xs. unseen before (first_of_ids xs)) (sym (split_at cs i c within is)))
+    ∙ ap (λ r. select marks (take i cs) ++ r) (sym (next_unseen before after c (drop (i + 1) cs) add new e) ∙ ap (λ xs. unseen before (first_of_ids xs)) (sym (one_more cs i c c within is)))
     ∙ h
-  where
-    by : (new : Bool) → new ≡ not (is_seen before c.id) →
-        cond new (c ∷ []) [] ++ unseen after (first_of_ids (drop (i + 1) cs)) ≡ unseen before (first_of_ids (c ∷ drop (i + 1) cs))
-    by true e = sym (stays before after c (drop (i + 1) cs) add e)
-    by false e = sym (goes before after c (drop (i + 1) cs) add e)
 
 -- first ranks with one more candidate after
 pub first_rank-push : (cs : List CompletionCandidate) (c : CompletionCandidate) (tag : Option (List ℕ)) →
@@ -193,27 +174,19 @@ rank_is (x ∷ cs) ds c = elim (cases_Bool (has_tag c.tag x)) [
     more None = refl
     more (Some p) = refl
 
-map-push : {X Y : Type 0} (f : X → Y) (xs : List X) (x : X) → map f (xs ++ x ∷ []) ≡ map f xs ++ f x ∷ []
-map-push f [] x = refl
-map-push f (y ∷ xs) x = ap (λ rest. f y ∷ rest) (map-push f xs x)
-
-length-map : {X Y : Type 0} (f : X → Y) (xs : List X) → length (map f xs) ≡ length xs
-length-map f [] = refl
-length-map f (x ∷ xs) = ap suc (length-map f xs)
-
 -- one more rank
 pub ranks_on : (cs : List CompletionCandidate) (i : ℕ) (c : CompletionCandidate) (ranks more : List ℕ) (was : Option ℕ) (n rank : ℕ) →
     i < length cs → c ≡ get_or cs i c → ranks ≡ map (λ c. rank_of cs c.tag) (take i cs) →
     was ≡ first_rank (take i cs) c.tag → n ≡ length ranks → rank ≡ unwrap_or was n → more ≡ ranks ++ rank ∷ [] →
     more ≡ map (λ c. rank_of cs c.tag) (take (i + 1) cs)
 ranks_on cs i c ranks more was n rank within is insert e len value push =
-    let whole : take i cs ++ c ∷ drop (i + 1) cs ≡ cs = ap (λ r. take i cs ++ r) (sym (split_at cs i c within is)) ∙ take-append-drop i cs in
+    let whole : take i cs ++ c ∷ drop (i + 1) cs ≡ cs = ap (λ r. take i cs ++ r) (sym (one_more cs i c c within is)) ∙ take-append-drop i cs in
     let at : rank ≡ rank_of cs c.tag =
     value ∙ ap (λ w. unwrap_or w n) e
-    ∙ ap (unwrap_or (first_rank (take i cs) c.tag)) (len ∙ ap length insert ∙ length-map (λ (c : CompletionCandidate). rank_of cs c.tag) (take i cs))
+    ∙ ap (unwrap_or (first_rank (take i cs) c.tag)) (len ∙ ap length insert ∙ length-map (take i cs) (λ c. rank_of cs c.tag))
     ∙ rank_is (take i cs) (drop (i + 1) cs) c ∙ ap (λ xs. rank_of xs c.tag) whole in
     push ∙ ap (λ k. k ++ rank ∷ []) insert ∙ ap (λ q. map (λ c. rank_of cs c.tag) (take i cs) ++ q ∷ []) at
-    ∙ sym (map-push (λ (c : CompletionCandidate). rank_of cs c.tag) (take i cs) c)
+    ∙ sym (map-append (λ (c : CompletionCandidate). rank_of cs c.tag) (take i cs) (c ∷ []))
     ∙ ap (map (λ c. rank_of cs c.tag)) (sym (taken cs i c within is))
 
 pub known_on : (before after : BTreeMap (Option (List ℕ)) ℕ) (cs : List CompletionCandidate) (i : ℕ) (c : CompletionCandidate) (ranks : List ℕ) (n : ℕ) →
@@ -224,5 +197,5 @@ pub known_on : (before after : BTreeMap (Option (List ℕ)) ℕ) (cs : List Comp
 known_on before after cs i c ranks n within is insert len h kept tag =
     kept tag ∙ ap (λ x. option_or x (cond (option_eq bytes_eq c.tag tag) (Some n) None)) (h tag)
     ∙ ap (λ k. option_or (first_rank (take i cs) tag) (cond (option_eq bytes_eq c.tag tag) (Some k) None))
-    (len ∙ ap length insert ∙ length-map (λ (c : CompletionCandidate). rank_of cs c.tag) (take i cs))
+    (len ∙ ap length insert ∙ length-map (take i cs) (λ c. rank_of cs c.tag))
     ∙ sym (first_rank-push (take i cs) c tag) ∙ ap (λ xs. first_rank xs tag) (sym (taken cs i c within is))

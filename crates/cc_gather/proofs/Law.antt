@@ -4,30 +4,23 @@ use Rattle.std.specs.List.{AllByRecursion, list_any}
 use Rattle.std.specs.List.Sorted.{ties}
 use Rattle.std.specs.Option.{option_cmp}
 use Rattle.std.specs.Ordering.{is_lt, nat_cmp, ordering_then}
-use Rattle.std.proofs.lemmas.Bool.{cases_Bool, cases_order}
+use Rattle.std.proofs.Math.Bool.{or-true}
+use Rattle.std.proofs.lemmas.Bool.{cases_Bool, cases_order, or_left, or_right}
 use Rattle.std.proofs.lemmas.List.Elements.{filter-append}
 use Rattle.std.proofs.lemmas.List.Folds.{list_any-append}
 use Rattle.cc_base.specs.Sorting.{in_order}
-use Rattle.cc_base.proofs.Members.{AllByRecursion-IsIn, AllByRecursion-append, AllByRecursion-from_IsIn}
+use Rattle.cc_base.proofs.Members.{AllByRecursion-IsIn, AllByRecursion-append, AllByRecursion-filter, AllByRecursion-from_IsIn}
 use Rattle.cc_base.proofs.Sorted.{AllByRecursion-in_order, in_order-IsIn, in_order-sorted, stable-in_order, up-in_order, apart}
 use Rattle.cc_candidates.specs.declared.candidate.CompletionCandidate.{CompletionCandidate}
 use Rattle.cc_gather.specs.Finished.{is_shown, shown_or_all, share, has_tag, rank_of, first_of_ids, comes_before, group, finish, SharesNone, ShareNone, Differ, AreGrouped, AreShown}
 use Rattle.cc_gather.proofs.InOrder.{in_order-alike, filter-in_order, sorted_after}
 use Rattle.cc_gather.proofs.Ranks.{Tag, Has, tag_itself, rank_front, rank_back, rank_below, rank_tag, ranks_rise, below, cmp_less, cmp_equal, cmp_greater}
-use Rattle.cc_gather.proofs.FirstOfIds.{first_of_ids-append, first_of_ids-differ, first_of_ids-stays, differ-in_order, all_kept, all-first_of_ids}
+use Rattle.cc_gather.proofs.FirstOfIds.{first_of_ids-append, first_of_ids-differ, first_of_ids-stays, differ-in_order, all-first_of_ids}
 
 abbrev Candidates : Type 0
 Candidates = List CompletionCandidate
 
 -- EACH MEMBER'S TAG IS THERE
-
-or_right : (p q : Bool) → q ≡ true → (p || q) ≡ true
-or_right true q h = refl
-or_right false q h = h
-
-or_left : (p q : Bool) → p ≡ true → (p || q) ≡ true
-or_left true q h = refl
-or_left false q h = cc
 
 all_have : (v xs : Candidates) → ((t : Tag) → Has xs t → Has v t) → AllByRecursion (λ c. Has v c.tag) xs
 all_have v [] sub = tt
@@ -132,9 +125,9 @@ module _ (a v : Candidates) where
   members = AllByRecursion-append (λ c. Has whole c.tag) a sorted (all_have whole a (λ t h. has_front a v t h))
       (AllByRecursion-in_order (comes_before v) (λ c. Has whole c.tag) v (all_have whole v (λ t h. has_back a v t h)))
 
-  -- two members that one order tells apart the other does, too
-  told : (x y : CompletionCandidate) → Has v x.tag → Has v y.tag → comes_before v y x ≡ true → (comes_before whole y x ≡ true) ⊎ (comes_before whole x y ≡ true)
-  told x y hx hy e = elim (cases_order (rank_of whole y.tag) (rank_of whole x.tag)) [
+  -- two members of which one order puts one first are not tied in the other
+  decided : (x y : CompletionCandidate) → Has v x.tag → Has v y.tag → comes_before v y x ≡ true → (comes_before whole y x ≡ true) ⊎ (comes_before whole x y ≡ true)
+  decided x y hx hy e = elim (cases_order (rank_of whole y.tag) (rank_of whole x.tag)) [
     | inl is ↦
         let same : y.tag ≡ x.tag = rank_tag whole y.tag x.tag (has_back a v y.tag hy) is in
         inl (ap (λ r. is_lt (ordering_then r (option_cmp nat_cmp y.display_order x.display_order)))
@@ -148,7 +141,7 @@ module _ (a v : Candidates) where
 
   alone : (z x y : CompletionCandidate) → Has v x.tag → Has v y.tag → comes_before v y x ≡ true →
       ties (comes_before whole) z x ≡ true → ties (comes_before whole) z y ≡ true → ⊥
-  alone z x y hx hy e one other = elim (told x y hx hy e) [
+  alone z x y hx hy e one other = elim (decided x y hx hy e) [
     | inl t ↦ apart (comes_before whole) (below whole) z x y t one other
     | inr t ↦ apart (comes_before whole) (below whole) z y x t other one
   ]
@@ -178,7 +171,7 @@ dropped : {X : Type 0} (p : X → Bool) (xs : List X) → AllByRecursion (λ x. 
 dropped p [] h = refl
 dropped p (x ∷ xs) h = let e = h.0 in rw e (dropped p xs h.1)
 
-passing : {X : Type 0} (p : X → Bool) (xs : List X) → AllByRecursion (λ x. p x ≡ true) (filter p xs)
+pub passing : {X : Type 0} (p : X → Bool) (xs : List X) → AllByRecursion (λ x. p x ≡ true) (filter p xs)
 passing p [] = tt
 passing p (x ∷ xs) = by (p x) refl (passing p xs)
   where
@@ -203,7 +196,7 @@ any_filter (c ∷ cs) e = by (is_shown c) refl e (any_filter cs)
 -- what is finished of a list with a visible one
 pub all-shown : (P : CompletionCandidate → Type 0) (cs : Candidates) → AllByRecursion P cs → AllByRecursion P (shown_or_all cs)
 all-shown P cs h = elim (cases_Bool (list_any is_shown cs)) [
-  | inl t ↦ subst (AllByRecursion P) (sym (shown_true cs t)) (all_kept P is_shown cs h)
+  | inl t ↦ subst (AllByRecursion P) (sym (shown_true cs t)) (AllByRecursion-filter P is_shown cs h)
   | inr f ↦ subst (AllByRecursion P) (sym (shown_false cs f)) h
 ]
 
@@ -225,6 +218,13 @@ order cs =
 pub visible : (cs : Candidates) → list_any is_shown cs ≡ true → AreShown (finish cs)
 visible cs e = all-finish (λ c. is_shown c ≡ true) cs (subst AreShown (sym (shown_true cs e)) (passing is_shown cs))
 
+-- a list with a visible one has one when it is finished
+pub some_visible : (b : Candidates) → list_any is_shown b ≡ true → list_any is_shown (finish b) ≡ true
+unfolding finish group
+some_visible b e = any-in_order is_shown (comes_before (first_of_ids (shown_or_all b))) (first_of_ids (shown_or_all b))
+    (first_shown (shown_or_all b) (subst AreShown (sym (shown_true b e)) (passing is_shown b))
+    (ap (list_any is_shown) (shown_true b e) ∙ any_filter b e))
+
 -- no two of the candidates that are left share an id
 pub differ : (cs : Candidates) → Differ (finish cs)
 unfolding finish group
@@ -233,7 +233,7 @@ differ cs = differ-in_order (comes_before (first_of_ids (shown_or_all cs))) (fir
 -- THE LAW
 
 none_left : (a ys : Candidates) → ShareNone a ys → (p : CompletionCandidate → Bool) → ShareNone (filter p a) ys
-none_left a ys h p = all_kept (λ c. SharesNone c ys) p a h
+none_left a ys h p = AllByRecursion-filter (λ c. SharesNone c ys) p a h
 
 none_right : (a xs ys : Candidates) → ((P : CompletionCandidate → Type 0) → AllByRecursion P xs → AllByRecursion P ys) → ShareNone a xs → ShareNone a ys
 none_right [] xs ys moves h = tt
@@ -241,10 +241,6 @@ none_right (c ∷ a) xs ys moves h = (moves (λ d. share c.id d.id ≡ false) h.
 
 any_both : (a ys : Candidates) (x y : Bool) → list_any is_shown a ≡ x → list_any is_shown ys ≡ y → list_any is_shown (a ++ ys) ≡ (x || y)
 any_both a ys x y e f = list_any-append is_shown a ys ∙ ap (λ p. p || list_any is_shown ys) e ∙ ap (λ q. x || q) f
-
-or_true : (x : Bool) → (x || true) ≡ true
-or_true true = refl
-or_true false = refl
 
 module _ (a b : Candidates) (apart : ShareNone a b) where
   apart_finished : ShareNone a (finish b)
@@ -258,23 +254,17 @@ module _ (a b : Candidates) (apart : ShareNone a b) where
   unfolding finish
   from f twice once = ap group twice ∙ grouped_twice f (first_of_ids (shown_or_all b)) ∙ ap group (sym once)
 
-  some_visible : list_any is_shown b ≡ true → list_any is_shown (finish b) ≡ true
-  unfolding finish group
-  some_visible e = any-in_order is_shown (comes_before (first_of_ids (shown_or_all b))) (first_of_ids (shown_or_all b))
-      (first_shown (shown_or_all b) (subst AreShown (sym (shown_true b e)) (passing is_shown b))
-      (ap (list_any is_shown) (shown_true b e) ∙ any_filter b e))
-
   -- b has a visible one
   after_visible : list_any is_shown b ≡ true → finish (a ++ finish b) ≡ finish (a ++ b)
   after_visible e =
       from (first_of_ids (filter is_shown a))
-      (ap first_of_ids (shown_true (a ++ finish b) (any_both a (finish b) (list_any is_shown a) true refl (some_visible e) ∙ or_true (list_any is_shown a))
+      (ap first_of_ids (shown_true (a ++ finish b) (any_both a (finish b) (list_any is_shown a) true refl (some_visible b e) ∙ or-true (list_any is_shown a))
       ∙ filter-append is_shown a (finish b) ∙ ap (λ s. filter is_shown a ++ s) (kept is_shown (finish b) (visible b e)))
       ∙ first_of_ids-append (filter is_shown a) (finish b) (none_left a (finish b) apart_finished is_shown)
       ∙ ap (λ s. first_of_ids (filter is_shown a) ++ s) stays)
-      (ap first_of_ids (shown_true (a ++ b) (any_both a b (list_any is_shown a) true refl e ∙ or_true (list_any is_shown a)) ∙ filter-append is_shown a b)
+      (ap first_of_ids (shown_true (a ++ b) (any_both a b (list_any is_shown a) true refl e ∙ or-true (list_any is_shown a)) ∙ filter-append is_shown a b)
       ∙ first_of_ids-append (filter is_shown a) (filter is_shown b)
-      (none_left a (filter is_shown b) (none_right a b (filter is_shown b) (λ P h. all_kept P is_shown b h) apart) is_shown)
+      (none_left a (filter is_shown b) (none_right a b (filter is_shown b) (λ P h. AllByRecursion-filter P is_shown b h) apart) is_shown)
       ∙ ap (λ s. first_of_ids (filter is_shown a) ++ first_of_ids s) (sym (shown_true b e)))
 
   hidden : list_any is_shown b ≡ false → AllByRecursion (λ c. is_shown c ≡ false) (finish b)

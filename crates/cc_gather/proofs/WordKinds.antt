@@ -1,95 +1,90 @@
--- What a word asks of the options, from what the code's calls find.
+-- What a word wants of the options, from what the code's calls find.
 use Rattle.std.proofs.Common.{◌≡◌, ◌<◌, ◌-◌, ◌==◌, ◌++◌, ℕ, suc, List, [], ◌∷◌, length, take, get_or, true, false, eqb, Some, None, refl, ap, sym, subst, ◌∙◌, arith}
 use Rattle.std.specs.Prelude.{codes, filter, find, IsUtf8, if◌then◌else◌}
 use Rattle.std.specs.Str.{IsCharBoundary}
-use Rattle.std.proofs.lemmas.Bool.{eqb-true, ne_eqb}
+use Rattle.std.proofs.lemmas.Bool.{ne_eqb}
 use Rattle.std.proofs.lemmas.List.{length-append}
 use Rattle.std.proofs.lemmas.Str.{IsCharBoundary-at_seam}
 use Rattle.std.proofs.Math.Seq.{take-append_seam}
+use Rattle.cc_base.specs.Bytes.{dash, equals}
 use Rattle.cc_arg.specs.declared.parts.ArgParts.{ArgParts as Arg}
 use Rattle.cc_candidates.specs.Beginning.{begins}
 use Rattle.cc_gather.specs.Lookup.{has_own_long}
 use Rattle.cc_gather.specs.Options.{longs, shorts}
 use Rattle.cc_gather.specs.Rows.{Listed, flag_row, long_row, short_row, after_equals, value_query_after, without_end, after_one_dash, after_two_dashes, row_of}
 use Rattle.cc_walk.specs.Words.{EndsWith, before_equals}
-use Rattle.cc_walk.proofs.Forms.{empty, no_equals_tail}
+use Rattle.cc_walk.proofs.Forms.{empty, flag_some, no_equals_tail}
 
 -- THE KINDS OF WORDS
 
-pub row_plain : (arguments : List Arg) (w : List ℕ) → ((rest : List ℕ) → w ≡ 45 ∷ rest → ⊥) →
+pub row_plain : (arguments : List Arg) (w : List ℕ) → ((rest : List ℕ) → w ≡ dash ∷ rest → ⊥) →
     row_of arguments w ≡ Listed (if length w == 0 then longs arguments ++ shorts (codes "-") arguments else [])
 unfolding row_of
 row_plain arguments [] h = refl
 row_plain arguments (c ∷ s) h =
     let long : eqb (suc (length s)) 0 ≡ false = ne_eqb (suc (length s)) 0 (λ e. omega (arith, e)) in
-    rw (ne_eqb c 45 (λ e. h s (ap (λ x. x ∷ s) e)))
+    rw (ne_eqb c dash (λ e. h s (ap (λ x. x ∷ s) e)))
     (ap (λ b. Listed (if b then longs arguments ++ shorts (codes "-") arguments else [])) (sym long))
 
-pub row_dash : (arguments : List Arg) (w s : List ℕ) → w ≡ 45 ∷ s → (length s == 0) ≡ true →
+pub row_dash : (arguments : List Arg) (w s : List ℕ) → w ≡ dash ∷ s → (length s == 0) ≡ true →
     row_of arguments w ≡ Listed (shorts (codes "-") arguments ++ longs arguments)
 unfolding row_of
-row_dash arguments w s e h = ap (row_of arguments) (e ∙ ap (λ t. 45 ∷ t) (empty s h))
+row_dash arguments w s e h = ap (row_of arguments) (e ∙ ap (λ t. dash ∷ t) (empty s h))
 
-one_short : (arguments : List Arg) (s : List ℕ) → (length s == 0) ≡ false → ((rest : List ℕ) → s ≡ 45 ∷ rest → ⊥) →
+one_short : (arguments : List Arg) (s : List ℕ) → (length s == 0) ≡ false → ((rest : List ℕ) → s ≡ dash ∷ rest → ⊥) →
     after_one_dash arguments s ≡ short_row arguments s
 one_short arguments [] e h = cc
-one_short arguments (c ∷ s) e h = rw (ne_eqb c 45 (λ e. h s (ap (λ x. x ∷ s) e))) refl
+one_short arguments (c ∷ s) e h = rw (ne_eqb c dash (λ e. h s (ap (λ x. x ∷ s) e))) refl
 
-pub row_short : (arguments : List Arg) (w s : List ℕ) → w ≡ 45 ∷ s → (length s == 0) ≡ false → ((rest : List ℕ) → s ≡ 45 ∷ rest → ⊥) →
+pub row_short : (arguments : List Arg) (w s : List ℕ) → w ≡ dash ∷ s → (length s == 0) ≡ false → ((rest : List ℕ) → s ≡ dash ∷ rest → ⊥) →
     row_of arguments w ≡ short_row arguments s
 unfolding row_of
 row_short arguments w s e f h = ap (row_of arguments) e ∙ one_short arguments s f h
 
-pub row_two : (arguments : List Arg) (w s t : List ℕ) → w ≡ 45 ∷ s → s ≡ 45 ∷ t → (length t == 0) ≡ true →
+pub row_two : (arguments : List Arg) (w s t : List ℕ) → w ≡ dash ∷ s → s ≡ dash ∷ t → (length t == 0) ≡ true →
     row_of arguments w ≡ Listed (longs arguments)
 unfolding row_of
-row_two arguments w s t e f h = ap (row_of arguments) (e ∙ ap (λ x. 45 ∷ x) (f ∙ ap (λ x. 45 ∷ x) (empty t h)))
+row_two arguments w s t e f h = ap (row_of arguments) (e ∙ ap (λ x. dash ∷ x) (f ∙ ap (λ x. dash ∷ x) (empty t h)))
 
 two_long : (arguments : List Arg) (t : List ℕ) → (length t == 0) ≡ false → after_two_dashes arguments t ≡ long_row arguments t (after_equals t)
 two_long arguments [] e = cc
 two_long arguments (c ∷ t) e = refl
 
-pub row_long : (arguments : List Arg) (w s t : List ℕ) → w ≡ 45 ∷ s → s ≡ 45 ∷ t → (length t == 0) ≡ false →
+pub row_long : (arguments : List Arg) (w s t : List ℕ) → w ≡ dash ∷ s → s ≡ dash ∷ t → (length t == 0) ≡ false →
     row_of arguments w ≡ long_row arguments t (after_equals t)
 unfolding row_of
-row_long arguments w s t e f h = ap (row_of arguments) (e ∙ ap (λ x. 45 ∷ x) f) ∙ two_long arguments t h
+row_long arguments w s t e f h = ap (row_of arguments) (e ∙ ap (λ x. dash ∷ x) f) ∙ two_long arguments t h
 
 -- THE FIRST `=`
 
-pub after_none : (s : List ℕ) → ((i : ℕ) → i < length s → get_or s i 0 ≡ 61 → ⊥) → after_equals s ≡ None
+pub after_none : (s : List ℕ) → ((i : ℕ) → i < length s → get_or s i 0 ≡ equals → ⊥) → after_equals s ≡ None
 after_none [] h = refl
 after_none (c ∷ s) h =
-    let other : eqb c 61 ≡ false = ne_eqb c 61 (h 0 (omega arith)) in
+    let other : eqb c equals ≡ false = ne_eqb c equals (h 0 (omega arith)) in
     rw other (after_none s (no_equals_tail c s h))
 
-pub after_some : (s t : List ℕ) → ((i : ℕ) → i < length s → get_or s i 0 ≡ 61 → ⊥) → after_equals (s ++ 61 ∷ t) ≡ Some t
+pub after_some : (s t : List ℕ) → ((i : ℕ) → i < length s → get_or s i 0 ≡ equals → ⊥) → after_equals (s ++ equals ∷ t) ≡ Some t
 after_some [] t h = refl
 after_some (c ∷ s) t h =
-    let other : eqb c 61 ≡ false = ne_eqb c 61 (h 0 (omega arith)) in
+    let other : eqb c equals ≡ false = ne_eqb c equals (h 0 (omega arith)) in
     rw other (after_some s t (no_equals_tail c s h))
 
-pub before_some : (s t : List ℕ) → ((i : ℕ) → i < length s → get_or s i 0 ≡ 61 → ⊥) → before_equals (s ++ 61 ∷ t) ≡ s
-before_some [] t h = refl
-before_some (c ∷ s) t h =
-    let other : eqb c 61 ≡ false = ne_eqb c 61 (h 0 (omega arith)) in
-    rw other (ap (λ r. c ∷ r) (before_some s t (no_equals_tail c s h)))
-
-pub long_none : (arguments : List Arg) (long : List ℕ) → ((i : ℕ) → i < length long → get_or long i 0 ≡ 61 → ⊥) →
+pub long_none : (arguments : List Arg) (long : List ℕ) → ((i : ℕ) → i < length long → get_or long i 0 ≡ equals → ⊥) →
     long_row arguments long (after_equals long) ≡ Listed (filter (begins (codes "--" ++ long)) (longs arguments))
 long_none arguments long h = ap (long_row arguments long) (after_none long h)
 
-pub long_some : (arguments : List Arg) (long flag text : List ℕ) → long ≡ flag ++ 61 ∷ text → ((i : ℕ) → i < length flag → get_or flag i 0 ≡ 61 → ⊥) →
+pub long_some : (arguments : List Arg) (long flag text : List ℕ) → long ≡ flag ++ equals ∷ text → ((i : ℕ) → i < length flag → get_or flag i 0 ≡ equals → ⊥) →
     long_row arguments long (after_equals long) ≡ flag_row (find (has_own_long flag) arguments) flag text
 long_some arguments long flag text is h =
     ap (long_row arguments long) (ap after_equals is ∙ after_some flag text h)
-    ∙ ap (λ f. flag_row (find (has_own_long f) arguments) f text) (ap before_equals is ∙ before_some flag text h)
+    ∙ ap (λ f. flag_row (find (has_own_long f) arguments) f text) (ap before_equals is ∙ (flag_some flag text h).0)
 
 -- A `=` IN FRONT OF A VALUE
 
-pub asked_plain : (argument : Arg) (before rest : List ℕ) → ((s : List ℕ) → rest ≡ 61 ∷ s → ⊥) →
+pub wanted_plain : (argument : Arg) (before rest : List ℕ) → ((s : List ℕ) → rest ≡ equals ∷ s → ⊥) →
     value_query_after argument before rest ≡ record { argument = argument; before = before; text = rest }
-asked_plain argument before [] h = refl
-asked_plain argument before (c ∷ s) h = rw (ne_eqb c 61 (λ e. h s (ap (λ x. x ∷ s) e))) refl
+wanted_plain argument before [] h = refl
+wanted_plain argument before (c ∷ s) h = rw (ne_eqb c equals (λ e. h s (ap (λ x. x ∷ s) e))) refl
 
 -- THE END OF A WORD
 

@@ -33,18 +33,18 @@ children_candidates parent none = []
 children_candidates parent (more node below rest) =
     child_candidates parent node ++ children_candidates parent rest
 
--- the lent list, where the node takes names of other programs
+-- the list of other programs, where the node takes their names
 abbrev pub external : Node → List CompletionCandidate → List CompletionCandidate
-external node lent = if node.allow_external_subcommands then lent else []
+external node programs = if node.allow_external_subcommands then programs else []
 
 -- in the order of candidates, equal ones once
 unfoldable pub in_candidates_order : List CompletionCandidate → List CompletionCandidate
 in_candidates_order cs =
     dedup (eq_by_cmp candidate_cmp) (in_order comes_before cs)
 
--- the children's names and the lent list, those that begin with the word, in order
+-- the children's names and the other programs, those that begin with the word, in order
 unfoldable pub subcommand_candidates : Tree → List CompletionCandidate → List ℕ
     → List CompletionCandidate
-subcommand_candidates tree lent word =
+subcommand_candidates tree programs word =
     in_candidates_order (filter (begins word)
-    (children_candidates tree.node tree.children ++ external tree.node lent))
+    (children_candidates tree.node tree.children ++ external tree.node programs))

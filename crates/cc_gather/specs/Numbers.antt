@@ -8,7 +8,7 @@ abbrev point : ℕ
 point = 46
 
 -- `e`
-abbrev letter_e : ℕ
+abbrev pub letter_e : ℕ
 letter_e = 101
 
 abbrev pub is_point : ℕ → Bool

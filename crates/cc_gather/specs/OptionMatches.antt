@@ -2,11 +2,11 @@
 use Rattle.cc_gather.specs.declared.options.OptionMatch.{OptionMatch}
 use Rattle.cc_gather.specs.declared.options.OptionMatch.TheVariants.{Listed, ValuesOf}
 use Rattle.cc_gather.specs.declared.options.ValueQuery.{ValueQuery}
-use Rattle.cc_gather.specs.Rows.{Asked, Row}
+use Rattle.cc_gather.specs.Rows.{Wanted, Row}
 
-abbrev pub query_of : ValueQuery → Asked
-query_of asked = record { argument = asked.argument.now; before = asked.before; text = asked.text }
+abbrev pub query_of : ValueQuery → Wanted
+query_of wanted = record { argument = wanted.argument.now; before = wanted.before; text = wanted.text }
 
 abbrev pub row_of_match : OptionMatch → Row
 row_of_match (Listed candidates) = Row.Listed candidates.items
-row_of_match (ValuesOf asked) = Row.ValuesOf (query_of asked)
+row_of_match (ValuesOf wanted) = Row.ValuesOf (query_of wanted)

@@ -1,4 +1,4 @@
--- What a word asks of the options.
+-- What a word wants of the options.
 use Rattle.std.specs.Prelude.{ℕ, List, [], ◌∷◌, ◌++◌, ◌-◌, ◌==◌, filter, find, length, take, Option, Some, None, codes, chars, if◌then◌else◌}
 use Rattle.cc_base.specs.Bytes.{dash, equals}
 use Rattle.cc_arg.specs.declared.parts.ArgParts.{ArgParts as Arg}
@@ -11,16 +11,16 @@ use Rattle.cc_walk.specs.WordClasses.{value_character}
 use Rattle.cc_walk.specs.Words.{before_equals}
 use Rattle.cc_walk.specs.declared.word_class.ValueCharacter.{ValueCharacter}
 
--- what is asked for: values of an argument for a text, with a text before each
-pub record Asked : Type 0 where
+-- what is wanted: values of an argument for a text, with a text before each
+pub record Wanted : Type 0 where
   pub argument : Arg
   pub before : List ℕ
   pub text : List ℕ
 
--- what a word asks of the options
+-- what a word wants of the options
 pub data Row : Type 0 where
   Listed : (candidates : List CompletionCandidate) → Row
-  ValuesOf : (asked : Asked) → Row
+  ValuesOf : (wanted : Wanted) → Row
 
 -- THE LONG OF A WORD
 
@@ -44,7 +44,7 @@ long_row arguments long (Some text) =
 -- THE SHORTS OF A WORD
 
 -- a `=` in front of a value belongs to what is before it
-abbrev pub value_query_after : Arg → List ℕ → List ℕ → Asked
+abbrev pub value_query_after : Arg → List ℕ → List ℕ → Wanted
 value_query_after argument before [] = record { argument = argument; before = before; text = [] }
 value_query_after argument before (c ∷ s) =
     if c == equals then record { argument = argument; before = before ++ codes "="; text = s }
@@ -54,7 +54,7 @@ value_query_after argument before (c ∷ s) =
 abbrev pub without_end : List ℕ → List ℕ → List ℕ
 without_end text end = take (length text - length end) text
 
--- the first character whose argument takes values asks for them, for what follows it in the word;
+-- the values of the first character whose argument takes some, for what follows it in the word;
 -- without one the shorts after the word
 abbrev pub cluster_row : List Arg → List ℕ → Option ValueCharacter → Row
 cluster_row arguments word None = Listed (shorts word arguments)

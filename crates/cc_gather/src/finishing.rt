@@ -111,7 +111,7 @@ fn first_of_ids(
 }
 
 // Whether each id comes after the one before it, as those of children without aliases do. No two
-// are then the same, which one comparison for each candidate tells.
+// are then the same, which takes one comparison for each candidate.
 fn have_ascending_ids(candidates: &[CompletionCandidate]) -> bool
     ensures { result ≡ ascend_from None candidates.now }
 {
@@ -224,7 +224,7 @@ fn ranks(alloc: Global, candidates: &[CompletionCandidate]) -> Result<Vec<usize>
     Ok(ranks)
 }
 
-// The rank of a tag; the given one, which is kept, where it has none.
+// The rank of a tag; the next one, which is kept, where it has none.
 fn rank_for<'a>(
     known: &mut BTreeMap<Option<TextRef<'a>>, usize>,
     candidate: &'a CompletionCandidate,

@@ -1,4 +1,4 @@
-//! What a word asks of the options.
+//! What a word wants of the options.
 
 ghost use Rattle.std.specs.Prelude.{◌≡◌, ◌++◌, [], ◌==◌, map, codes, find, length, IfOk, if◌then◌else◌};
 ghost use Rattle.std.specs.String.{string_bytes};
@@ -16,7 +16,7 @@ use cc_candidates::CompletionCandidate;
 use cc_walk::{ValueCharacter, value_character};
 use std::alloc::{AllocError, Global};
 
-/// What a word asks of the options of a command.
+/// What a word wants of the options of a command.
 #[derive(Drop)]
 pub enum OptionMatch<'a> {
     /// These candidates.
@@ -25,7 +25,7 @@ pub enum OptionMatch<'a> {
     ValuesOf(ValueQuery<'a>),
 }
 
-/// Values that are asked for. A candidate for the word is a value with the text before it.
+/// Values that are wanted. A candidate for the word is a value with the text before it.
 #[derive(Drop)]
 pub struct ValueQuery<'a> {
     /// The argument.
@@ -36,7 +36,7 @@ pub struct ValueQuery<'a> {
     pub text: TextRef<'a>,
 }
 
-/// What a word asks of the options. Fails where memory runs out.
+/// What a word wants of the options. Fails where memory runs out.
 pub fn match_options<'a>(
     alloc: Global,
     arguments: &'a [Arg],
@@ -176,14 +176,14 @@ fn short_options<'a>(
     }
 }
 
-// What a value character of a word asks for.
+// The values that a value character of a word wants.
 fn character_values<'a>(
     alloc: Global,
     word: &str,
     found: ValueCharacter<'a, 'a>,
 ) -> Result<ValueQuery<'a>, AllocError>
     requires { EndsWith word.now found.after }
-    ensures { IfOk result (λ asked. query_of asked
+    ensures { IfOk result (λ wanted. query_of wanted
         ≡ value_query_after found.entry.argument (without_end word.now found.entry.after)
         found.entry.after) }
 {
@@ -206,7 +206,7 @@ fn value_query_after<'a>(
     mut before: String,
     rest: &'a str,
 ) -> Result<ValueQuery<'a>, AllocError>
-    ensures { IfOk result (λ asked. query_of asked
+    ensures { IfOk result (λ wanted. query_of wanted
         ≡ value_query_after argument.now (string_bytes before) rest.now) }
 {
     let Some(text) = rest.strip_prefix('=') else {

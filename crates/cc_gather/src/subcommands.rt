@@ -13,35 +13,35 @@ use cc_command::Command;
 use std::alloc::{AllocError, Global};
 
 /// The candidates that are children: names, visible and hidden aliases, and where the command takes
-/// names of other programs those of a lent list; those that begin with the word, in the order of
-/// candidates, equal ones once. Fails where memory runs out.
+/// names of other programs these; those that begin with the word, in the order of candidates, equal
+/// ones once. Fails where memory runs out.
 #[tactic(auto, unfolding(crate::specs::Children::subcommand_candidates))]
 pub fn subcommand_candidates(
     alloc: Global,
     command: &Command,
-    lent: Vec<CompletionCandidate>,
+    programs: Vec<CompletionCandidate>,
     word: &str,
 ) -> Result<Vec<CompletionCandidate>, AllocError>
     ensures { IfOk result (λ finished. finished.items
-        ≡ subcommand_candidates command.now lent.items word.now) }
+        ≡ subcommand_candidates command.now programs.items word.now) }
 {
     let mut found = children_beginning(alloc, command, word)?;
-    let mut lent = retain_beginning_with(external(alloc, command, lent), word);
-    found.append(&mut lent)?;
+    let mut programs = retain_beginning_with(external(alloc, command, programs), word);
+    found.append(&mut programs)?;
     sort(&mut found)?;
     Ok(found)
 }
 
-// The lent list, where the command takes names of other programs.
+// The list of other programs, where the command takes their names.
 fn external(
     alloc: Global,
     command: &Command,
-    lent: Vec<CompletionCandidate>,
+    programs: Vec<CompletionCandidate>,
 ) -> Vec<CompletionCandidate>
-    ensures { result.items ≡ external command.now.node lent.items }
+    ensures { result.items ≡ external command.now.node programs.items }
 {
     if command.is_allow_external_subcommands_set() {
-        return lent;
+        return programs;
     }
     Vec::new(alloc)
 }

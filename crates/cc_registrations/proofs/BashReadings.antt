@@ -1,6 +1,7 @@
 -- A registration for bash is read as what it was made for.
 use Rattle.std.proofs.Common.{◌≡◌, ◌==◌, ℕ, IsTrue, List, [], ◌∷◌, ◌++◌, Some, option_map, drop, codes, refl, sym, ◌∙◌, ap, append_assoc, append-nil}
 use Rattle.std.specs.Option.{option_and_then}
+use Rattle.cc_base.proofs.Lines.{regroup_six}
 use Rattle.cc_base.specs.Bytes.{equals, line_feed, open_parenthesis, space}
 use Rattle.cc_quote.specs.PlainName.{is_plain_name, name_byte}
 use Rattle.cc_quote.proofs.NameBytes.{plain_bytes, AreNameBytes, name_lacks, name_no_blanks, name_no_line_feeds, plain_some}
@@ -27,10 +28,7 @@ module _ (variable name bin completer : List ℕ) where
       ≡ function_begins ++ (n ++ (function_head ++ (variable ++ (variable_ends ++ call))))
   unfolding bash_registration registration_front call_begins variable_ends
   in_turn =
-      append_assoc (registration_front variable name) (bash_doubled completer) (registration_tail name bin)
-      ∙ append_assoc (((function_begins ++ n) ++ function_head) ++ variable) call_begins (bash_doubled completer ++ registration_tail name bin)
-      ∙ append_assoc ((function_begins ++ n) ++ function_head) variable (variable_ends ++ call)
-      ∙ append_assoc (function_begins ++ n) function_head (variable ++ (variable_ends ++ call))
+      regroup_six (function_begins ++ n) function_head variable call_begins (bash_doubled completer) (registration_tail name bin)
       ∙ append_assoc function_begins n (function_head ++ (variable ++ (variable_ends ++ call)))
 
   -- what is before the binary's last occurrence

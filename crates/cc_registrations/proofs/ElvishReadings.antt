@@ -4,6 +4,7 @@ use Rattle.std.specs.Option.{option_and_then}
 use Rattle.cc_quote.specs.PlainName.{is_plain_name, name_byte}
 use Rattle.cc_quote.proofs.NameBytes.{plain_bytes, name_lacks, name_no_blanks, posix_plain, path_safe, safe_as_it_is}
 use Rattle.cc_quote.specs.ElvishQuote.{elvish_word_of}
+use Rattle.cc_base.proofs.Lines.{regroup_six}
 use Rattle.cc_base.specs.Bytes.{is_blank, close_bracket, equals, space}
 use Rattle.cc_quote.proofs.BeforeBlanks.{elvish_before_space, bare_first}
 use Rattle.cc_base.specs.Found.{after, with_front, cut_at, up_to, after_mark, between, without_blanks, after_last_from, last_run, word_by, word_after}
@@ -21,10 +22,7 @@ module _ (variable bin completer : List ℕ) (variable_plain : IsTrue (is_plain_
   unfolding elvish_registration shell_set variable_ends
   in_turn =
       ap₂ (λ b c. (((((registration_begins ++ b) ++ function_head) ++ variable) ++ codes "=\"elvish\" ") ++ c) ++ registration_ends) (posix_plain bin bin_plain) (safe_as_it_is completer (path_safe completer completer_plain))
-      ∙ append_assoc ((((registration_begins ++ bin) ++ function_head) ++ variable) ++ codes "=\"elvish\" ") completer registration_ends
-      ∙ append_assoc (((registration_begins ++ bin) ++ function_head) ++ variable) (codes "=\"elvish\" ") (completer ++ registration_ends)
-      ∙ append_assoc ((registration_begins ++ bin) ++ function_head) variable (variable_ends ++ call)
-      ∙ append_assoc (registration_begins ++ bin) function_head (variable ++ (variable_ends ++ call))
+      ∙ regroup_six (registration_begins ++ bin) function_head variable (codes "=\"elvish\" ") completer registration_ends
       ∙ append_assoc registration_begins bin (function_head ++ (variable ++ (variable_ends ++ call)))
 
   -- up to the mark

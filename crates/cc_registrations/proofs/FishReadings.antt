@@ -1,6 +1,7 @@
 -- A registration for fish is read as what it was made for.
 use Rattle.std.proofs.Common.{◌≡◌, ℕ, IsTrue, List, [], ◌∷◌, ◌++◌, Some, option_map, drop, codes, refl, sym, ◌∙◌, ap, append_assoc, append-nil}
 use Rattle.std.specs.Option.{option_and_then}
+use Rattle.cc_base.proofs.Lines.{regroup_six}
 use Rattle.cc_base.specs.Bytes.{dash, equals, space}
 use Rattle.cc_quote.specs.PlainName.{is_plain_name, name_byte}
 use Rattle.cc_quote.proofs.NameBytes.{plain_bytes, name_lacks, fish_plain, fish_safe_bytes, no_joiner_first, plain_some}
@@ -35,10 +36,7 @@ module _ (variable bin completer : List ℕ) where
       ≡ registration_begins ++ (fish_quoted bin ++ (arguments_begin ++ (variable ++ after_variable)))
   unfolding fish_registration
   in_turn =
-      append_assoc ((((registration_begins ++ fish_quoted bin) ++ arguments_begin) ++ variable) ++ shell_set) (fish_quoted_for_eval completer) registration_ends
-      ∙ append_assoc (((registration_begins ++ fish_quoted bin) ++ arguments_begin) ++ variable) shell_set (fish_quoted_for_eval completer ++ registration_ends)
-      ∙ append_assoc ((registration_begins ++ fish_quoted bin) ++ arguments_begin) variable after_variable
-      ∙ append_assoc (registration_begins ++ fish_quoted bin) arguments_begin (variable ++ after_variable)
+      regroup_six (registration_begins ++ fish_quoted bin) arguments_begin variable shell_set (fish_quoted_for_eval completer) registration_ends
       ∙ append_assoc registration_begins (fish_quoted bin) (arguments_begin ++ (variable ++ after_variable))
 
   binary_found : fish_binary (fish_registration variable bin completer) ≡ Some bin

@@ -1,7 +1,8 @@
 -- A registration for PowerShell is read as what it was made for.
 use Rattle.std.proofs.Common.{◌≡◌, ℕ, IsTrue, List, [], ◌∷◌, ◌++◌, Some, option_map, drop, codes, refl, ◌∙◌, ap, ap₂, append_assoc, append-nil}
 use Rattle.std.specs.Option.{option_and_then}
-use Rattle.cc_base.specs.Bytes.{dollar, semicolon, space}
+use Rattle.cc_base.proofs.Lines.{regroup_five, regroup_six}
+use Rattle.cc_base.specs.Bytes.{dollar, line_feed, semicolon, space}
 use Rattle.cc_quote.specs.PlainName.{is_plain_name, name_byte}
 use Rattle.cc_quote.proofs.NameBytes.{plain_bytes, name_lacks, posix_plain, plain_safe, path_safe, safe_as_it_is}
 use Rattle.cc_quote.specs.PowershellQuote.{powershell_word_of}
@@ -27,14 +28,8 @@ module _ (variable bin completer : List ℕ) (variable_plain : IsTrue (is_plain_
       ap₂ (λ b c. ((((registration_begins ++ b) ++ script_head) ++ environment) ++ ((((variable ++ prev_ends) ++ variable) ++ arguments) ++ call_begins)) ++ c ++ registration_tail variable) (posix_plain bin bin_plain) (safe_as_it_is completer (path_safe completer completer_plain))
       ∙ append_assoc ((((registration_begins ++ bin) ++ script_head) ++ environment) ++ ((((variable ++ prev_ends) ++ variable) ++ arguments) ++ call_begins)) completer (registration_tail variable)
       ∙ append_assoc (((registration_begins ++ bin) ++ script_head) ++ environment) ((((variable ++ prev_ends) ++ variable) ++ arguments) ++ call_begins) completed
-      ∙ ap (λ text. (((registration_begins ++ bin) ++ script_head) ++ environment) ++ text)
-      (append_assoc (((variable ++ prev_ends) ++ variable) ++ arguments) call_begins completed
-      ∙ append_assoc ((variable ++ prev_ends) ++ variable) arguments (call_begins ++ completed)
-      ∙ append_assoc (variable ++ prev_ends) variable (arguments ++ (call_begins ++ completed))
-      ∙ append_assoc variable prev_ends (variable ++ (arguments ++ (call_begins ++ completed))))
-      ∙ append_assoc ((registration_begins ++ bin) ++ script_head) environment called
-      ∙ append_assoc (registration_begins ++ bin) script_head (environment ++ called)
-      ∙ append_assoc registration_begins bin (script_head ++ (environment ++ called))
+      ∙ ap (λ text. (((registration_begins ++ bin) ++ script_head) ++ environment) ++ text) (regroup_six variable prev_ends variable arguments call_begins completed)
+      ∙ regroup_five registration_begins bin script_head environment called
 
   variable_found : powershell_variable (powershell_registration variable bin completer) ≡ Some variable
   unfolding powershell_variable between up_to after_mark after with_front cut_at registration_begins script_head environment prev_ends name_byte
@@ -57,12 +52,12 @@ module _ (variable bin completer : List ℕ) (variable_plain : IsTrue (is_plain_
       ap (λ text. option_map (λ c. c.1) (cut_at (codes "\n& ") text)) in_turn
       ∙ ap (λ found. option_map (λ c. c.1) found)
       (past_free mark registration_begins (bin ++ (script_head ++ (environment ++ called))) refl
-      ∙ ap (with_front registration_begins) (past_lacking 10 (drop 1 mark) bin (script_head ++ (environment ++ called)) (name_lacks 10 bin refl (plain_bytes bin bin_plain)))
+      ∙ ap (with_front registration_begins) (past_lacking line_feed (drop 1 mark) bin (script_head ++ (environment ++ called)) (name_lacks line_feed bin refl (plain_bytes bin bin_plain)))
       ∙ ap (λ found. with_front registration_begins (with_front bin found)) (past_free mark script_head (environment ++ called) refl)
       ∙ ap (λ found. with_front registration_begins (with_front bin (with_front script_head found))) (past_free mark environment called refl)
-      ∙ ap (λ found. with_front registration_begins (with_front bin (with_front script_head (with_front environment found)))) (past_lacking 10 (drop 1 mark) variable (prev_ends ++ (variable ++ (arguments ++ (call_begins ++ completed)))) (name_lacks 10 variable refl (plain_bytes variable variable_plain)))
+      ∙ ap (λ found. with_front registration_begins (with_front bin (with_front script_head (with_front environment found)))) (past_lacking line_feed (drop 1 mark) variable (prev_ends ++ (variable ++ (arguments ++ (call_begins ++ completed)))) (name_lacks line_feed variable refl (plain_bytes variable variable_plain)))
       ∙ ap (λ found. with_front registration_begins (with_front bin (with_front script_head (with_front environment (with_front variable found))))) (past_free mark prev_ends (variable ++ (arguments ++ (call_begins ++ completed))) refl)
-      ∙ ap (λ found. with_front registration_begins (with_front bin (with_front script_head (with_front environment (with_front variable (with_front prev_ends found)))))) (past_lacking 10 (drop 1 mark) variable (arguments ++ (call_begins ++ completed)) (name_lacks 10 variable refl (plain_bytes variable variable_plain)))
+      ∙ ap (λ found. with_front registration_begins (with_front bin (with_front script_head (with_front environment (with_front variable (with_front prev_ends found)))))) (past_lacking line_feed (drop 1 mark) variable (arguments ++ (call_begins ++ completed)) (name_lacks line_feed variable refl (plain_bytes variable variable_plain)))
       ∙ ap (λ found. with_front registration_begins (with_front bin (with_front script_head (with_front environment (with_front variable (with_front prev_ends (with_front variable found))))))) (past_free mark arguments (call_begins ++ completed) refl))
 
   completer_found : powershell_completer (powershell_registration variable bin completer) ≡ Some completer

@@ -1,6 +1,7 @@
 -- A registration for zsh is read as what it was made for.
-use Rattle.std.proofs.Common.{◌≡◌, ◌==◌, ℕ, IsTrue, List, [], ◌∷◌, ◌++◌, Some, option_map, drop, codes, refl, ◌∙◌, ap, append_assoc, append-nil}
+use Rattle.std.proofs.Common.{◌≡◌, ◌==◌, ℕ, IsTrue, List, [], ◌∷◌, ◌++◌, Some, option_map, drop, codes, refl, ◌∙◌, ap, append-nil}
 use Rattle.std.specs.Option.{option_and_then}
+use Rattle.cc_base.proofs.Lines.{regroup_five, regroup_six}
 use Rattle.cc_base.specs.Bytes.{equals, line_feed, open_parenthesis, space, underscore}
 use Rattle.cc_quote.specs.PlainName.{is_plain_name, name_byte}
 use Rattle.cc_quote.proofs.NameBytes.{plain_bytes, AreNameBytes, name_lacks, name_no_blanks, name_no_line_feeds, posix_plain, no_joiner_first, plain_some}
@@ -37,13 +38,8 @@ module _ (variable name bin completer : List ℕ) where
       ≡ registration_begins ++ (posix_quoted bin ++ (function_begins ++ (n ++ after_name)))
   unfolding zsh_registration registration_head registration_front call_begins variable_ends
   in_turn =
-      append_assoc (registration_front variable name bin) (posix_quoted completer) (registration_tail name bin)
-      ∙ append_assoc (((((registration_begins ++ posix_quoted bin) ++ function_begins) ++ n) ++ function_head) ++ variable) call_begins (posix_quoted completer ++ registration_tail name bin)
-      ∙ append_assoc ((((registration_begins ++ posix_quoted bin) ++ function_begins) ++ n) ++ function_head) variable (variable_ends ++ call)
-      ∙ append_assoc (((registration_begins ++ posix_quoted bin) ++ function_begins) ++ n) function_head (variable ++ (variable_ends ++ call))
-      ∙ append_assoc ((registration_begins ++ posix_quoted bin) ++ function_begins) n after_name
-      ∙ append_assoc (registration_begins ++ posix_quoted bin) function_begins (n ++ after_name)
-      ∙ append_assoc registration_begins (posix_quoted bin) (function_begins ++ (n ++ after_name))
+      regroup_six (((registration_begins ++ posix_quoted bin) ++ function_begins) ++ n) function_head variable call_begins (posix_quoted completer) (registration_tail name bin)
+      ∙ regroup_five registration_begins (posix_quoted bin) function_begins n after_name
 
   binary_found : zsh_binary (zsh_registration variable name bin completer) ≡ Some bin
   unfolding zsh_binary word_after after_mark word_by after with_front cut_at without_blanks registration_begins function_begins

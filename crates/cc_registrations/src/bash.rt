@@ -58,7 +58,7 @@ fi
 
 ";
 
-/// Writes the registration for bash: of the variable that asks for completions, the name,
+/// Writes the registration for bash: of the variable that requests completions, the name,
 /// the binary and the completer that is run. Fails with `Write` alone, where the sink fails.
 #[tactic(auto, using(crate::proofs::BashReadings::bash_reads), unfolding(crate::specs::BashRegistration::bash_registration))]
 pub fn write_bash<W: Sink>(

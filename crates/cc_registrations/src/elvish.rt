@@ -23,7 +23,7 @@ const REGISTRATION_ENDS: &str = " -- $@words) | to-lines
 
 ";
 
-/// Writes the registration for Elvish: of the variable that asks for completions, the binary and
+/// Writes the registration for Elvish: of the variable that requests completions, the binary and
 /// the completer that is run. Fails with `Write` where the sink fails, and with `Memory`.
 #[tactic(auto, using(crate::proofs::ElvishReadings::elvish_reads))]
 pub fn write_elvish<W: Sink>(

@@ -18,7 +18,7 @@ const REGISTRATION_ENDS: &str =
     " -- (commandline --current-process --tokenize --cut-at-cursor) (commandline --current-token))\"
 ";
 
-/// Writes the registration for fish: of the variable that asks for completions, the binary and the
+/// Writes the registration for fish: of the variable that requests completions, the binary and the
 /// completer that is run. Fails with `Write` where the sink fails, and with `Memory`.
 #[tactic(auto, using(crate::proofs::FishReadings::fish_reads))]
 pub fn write_fish<W: Sink>(

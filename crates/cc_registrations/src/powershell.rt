@@ -62,7 +62,7 @@ const REGISTRATION_ENDS: &str = " = $prev;
         
 ";
 
-/// Writes the registration for PowerShell: of the variable that asks for completions, the binary
+/// Writes the registration for PowerShell: of the variable that requests completions, the binary
 /// and the completer that is run. Fails with `Write` where the sink fails, and with `Memory`.
 #[tactic(auto, using(crate::proofs::PowershellReadings::powershell_reads), unfolding(crate::specs::PowershellRegistration::powershell_registration))]
 pub fn write_powershell<W: Sink>(

@@ -60,7 +60,7 @@ const NAME_ENDS: &str = " ";
 const REGISTRATION_ENDS: &str = "
 ";
 
-/// Writes the registration for zsh: of the variable that asks for completions, the name,
+/// Writes the registration for zsh: of the variable that requests completions, the name,
 /// the binary and the completer that is run. Fails with `Write` where the sink fails, and with
 /// `Memory`.
 #[tactic(auto, using(crate::proofs::ZshReadings::zsh_reads), unfolding(crate::specs::ZshRegistration::zsh_registration))]

@@ -3,7 +3,7 @@ use Rattle.std.proofs.Common.{◌≡◌, ◌++◌, ℕ, true, false, List, [], �
 use Rattle.cc_candidates.specs.Candidate.{new_candidate}
 use Rattle.cc_candidates.specs.declared.candidate.CompletionCandidate.{CompletionCandidate}
 use Rattle.cc_replies.specs.Environment.{IsIndex}
-use Rattle.cc_replies.specs.Reply.{are_readable_lines, are_readable_values, are_readable_zsh_items, colon_help, first_line, lines_reply, shown_line}
+use Rattle.cc_replies.specs.Reply.{ValuesRead, are_readable_lines, are_readable_values, are_readable_zsh_items, colon_help, first_line, lines_reply, shown_line}
 use Rattle.cc_replies.specs.Reply.{tab_help, values_read, values_reply, without_return, zsh_item, zsh_reply}
 use Rattle.cc_replies.proofs.ReplyReadings.{values_back}
 use Rattle.cc_base.specs.Found.{after, cut_at, with_front}
@@ -107,7 +107,8 @@ spread = helped (codes "a\tb") (codes "x" ++ 11 ∷ codes "y\nz") ∷ []
 
 -- bash and Elvish are sent no help, and a tab is between no values
 spread_values_row : values_read 11 (values_reply (11 ∷ []) spread) ≡ codes "a\tb" ∷ []
-spread_values_row = values_back 11 spread refl
+unfolding ValuesRead
+spread_values_row = values_back (11 ∷ []) spread 11 refl refl
 
 -- zsh is sent the help
 spread_zsh_items_row : are_readable_zsh_items 11 spread ≡ false

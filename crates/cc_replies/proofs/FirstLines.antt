@@ -1,23 +1,24 @@
 -- The first line of a text.
+use Rattle.cc_base.specs.Bytes.{line_feed}
 use Rattle.std.proofs.Common.{◌≡◌, ◌≢◌, ◌==◌, ℕ, true, false, suc, ◌<◌, List, [], ◌∷◌, ◌++◌, Some, None, get_or, length, refl, sym, ◌∙◌, ap, subst, arith, append-nil}
 use Rattle.std.specs.List.{AllByRecursion}
 use Rattle.std.proofs.lemmas.Bool.{ne_eqb, cases_Bool}
 use Rattle.std.proofs.lemmas.Bool.Decides.{Decides-eqb}
 use Rattle.std.proofs.Common.{inl, inr}
 use Rattle.cc_base.specs.Found.{after, with_front, cut_at}
-use Rattle.cc_replies.specs.Reply.{without_return, first_line}
+use Rattle.cc_replies.specs.Reply.{carriage_return, without_return, first_line}
 use Rattle.cc_base.proofs.Finding.{Cut, Lacks, after-none, cut_at-none, past_lacking}
 
-pub return_off : (line : List ℕ) → without_return (line ++ 13 ∷ []) ≡ line
+pub return_off : (line : List ℕ) → without_return (line ++ carriage_return ∷ []) ≡ line
 unfolding without_return
 return_off (byte ∷ next ∷ line) = ap (λ t. byte ∷ t) (return_off (next ∷ line))
 return_off _ = refl
 
-pub no_return : (line : List ℕ) → ((front : List ℕ) → line ≢ front ++ 13 ∷ []) → without_return line ≡ line
+pub no_return : (line : List ℕ) → ((front : List ℕ) → line ≢ front ++ carriage_return ∷ []) → without_return line ≡ line
 unfolding without_return
 no_return [] h = refl
-no_return (byte ∷ []) h = elim (cases_Bool (byte == 13)) [
-  | inl is ↦ absurd (h [] (ap (λ b. b ∷ []) ((Decides-eqb byte 13).0 is)))
+no_return (byte ∷ []) h = elim (cases_Bool (byte == carriage_return)) [
+  | inl is ↦ absurd (h [] (ap (λ b. b ∷ []) ((Decides-eqb byte carriage_return).0 is)))
   | inr isnt ↦ rw (without_return, isnt) refl
 ]
 no_return (byte ∷ next ∷ line) h = ap (λ t. byte ∷ t) (no_return (next ∷ line) (λ front e. h (byte ∷ front) (ap (λ t. byte ∷ t) e)))
@@ -28,18 +29,18 @@ lacks_by_index special [] h = tt
 lacks_by_index special (byte ∷ text) h = (ne_eqb special byte (λ e. h 0 (omega arith) (sym e)), lacks_by_index special text (λ k l. h (suc k) (omega arith)))
 
 -- before a line feed
-pub line_cut : (line rest : List ℕ) → Lacks 10 line → first_line (line ++ 10 ∷ rest) ≡ without_return line
+pub line_cut : (line rest : List ℕ) → Lacks line_feed line → first_line (line ++ line_feed ∷ rest) ≡ without_return line
 unfolding first_line after with_front cut_at
 line_cut line rest h =
-    ap (λ cut. elim cut [ Some (line, rest) ↦ without_return line | None ↦ line ++ 10 ∷ rest ]) (past_lacking 10 [] line (10 ∷ rest) h)
+    ap (λ cut. elim cut [ Some (line, rest) ↦ without_return line | None ↦ line ++ line_feed ∷ rest ]) (past_lacking line_feed [] line (line_feed ∷ rest) h)
     ∙ ap without_return (append-nil line)
 
 -- with none
-pub whole_line : (text : List ℕ) → Lacks 10 text → first_line text ≡ text
+pub whole_line : (text : List ℕ) → Lacks line_feed text → first_line text ≡ text
 unfolding first_line with_front cut_at
 whole_line text h =
     ap (λ cut. elim cut [ Some (line, rest) ↦ without_return line | None ↦ text ])
-    (ap (cut_at (10 ∷ [])) (sym (append-nil text)) ∙ past_lacking 10 [] text [] h)
+    (ap (cut_at (line_feed ∷ [])) (sym (append-nil text)) ∙ past_lacking line_feed [] text [] h)
 
 -- ---- a first line has no line feed
 
@@ -54,34 +55,34 @@ other_side one other e =
 
 -- what is before a line feed, or all where there is none
 abbrev IsBeforeFeed : List ℕ → Cut → Type 0
-IsBeforeFeed text None = IsWithout 10 text
-IsBeforeFeed text (Some (line, rest)) = IsWithout 10 line
+IsBeforeFeed text None = IsWithout line_feed text
+IsBeforeFeed text (Some (line, rest)) = IsWithout line_feed line
 
-one_more : (byte : ℕ) (text : List ℕ) (cut : Cut) → (byte == 10) ≡ false → IsBeforeFeed text cut → IsBeforeFeed (byte ∷ text) (with_front (byte ∷ []) cut)
+one_more : (byte : ℕ) (text : List ℕ) (cut : Cut) → (byte == line_feed) ≡ false → IsBeforeFeed text cut → IsBeforeFeed (byte ∷ text) (with_front (byte ∷ []) cut)
 unfolding with_front
 one_more byte text None e h = (e, h)
 one_more byte text (Some (line, rest)) e h = (e, h)
 
-before_feed : (text : List ℕ) → IsBeforeFeed text (cut_at (10 ∷ []) text)
+before_feed : (text : List ℕ) → IsBeforeFeed text (cut_at (line_feed ∷ []) text)
 unfolding after cut_at
 before_feed [] = tt
-before_feed (byte ∷ text) = elim (cases_Bool (10 == byte)) [
-  | inl is ↦ let cut : cut_at (10 ∷ []) (byte ∷ text) ≡ Some ([], text) = rw (cut_at, after, is) refl in
+before_feed (byte ∷ text) = elim (cases_Bool (line_feed == byte)) [
+  | inl is ↦ let cut : cut_at (line_feed ∷ []) (byte ∷ text) ≡ Some ([], text) = rw (cut_at, after, is) refl in
       subst (IsBeforeFeed (byte ∷ text)) (sym cut) tt
-  | inr isnt ↦ subst (IsBeforeFeed (byte ∷ text)) (sym (cut_at-none (10 ∷ []) text byte (after-none 10 byte [] text isnt)))
-      (one_more byte text (cut_at (10 ∷ []) text) (other_side 10 byte isnt) (before_feed text))
+  | inr isnt ↦ subst (IsBeforeFeed (byte ∷ text)) (sym (cut_at-none (line_feed ∷ []) text byte (after-none line_feed byte [] text isnt)))
+      (one_more byte text (cut_at (line_feed ∷ []) text) (other_side line_feed byte isnt) (before_feed text))
 ]
 
-return_keeps : (line : List ℕ) → IsWithout 10 line → IsWithout 10 (without_return line)
+return_keeps : (line : List ℕ) → IsWithout line_feed line → IsWithout line_feed (without_return line)
 unfolding without_return
 return_keeps [] h = tt
-return_keeps (byte ∷ []) h = elim (cases_Bool (byte == 13)) [ inl is ↦ rw (without_return, is) tt | inr isnt ↦ rw (without_return, isnt) h ]
+return_keeps (byte ∷ []) h = elim (cases_Bool (byte == carriage_return)) [ inl is ↦ rw (without_return, is) tt | inr isnt ↦ rw (without_return, isnt) h ]
 return_keeps (byte ∷ next ∷ line) h = (h.0, return_keeps (next ∷ line) h.1)
 
-pub first_line_without : (text : List ℕ) → IsWithout 10 (first_line text)
+pub first_line_without : (text : List ℕ) → IsWithout line_feed (first_line text)
 unfolding first_line
-first_line_without text = by_cut (cut_at (10 ∷ []) text) (before_feed text)
+first_line_without text = by_cut (cut_at (line_feed ∷ []) text) (before_feed text)
   where
-    by_cut : (cut : Cut) → IsBeforeFeed text cut → IsWithout 10 (elim cut [ Some (line, rest) ↦ without_return line | None ↦ text ])
+    by_cut : (cut : Cut) → IsBeforeFeed text cut → IsWithout line_feed (elim cut [ Some (line, rest) ↦ without_return line | None ↦ text ])
     by_cut None h = h
     by_cut (Some (line, rest)) h = return_keeps line h

@@ -1,4 +1,3 @@
 mod Examples
 pub mod FirstLines
-pub mod ReplyLaws
 pub mod ReplyReadings

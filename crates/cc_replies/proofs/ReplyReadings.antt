@@ -1,4 +1,5 @@
 -- A reply is read as the values and the first lines of the helps.
+use Rattle.cc_base.specs.Bytes.{backslash, colon, line_feed, tab}
 use Rattle.std.proofs.Common.{◌≡◌, ◌≢◌, ◌==◌, ℕ, Bool, true, false, cond, List, [], ◌∷◌, ◌++◌, Option, Some, None, map, option_map, codes, refl, sym, ◌∙◌, ap, ap₂, append_assoc, append-nil}
 use Rattle.std.proofs.Common.{inl, inr}
 use Rattle.std.proofs.lemmas.Bool.{and_parts, cases_Bool}
@@ -13,16 +14,14 @@ use Rattle.cc_quote.specs.ZshQuote.Mark.{kept, escaped}
 use Rattle.cc_quote.specs.ZshReply.{is_reply_value_marked, is_reply_help_marked, zsh_replied_value, zsh_replied_help}
 use Rattle.cc_quote.proofs.ZshWords.{mark_of, marks-marked}
 use Rattle.cc_quote.proofs.ZshReplies.{help_unescaped}
-use Rattle.cc_base.specs.Found.{after, with_front, cut_at}
-use Rattle.cc_replies.specs.Reply.{Shown, shown, first_line, values_reply, colon_help, zsh_item, zsh_reply, tab_help, shown_line, lines_reply, pieces_from, values_read, shown_from, zsh_read, lines_from, line_shown, lines_read, is_without, is_help_without, is_readable_value, is_readable_zsh_item, is_readable_line, are_readable_values, are_readable_zsh_items, are_readable_lines}
+use Rattle.cc_base.specs.Found.{after, with_front, cut_at, pieces_from}
+use Rattle.cc_base.proofs.Cases.{choose}
+use Rattle.cc_replies.specs.Reply.{LinesRead, ValuesRead, ZshReplyRead, Shown, shown, first_line, values_reply, colon_help, zsh_item, zsh_reply, tab_help, shown_line, lines_reply, values_read, shown_from, zsh_read, lines_from, line_shown, lines_read, is_without, is_help_without, is_readable_value, is_readable_zsh_item, is_readable_line, are_readable_lines}
 use Rattle.cc_replies.proofs.FirstLines.{IsWithout, first_line_without, other_side}
 use Rattle.cc_candidates.specs.declared.candidate.CompletionCandidate.{CompletionCandidate}
 use Rattle.cc_base.proofs.Finding.{Lacks, past_lacking}
 
-abbrev choose : {A : Type 0} → Bool → A → A → A
-choose test first second = elim test [ true ↦ first | false ↦ second ]
-
--- ---- what the tests tell
+-- ---- what the tests say
 
 false_not : (test : Bool) → not test ≡ true → test ≡ false
 false_not true e = cc
@@ -67,7 +66,6 @@ each_text test P f p (candidate ∷ candidates) e =
 
 -- a piece goes on
 piece_on : (separator : ℕ) (piece text rest : List ℕ) → IsWithout separator text → pieces_from separator piece (text ++ rest) ≡ pieces_from separator (piece ++ text) rest
-unfolding pieces_from
 piece_on separator piece [] rest h = ap (λ p. pieces_from separator p rest) (sym (append-nil piece))
 piece_on separator piece (byte ∷ text) rest h =
     ap (λ b. choose b (piece ∷ pieces_from separator [] (text ++ rest)) (pieces_from separator (piece ++ byte ∷ []) (text ++ rest))) h.0
@@ -76,13 +74,11 @@ piece_on separator piece (byte ∷ text) rest h =
 
 -- it ends
 piece_ends : (separator : ℕ) (piece rest : List ℕ) → pieces_from separator piece (separator ∷ rest) ≡ piece ∷ pieces_from separator [] rest
-unfolding pieces_from
 piece_ends separator piece rest = ap (λ b. choose b (piece ∷ pieces_from separator [] rest) (pieces_from separator (piece ++ separator ∷ []) rest)) ((Decides-eqb separator separator).1 refl)
 
 -- texts that are joined
 joined_pieces : (separator : ℕ) (first : List ℕ) (texts : List (List ℕ)) → IsWithout separator first → AllByRecursion (IsWithout separator) texts
     → pieces_from separator [] (first ++ joined_after (separator ∷ []) true texts) ≡ first ∷ texts
-unfolding pieces_from
 joined_pieces separator first [] h k = piece_on separator [] first [] h
 joined_pieces separator first (text ∷ texts) h k =
     piece_on separator [] first (separator ∷ (text ++ joined_after (separator ∷ []) true texts)) h
@@ -97,16 +93,17 @@ joined_read separator [] h k = refl
 joined_read separator ([] ∷ texts) h k = absurd (k.0 refl)
 joined_read separator ((byte ∷ text) ∷ texts) h k = joined_pieces separator (byte ∷ text) texts h.0 h.1
 
-pub values_back : (separator : ℕ) (candidates : List CompletionCandidate) → are_readable_values separator candidates ≡ true
-    → values_read separator (values_reply (separator ∷ []) candidates) ≡ map (λ candidate. candidate.value) candidates
-values_back separator candidates e =
-    joined_read separator (map (λ candidate. candidate.value) candidates)
+pub values_back : (between : List ℕ) (candidates : List CompletionCandidate) → ValuesRead between candidates
+unfolding ValuesRead
+values_back between candidates separator is e =
+    ap (λ b. values_read separator (values_reply b candidates)) is
+    ∙ joined_read separator (map (λ candidate. candidate.value) candidates)
     (each_text (λ item. is_readable_value separator item.value) (IsWithout separator) (λ item. item.value) (λ item r. (value_parts separator item.value r).1) candidates e)
     (each_text (λ item. is_readable_value separator item.value) HasByte (λ item. item.value) (λ item r. (value_parts separator item.value r).0) candidates e)
 
 -- ---- lines
 
-line_on : (line text rest : List ℕ) → IsWithout 10 text → lines_from line (text ++ rest) ≡ lines_from (line ++ text) rest
+line_on : (line text rest : List ℕ) → IsWithout line_feed text → lines_from line (text ++ rest) ≡ lines_from (line ++ text) rest
 unfolding lines_from
 line_on line [] rest h = ap (λ p. lines_from p rest) (sym (append-nil line))
 line_on line (byte ∷ text) rest h =
@@ -119,14 +116,14 @@ abbrev line_body : Shown → List ℕ
 line_body item = item.value ++ tab_help item.help
 
 -- the help is a first line
-help_one_line : (help : Option (List ℕ)) → IsWithout 10 (tab_help (option_map first_line help))
+help_one_line : (help : Option (List ℕ)) → IsWithout line_feed (tab_help (option_map first_line help))
 unfolding tab_help
 help_one_line None = tt
 help_one_line (Some help) = (refl, first_line_without help)
 
-body_one_line : (candidate : CompletionCandidate) → IsWithout 10 candidate.value → IsWithout 10 (line_body (shown candidate))
+body_one_line : (candidate : CompletionCandidate) → IsWithout line_feed candidate.value → IsWithout line_feed (line_body (shown candidate))
 body_one_line candidate h =
-    AllByRecursion-append (λ byte. (byte == 10) ≡ false) candidate.value (tab_help (shown candidate).help) h (help_one_line candidate.help)
+    AllByRecursion-append (λ byte. (byte == line_feed) ≡ false) candidate.value (tab_help (shown candidate).help) h (help_one_line candidate.help)
 
 -- the other side of each test
 lacks : (special : ℕ) (text : List ℕ) → IsWithout special text → Lacks special text
@@ -138,43 +135,43 @@ line_tells line found = elim found [
   | None ↦ record { value = line; help = None }
 ]
 
-body_read : (value : List ℕ) (help : Option (List ℕ)) → IsWithout 9 value → line_shown (value ++ tab_help help) ≡ record { value = value; help = help }
+body_read : (value : List ℕ) (help : Option (List ℕ)) → IsWithout tab value → line_shown (value ++ tab_help help) ≡ record { value = value; help = help }
 unfolding line_shown tab_help after with_front cut_at
 body_read value None h =
     ap (λ line. line_shown line) (append-nil value)
-    ∙ ap (line_tells value) (ap (cut_at (9 ∷ [])) (sym (append-nil value)) ∙ past_lacking 9 [] value [] (lacks 9 value h))
+    ∙ ap (line_tells value) (ap (cut_at (tab ∷ [])) (sym (append-nil value)) ∙ past_lacking tab [] value [] (lacks tab value h))
 body_read value (Some help) h =
-    ap (line_tells (value ++ 9 ∷ help)) (past_lacking 9 [] value (9 ∷ help) (lacks 9 value h))
+    ap (line_tells (value ++ tab ∷ help)) (past_lacking tab [] value (tab ∷ help) (lacks tab value h))
     ∙ ap (λ v. record { value = v; help = Some help }) (append-nil value)
 
-pub lines_back : (candidates : List CompletionCandidate) → are_readable_lines candidates ≡ true → lines_read (lines_reply candidates) ≡ map shown candidates
-unfolding lines_read lines_from shown_line
+pub lines_back : (candidates : List CompletionCandidate) → LinesRead candidates
+unfolding lines_read lines_from shown_line LinesRead
 lines_back [] e = refl
 lines_back (candidate ∷ candidates) e =
     let parts = and_parts (is_readable_line candidate.value) (are_readable_lines candidates) e in
-    let value = and_parts (is_without 10 candidate.value) (is_without 9 candidate.value) parts.0 in
+    let value = and_parts (is_without line_feed candidate.value) (is_without tab candidate.value) parts.0 in
     ap (λ text. map line_shown (lines_from [] text)) (append_assoc (line_body (shown candidate)) (codes "\n") (lines_reply candidates))
-    ∙ ap (map line_shown) (line_on [] (line_body (shown candidate)) (10 ∷ lines_reply candidates) (body_one_line candidate (without 10 candidate.value value.0)))
-    ∙ ap₂ (λ item items. item ∷ items) (body_read (shown candidate).value (shown candidate).help (without 9 candidate.value value.1)) (lines_back candidates parts.1)
+    ∙ ap (map line_shown) (line_on [] (line_body (shown candidate)) (line_feed ∷ lines_reply candidates) (body_one_line candidate (without line_feed candidate.value value.0)))
+    ∙ ap₂ (λ item items. item ∷ items) (body_read (shown candidate).value (shown candidate).help (without tab candidate.value value.1)) (lines_back candidates parts.1)
 
 -- ---- zsh
 
 -- a backslash is no separator
-marked_without : (separator : ℕ) (is_marked : ℕ → Bool) (text : List ℕ) → (92 == separator) ≡ false → IsWithout separator text → IsWithout separator (marked is_marked text)
+marked_without : (separator : ℕ) (is_marked : ℕ → Bool) (text : List ℕ) → (backslash == separator) ≡ false → IsWithout separator text → IsWithout separator (marked is_marked text)
 marked_without separator is_marked [] e h = tt
 marked_without separator is_marked (byte ∷ text) e h =
     AllByRecursion-append (λ b. (b == separator) ≡ false) (marked_byte is_marked byte) (marked is_marked text) (by_test (is_marked byte)) (marked_without separator is_marked text e h.1)
   where
-    by_test : (m : Bool) → IsWithout separator (cond m (92 ∷ byte ∷ []) (byte ∷ []))
+    by_test : (m : Bool) → IsWithout separator (cond m (backslash ∷ byte ∷ []) (byte ∷ []))
     by_test true = (e, (h.0, tt))
     by_test false = (h.0, tt)
 
-colon_help_without : (separator : ℕ) (help : Option (List ℕ)) → (92 == separator) ≡ false → (58 == separator) ≡ false → IsHelpWithout separator help → IsWithout separator (colon_help help)
+colon_help_without : (separator : ℕ) (help : Option (List ℕ)) → (backslash == separator) ≡ false → (colon == separator) ≡ false → IsHelpWithout separator help → IsWithout separator (colon_help help)
 unfolding colon_help
 colon_help_without separator None e f h = tt
 colon_help_without separator (Some help) e f h = (f, marked_without separator is_reply_help_marked help e h)
 
-item_without : (separator : ℕ) (item : Shown) → (92 == separator) ≡ false → (58 == separator) ≡ false → is_readable_zsh_item separator item ≡ true → IsWithout separator (zsh_item item)
+item_without : (separator : ℕ) (item : Shown) → (backslash == separator) ≡ false → (colon == separator) ≡ false → is_readable_zsh_item separator item ≡ true → IsWithout separator (zsh_item item)
 unfolding zsh_item
 item_without separator item e f r =
     let parts = and_parts (is_readable_value separator item.value) (is_help_without separator item.help) r in
@@ -187,7 +184,7 @@ unfolding zsh_item
 item_some separator item r =
     by_value item.value (value_parts separator item.value (and_parts (is_readable_value separator item.value) (is_help_without separator item.help) r).0).0
   where
-    by_test : (byte : ℕ) (value : List ℕ) (m : Bool) → (cond m (92 ∷ byte ∷ []) (byte ∷ []) ++ value) ++ colon_help item.help ≢ []
+    by_test : (byte : ℕ) (value : List ℕ) (m : Bool) → (cond m (backslash ∷ byte ∷ []) (byte ∷ []) ++ value) ++ colon_help item.help ≢ []
     by_test byte value true e = cc
     by_test byte value false e = cc
 
@@ -204,9 +201,9 @@ value_on (byte ∷ value) word rest =
     ∙ value_on value (word ++ byte ∷ []) rest
     ∙ ap (λ w. shown_from w rest) (append_assoc word (byte ∷ []) value)
   where
-    not_colon : is_reply_value_marked byte ≡ false → (byte == 58) ≡ false
-    not_colon h = elim (cases_Bool (byte == 58)) [
-      | inl is ↦ absurd (let marked_colon : true ≡ false = ap is_reply_value_marked (sym ((Decides-eqb byte 58).0 is)) ∙ h in cc)
+    not_colon : is_reply_value_marked byte ≡ false → (byte == colon) ≡ false
+    not_colon h = elim (cases_Bool (byte == colon)) [
+      | inl is ↦ absurd (let marked_colon : true ≡ false = ap is_reply_value_marked (sym ((Decides-eqb byte colon).0 is)) ∙ h in cc)
       | inr isnt ↦ isnt
     ]
 
@@ -236,16 +233,16 @@ items_read : (candidates : List CompletionCandidate) → map (λ piece. shown_fr
 items_read [] = refl
 items_read (candidate ∷ candidates) = ap₂ (λ item items. item ∷ items) (item_read (shown candidate)) (items_read candidates)
 
-pub zsh_back : (separator : ℕ) (candidates : List CompletionCandidate) → are_readable_zsh_items separator candidates ≡ true
-    → zsh_read separator (zsh_reply (separator ∷ []) candidates) ≡ map (λ candidate. Some (shown candidate)) candidates
-unfolding zsh_read
-zsh_back separator candidates r =
+pub zsh_back : (between : List ℕ) (candidates : List CompletionCandidate) → ZshReplyRead between candidates
+unfolding zsh_read ZshReplyRead
+zsh_back between candidates separator is r =
     let items : Bool = list_all (λ candidate. is_readable_zsh_item separator (shown candidate)) candidates in
-    let parts = and_parts (not (separator == 58) && not (separator == 92)) items r in
-    let marks_differ = and_parts (not (separator == 58)) (not (separator == 92)) parts.0 in
-    let no_backslash : (92 == separator) ≡ false = other_side separator 92 (false_not (separator == 92) marks_differ.1) in
-    let no_colon : (58 == separator) ≡ false = other_side separator 58 (false_not (separator == 58) marks_differ.0) in
-    ap (map (λ piece. shown_from [] (marks piece)))
+    let parts = and_parts (not (separator == colon) && not (separator == backslash)) items r in
+    let marks_differ = and_parts (not (separator == colon)) (not (separator == backslash)) parts.0 in
+    let no_backslash : (backslash == separator) ≡ false = other_side separator backslash (false_not (separator == backslash) marks_differ.1) in
+    let no_colon : (colon == separator) ≡ false = other_side separator colon (false_not (separator == colon) marks_differ.0) in
+    ap (λ b. zsh_read separator (zsh_reply b candidates)) is
+    ∙ ap (map (λ piece. shown_from [] (marks piece)))
     (joined_read separator (map (λ candidate. zsh_item (shown candidate)) candidates)
     (each_text (is_readable_zsh_item separator) (IsWithout separator) zsh_item (λ item s. item_without separator item no_backslash no_colon s) candidates parts.1)
     (each_text (is_readable_zsh_item separator) HasByte zsh_item (λ item s. item_some separator item s) candidates parts.1))

@@ -1,5 +1,4 @@
--- What the environment tells: values of variables, the index of a word, and the separator of a
--- reply.
+-- Values of environment variables, the index of a word, and the separator of a reply.
 use Rattle.std.specs.Prelude.{◌≡◌, ◌<◌, ◌^◌, ℕ, List, Option, Some, None}
 use Rattle.std.specs.Prelude.{codes, find, option_map, unwrap_or}
 use Rattle.std.specs.String.{string_bytes}

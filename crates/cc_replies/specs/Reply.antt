@@ -6,10 +6,10 @@ use Rattle.cc_base.specs.Joined.{joined}
 use Rattle.cc_quote.specs.ZshQuote.{Mark, marks, unmarked}
 use Rattle.cc_quote.specs.ZshQuote.Mark.{kept, escaped, unended}
 use Rattle.cc_quote.specs.ZshReply.{zsh_replied_help, zsh_replied_value}
-use Rattle.cc_base.specs.Found.{cut_at}
+use Rattle.cc_base.specs.Found.{cut_at, pieces_from}
 use Rattle.cc_candidates.specs.declared.candidate.CompletionCandidate.{CompletionCandidate}
 
-abbrev carriage_return : ℕ
+abbrev pub carriage_return : ℕ
 carriage_return = 13
 
 -- a line without a carriage return at its end
@@ -26,7 +26,7 @@ first_line text = elim (cut_at (line_feed ∷ []) text) [
   | None ↦ text
 ]
 
--- what a reply tells of a candidate: its value and the first line of its help
+-- what a reply has of a candidate: its value and the first line of its help
 pub record Shown : Type 0 where
   pub value : List ℕ
   pub help : Option (List ℕ)
@@ -72,14 +72,6 @@ lines_reply candidates = flat_map candidate_line candidates
 
 -- ---- how they are read
 
--- the pieces of a text between the occurrences of a byte, after the piece that is begun
-unfoldable pub pieces_from : ℕ → List ℕ → List ℕ → List (List ℕ)
-pieces_from separator piece [] = piece ∷ []
-pieces_from separator piece (byte ∷ text) = elim (byte == separator) [
-  | true ↦ piece ∷ pieces_from separator [] text
-  | false ↦ pieces_from separator (piece ++ byte ∷ []) text
-]
-
 -- the values of a reply; an empty one has none
 unfoldable pub values_read : ℕ → List ℕ → List (List ℕ)
 values_read separator [] = []
@@ -96,7 +88,7 @@ shown_from value (kept byte ∷ rest) = elim (byte == colon) [
   | false ↦ shown_from (value ++ byte ∷ []) rest
 ]
 
--- what a reply of zsh tells, piece by piece
+-- what is read from a reply to zsh, piece by piece
 unfoldable pub zsh_read : ℕ → List ℕ → List (Option Shown)
 zsh_read separator text = map (λ piece. shown_from [] (marks piece)) (values_read separator text)
 
@@ -115,7 +107,7 @@ line_shown line = elim (cut_at (tab ∷ []) line) [
   | None ↦ record { value = line; help = None }
 ]
 
--- what a reply of fish or PowerShell tells, line by line
+-- what is read from a reply to fish or PowerShell, line by line
 unfoldable pub lines_read : List ℕ → List Shown
 lines_read text = map line_shown (lines_from [] text)
 
@@ -160,20 +152,20 @@ are_readable_lines candidates = list_all (λ candidate. is_readable_line candida
 -- ---- the laws
 
 -- with one byte between values, the reply is read as the values
-abbrev pub ValuesRead : List ℕ → List CompletionCandidate → Type 0
+unfoldable pub ValuesRead : List ℕ → List CompletionCandidate → Type 0
 ValuesRead between candidates =
     (separator : ℕ) → between ≡ separator ∷ [] → IsTrue (are_readable_values separator candidates)
     → values_read separator (values_reply between candidates)
     ≡ map (λ candidate. candidate.value) candidates
 
 -- with one byte between items, the reply is read as the values and the first lines of the helps
-abbrev pub ZshReplyRead : List ℕ → List CompletionCandidate → Type 0
+unfoldable pub ZshReplyRead : List ℕ → List CompletionCandidate → Type 0
 ZshReplyRead between candidates =
     (separator : ℕ) → between ≡ separator ∷ []
     → IsTrue (are_readable_zsh_items separator candidates)
     → zsh_read separator (zsh_reply between candidates)
     ≡ map (λ candidate. Some (shown candidate)) candidates
 
-abbrev pub LinesRead : List CompletionCandidate → Type 0
+unfoldable pub LinesRead : List CompletionCandidate → Type 0
 LinesRead candidates = IsTrue (are_readable_lines candidates)
     → lines_read (lines_reply candidates) ≡ map shown candidates

@@ -1,4 +1,4 @@
-//! Values of environment variables, given by the caller.
+//! Values of environment variables, as the caller passes them.
 
 ghost use Rattle.std.specs.Prelude.{◌≡◌};
 ghost use Rattle.std.specs.Option.{option_copied};
@@ -43,7 +43,7 @@ impl EnvValues {
             .find(|variable| is_named(variable, name))
     }
 
-    /// The index of the word to complete, as `_CLAP_COMPLETE_INDEX` tells it: digits, with one `+`
+    /// The index of the word to complete, the value of `_CLAP_COMPLETE_INDEX`: digits, with one `+`
     /// in front at most, that write a `usize`; else 0.
     pub fn index(&self) -> usize
         ensures { IsIndex (value_of index_name self.now) result }

@@ -14,6 +14,7 @@ use std::io::ErrorKind;
 
 /// Writes the values, with a separator before each but the first: the reply to bash and Elvish.
 /// Fails with `Write` alone, where the sink fails.
+#[tactic(auto, using(crate::proofs::ReplyReadings::values_back))]
 pub fn write_values<W: Sink>(
     sink: &mut W,
     between: &str,
@@ -29,6 +30,7 @@ pub fn write_values<W: Sink>(
 
 /// Writes the values, each with the first line of its help after a colon, with a separator before
 /// each but the first: the reply to zsh. Fails with `Write` alone, where the sink fails.
+#[tactic(auto, using(crate::proofs::ReplyReadings::zsh_back))]
 pub fn write_zsh_items<W: Sink>(
     sink: &mut W,
     between: &str,
@@ -44,6 +46,7 @@ pub fn write_zsh_items<W: Sink>(
 
 /// Writes a line for each candidate: its value, and the first line of its help after a tab. It is
 /// the reply to fish and PowerShell. Fails with `Write` alone, where the sink fails.
+#[tactic(auto, using(crate::proofs::ReplyReadings::lines_back))]
 pub fn write_lines<W: Sink>(sink: &mut W, candidates: &[CompletionCandidate]) -> Result<(), Error>
     ensures written { Writes W.taken W.failed result sink.old sink.new
         (lines_reply candidates.now) }

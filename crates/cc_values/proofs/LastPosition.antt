@@ -8,10 +8,10 @@ use Rattle.std.specs.Str.Pattern.{LacksTextAt, RFindsText}
 use Rattle.cc_values.specs.Parts.{last_position, through}
 
 -- a text begins with another exactly where it is the other followed by a rest
-begins_so : (text sought : List ℕ) → starts_with nat_eq text sought ≡ true → (rest : List ℕ) × (text ≡ sought ++ rest)
+pub begins_so : (text sought : List ℕ) → starts_with nat_eq text sought ≡ true → (rest : List ℕ) × (text ≡ sought ++ rest)
 begins_so text sought is = (drop (length sought) text, (starts_is Decides-eqb text sought (starts_with nat_eq text sought) refl).0 is)
 
-so_begins : (text sought rest : List ℕ) → text ≡ sought ++ rest → starts_with nat_eq text sought ≡ true
+pub so_begins : (text sought rest : List ℕ) → text ≡ sought ++ rest → starts_with nat_eq text sought ≡ true
 so_begins text sought rest is = (starts_is Decides-eqb text sought (starts_with nat_eq text sought) refl).1 rest is
 
 begins_not : (text sought : List ℕ) → LacksTextAt sought text 0 → (b : Bool) → starts_with nat_eq text sought ≡ b → b ≡ false

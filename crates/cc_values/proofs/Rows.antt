@@ -1,6 +1,7 @@
 -- Worked values.
 use Rattle.std.specs.Prelude.{◌≡◌, [], ◌∷◌, true, false, Some, None, refl, codes}
 use Rattle.std.specs.Char.{encode_utf8}
+use Rattle.cc_base.specs.Bytes.{comma}
 use Rattle.cc_arg.specs.declared.parts.ArgParts.{ArgParts as Arg}
 use Rattle.cc_arg.specs.Arguments.{new_arg}
 use Rattle.cc_arg.specs.Printed.{printed, printed_after_name, printed_names, printed_values}
@@ -8,11 +9,11 @@ use Rattle.cc_candidates.specs.Candidate.{new_candidate}
 use Rattle.cc_values.specs.Parts.{front, front_length, part}
 use Rattle.cc_values.specs.Values.{gather, question, nothing, values}
 
-front_of_three : front (Some 44) (codes "a,b,c") ≡ codes "a,b,"
+front_of_three : front (Some comma) (codes "a,b,c") ≡ codes "a,b,"
 unfolding front_length encode_utf8
 front_of_three = refl
 
-part_of_three : part (Some 44) (codes "a,b,c") ≡ codes "c"
+part_of_three : part (Some comma) (codes "a,b,c") ≡ codes "c"
 unfolding front_length encode_utf8
 part_of_three = refl
 

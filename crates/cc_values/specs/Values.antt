@@ -1,5 +1,5 @@
--- The values of an argument for a word: what is asked, what may be returned, and what is made of
--- it.
+-- The values of an argument for a word: where they come from, what may be returned there, and what
+-- is made of it.
 use Rattle.std.specs.Prelude.{◌≡◌, ℕ, List, [], ◌++◌, map, filter, Bool, true, false, Option, Some, None, unwrap_or}
 use Rattle.cc_base.specs.Sorting.{in_order}
 use Rattle.cc_arg.specs.declared.parts.ArgParts.{ArgParts as Arg}
@@ -15,8 +15,8 @@ use Rattle.cc_candidates.specs.declared.numbers.ArgValueCandidates.{ArgValueCand
 use Rattle.cc_candidates.specs.declared.numbers.ArgValueCompleter.{ArgValueCompleter}
 use Rattle.cc_values.specs.Parts.{front, part}
 
--- what is asked for a list of candidates: nothing, or a lent completer of a number for the number
--- of the value and a text, a lent list of a number, or the paths of a kind for a text
+-- where a list of candidates comes from: nowhere, or from the completer of a number for the number of
+-- the value and a text, from the list of a number, or from the paths of a kind for a text
 pub data Question : Type 0 where
   nothing : Question
   completer : ℕ → ℕ → List ℕ → Question
@@ -24,28 +24,28 @@ pub data Question : Type 0 where
   paths : ValueHint → List ℕ → Question
 
 -- what each may return
-pub record Lent : Type 1 where
+pub record MayReturn : Type 1 where
   pub completes : ℕ → ℕ → List ℕ → List CompletionCandidate → Type 0
   pub lists : ℕ → List CompletionCandidate → Type 0
   pub finds : ValueHint → List ℕ → List CompletionCandidate → Type 0
 
 -- what completers and lists, and a source of paths, may return
-abbrev pub lent_by : {C : Type 0}
+abbrev pub returned_by : {C : Type 0}
     → (C → ℕ → ℕ → List ℕ → List CompletionCandidate → Type 0)
     → (C → ℕ → List CompletionCandidate → Type 0) → C
-    → (ValueHint → List ℕ → List CompletionCandidate → Type 0) → Lent
-lent_by may_complete may_list completers Finds = record {
+    → (ValueHint → List ℕ → List CompletionCandidate → Type 0) → MayReturn
+returned_by may_complete may_list completers Finds = record {
   completes = may_complete completers;
   lists = may_list completers;
   finds = Finds;
 }
 
 -- a list that may be returned for a question; for none, no candidates
-abbrev pub Allows : Lent → Question → List CompletionCandidate → Type 0
-Allows lent nothing list = list ≡ []
-Allows lent (completer which number text) list = lent.completes which number text list
-Allows lent (candidates which) list = lent.lists which list
-Allows lent (paths hint text) list = lent.finds hint text list
+abbrev pub Allows : MayReturn → Question → List CompletionCandidate → Type 0
+Allows sources nothing list = list ≡ []
+Allows sources (completer which number text) list = sources.completes which number text list
+Allows sources (candidates which) list = sources.lists which list
+Allows sources (paths hint text) list = sources.finds hint text list
 
 -- the values are paths of a kind
 abbrev pub is_path : ValueHint → Bool
@@ -55,13 +55,13 @@ is_path DirPath = true
 is_path ExecutablePath = true
 is_path _ = false
 
--- what a hint asks
+-- where the values of a hint come from
 abbrev pub question_of_hint : Bool → ValueHint → List ℕ → Question
 question_of_hint true hint text = paths hint text
 question_of_hint false hint text = nothing
 
--- what an argument asks: its completer, else its list; else nothing where it has possible values,
--- else by its hint
+-- where the values of an argument come from: its completer, else its list; nowhere else where it has
+-- possible values, else as its hint says
 abbrev pub question_by : Option ArgValueCompleter → Option ArgValueCandidates
     → Option (List PossibleValue) → ValueHint → ℕ → List ℕ → Question
 question_by (Some which) list values hint number text = completer which.number number text
@@ -85,18 +85,18 @@ sorted = in_order comes_before
 -- those stay that begin with the text, and paths are sorted as one list
 abbrev pub gathered_by : Option ArgValueCompleter → Option ArgValueCandidates
     → Option (List PossibleValue) → List ℕ → List CompletionCandidate → List CompletionCandidate
-gathered_by (Some which) list values text lent = lent
-gathered_by None (Some which) values text lent = filter (begins text) lent
-gathered_by None None (Some values) text lent = filter (begins text) (map value_candidate values)
-gathered_by None None None text lent = sorted lent
+gathered_by (Some which) list values text returned = returned
+gathered_by None (Some which) values text returned = filter (begins text) returned
+gathered_by None None (Some values) text returned = filter (begins text) (map value_candidate values)
+gathered_by None None None text returned = sorted returned
 
 unfoldable pub gather : Arg → List ℕ → List CompletionCandidate → List CompletionCandidate
-gather arg text lent = gathered_by arg.completer arg.candidates (possible_values arg) text lent
+gather arg text returned = gathered_by arg.completer arg.candidates (possible_values arg) text returned
 
 -- what an argument offers for a text that holds no delimiter
-abbrev pub Gathers : Lent → Arg → ℕ → List ℕ → List CompletionCandidate → Type 0
-Gathers lent arg number text result =
-    (returned : List CompletionCandidate) × Allows lent (question arg number text) returned
+abbrev pub Gathers : MayReturn → Arg → ℕ → List ℕ → List CompletionCandidate → Type 0
+Gathers sources arg number text result =
+    (returned : List CompletionCandidate) × Allows sources (question arg number text) returned
     × (result ≡ gather arg text returned)
 
 -- a candidate after the earlier values of its word; a missing tag is the printed form
@@ -110,12 +110,12 @@ as_value before form candidate =
 
 -- the values of an argument for a word, where this list was returned for the question
 unfoldable pub values : Arg → List ℕ → List CompletionCandidate → List CompletionCandidate
-values arg word lent = map (as_value (front arg.value_delimiter word) (printed arg))
-    (gather arg (part arg.value_delimiter word) lent)
+values arg word returned = map (as_value (front arg.value_delimiter word) (printed arg))
+    (gather arg (part arg.value_delimiter word) returned)
 
 -- the values of an argument for a word, as the value of this number
-abbrev pub ArgumentValues : Lent → Arg → List ℕ → ℕ → List CompletionCandidate → Type 0
-ArgumentValues lent arg word number result =
-    (returned : List CompletionCandidate) × Allows lent
+abbrev pub ArgumentValues : MayReturn → Arg → List ℕ → ℕ → List CompletionCandidate → Type 0
+ArgumentValues sources arg word number result =
+    (returned : List CompletionCandidate) × Allows sources
     (question arg number (part arg.value_delimiter word)) returned
     × (result ≡ values arg word returned)

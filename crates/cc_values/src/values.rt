@@ -3,7 +3,7 @@
 ghost use Rattle.std.specs.Prelude.{◌≡◌, ◌++◌, ℕ, List, map, IfOk};
 ghost use Rattle.cc_arg.specs.declared.value_hint.ValueHint.{ValueHint};
 ghost use Rattle.cc_candidates.specs.declared.candidate.CompletionCandidate.{CompletionCandidate};
-ghost use Rattle.cc_values.specs.Values.{Gathers, ArgumentValues, as_value, is_path, lent_by, sorted};
+ghost use Rattle.cc_values.specs.Values.{Gathers, ArgumentValues, as_value, is_path, returned_by, sorted};
 ghost use Rattle.cc_arg.specs.Printed.{printed};
 
 use crate::parts::split_at_delimiter;
@@ -41,7 +41,7 @@ pub fn arg_values<P: PathSource>(
     completers: &Completers,
     paths: &P,
 ) -> Result<Vec<CompletionCandidate>, AllocError>
-    ensures { IfOk result (λ found. ArgumentValues (lent_by
+    ensures { IfOk result (λ found. ArgumentValues (returned_by
         ⟦<Completers as CandidateSources>⟧.may_complete ⟦<Completers as CandidateSources>⟧.may_list
         completers.now (P.finds paths.now))
         argument.now word.now number found.items) }
@@ -60,7 +60,7 @@ fn gather<P: PathSource>(
     completers: &Completers,
     paths: &P,
 ) -> Result<Vec<CompletionCandidate>, AllocError>
-    ensures { IfOk result (λ found. Gathers (lent_by
+    ensures { IfOk result (λ found. Gathers (returned_by
         ⟦<Completers as CandidateSources>⟧.may_complete ⟦<Completers as CandidateSources>⟧.may_list
         completers.now (P.finds paths.now))
         argument.now number part.now found.items) }

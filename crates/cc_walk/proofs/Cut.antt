@@ -5,11 +5,11 @@ use Rattle.std.proofs.lemmas.Bool.{cases_Bool, ltb-true, lt-ltb}
 use Rattle.std.proofs.lemmas.List.Elements.{All-head, All-tail}
 use Rattle.cc_arg.specs.declared.parts.ArgParts.{ArgParts as Arg}
 use Rattle.cc_walk.specs.Blocks.{AreBlocks, BeginsWithNoFollower, BeginsWithNoValues, Block, Dashes, Flag, Follows, IsValueAt, Opened, Values, state_after, after_block, follows, is_value, join, position_after}
-use Rattle.cc_walk.specs.Lookup.{allows_hyphens_at, greatest, limit}
+use Rattle.cc_walk.specs.Lookup.{allows_hyphens_at, max_values, capacity_at}
 use Rattle.cc_walk.specs.Machine.{closed_step, open_step, option_state, run, step, value_state}
 use Rattle.cc_walk.specs.WordClasses.{class_of}
 use Rattle.cc_walk.specs.declared.word_class.WordClass.{WordClass}
-use Rattle.cc_walk.specs.declared.word_class.WordClass.TheVariants.{Closed, Escape, Opens, Plain, Unknown}
+use Rattle.cc_walk.specs.declared.word_class.WordClass.TheVariants.{Closed, Opens, Plain, Unknown}
 use Rattle.cc_walk.specs.declared.state.Pending.{Pending}
 use Rattle.cc_walk.specs.declared.state.Pending.TheVariants.{OptionOpen, PositionMoved, Nothing, PositionalRun}
 use Rattle.cc_walk.proofs.Opens.{Opens-takes}
@@ -28,26 +28,24 @@ value_step arguments position values true class word is e = refl
 value_step arguments position values false class word is e = by_class arguments position values class (rw is at e)
   where
     by_class : (arguments : List Arg) (position values : ℕ) (class : WordClass) → is_value (allows_hyphens_at arguments position) class ≡ true → closed_step arguments position values class ≡ value_state arguments position false values
-    by_class arguments position values Escape e = cc
     by_class arguments position values Plain e = refl
     by_class arguments position values Unknown e = rw e
-    by_class arguments position values (Opens a) e = cc
-    by_class arguments position values Closed e = cc
+    by_class arguments position values _ e = cc
 
-option_more : (arguments : List Arg) (position : ℕ) (a : Arg) (k : ℕ) (class : WordClass) → k < (greatest a) → follows a class ≡ true → step arguments position false (option_state position a k).pending class ≡ option_state position a (suc k)
-option_more arguments position a k class below e = rw (lt-ltb k (greatest a) below) (open_follows arguments position a k class e)
+option_more : (arguments : List Arg) (position : ℕ) (a : Arg) (k : ℕ) (class : WordClass) → k < max_values a → follows a class ≡ true → step arguments position false (option_state position a k).pending class ≡ option_state position a (suc k)
+option_more arguments position a k class below e = rw (lt-ltb k (max_values a) below) (open_follows arguments position a k class e)
 
-run_followers : (arguments : List Arg) (position : ℕ) (a : Arg) (words rest : List (List ℕ)) (k : ℕ) → All (Follows arguments a) words → k + length words ≤ (greatest a) → run arguments (option_state position a k) (words ++ rest) ≡ run arguments (option_state position a (k + length words)) rest
+run_followers : (arguments : List Arg) (position : ℕ) (a : Arg) (words rest : List (List ℕ)) (k : ℕ) → All (Follows arguments a) words → k + length words ≤ max_values a → run arguments (option_state position a k) (words ++ rest) ≡ run arguments (option_state position a (k + length words)) rest
 run_followers arguments position a [] rest k all fits = rw add-zero
 run_followers arguments position a (word ∷ words) rest k all fits =
     ap (λ s. run arguments s (words ++ rest)) (option_more arguments position a k (class_of arguments word) (omega arith) (All-head (Follows arguments a) word words all))
     ∙ (let same : suc k + length words ≡ k + suc (length words) = omega arith in
     rw same at (run_followers arguments position a words rest (suc k) (All-tail (Follows arguments a) word words all) (omega arith)))
 
-value_more : (arguments : List Arg) (position : ℕ) (escaped : Bool) (k : ℕ) (word : List ℕ) → suc k < limit arguments position → IsValueAt arguments position escaped word → (let state = value_state arguments position escaped k in step arguments state.position state.escaped state.pending (class_of arguments word)) ≡ value_state arguments position escaped (suc k)
-value_more arguments position escaped k word below e = rw (lt-ltb (suc k) (limit arguments position) below) (value_step arguments position (suc k) escaped (class_of arguments word) word refl e)
+value_more : (arguments : List Arg) (position : ℕ) (escaped : Bool) (k : ℕ) (word : List ℕ) → suc k < capacity_at arguments position → IsValueAt arguments position escaped word → (let state = value_state arguments position escaped k in step arguments state.position state.escaped state.pending (class_of arguments word)) ≡ value_state arguments position escaped (suc k)
+value_more arguments position escaped k word below e = rw (lt-ltb (suc k) (capacity_at arguments position) below) (value_step arguments position (suc k) escaped (class_of arguments word) word refl e)
 
-run_values : (arguments : List Arg) (position : ℕ) (escaped : Bool) (words rest : List (List ℕ)) (k : ℕ) → All (IsValueAt arguments position escaped) words → suc k + length words ≤ limit arguments position → run arguments (value_state arguments position escaped k) (words ++ rest) ≡ run arguments (value_state arguments position escaped (k + length words)) rest
+run_values : (arguments : List Arg) (position : ℕ) (escaped : Bool) (words rest : List (List ℕ)) (k : ℕ) → All (IsValueAt arguments position escaped) words → suc k + length words ≤ capacity_at arguments position → run arguments (value_state arguments position escaped k) (words ++ rest) ≡ run arguments (value_state arguments position escaped (k + length words)) rest
 run_values arguments position escaped [] rest k all fits = rw add-zero
 run_values arguments position escaped (word ∷ words) rest k all fits =
     ap (λ s. run arguments s (words ++ rest)) (value_more arguments position escaped k word (omega arith) (All-head (IsValueAt arguments position escaped) word words all))
@@ -84,24 +82,24 @@ fresh_run arguments position escaped values (Flag word ∷ bs) none (unescaped, 
 ]
 
 opened_state : (arguments : List Arg) (position : ℕ) (word : List ℕ) (a : Arg) → class_of arguments word ≡ Opens a → step arguments position false Nothing (class_of arguments word) ≡ option_state position a 0
-opened_state arguments position word a class = rw (class, lt-ltb 0 (greatest a) (Opens-takes arguments word a class)) refl
+opened_state arguments position word a class = rw (class, lt-ltb 0 (max_values a) (Opens-takes arguments word a class)) refl
 
 first_value : (arguments : List Arg) (position : ℕ) (escaped : Bool) (class : WordClass) (word : List ℕ) → class_of arguments word ≡ class → IsValueAt arguments position escaped word → step arguments position escaped Nothing class ≡ value_state arguments position escaped 0
 first_value arguments position true class word is e = refl
 first_value arguments position false class word is e = value_step arguments position 0 false class word is e
 
 values_state : (arguments : List Arg) (position : ℕ) (escaped : Bool) (first : List ℕ) (more : List (List ℕ)) → value_state arguments position escaped (length more) ≡ after_block arguments position escaped (Values first more)
-values_state arguments position escaped first more = elim (cases_Bool (ltb (suc (length more)) (limit arguments position))) [ inl t ↦ rw t refl | inr f ↦ rw f refl ]
+values_state arguments position escaped first more = elim (cases_Bool (ltb (suc (length more)) (capacity_at arguments position))) [ inl t ↦ rw t refl | inr f ↦ rw f refl ]
 
-fresh_options : (arguments : List Arg) (position : ℕ) (a : Arg) (k : ℕ) (words : List (List ℕ)) → (k < (greatest a) → BeginsWithNoFollower arguments a words) → Fresh arguments position false (option_state position a k).pending words
-fresh_options arguments position a k words next = elim (cases_Bool (ltb k (greatest a))) [
-  | inl t ↦ rw t (fresh_option arguments position a k words (next (ltb-true k (greatest a) t)))
+fresh_options : (arguments : List Arg) (position : ℕ) (a : Arg) (k : ℕ) (words : List (List ℕ)) → (k < max_values a → BeginsWithNoFollower arguments a words) → Fresh arguments position false (option_state position a k).pending words
+fresh_options arguments position a k words next = elim (cases_Bool (ltb k (max_values a))) [
+  | inl t ↦ rw t (fresh_option arguments position a k words (next (ltb-true k (max_values a) t)))
   | inr f ↦ rw f (fresh_nothing arguments position false words)
 ]
 
-fresh_values : (arguments : List Arg) (position : ℕ) (escaped : Bool) (first : List ℕ) (more : List (List ℕ)) (bs : List Block) → (suc (length more) < limit arguments position → BeginsWithNoValues arguments bs) → AreBlocks arguments (position_after arguments position (suc (length more))) escaped bs → (let state = after_block arguments position escaped (Values first more) in Fresh arguments state.position state.escaped state.pending (join bs))
-fresh_values arguments position escaped first more bs next are = elim (cases_Bool (ltb (suc (length more)) (limit arguments position))) [
-  | inl t ↦ rw t (fresh_run arguments position escaped (suc (length more)) bs (next (ltb-true (suc (length more)) (limit arguments position) t)) (rw t at are))
+fresh_values : (arguments : List Arg) (position : ℕ) (escaped : Bool) (first : List ℕ) (more : List (List ℕ)) (bs : List Block) → (suc (length more) < capacity_at arguments position → BeginsWithNoValues arguments bs) → AreBlocks arguments (position_after arguments position (suc (length more))) escaped bs → (let state = after_block arguments position escaped (Values first more) in Fresh arguments state.position state.escaped state.pending (join bs))
+fresh_values arguments position escaped first more bs next are = elim (cases_Bool (ltb (suc (length more)) (capacity_at arguments position))) [
+  | inl t ↦ rw t (fresh_run arguments position escaped (suc (length more)) bs (next (ltb-true (suc (length more)) (capacity_at arguments position) t)) (rw t at are))
   | inr f ↦ rw f (fresh_full arguments position escaped (join bs))
 ]
   where

@@ -2,21 +2,19 @@
 use Rattle.std.proofs.Common.{◌≡◌, ◌&&◌, ℕ, List, [], ◌∷◌, Bool, true, false, eqb, Option, Some, None, refl, inl, inr, not, codes}
 use Rattle.std.specs.Prelude.{bytes_eq, find, chars}
 use Rattle.std.proofs.lemmas.Bool.{cases_Bool}
+use Rattle.cc_base.specs.Bytes.{dash}
 use Rattle.cc_arg.specs.declared.parts.ArgParts.{ArgParts as Arg}
 use Rattle.cc_walk.specs.declared.word_class.ValueCharacter.{ValueCharacter}
 use Rattle.cc_arg.specs.Arguments.{takes_values}
 use Rattle.cc_walk.specs.declared.word_class.WordClass.{WordClass}
-use Rattle.cc_walk.specs.declared.word_class.WordClass.TheVariants.{Escape, Opens, Unknown, Closed, Plain}
+use Rattle.cc_walk.specs.declared.word_class.WordClass.TheVariants.{Escape}
 use Rattle.cc_walk.specs.Lookup.{has_long}
 use Rattle.cc_walk.specs.Words.{form_of, hyphen_form, long_form, before_equals, has_equals}
 use Rattle.cc_walk.specs.WordClasses.{cluster_class, flag_class, last_class, class_of, class_of_form, value_character}
 
 abbrev pub is_escape_class : WordClass → Bool
 is_escape_class Escape = true
-is_escape_class (Opens argument) = false
-is_escape_class Unknown = false
-is_escape_class Closed = false
-is_escape_class Plain = false
+is_escape_class _ = false
 
 last_escapes : (a : Arg) (s : List ℕ) → is_escape_class (last_class a s) ≡ false
 last_escapes a [] = refl
@@ -34,16 +32,16 @@ long_escapes : (arguments : List Arg) (s : List ℕ) → is_escape_class (class_
 long_escapes arguments [] = refl
 long_escapes arguments (c ∷ s) = flag_escapes (find (has_long (before_equals (c ∷ s))) arguments) (has_equals (c ∷ s))
 
-hyphen_escapes : (arguments : List Arg) (s : List ℕ) → is_escape_class (class_of_form arguments (hyphen_form s)) ≡ bytes_eq s (45 ∷ [])
+hyphen_escapes : (arguments : List Arg) (s : List ℕ) → is_escape_class (class_of_form arguments (hyphen_form s)) ≡ bytes_eq s (dash ∷ [])
 hyphen_escapes arguments [] = refl
-hyphen_escapes arguments (c ∷ s) = elim (cases_Bool (eqb c 45)) [
+hyphen_escapes arguments (c ∷ s) = elim (cases_Bool (eqb c dash)) [
   | inl t ↦ rw t (long_escapes arguments s)
   | inr f ↦ rw f (cluster_escapes (value_character arguments (chars (c ∷ s))))
 ]
 
-word_escapes : (arguments : List Arg) (word : List ℕ) → is_escape_class (class_of_form arguments (form_of word)) ≡ bytes_eq word (45 ∷ 45 ∷ [])
+word_escapes : (arguments : List Arg) (word : List ℕ) → is_escape_class (class_of_form arguments (form_of word)) ≡ bytes_eq word (dash ∷ dash ∷ [])
 word_escapes arguments [] = refl
-word_escapes arguments (c ∷ s) = elim (cases_Bool (eqb c 45)) [
+word_escapes arguments (c ∷ s) = elim (cases_Bool (eqb c dash)) [
   | inl t ↦ rw t (hyphen_escapes arguments s)
   | inr f ↦ rw f refl
 ]

@@ -5,14 +5,14 @@ use Rattle.std.proofs.lemmas.Bool.{cases_Bool, cases_lt, lt-ltb}
 use Rattle.std.proofs.lemmas.List.Elements.{All-nil, All-cons}
 use Rattle.cc_arg.specs.declared.parts.ArgParts.{ArgParts as Arg}
 use Rattle.cc_walk.specs.Blocks.{AreBlocks, BeginsWithNoFollower, BeginsWithNoValues, Block, Dashes, Flag, Follows, IsValueAt, Opened, Values, follows, is_value, is_value_at, join, position_after}
-use Rattle.cc_walk.specs.Lookup.{allows_hyphens_at, greatest, limit, positional_at}
+use Rattle.cc_walk.specs.Lookup.{allows_hyphens_at, max_values, capacity_at, positional_at}
 use Rattle.cc_walk.specs.WordClasses.{class_of}
 use Rattle.cc_walk.specs.declared.word_class.WordClass.{WordClass}
 use Rattle.cc_walk.specs.declared.word_class.WordClass.TheVariants.{Closed, Escape, Opens, Plain, Unknown}
 
-limit_some : (arguments : List Arg) (position : ℕ) → 1 ≤ limit arguments position
-unfolding limit
-limit_some arguments position = elim (positional_at arguments position) as (λ o. 1 ≤ elim o [ None ↦ 1 | Some a ↦ max 1 (greatest a) ]) [ None ↦ omega arith | Some a ↦ omega arith ]
+capacity_some : (arguments : List Arg) (position : ℕ) → 1 ≤ capacity_at arguments position
+unfolding capacity_at
+capacity_some arguments position = elim (positional_at arguments position) as (λ o. 1 ≤ elim o [ None ↦ 1 | Some a ↦ max 1 (max_values a) ]) [ None ↦ omega arith | Some a ↦ omega arith ]
 
 -- blocks that spell these words
 record Cut (arguments : List Arg) (position : ℕ) (escaped : Bool) (words : List (List ℕ)) : Type 0 where
@@ -31,8 +31,8 @@ record OptionCut (arguments : List Arg) (position : ℕ) (a : Arg) (k : ℕ) (wo
   values : List (List ℕ)
   blocks : List Block
   all : All (Follows arguments a) values
-  fits : k + length values ≤ (greatest a)
-  next : k + length values < (greatest a) → BeginsWithNoFollower arguments a (join blocks)
+  fits : k + length values ≤ max_values a
+  next : k + length values < max_values a → BeginsWithNoFollower arguments a (join blocks)
   are : AreBlocks arguments position false blocks
   spell : values ++ join blocks ≡ words
 
@@ -41,15 +41,15 @@ record RunCut (arguments : List Arg) (position : ℕ) (escaped : Bool) (k : ℕ)
   more : List (List ℕ)
   blocks : List Block
   all : All (IsValueAt arguments position escaped) more
-  fits : k + length more ≤ limit arguments position
-  next : k + length more < limit arguments position → BeginsWithNoValues arguments blocks
+  fits : k + length more ≤ capacity_at arguments position
+  next : k + length more < capacity_at arguments position → BeginsWithNoValues arguments blocks
   are : AreBlocks arguments (position_after arguments position (k + length more)) escaped blocks
   spell : more ++ join blocks ≡ words
 
 record Cuts (arguments : List Arg) (words : List (List ℕ)) : Type 0 where
   plain : (position : ℕ) (escaped : Bool) → Cut arguments position escaped words
-  option : (position : ℕ) (a : Arg) (k : ℕ) → k ≤ (greatest a) → OptionCut arguments position a k words
-  run : (position : ℕ) (escaped : Bool) (k : ℕ) → k ≤ limit arguments position → RunCut arguments position escaped k words
+  option : (position : ℕ) (a : Arg) (k : ℕ) → k ≤ max_values a → OptionCut arguments position a k words
+  run : (position : ℕ) (escaped : Bool) (k : ℕ) → k ≤ capacity_at arguments position → RunCut arguments position escaped k words
 
 cuts_none : (arguments : List Arg) → Cuts arguments []
 cuts_none arguments = record {
@@ -76,7 +76,7 @@ module _ (arguments : List Arg) (word : List ℕ) (words : List (List ℕ)) (res
   other position false e = other_class position (class_of arguments word) refl e
 
   values : (position : ℕ) (escaped : Bool) → IsValueAt arguments position escaped word → Cut arguments position escaped (word ∷ words)
-  values position escaped e = let c = rest.run position escaped 1 (limit_some arguments position) in record {
+  values position escaped e = let c = rest.run position escaped 1 (capacity_some arguments position) in record {
     blocks = Values word c.more ∷ c.blocks;
     are = (e, c.all, rw one-add at c.fits, rw one-add at c.next, rw one-add at c.are);
     spell = ap (λ s. word ∷ s) c.spell;
@@ -88,8 +88,8 @@ module _ (arguments : List Arg) (word : List ℕ) (words : List (List ℕ)) (res
     | inr f ↦ let c = other position escaped f in record { blocks = c.blocks; are = c.are; spell = c.spell }
   ]
 
-  option : (position : ℕ) (a : Arg) (k : ℕ) → k ≤ (greatest a) → OptionCut arguments position a k (word ∷ words)
-  option position a k fits = elim (cases_lt k (greatest a)) [
+  option : (position : ℕ) (a : Arg) (k : ℕ) → k ≤ max_values a → OptionCut arguments position a k (word ∷ words)
+  option position a k fits = elim (cases_lt k (max_values a)) [
     | inl below ↦ elim (cases_Bool (follows a (class_of arguments word))) [
       | inl t ↦ let c = rest.option position a (suc k) (omega arith) in let same : suc k + length c.values ≡ k + suc (length c.values) = omega arith in record {
         values = word ∷ c.values;
@@ -121,8 +121,8 @@ module _ (arguments : List Arg) (word : List ℕ) (words : List (List ℕ)) (res
     }
   ]
 
-  more : (position : ℕ) (escaped : Bool) (k : ℕ) → k ≤ limit arguments position → RunCut arguments position escaped k (word ∷ words)
-  more position escaped k fits = elim (cases_lt k (limit arguments position)) [
+  more : (position : ℕ) (escaped : Bool) (k : ℕ) → k ≤ capacity_at arguments position → RunCut arguments position escaped k (word ∷ words)
+  more position escaped k fits = elim (cases_lt k (capacity_at arguments position)) [
     | inl below ↦ elim (cases_Bool (is_value_at arguments position escaped word)) [
       | inl t ↦ let c = rest.run position escaped (suc k) (omega arith) in let same : suc k + length c.more ≡ k + suc (length c.more) = omega arith in record {
         more = word ∷ c.more;
@@ -139,7 +139,7 @@ module _ (arguments : List Arg) (word : List ℕ) (words : List (List ℕ)) (res
         all = All-nil (IsValueAt arguments position escaped);
         fits = omega arith;
         next = λ h. c.none;
-        are = rw (add-zero, lt-ltb k (limit arguments position) below) c.are;
+        are = rw (add-zero, lt-ltb k (capacity_at arguments position) below) c.are;
         spell = c.spell;
       }
     ]

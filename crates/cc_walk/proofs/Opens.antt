@@ -6,25 +6,25 @@ use Rattle.cc_arg.specs.Arguments.{takes_values}
 use Rattle.cc_arg.specs.declared.parts.ArgParts.{ArgParts as Arg}
 use Rattle.cc_walk.specs.declared.word_class.ValueCharacter.{ValueCharacter}
 use Rattle.std.specs.Prelude.{encode_utf8_all}
-use Rattle.cc_walk.specs.Lookup.{greatest, has_long, has_short}
+use Rattle.cc_walk.specs.Lookup.{max_values, has_long, has_short}
 use Rattle.cc_walk.specs.WordClasses.{character_value, cluster_class, last_class, value_character, flag_class, if_taking, class_of, class_of_form, value_argument}
 use Rattle.cc_walk.specs.Words.{Form, Long, Other, Short, TwoHyphens, form_of}
 use Rattle.cc_walk.specs.declared.word_class.WordClass.TheVariants.{Closed, Opens}
 
 abbrev TakesValues : Arg → Type 0
-TakesValues a = 0 < (greatest a)
+TakesValues a = 0 < max_values a
 
 flag_takes : (o : Option Arg) (has_equals : Bool) (a : Arg) → flag_class o has_equals ≡ Opens a → TakesValues a
 flag_takes None has_equals a e = cc
 flag_takes (Some b) has_equals a e = elim (cases_Bool (takes_values b && not has_equals)) [
-  | inl t ↦ let same : Opens b ≡ Opens a = sym (rw t refl) ∙ e in let is : b ≡ a = cc in rw is at (ltb-true 0 (greatest b) (and_parts (takes_values b) (not has_equals) t).0)
+  | inl t ↦ let same : Opens b ≡ Opens a = sym (rw t refl) ∙ e in let is : b ≡ a = cc in rw is at (ltb-true 0 (max_values b) (and_parts (takes_values b) (not has_equals) t).0)
   | inr f ↦ let apart : Closed ≡ Opens a = sym (rw f refl) ∙ e in cc
 ]
 
 taking_takes : (o : Option Arg) (a : Arg) → if_taking o ≡ Some a → TakesValues a
 taking_takes None a e = cc
 taking_takes (Some b) a e = elim (cases_Bool (takes_values b)) [
-  | inl t ↦ let same : Some b ≡ Some a = sym (rw t refl) ∙ e in let is : b ≡ a = cc in rw is at (ltb-true 0 (greatest b) t)
+  | inl t ↦ let same : Some b ≡ Some a = sym (rw t refl) ∙ e in let is : b ≡ a = cc in rw is at (ltb-true 0 (max_values b) t)
   | inr f ↦ let apart : None ≡ Some a = sym (rw f refl) ∙ e in cc
 ]
 
@@ -50,6 +50,6 @@ form_takes arguments (Long flag has_equals) a e = flag_takes (find (has_long fla
 form_takes arguments (Short characters) a e = cluster_takes (value_character arguments characters) a (value_takes arguments characters) e
 form_takes arguments Other a e = cc
 
-pub Opens-takes : (arguments : List Arg) (word : List ℕ) (a : Arg) → class_of arguments word ≡ Opens a → 0 < (greatest a)
+pub Opens-takes : (arguments : List Arg) (word : List ℕ) (a : Arg) → class_of arguments word ≡ Opens a → 0 < max_values a
 unfolding class_of
 Opens-takes arguments word a e = form_takes arguments (form_of word) a e

@@ -7,7 +7,7 @@ use Rattle.cc_command.specs.Tree.{Tree}
 use Rattle.cc_command.specs.Made.{new_tree, with_argument, with_child}
 use Rattle.cc_walk.specs.declared.state.Pending.{Pending}
 use Rattle.cc_walk.specs.declared.state.Pending.TheVariants.{OptionOpen, PositionMoved, Nothing, PositionalRun}
-use Rattle.cc_walk.specs.Lookup.{allows_hyphens_at, limit, positional_at}
+use Rattle.cc_walk.specs.Lookup.{allows_hyphens_at, capacity_at, positional_at}
 use Rattle.cc_walk.specs.Machine.{NodeState}
 use Rattle.cc_walk.specs.WordClasses.{class_of}
 use Rattle.cc_walk.proofs.Whole.{walked}
@@ -29,7 +29,7 @@ escaped_node_state tree position pending = record { tree = tree; state = record 
 
 -- `test`, with a visible and a hidden alias
 abbrev test : Tree
-test = let given = new_tree (codes "test") in record given { node = record given.node { visible_aliases = codes "t" ∷ []; aliases = codes "tst" ∷ []; display_order = Some 0 } }
+test = let child = new_tree (codes "test") in record child { node = record child.node { visible_aliases = codes "t" ∷ []; aliases = codes "tst" ∷ []; display_order = Some 0 } }
 
 abbrev app : Tree
 app = with_child (new_tree (codes "app")) test
@@ -65,7 +65,7 @@ unfolding class_of
 opened = refl
 
 left_by_hyphen : walked hyphens (codes "--opt" ∷ codes "-z" ∷ []) ≡ node_state hyphens 2 Nothing
-unfolding class_of chars limit allows_hyphens_at positional_at
+unfolding class_of chars capacity_at allows_hyphens_at positional_at
 left_by_hyphen = refl
 
 hyphen_is_value : walked hyphens (codes "--opt" ∷ codes "-" ∷ []) ≡ node_state hyphens 1 Nothing
@@ -73,7 +73,7 @@ unfolding class_of
 hyphen_is_value = refl
 
 unknown_long_is_value : walked hyphens (codes "--other" ∷ []) ≡ node_state hyphens 2 Nothing
-unfolding class_of limit allows_hyphens_at positional_at
+unfolding class_of capacity_at allows_hyphens_at positional_at
 unknown_long_is_value = refl
 
 -- `-c`, `--color` with one value, and `-v`, `--verbose` (visible alias `loud`, hidden alias `noisy`) without
@@ -116,23 +116,23 @@ abbrev two : Tree
 two = with (with (new_tree (codes "app")) (record (positional 1) { num_args = Some (exactly 2) })) (record (positional 2) { num_args = Some (exactly 0) })
 
 in_a_run : walked two (codes "a" ∷ []) ≡ node_state two 1 (PositionalRun 1)
-unfolding class_of limit positional_at
+unfolding class_of capacity_at positional_at
 in_a_run = refl
 
 run_ends : walked two (codes "a" ∷ codes "b" ∷ []) ≡ node_state two 2 Nothing
-unfolding class_of limit positional_at
+unfolding class_of capacity_at positional_at
 run_ends = refl
 
 run_is_left : walked two (codes "a" ∷ codes "--" ∷ []) ≡ escaped_node_state two 1 Nothing
-unfolding class_of limit positional_at
+unfolding class_of capacity_at positional_at
 run_is_left = refl
 
 moved : walked two (codes "--" ∷ codes "a" ∷ codes "b" ∷ []) ≡ escaped_node_state two 2 PositionMoved
-unfolding class_of limit positional_at
+unfolding class_of capacity_at positional_at
 moved = refl
 
 position_without_values : walked two (codes "a" ∷ codes "b" ∷ codes "c" ∷ []) ≡ node_state two 3 Nothing
-unfolding class_of limit positional_at
+unfolding class_of capacity_at positional_at
 position_without_values = refl
 
 -- an option that takes words with hyphens leaves `--` alone

@@ -9,7 +9,7 @@ use Rattle.cc_arg.specs.declared.parts.ArgParts.{ArgParts as Arg}
 use Rattle.cc_command.specs.Names.{find_child}
 use Rattle.cc_command.specs.Tree.{Tree}
 use Rattle.cc_walk.specs.Blocks.{follows, AreBlocks, Block, state_after, join, start}
-use Rattle.cc_walk.specs.Lookup.{allows_hyphens_at, limit}
+use Rattle.cc_walk.specs.Lookup.{allows_hyphens_at, capacity_at}
 use Rattle.cc_walk.specs.Machine.{closed_step, entered, open_step, run, run_length, node_state_step, step, value_state, walk}
 use Rattle.cc_walk.specs.Reach.{Descend, NamesNoChild, Reach, Stay}
 use Rattle.cc_walk.proofs.Dashes.{is_escape_class, class_escapes}
@@ -17,28 +17,23 @@ use Rattle.cc_command.specs.Names.{contains_name}
 use Rattle.std.specs.Prelude.{bytes_eq, codes}
 use Rattle.cc_walk.specs.WordClasses.{class_of}
 use Rattle.cc_walk.specs.declared.word_class.WordClass.{WordClass}
-use Rattle.cc_walk.specs.declared.word_class.WordClass.TheVariants.{Closed, Escape, Opens, Plain, Unknown}
+use Rattle.cc_walk.specs.declared.word_class.WordClass.TheVariants.{Escape, Plain, Unknown}
 use Rattle.cc_walk.specs.declared.state.Pending.{Pending}
-use Rattle.cc_walk.specs.declared.state.Pending.TheVariants.{OptionOpen, PositionMoved, Nothing, PositionalRun}
+use Rattle.cc_walk.specs.declared.state.Pending.TheVariants.{OptionOpen, Nothing}
 use Rattle.cc_walk.specs.declared.state.State.{State}
 use Rattle.cc_walk.proofs.Cut.{run_blocks, fresh_nothing}
 
 value_escaped : (arguments : List Arg) (position : ℕ) (escaped : Bool) (k : ℕ) → (value_state arguments position escaped k).escaped ≡ escaped
-value_escaped arguments position escaped k = elim (cases_Bool (ltb (suc k) (limit arguments position))) [ inl t ↦ rw t refl | inr f ↦ rw f refl ]
+value_escaped arguments position escaped k = elim (cases_Bool (ltb (suc k) (capacity_at arguments position))) [ inl t ↦ rw t refl | inr f ↦ rw f refl ]
 
 closed_escaped : (arguments : List Arg) (position values : ℕ) (class : WordClass) → (closed_step arguments position values class).escaped ≡ is_escape_class class
-closed_escaped arguments position values Escape = refl
-closed_escaped arguments position values (Opens a) = refl
-closed_escaped arguments position values Closed = refl
 closed_escaped arguments position values Plain = value_escaped arguments position false values
 closed_escaped arguments position values Unknown = elim (cases_Bool (allows_hyphens_at arguments position)) [ inl t ↦ rw t (value_escaped arguments position false values) | inr f ↦ rw f refl ]
+closed_escaped arguments position values _ = refl
 
 follows_escaped : (a : Arg) (class : WordClass) → follows a class ≡ true → false ≡ is_escape_class class
 follows_escaped a Escape e = cc
-follows_escaped a Plain e = refl
-follows_escaped a (Opens b) e = refl
-follows_escaped a Closed e = refl
-follows_escaped a Unknown e = refl
+follows_escaped a _ e = refl
 
 open_escaped : (arguments : List Arg) (position : ℕ) (a : Arg) (value : ℕ) (class : WordClass) → (open_step arguments position a value class).escaped ≡ is_escape_class class
 open_escaped arguments position a value class = elim (cases_Bool (follows a class)) [ inl t ↦ rw t (follows_escaped a class t) | inr f ↦ rw f (closed_escaped arguments position 0 class) ]
@@ -46,9 +41,7 @@ open_escaped arguments position a value class = elim (cases_Bool (follows a clas
 step_escaped : (arguments : List Arg) (position : ℕ) (escaped : Bool) (pending : Pending) (class : WordClass) → (step arguments position escaped pending class).escaped ≡ (escaped || is_escape_class class)
 step_escaped arguments position true pending class = value_escaped arguments position true (run_length pending)
 step_escaped arguments position false (OptionOpen a value) class = open_escaped arguments position a value class
-step_escaped arguments position false Nothing class = closed_escaped arguments position 0 class
-step_escaped arguments position false (PositionalRun values) class = closed_escaped arguments position values class
-step_escaped arguments position false PositionMoved class = closed_escaped arguments position 0 class
+step_escaped arguments position false pending class = closed_escaped arguments position (run_length pending) class
 
 escaped_more : (arguments : List Arg) (state : State) (word : List ℕ) → (step arguments state.position state.escaped state.pending (class_of arguments word)).escaped ≡ (state.escaped || bytes_eq word (codes "--"))
 escaped_more arguments state word =
@@ -88,7 +81,7 @@ walk_reach {tree} {last} {words} {tail} (Descend {child = child} {before = befor
     ∙ walk_reach way (escaped || contains_name skipped (codes "--"))
     ∙ ap (λ e. record { tree = last; state = run last.node.arguments (start e) tail }) (or_assoc escaped (contains_name skipped (codes "--")) before)
 
--- the theorem: the cut of the whole list tells the walk's state
+-- the theorem: the cut of the whole list has the walk's state
 pub walk_is : (root tree : Tree) (words tail : List (List ℕ)) (before : Bool) (bs : List Block)
     → Reach root words tree tail before
     → AreBlocks tree.node.arguments 1 before bs

@@ -6,7 +6,7 @@ use Rattle.cc_walk.specs.declared.word_class.WordClass.{WordClass}
 use Rattle.cc_walk.specs.declared.word_class.WordClass.TheVariants.{Escape, Opens, Unknown, Closed, Plain}
 use Rattle.cc_walk.specs.declared.state.Pending.TheVariants.{Nothing, OptionOpen, PositionalRun, PositionMoved}
 use Rattle.cc_walk.specs.declared.state.State.{State}
-use Rattle.cc_walk.specs.Lookup.{greatest, limit, allows_hyphens_at}
+use Rattle.cc_walk.specs.Lookup.{max_values, capacity_at, allows_hyphens_at}
 use Rattle.cc_walk.specs.WordClasses.{class_of}
 
 -- a word that an open option takes
@@ -19,11 +19,9 @@ follows option Closed = option.allow_hyphen_values
 
 -- an unescaped word that is a positional value, by whether the position allows hyphens
 abbrev pub is_value : Bool → WordClass → Bool
-is_value hyphens Escape = false
 is_value hyphens Plain = true
 is_value hyphens Unknown = hyphens
-is_value hyphens (Opens option) = false
-is_value hyphens Closed = false
+is_value hyphens _ = false
 
 pub data Block : Type 0 where
   -- E: an unescaped `--`
@@ -62,15 +60,12 @@ module _ (arguments : List Arg) where
   BeginsWithNoFollower option (word ∷ words) = follows option (class_of arguments word) ≡ false
 
   abbrev pub BeginsWithNoValues : List Block → Type 0
-  BeginsWithNoValues [] = Unit {0}
   BeginsWithNoValues (Values first more ∷ bs) = ⊥
-  BeginsWithNoValues (Dashes word ∷ bs) = Unit {0}
-  BeginsWithNoValues (Opened opener option values ∷ bs) = Unit {0}
-  BeginsWithNoValues (Flag word ∷ bs) = Unit {0}
+  BeginsWithNoValues _ = Unit {0}
 
   -- the position after k values of a position
   abbrev pub position_after : ℕ → ℕ → ℕ
-  position_after position k = if nat_lt k (limit arguments position) then position else position + 1
+  position_after position k = if nat_lt k (capacity_at arguments position) then position else position + 1
 
   -- the blocks are side by side, from this position on
   abbrev pub AreBlocks : ℕ → Bool → List Block → Type 0
@@ -83,14 +78,14 @@ module _ (arguments : List Arg) where
       (escaped ≡ false)
       × (class_of arguments opener ≡ Opens option)
       × All (Follows option) values
-      × (length values ≤ greatest option)
-      × (length values < greatest option → BeginsWithNoFollower option (join bs))
+      × (length values ≤ max_values option)
+      × (length values < max_values option → BeginsWithNoFollower option (join bs))
       × AreBlocks position false bs
   AreBlocks position escaped (Values first more ∷ bs) =
       IsValueAt position escaped first
       × All (IsValueAt position escaped) more
-      × (suc (length more) ≤ limit arguments position)
-      × (suc (length more) < limit arguments position → BeginsWithNoValues bs)
+      × (suc (length more) ≤ capacity_at arguments position)
+      × (suc (length more) < capacity_at arguments position → BeginsWithNoValues bs)
       × AreBlocks (position_after position (suc (length more))) escaped bs
   AreBlocks position escaped (Flag word ∷ bs) =
       (escaped ≡ false)
@@ -109,19 +104,19 @@ after_block arguments position escaped (Dashes word) =
 after_block arguments position escaped (Opened opener option values) = record {
   position = position;
   escaped = escaped;
-  pending = if nat_lt (length values) (greatest option) then OptionOpen option (length values)
+  pending = if nat_lt (length values) (max_values option) then OptionOpen option (length values)
       else Nothing;
 }
 after_block arguments position escaped (Values first more) = record {
   position = position_after arguments position (suc (length more));
   escaped = escaped;
-  pending = if nat_lt (suc (length more)) (limit arguments position)
+  pending = if nat_lt (suc (length more)) (capacity_at arguments position)
       then PositionalRun (suc (length more)) else if escaped then PositionMoved else Nothing;
 }
 after_block arguments position escaped (Flag word) =
     record { position = position; escaped = escaped; pending = Nothing }
 
--- the last block tells what is pending
+-- the last block says what is pending
 abbrev pub state_after : List Arg → State → List Block → State
 state_after arguments state [] = state
 state_after arguments state (b ∷ bs) =

@@ -6,7 +6,7 @@ use Rattle.cc_walk.specs.Reach.{Reach}
 use Rattle.cc_walk.specs.Blocks.{Block, AreBlocks, join, start, state_after}
 
 -- the words lead from the root to this tree, and what is after the last descent is the join of
--- blocks that tell the state there
+-- blocks that lead to the state there
 pub record IsLine (root : Tree) (words : List (List ℕ)) (tree : Tree) (state : State) : Type 0 where
   pub tail : List (List ℕ)
   pub before : Bool

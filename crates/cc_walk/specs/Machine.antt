@@ -8,20 +8,18 @@ use Rattle.cc_walk.specs.declared.word_class.WordClass.TheVariants.{Escape, Open
 use Rattle.cc_walk.specs.declared.state.Pending.{Pending}
 use Rattle.cc_walk.specs.declared.state.Pending.TheVariants.{Nothing, OptionOpen, PositionalRun, PositionMoved}
 use Rattle.cc_walk.specs.declared.state.State.{State}
-use Rattle.cc_walk.specs.Lookup.{greatest, limit, allows_hyphens_at}
+use Rattle.cc_walk.specs.Lookup.{max_values, capacity_at, allows_hyphens_at}
 use Rattle.cc_walk.specs.WordClasses.{class_of}
 use Rattle.cc_walk.specs.Blocks.{follows, start}
 
 -- how many values the run has
 abbrev pub run_length : Pending → ℕ
-run_length Nothing = 0
-run_length (OptionOpen option values) = 0
 run_length (PositionalRun values) = values
-run_length PositionMoved = 0
+run_length _ = 0
 
 -- one more value at the position, after a run of so many
 abbrev pub value_state : List Arg → ℕ → Bool → ℕ → State
-value_state arguments position escaped values = if nat_lt (suc values) (limit arguments position)
+value_state arguments position escaped values = if nat_lt (suc values) (capacity_at arguments position)
     then record { position = position; escaped = escaped; pending = PositionalRun (suc values) }
     else record {
       position = position + 1;
@@ -36,7 +34,7 @@ option_state position option values =
     record {
       position = position;
       escaped = false;
-      pending = if nat_lt values (greatest option)
+      pending = if nat_lt values (max_values option)
           then OptionOpen option values else Nothing;
     }
 
@@ -65,10 +63,8 @@ step arguments position true pending class =
     value_state arguments position true (run_length pending)
 step arguments position false (OptionOpen option values) class =
     open_step arguments position option values class
-step arguments position false Nothing class = closed_step arguments position 0 class
-step arguments position false (PositionalRun values) class =
-    closed_step arguments position values class
-step arguments position false PositionMoved class = closed_step arguments position 0 class
+step arguments position false pending class =
+    closed_step arguments position (run_length pending) class
 
 abbrev pub run : List Arg → State → List (List ℕ) → State
 run arguments state [] = state

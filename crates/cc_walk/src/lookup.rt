@@ -4,8 +4,8 @@ ghost use Rattle.std.specs.Prelude.{◌≡◌, ◌<◌, find, ◌==◌};
 ghost use Rattle.std.specs.Option.{option_copied};
 ghost use Rattle.std.specs.List.{list_any};
 ghost use Rattle.cc_command.specs.Names.{contains_name};
-ghost use Rattle.cc_walk.specs.Lookup.{has_long, has_short, is_at, positional_at, limit};
-ghost use Rattle.cc_walk.specs.Lookup.{allows_hyphens_at, greatest};
+ghost use Rattle.cc_walk.specs.Lookup.{has_long, has_short, is_at, positional_at, capacity_at};
+ghost use Rattle.cc_walk.specs.Lookup.{allows_hyphens_at, max_values};
 ghost use Rattle.cc_walk.specs.WordClasses.{value_argument};
 
 use cc_arg::{Arg, counted_range};
@@ -72,8 +72,8 @@ pub(crate) fn value_argument(arguments: &[Arg], character: char) -> Option<&Arg>
 }
 
 /// The most values that one use of the argument takes.
-pub(crate) fn greatest(argument: &Arg) -> usize
-    ensures { result ≡ greatest argument.now }
+pub(crate) fn max_values(argument: &Arg) -> usize
+    ensures { result ≡ max_values argument.now }
 {
     counted_range(argument).max_values()
 }
@@ -87,12 +87,12 @@ pub fn positional_at(arguments: &[Arg], position: usize) -> Option<&Arg>
 }
 
 /// How many values the position holds.
-#[tactic(auto, unfolding(crate::specs::Lookup::limit))]
-pub(crate) fn limit(arguments: &[Arg], position: usize) -> usize
-    ensures value { result ≡ limit arguments.now position }
+#[tactic(auto, unfolding(crate::specs::Lookup::capacity_at))]
+pub(crate) fn capacity_at(arguments: &[Arg], position: usize) -> usize
+    ensures value { result ≡ capacity_at arguments.now position }
     ensures some { 0 < result }
 {
-    positional_at(arguments, position).map_or(1, |argument| greatest(argument).max(1))
+    positional_at(arguments, position).map_or(1, |argument| max_values(argument).max(1))
 }
 
 /// Whether the positional at the position takes words that begin with a hyphen.

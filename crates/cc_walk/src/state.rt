@@ -5,7 +5,7 @@ ghost use Rattle.cc_walk.specs.Blocks.{start};
 ghost use Rattle.cc_walk.specs.WordClasses.{class_of};
 ghost use Rattle.cc_walk.specs.Machine.{value_state, option_state, closed_step, step, run_length};
 
-use crate::lookup::{allows_hyphens_at, greatest, limit};
+use crate::lookup::{allows_hyphens_at, capacity_at, max_values};
 use crate::word_class::{ArgRef, WordClass, class_of};
 use cc_arg::Arg;
 
@@ -61,8 +61,8 @@ impl<'a> State<'a> {
         requires { position < usize.MAX }
         ensures { result ≡ value_state arguments.now position escaped values }
     {
-        let limit = limit(arguments, position);
-        if values < limit - 1 {
+        let capacity = capacity_at(arguments, position);
+        if values < capacity - 1 {
             return State {
                 position,
                 escaped,
@@ -85,8 +85,8 @@ impl<'a> State<'a> {
     fn after_option(position: usize, option: ArgRef<'a>, values: usize) -> State<'a>
         ensures { result ≡ option_state position option.entry (suc values) }
     {
-        let greatest = greatest(option.get());
-        let pending = if values < greatest && values + 1 < greatest {
+        let most = max_values(option.get());
+        let pending = if values < most && values + 1 < most {
             Pending::OptionOpen(option, values + 1)
         } else {
             Pending::Nothing

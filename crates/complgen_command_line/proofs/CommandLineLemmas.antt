@@ -100,7 +100,7 @@ entered_one (Some p) has e = go (answers_to p.0 (label_of script_shape))
     go false false false has e = cc
 
 -- three arguments that have to be there were given, and two
-three_given : (a b d : Bool)
+pub three_given : (a b d : Bool)
     → (if not a || (not b || (not d || false)) then kind.MissingRequiredArgument ∷ [] else []) ≡ []
     → (a ≡ true) × (b ≡ true) × (d ≡ true)
 three_given true true true h = (refl, refl, refl)
@@ -117,11 +117,11 @@ two_given false b h = cc
 
 module _ (s : Shape) (words : List Text)
     (e : level_fault s [] nothing_held words false [] ≡ []) where
-  abbrev rows : List Row
+  abbrev pub rows : List Row
   rows = rows_after s.rules [] words
 
   -- the checks after the words pass
-  checks_pass : check_fault s rows false ≡ []
+  pub checks_pass : check_fault s rows false ≡ []
   checks_pass =
       let end = (walk s.rules [] nothing_held words).held in
       let after_walk = second_none (walk_fault s [] (walk_from nothing_held) words) _ e in
@@ -129,7 +129,7 @@ module _ (s : Shape) (words : List Text)
       second_none (defaults_fault (settled s.rules end).rows s.rules) _ after_last
 
   -- what was given has a value
-  has_value : (id : Text) → list_all (leaves_value id) s.rules ≡ true → is_given id rows ≡ true
+  pub has_value : (id : Text) → list_all (leaves_value id) s.rules ≡ true → is_given id rows ≡ true
       → IsSome (first_of id rows)
   has_value id leaves given =
       let after_walk = second_none (walk_fault s [] (walk_from nothing_held) words) _ e in

@@ -3,9 +3,10 @@
 ghost use Rattle.std.specs.Prelude.{◌≡◌, IfOk, codes, false};
 ghost use Rattle.clap.specs.Words.{app_of, rule_of};
 ghost use Rattle.clap.specs.declared.builder.command.Command.TheViews.{out-Command};
-ghost use Rattle.complgen_command_line.specs.CommandLine.{candidates_line, option_rule, program_line};
-ghost use Rattle.complgen_command_line.specs.CommandLine.{shell_line, top_line, tree_rule, words_rule};
+ghost use Rattle.complgen_command_line.specs.CommandLine.{candidates_line, program_line, shell_line};
+ghost use Rattle.complgen_command_line.specs.CommandLine.{top_line, words_rule};
 
+use crate::arguments::{BIN_HELP, option, tree};
 use clap::{Arg, Command};
 use std::alloc::{AllocError, Global};
 
@@ -39,10 +40,15 @@ const AFTER_HELP: &str = script_shells!(
     " (fewer in register)
 Tree file: a JSON object that describes a command, with its arguments and subcommands
 
+More commands, with a help of their own:
+  check    Says what is wrong with a tree file, and where
+  scripts  Writes the scripts of all shells to files
+
 Examples:
   complgen script --shell fish --bin app tree.json
   complgen register --shell bash --bin app tree.json
-  complgen candidates --index 1 tree.json -- app ''"
+  complgen candidates --index 1 tree.json -- app ''
+  complgen check tree.json"
 );
 
 // Where each shell looks for the script of a program N, which is the end of the long help of
@@ -64,42 +70,10 @@ const SCRIPT_FOLDERS: &str =
 Example:
   complgen script --shell zsh --bin app tree.json > ~/.zfunc/_app";
 
-const BIN_HELP: &str = "The name by which the shell calls the program";
-
-const TREE_HELP: &str = "A JSON file that describes a command, with its arguments and subcommands";
-
 const INDEX_HELP: &str = "The index of the word to complete, from 0";
 
 const WORDS_HELP: &str =
     "The words of a command line, the program's name first; after -- they may begin with -";
-
-// `--NAME VALUE`, which has to be there.
-fn option<'a>(
-    alloc: Global,
-    name: &'static str,
-    value_name: &'static str,
-    help: &'static str,
-) -> Arg<'a>
-    ensures rule { rule_of result ≡ option_rule name.entry.now }
-    ensures local { result.global ≡ false }
-{
-    Arg::new(alloc, name)
-        .long(name)
-        .value_name(value_name)
-        .required(true)
-        .help(help)
-}
-
-// `TREE`, which has to be there.
-fn tree<'a>(alloc: Global) -> Arg<'a>
-    ensures rule { rule_of result ≡ tree_rule }
-    ensures local { result.global ≡ false }
-{
-    Arg::new(alloc, "tree")
-        .value_name("TREE")
-        .required(true)
-        .help(TREE_HELP)
-}
 
 // `WORDS`, any number of them.
 fn words<'a>(alloc: Global) -> Arg<'a>

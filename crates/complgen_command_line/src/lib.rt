@@ -2,7 +2,9 @@
 //! printed in place of the output.
 #![tactic(auto)]
 
+pub mod arguments;
 mod command_line;
+pub mod parse;
 mod types;
 mod words;
 

@@ -2,19 +2,18 @@
 
 ghost use Rattle.std.specs.Prelude.{◌≡◌, ◌⊎◌, [], IfOk, IfErr, IsSome, Some, codes, map, true};
 ghost use Rattle.std.specs.Prelude.{string_bytes};
-ghost use Rattle.clap.specs.Words.{fault_of, first_of, found_of, kind_of, rows_of, subcommand_of};
+ghost use Rattle.clap.specs.Words.{fault_of, first_of, found_of, rows_of, subcommand_of};
 ghost use Rattle.clap.specs.Words.{subcommand_rows_of, takes};
 ghost use Rattle.complgen_command_line.specs.CommandLine.{program_line};
 ghost use Rattle.complgen_command_line.specs.Plans.{AsksFor, EntersOne, GivesNames, GivesWords};
 ghost use Rattle.complgen_command_line.specs.Plans.{HasBadIndex, HasIndex, HasNames, HasWords, words_of};
-ghost use Rattle.complgen_command_line.specs.Refusals.{IsBadIndex, IsOutOfMemory, Reports, ReportsKind};
+ghost use Rattle.complgen_command_line.specs.Refusals.{IsBadIndex, IsOutOfMemory, Reports};
 
 use crate::command_line::command_line;
+use crate::parse::{refusal_of, text, value};
 use crate::types::{Plan, Refusal};
 use clap::ArgMatches;
-use clap::error::{Error, ErrorKind};
 use std::alloc::{AllocError, Global};
-use std::borrow::CowStr;
 
 const BAD_INDEX: &str = "index: bad number\n";
 
@@ -123,38 +122,4 @@ fn copy_texts(alloc: Global, texts: &[&str]) -> Result<Vec<String>, AllocError>
         copy.push(String::from_str(alloc, text)?)?;
     }
     Ok(copy)
-}
-
-// A copy of the value of an argument.
-fn value(alloc: Global, values: &ArgMatches<'_>, id: &str) -> Result<String, AllocError>
-    requires { IsSome (first_of id.now (rows_of (found_of values.now))) }
-    ensures { IfOk result (λ value. first_of id.now (rows_of (found_of values.now))
-        ≡ Some (string_bytes value)) }
-{
-    String::from_str(alloc, text(values, id))
-}
-
-// The value of an argument.
-fn text<'a>(values: &ArgMatches<'a>, id: &str) -> &'a str
-    requires { IsSome (first_of id.now (rows_of (found_of values.now))) }
-    ensures { first_of id.now (rows_of (found_of values.now)) ≡ Some result.now }
-{
-    values.get_str(id).unwrap()
-}
-
-// What a failed parse prints.
-fn refusal_of(alloc: Global, error: &Error) -> Refusal
-    ensures { ReportsKind (kind_of error.now) result }
-{
-    if matches!(error.kind(), ErrorKind::OutOfMemory) {
-        return Refusal::from(AllocError);
-    }
-    let status = if error.use_stderr() { 2 } else { 0 };
-    match error.to_string(alloc) {
-        Ok(text) => Refusal {
-            status,
-            text: CowStr::Owned(text),
-        },
-        Err(failed) => Refusal::from(failed),
-    }
 }

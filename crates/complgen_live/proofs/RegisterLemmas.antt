@@ -1,21 +1,21 @@
 -- How writing registrations ends, one after another.
-use Rattle.std.proofs.Common.{◌≡◌, ◌∙◌, ◌⊎◌, inl, inr, refl, sym, ap, subst, ℕ, ◌+◌, ◌<◌, get_or, length, take, Bool, true, false, List, [], ◌∷◌, ◌++◌, append_assoc, map, Option, Some, None, Result, Ok, Err, IfOk, IfErr, OnOk}
-use Rattle.std.specs.List.{AllByRecursion, flat_map}
+use Rattle.std.proofs.Common.{◌≡◌, ◌∙◌, inl, inr, refl, sym, ap, subst, ℕ, ◌+◌, ◌<◌, get_or, length, take, Bool, List, [], ◌∷◌, ◌++◌, append_assoc, map, Option, None, Result, Ok, Err}
+use Rattle.std.specs.List.{flat_map}
 use Rattle.std.proofs.lemmas.Grind.{flat_map-append}
 use Rattle.std.proofs.lemmas.List.{append-nil, map-append, take_more}
 use Rattle.cc_adapters.specs.Builtins.{all_builtins, builtin_spec}
 use Rattle.cc_adapters.specs.declared.builtin.Builtin.{Builtin}
 use Rattle.cc_base.proofs.Members.{AllByRecursion-append}
-use Rattle.cc_base.specs.Writes.{CountsWrite, Writes}
+use Rattle.cc_base.specs.Writes.{CountsWrite}
 use Rattle.cc_base.specs.declared.error.Error.{Error}
-use Rattle.cc_base.specs.declared.error.Error.TheVariants.{Memory, Write}
+use Rattle.cc_base.specs.declared.error.Error.TheVariants.{Memory}
 use Rattle.cc_base.specs.declared.failures.Failures.{Failures}
 use Rattle.cc_candidates.specs.declared.candidate.CompletionCandidate.{CompletionCandidate}
 use Rattle.cc_command.specs.Built.{built_tree}
 use Rattle.cc_command.specs.Made.{new_tree}
 use Rattle.cc_command.specs.Tree.{Tree}
 use Rattle.cc_env.specs.Arguments.{program_path}
-use Rattle.cc_env.specs.Asked.{Asked, IsUnknownShell, asked_name, known, nothing, unknown}
+use Rattle.cc_env.specs.Wanted.{Wanted, wanted_name, known, nothing, unknown}
 use Rattle.cc_env.specs.Steps.{Ends, EndsAs, IsRegistration, MakesText, Tries, names_of, nothing_written, text_written, write_failed}
 use Rattle.cc_replies.specs.Environment.{value_of}
 use Rattle.cc_replies.specs.declared.environment.EnvValues.{EnvValues}
@@ -30,8 +30,8 @@ done_of (Err error) = Err error
 
 module _ {S : Type 0} (taken : S → List ℕ) (failed : S → Failures) (completer : List ℕ) where
   -- none are written yet
-  pub registers_none : (asked : Asked Builtin) (state : S)
-      → RegistersAll taken failed completer [] asked state state (Ok tt)
+  pub registers_none : (wanted : Wanted Builtin) (state : S)
+      → RegistersAll taken failed completer [] wanted state state (Ok tt)
   registers_none nothing state = (refl, tt)
   registers_none (unknown name) state = (refl, refl, tt)
   registers_none (known shell) state = record {
@@ -40,13 +40,13 @@ module _ {S : Type 0} (taken : S → List ℕ) (failed : S → Failures) (comple
   }
 
   -- out of memory before anything is written
-  pub registers_unwritten : (asked : Asked Builtin) (names : List (List ℕ)) (state : S) (error : Error)
-      → error ≡ Memory → RegistersAll taken failed completer names asked state state (Err error)
-  registers_unwritten asked names state error is =
-      subst (λ e. RegistersAll taken failed completer names asked state state (Err e)) (sym is)
-      (at_memory asked)
+  pub registers_unwritten : (wanted : Wanted Builtin) (names : List (List ℕ)) (state : S) (error : Error)
+      → error ≡ Memory → RegistersAll taken failed completer names wanted state state (Err error)
+  registers_unwritten wanted names state error is =
+      subst (λ e. RegistersAll taken failed completer names wanted state state (Err e)) (sym is)
+      (at_memory wanted)
     where
-      at_memory : (a : Asked Builtin) → RegistersAll taken failed completer names a state state (Err Memory)
+      at_memory : (a : Wanted Builtin) → RegistersAll taken failed completer names a state state (Err Memory)
       at_memory nothing = (refl, refl)
       at_memory (unknown name) = (refl, tt, inr refl)
       at_memory (known shell) = record {
@@ -55,10 +55,10 @@ module _ {S : Type 0} (taken : S → List ℕ) (failed : S → Failures) (comple
       }
 
   -- some are written, and then it fails
-  pub registers_failed : (asked : Asked Builtin) (before after names : List (List ℕ)) (old mid new : S)
-      (error : Error) → RegistersAll taken failed completer before asked old mid (Ok tt)
-      → RegistersAll taken failed completer after asked mid new (Err error)
-      → RegistersAll taken failed completer names asked old new (Err error)
+  pub registers_failed : (wanted : Wanted Builtin) (before after names : List (List ℕ)) (old mid new : S)
+      (error : Error) → RegistersAll taken failed completer before wanted old mid (Ok tt)
+      → RegistersAll taken failed completer after wanted mid new (Err error)
+      → RegistersAll taken failed completer names wanted old new (Err error)
   registers_failed nothing before after names old mid new error first second =
       (second.0 ∙ first.0, second.1)
   registers_failed (unknown name) before after names old mid new error first second =
@@ -85,13 +85,13 @@ module _ {S : Type 0} (taken : S → List ℕ) (failed : S → Failures) (comple
       ∙ ap (λ t. taken old ++ t) (sym (flat_map-append text before after))
 
   -- these, and then more
-  pub registers_more : (asked : Asked Builtin) (before : List (List ℕ)) (name : List ℕ) (old mid new : S)
+  pub registers_more : (wanted : Wanted Builtin) (before : List (List ℕ)) (name : List ℕ) (old mid new : S)
       (result : Result (Unit {0}) Error)
-      → RegistersAll taken failed completer before asked old mid (Ok tt)
-      → RegistersAll taken failed completer (name ∷ []) asked mid new result
-      → RegistersAll taken failed completer (before ++ name ∷ []) asked old new result
-  registers_more asked before name old mid new (Err error) first second =
-      registers_failed asked before (name ∷ []) (before ++ name ∷ []) old mid new error first second
+      → RegistersAll taken failed completer before wanted old mid (Ok tt)
+      → RegistersAll taken failed completer (name ∷ []) wanted mid new result
+      → RegistersAll taken failed completer (before ++ name ∷ []) wanted old new result
+  registers_more wanted before name old mid new (Err error) first second =
+      registers_failed wanted before (name ∷ []) (before ++ name ∷ []) old mid new error first second
   registers_more nothing before name old mid new (Ok done) first second =
       (second.0 ∙ first.0, second.1)
   registers_more (unknown called) before name old mid new (Ok done) first second =
@@ -110,19 +110,19 @@ module _ {S : Type 0} (taken : S → List ℕ) (failed : S → Failures) (comple
   }
 
   -- the first so many of a list, and then the next
-  pub registers_next : {X : Type 0} (text : X → List ℕ) (asked : Asked Builtin) (all : List X) (i : ℕ)
+  pub registers_next : {X : Type 0} (text : X → List ℕ) (wanted : Wanted Builtin) (all : List X) (i : ℕ)
       (item : X) (name : List ℕ) (old mid new : S) (result : Result (Unit {0}) Error)
       → i < length all → item ≡ get_or all i item → name ≡ text item
-      → RegistersAll taken failed completer (map text (take i all)) asked old mid (Ok tt)
-      → RegistersAll taken failed completer (name ∷ []) asked mid new result
-      → RegistersAll taken failed completer (map text (take (i + 1) all)) asked old new result
-  registers_next text asked all i item name old mid new result within is named first second =
+      → RegistersAll taken failed completer (map text (take i all)) wanted old mid (Ok tt)
+      → RegistersAll taken failed completer (name ∷ []) wanted mid new result
+      → RegistersAll taken failed completer (map text (take (i + 1) all)) wanted old new result
+  registers_next text wanted all i item name old mid new result within is named first second =
       let more : map text (take i all) ++ name ∷ [] ≡ map text (take (i + 1) all) =
       ap (λ t. map text (take i all) ++ t ∷ []) (named ∙ ap text is)
       ∙ sym (map-append text (take i all) (get_or all i item ∷ []))
       ∙ ap (map text) (sym (take_more all i item within)) in
-      subst (λ names. RegistersAll taken failed completer names asked old new result) more
-      (registers_more asked (map text (take i all)) name old mid new result first second)
+      subst (λ names. RegistersAll taken failed completer names wanted old new result) more
+      (registers_more wanted (map text (take i all)) name old mid new result first second)
 
 module _ {S : Type 0} (taken : S → List ℕ) (failed : S → Failures) (current : Option (List ℕ))
     (program name : List ℕ) (env : EnvValues) (Makes : Result Tree Error → Type 0)
@@ -188,10 +188,10 @@ module _ {S : Type 0} (taken : S → List ℕ) (failed : S → Failures) (curren
       }
 
   -- how writing one ends, by what is requested
-  pub registers_one : (arguments : List (List ℕ)) (asked : Asked Builtin) (old new : S)
+  pub registers_one : (arguments : List (List ℕ)) (wanted : Wanted Builtin) (old new : S)
       (result : Result Bool Error) → arguments ≡ program ∷ []
-      → EndsAs taken failed shell_names (MakesOne arguments) asked old new result
-      → RegistersAll taken failed (program_path current program) (name ∷ []) asked old new (done_of result)
+      → EndsAs taken failed shell_names (MakesOne arguments) wanted old new result
+      → RegistersAll taken failed (program_path current program) (name ∷ []) wanted old new (done_of result)
   registers_one arguments nothing old new result are ends =
       subst (λ r. RegistersAll taken failed (program_path current program) (name ∷ []) nothing old new (done_of r))
       (sym ends.0) (ends.1, tt)
@@ -201,26 +201,26 @@ module _ {S : Type 0} (taken : S → List ℕ) (failed : S → Failures) (curren
 
   -- the same of the call as it is made: by the variable, without a binary and a completer, among
   -- these shells
-  pub registers_tried : (arguments : List (List ℕ)) (asks_by : List ℕ)
+  pub registers_tried : (arguments : List (List ℕ)) (by_name : List ℕ)
       (bin called : Option (List ℕ)) (shells : List Builtin) (old new : S)
-      (result : Result Bool Error) → arguments ≡ program ∷ [] → asks_by ≡ variable
+      (result : Result Bool Error) → arguments ≡ program ∷ [] → by_name ≡ variable
       → (bin ≡ None) × (called ≡ None) → shells ≡ all_builtins
       → Tries taken failed builtin_spec shells
-      (λ shell. MakesText Makes (builtin_spec shell) (names_of asks_by bin called current) env Offers
-      arguments) (asked_name (value_of asks_by env)) old new result
+      (λ shell. MakesText Makes (builtin_spec shell) (names_of by_name bin called current) env Offers
+      arguments) (wanted_name (value_of by_name env)) old new result
       → RegistersAll taken failed (program_path current program) (name ∷ []) (requested env) old new
       (done_of result)
-  registers_tried arguments asks_by bin called shells old new result are is none all tried =
+  registers_tried arguments by_name bin called shells old new result are is none all tried =
       let by_all = subst (λ s. Tries taken failed builtin_spec s
-      (λ shell. MakesText Makes (builtin_spec shell) (names_of asks_by bin called current) env Offers
-      arguments) (asked_name (value_of asks_by env)) old new result) all tried in
+      (λ shell. MakesText Makes (builtin_spec shell) (names_of by_name bin called current) env Offers
+      arguments) (wanted_name (value_of by_name env)) old new result) all tried in
       let by_variable = subst (λ v. Tries taken failed builtin_spec all_builtins
       (λ shell. MakesText Makes (builtin_spec shell) (names_of v bin called current) env Offers
-      arguments) (asked_name (value_of v env)) old new result) is by_all in
+      arguments) (wanted_name (value_of v env)) old new result) is by_all in
       let without_bin = subst (λ b. Tries taken failed builtin_spec all_builtins
       (λ shell. MakesText Makes (builtin_spec shell) (names_of variable b called current) env Offers
-      arguments) (asked_name (value_of variable env)) old new result) none.0 by_variable in
+      arguments) (wanted_name (value_of variable env)) old new result) none.0 by_variable in
       registers_one arguments (requested env) old new result are
       (subst (λ c. Tries taken failed builtin_spec all_builtins
       (λ shell. MakesText Makes (builtin_spec shell) (names_of variable None c current) env Offers
-      arguments) (asked_name (value_of variable env)) old new result) none.1 without_bin)
+      arguments) (wanted_name (value_of variable env)) old new result) none.1 without_bin)

@@ -1,5 +1,5 @@
 -- How replying to a request ends, outcome by outcome.
-use Rattle.std.proofs.Common.{◌≡◌, ◌≢◌, ◌∙◌, ◌⊎◌, inl, inr, refl, sym, ap, subst, ℕ, Bool, true, false, List, [], ◌∷◌, ◌++◌, Option, Some, None, Result, Ok, Err, IfOk, IfErr}
+use Rattle.std.proofs.Common.{◌≡◌, ◌⊎◌, inl, inr, refl, sym, subst, ℕ, Bool, false, List, [], Option, Some, None, Result, Ok, Err}
 use Rattle.std.specs.Borrow.{Bor}
 use Rattle.std.specs.Option.{option_copied}
 use Rattle.cc_adapters.specs.Builtins.{all_builtins, builtin_spec}
@@ -12,15 +12,15 @@ use Rattle.cc_candidates.specs.Sources.{ReturnsAt}
 use Rattle.cc_candidates.specs.declared.sources.Source.{Source}
 use Rattle.cc_command.specs.Tree.{Tree}
 use Rattle.cc_engine.specs.Completion.{Completes}
-use Rattle.cc_env.specs.Asked.{Asked, IsUnknownShell, asked_name, known, nothing, unknown}
+use Rattle.cc_env.specs.Wanted.{Wanted, wanted_name, known, nothing, unknown}
 use Rattle.cc_env.specs.Steps.{Ends, EndsAs, MakesText, Tries, factory_failed, names_of, no_arguments, nothing_written, out_of_memory, registered, replied, text_written, write_failed}
 use Rattle.cc_replies.specs.Environment.{value_of}
 use Rattle.cc_replies.specs.declared.environment.EnvValues.{EnvValues}
-use Rattle.cc_tree_file.specs.TreeFile.{Describes, SpellsNone}
-use Rattle.cc_values.specs.Values.{Lent}
+use Rattle.cc_tree_file.specs.TreeFile.{Describes}
+use Rattle.cc_values.specs.Values.{MayReturn}
 use Rattle.complgen_live.specs.Replies.{EndsReply, MakesFor, Paths, paths_alone, requested, shell_names, variable}
 use Rattle.complgen_live.specs.Replies as outcome
-use Rattle.complgen_live.specs.TreeErrors.{DescribedBy, SaysWhy, bad_form_text, not_json_text}
+use Rattle.complgen_live.specs.TreeErrors.{DescribedBy}
 
 -- without completers and lists only paths are found
 pub without_completers : {B C L G : Type 0}
@@ -65,9 +65,9 @@ module _ {S : Type 0} (taken : S → List ℕ) (failed : S → Failures) (env : 
 
   module _ (Makes : Result Tree Error → Type 0)
       (described : (made : Result Tree Error) → Makes made → DescribedBy path bytes made) where
-    abbrev MakesBy : Lent → List (List ℕ) → Builtin → Result (List ℕ) Error → Type 0
-    MakesBy lent arguments shell result =
-        MakesText Makes (builtin_spec shell) (names_of variable None None current) env (Completes lent)
+    abbrev MakesBy : MayReturn → List (List ℕ) → Builtin → Result (List ℕ) Error → Type 0
+    MakesBy sources arguments shell result =
+        MakesText Makes (builtin_spec shell) (names_of variable None None current) env (Completes sources)
         arguments result
 
     -- the file describes the command that the text is made of; or it describes none
@@ -108,42 +108,42 @@ module _ {S : Type 0} (taken : S → List ℕ) (failed : S → Failures) (env : 
         outcome.written bytes text over.0 shell requests over.1 over.2 took counts
 
     -- by what is requested
-    ends_asked : (asked : Asked Builtin) (result : Result Bool Error) → requested env ≡ asked
-        → EndsAs taken failed shell_names (MakesBy (paths_alone Finds) words) asked old new result
+    ends_wanted : (wanted : Wanted Builtin) (result : Result Bool Error) → requested env ≡ wanted
+        → EndsAs taken failed shell_names (MakesBy (paths_alone Finds) words) wanted old new result
         → Reply result
-    ends_asked nothing result requests done =
+    ends_wanted nothing result requests done =
         subst Reply (sym done.0) (outcome.no_request bytes requests done.1)
-    ends_asked (unknown name) (Ok made) requests done = absurd done.0
-    ends_asked (unknown name) (Err error) requests done =
+    ends_wanted (unknown name) (Ok made) requests done = absurd done.0
+    ends_wanted (unknown name) (Err error) requests done =
         outcome.unknown_shell bytes name error requests done.1 done.2
-    ends_asked (known shell) result requests done = ends_known shell requests done
+    ends_wanted (known shell) result requests done = ends_known shell requests done
 
-    pub replies : (lent : Lent) (result : Result Bool Error) → lent ≡ paths_alone Finds
-        → EndsAs taken failed shell_names (MakesBy lent words) (requested env) old new result
+    pub replies : (sources : MayReturn) (result : Result Bool Error) → sources ≡ paths_alone Finds
+        → EndsAs taken failed shell_names (MakesBy sources words) (requested env) old new result
         → Reply result
-    replies lent result is done = ends_asked (requested env) result refl
+    replies sources result is done = ends_wanted (requested env) result refl
         (subst (λ l. EndsAs taken failed shell_names (MakesBy l words) (requested env) old new result) is done)
 
     -- the same of the call as it is made: by the variable, without a binary and a completer, among
     -- these shells
-    pub replies_tried : (lent : Lent) (asks_by : List ℕ) (bin called : Option (List ℕ))
-        (shells : List Builtin) (result : Result Bool Error) → lent ≡ paths_alone Finds
-        → asks_by ≡ variable → (bin ≡ None) × (called ≡ None) → shells ≡ all_builtins
+    pub replies_tried : (sources : MayReturn) (by_name : List ℕ) (bin called : Option (List ℕ))
+        (shells : List Builtin) (result : Result Bool Error) → sources ≡ paths_alone Finds
+        → by_name ≡ variable → (bin ≡ None) × (called ≡ None) → shells ≡ all_builtins
         → Tries taken failed builtin_spec shells
-        (λ shell. MakesText Makes (builtin_spec shell) (names_of asks_by bin called current) env
-        (Completes lent) words) (asked_name (value_of asks_by env)) old new result
+        (λ shell. MakesText Makes (builtin_spec shell) (names_of by_name bin called current) env
+        (Completes sources) words) (wanted_name (value_of by_name env)) old new result
         → Reply result
-    replies_tried lent asks_by bin called shells result is by none all tried =
+    replies_tried sources by_name bin called shells result is by none all tried =
         let by_all = subst (λ s. Tries taken failed builtin_spec s
-        (λ shell. MakesText Makes (builtin_spec shell) (names_of asks_by bin called current) env
-        (Completes lent) words) (asked_name (value_of asks_by env)) old new result) all tried in
+        (λ shell. MakesText Makes (builtin_spec shell) (names_of by_name bin called current) env
+        (Completes sources) words) (wanted_name (value_of by_name env)) old new result) all tried in
         let by_variable = subst (λ v. Tries taken failed builtin_spec all_builtins
         (λ shell. MakesText Makes (builtin_spec shell) (names_of v bin called current) env
-        (Completes lent) words) (asked_name (value_of v env)) old new result) by by_all in
+        (Completes sources) words) (wanted_name (value_of v env)) old new result) by by_all in
         let without_bin = subst (λ b. Tries taken failed builtin_spec all_builtins
         (λ shell. MakesText Makes (builtin_spec shell) (names_of variable b called current) env
-        (Completes lent) words) (asked_name (value_of variable env)) old new result) none.0 by_variable in
-        replies lent result is
+        (Completes sources) words) (wanted_name (value_of variable env)) old new result) none.0 by_variable in
+        replies sources result is
         (subst (λ c. Tries taken failed builtin_spec all_builtins
         (λ shell. MakesText Makes (builtin_spec shell) (names_of variable None c current) env
-        (Completes lent) words) (asked_name (value_of variable env)) old new result) none.1 without_bin)
+        (Completes sources) words) (wanted_name (value_of variable env)) old new result) none.1 without_bin)

@@ -1,5 +1,5 @@
 -- Registrations of programs, by which a shell runs this program for their candidates.
-use Rattle.std.specs.Prelude.{◌≡◌, ◌++◌, ℕ, List, [], Result, Ok, Err, IfErr, IfOk, OnOk}
+use Rattle.std.specs.Prelude.{◌≡◌, ℕ, List, [], Result, IfErr, IfOk, OnOk}
 use Rattle.std.specs.List.{AllByRecursion, flat_map}
 use Rattle.cc_adapters.specs.Builtins.{builtin_spec}
 use Rattle.cc_adapters.specs.declared.builtin.Builtin.{Builtin}
@@ -7,7 +7,7 @@ use Rattle.cc_base.specs.Writes.{Writes}
 use Rattle.cc_base.specs.declared.error.Error.{Error}
 use Rattle.cc_base.specs.declared.error.Error.TheVariants.{Memory}
 use Rattle.cc_base.specs.declared.failures.Failures.{Failures}
-use Rattle.cc_env.specs.Asked.{Asked, IsUnknownShell, known, nothing, unknown}
+use Rattle.cc_env.specs.Wanted.{Wanted, IsUnknownShell, known, nothing, unknown}
 use Rattle.complgen_live.specs.Replies.{shell_names, variable}
 
 -- the registration of a program: named, called and completed by this name, with this completer
@@ -35,7 +35,7 @@ pub record WritesAll {S : Type 0} (taken : S → List ℕ) (failed : S → Failu
 -- How writing them ends, by what is requested. Where no shell is, nothing is written; and where no
 -- shell has the name, that is reported, unless there is no program to register.
 abbrev pub RegistersAll : {S : Type 0} → (S → List ℕ) → (S → Failures) → List ℕ → List (List ℕ)
-    → Asked Builtin → S → S → Result (Unit {0}) Error → Type 0
+    → Wanted Builtin → S → S → Result (Unit {0}) Error → Type 0
 RegistersAll taken failed completer names nothing old new result =
     (new ≡ old) × IfErr result (λ error. error ≡ Memory)
 RegistersAll taken failed completer names (unknown name) old new result =

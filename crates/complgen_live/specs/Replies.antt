@@ -11,12 +11,12 @@ use Rattle.cc_base.specs.declared.failures.Failures.{Failures}
 use Rattle.cc_candidates.specs.declared.candidate.CompletionCandidate.{CompletionCandidate}
 use Rattle.cc_command.specs.Tree.{Tree}
 use Rattle.cc_engine.specs.Completion.{Completes}
-use Rattle.cc_env.specs.Asked.{Asked, IsUnknownShell, asked_name, asked_of, known, nothing, unknown}
+use Rattle.cc_env.specs.Wanted.{Wanted, IsUnknownShell, wanted_name, wanted_of, known, nothing, unknown}
 use Rattle.cc_env.specs.Steps.{MakesText, names_of}
 use Rattle.cc_replies.specs.Environment.{value_of}
 use Rattle.cc_replies.specs.declared.environment.EnvValues.{EnvValues}
 use Rattle.cc_tree_file.specs.TreeFile.{Describes, SpellsNone}
-use Rattle.cc_values.specs.Values.{Lent}
+use Rattle.cc_values.specs.Values.{MayReturn}
 use Rattle.complgen_live.specs.TreeErrors.{bad_form_text, not_json_text}
 
 -- the variable whose value names the shell
@@ -24,9 +24,9 @@ abbrev pub variable : List ℕ
 variable = codes "COMPLETE"
 
 -- what is requested: nothing, by a name that no shell has, or by a shell
-abbrev pub requested : EnvValues → Asked Builtin
-requested env = asked_of (λ shell. (builtin_spec shell).named) all_builtins
-    (asked_name (value_of variable env))
+abbrev pub requested : EnvValues → Wanted Builtin
+requested env = wanted_of (λ shell. (builtin_spec shell).named) all_builtins
+    (wanted_name (value_of variable env))
 
 -- the names of the shells
 abbrev pub shell_names : List (List ℕ)
@@ -37,7 +37,7 @@ abbrev pub Paths : Type 1
 Paths = ValueHint → List ℕ → List CompletionCandidate → Type 0
 
 -- there are no completers and no lists, so that no number has candidates; paths are found
-abbrev pub paths_alone : Paths → Lent
+abbrev pub paths_alone : Paths → MayReturn
 paths_alone Finds = record {
   completes = λ which number text found. found ≡ [];
   lists = λ which found. found ≡ [];

@@ -2,7 +2,6 @@
 
 ghost use Rattle.std.specs.Prelude.{◌≡◌};
 ghost use Rattle.std.specs.List.{list_all};
-ghost use Rattle.std.specs.Option.{option_copied};
 ghost use Rattle.cc_command.specs.Tree.{forest_of};
 ghost use Rattle.cc_command.specs.Quiet.{are_quiet_values, is_quiet_argument, is_quiet_byte};
 ghost use Rattle.cc_command.specs.Quiet.{is_quiet_forest, is_quiet_node, is_quiet_tree};
@@ -59,7 +58,9 @@ fn are_quiet_values(values: &[PossibleValue]) -> bool
     values.iter().all(|value| is_quiet_value(value.get_name()))
 }
 
-fn is_quiet_value(name: &str) -> bool
+/// Whether a possible value of this name is quiet: not empty, and made of ASCII letters, digits and
+/// `+-./:@_,=`. A free function, so that `clap_complete` need not re-export it.
+pub fn is_quiet_value(name: &str) -> bool
     ensures { result ≡ is_quiet_value name.now }
 {
     !name.is_empty() && are_quiet_bytes(name.as_bytes())

@@ -1,6 +1,6 @@
 //! What building adds to a tree: it is allocated before the tree is changed.
 
-ghost use Rattle.std.specs.Prelude.{◌≡◌, ◌++◌, length, IfOk};
+ghost use Rattle.std.specs.Prelude.{◌≡◌, IfOk};
 ghost use Rattle.cc_command.specs.Tree.{forest_of};
 ghost use Rattle.cc_command.specs.Generated.{help_child};
 ghost use Rattle.cc_command.specs.Additions.{HasRoom, IsAddition, sibling_count};

@@ -1,15 +1,15 @@
 //! The arguments that building adds, and what it fills in.
 
-ghost use Rattle.std.specs.Prelude.{◌≡◌, ◌∷◌, ◌++◌, [], Some, map, length, IfOk, OnOk};
+ghost use Rattle.std.specs.Prelude.{◌≡◌, ◌∷◌, ◌++◌, [], map, length, IfOk, OnOk};
 ghost use Rattle.cc_arg.specs.Arguments.{filled};
 ghost use Rattle.cc_command.specs.Names.{has_id};
 ghost use Rattle.cc_command.specs.Generated.{generated_arguments, generated_help, generated_version};
-ghost use Rattle.cc_command.specs.Generated.{help_argument, version_argument};
+ghost use Rattle.cc_command.specs.Generated.{generated_flag, help_argument, version_argument};
 ghost use Rattle.cc_command.specs.Built.{given_arguments, globals, indexed};
 ghost use Rattle.cc_command.specs.Built.{lacks_index, with_missing};
 ghost use Rattle.cc_command.specs.Additions.{HasRoom};
 
-use crate::command::build::texts::{help_help, help_name, version_help, version_name};
+use crate::command::build::texts::{HELP_HELP, HELP_NAME, VERSION_HELP, VERSION_NAME};
 use crate::node::Node;
 use cc_arg::{Arg, ArgAction, copy_of, fill_display_order, fill_index, fill_range_and_action};
 use std::alloc::{AllocError, Global};
@@ -166,28 +166,36 @@ fn lacks_index(argument: &Arg) -> bool
     argument.is_positional() && argument.get_index().is_none()
 }
 
-#[tactic(auto, unfolding(crate::specs::Generated::help_argument))]
+#[tactic(auto, unfolding(crate::specs::Generated::help_argument, crate::specs::Texts::fixed_texts))]
 fn help_argument(alloc: Global) -> Result<Arg, AllocError>
     ensures ok { IfOk result (λ argument. argument ≡ help_argument) }
 {
-    let id = String::from_str(alloc, help_name())?;
-    let long = String::from_str(alloc, help_name())?;
-    let help = String::from_str(alloc, help_help())?;
-    let mut argument = Arg::new(alloc, id).short('h').long(long).help(help);
-    argument = argument.action(ArgAction::Help);
-    fill_display_order(&mut argument, 999);
-    Ok(argument)
+    generated_flag(alloc, HELP_NAME, 'h', HELP_HELP, ArgAction::Help)
 }
 
-#[tactic(auto, unfolding(crate::specs::Generated::version_argument))]
+#[tactic(auto, unfolding(crate::specs::Generated::version_argument, crate::specs::Texts::fixed_texts))]
 fn version_argument(alloc: Global) -> Result<Arg, AllocError>
     ensures ok { IfOk result (λ argument. argument ≡ version_argument) }
 {
-    let id = String::from_str(alloc, version_name())?;
-    let long = String::from_str(alloc, version_name())?;
-    let help = String::from_str(alloc, version_help())?;
-    let mut argument = Arg::new(alloc, id).short('V').long(long).help(help);
-    argument = argument.action(ArgAction::Version);
+    generated_flag(alloc, VERSION_NAME, 'V', VERSION_HELP, ArgAction::Version)
+}
+
+// The id is the long too.
+fn generated_flag(
+    alloc: Global,
+    id: &str,
+    short: char,
+    help: &str,
+    action: ArgAction,
+) -> Result<Arg, AllocError>
+    ensures ok { IfOk result
+        (λ argument. argument ≡ generated_flag id.now short help.now action) }
+{
+    let long = String::from_str(alloc, id)?;
+    let id = String::from_str(alloc, id)?;
+    let help = String::from_str(alloc, help)?;
+    let mut argument = Arg::new(alloc, id).short(short).long(long).help(help);
+    argument = argument.action(action);
     fill_display_order(&mut argument, 999);
     Ok(argument)
 }

@@ -11,19 +11,21 @@ ghost use Rattle.cc_command.specs.Generated.{needs_help_child};
 
 use crate::command::Command;
 use crate::command::build::joined_name;
-use crate::command::build::texts::{help_about, help_name};
+use crate::command::build::texts::{HELP_ABOUT, HELP_NAME};
 use crate::command::children::has_child;
 use crate::node::Node;
 use cc_base::Text;
 use std::alloc::{AllocError, Global};
 
+#[tactic(auto, unfolding(crate::specs::Texts::fixed_texts))]
 pub(super) fn needs_help_child(node: &Node, children: &[Command]) -> bool
     ensures { result ≡ needs_help_child node.now (forest_of children.now) }
 {
-    !children.is_empty() && !node.disable_help_subcommand && !has_child(children, help_name())
+    !children.is_empty() && !node.disable_help_subcommand && !has_child(children, HELP_NAME)
 }
 
 // The copies of the siblings are followed by a `help` of its own.
+#[tactic(auto, unfolding(crate::specs::Texts::fixed_texts))]
 pub(super) fn help_command(
     siblings: &[Command],
     alloc: Global,
@@ -33,24 +35,24 @@ pub(super) fn help_command(
         (join (copies (joined_name parent.now help_name) 0 (forest_of siblings.now))
         (help_command (joined_name parent.now help_name) none))) }
 {
-    let name = joined_name(alloc, parent, help_name())?;
+    let name = joined_name(alloc, parent, HELP_NAME)?;
     let mut children = copies_of(siblings, alloc, name.as_str())?;
-    let last = joined_name(alloc, name.as_str(), help_name())?;
+    let last = joined_name(alloc, name.as_str(), HELP_NAME)?;
     children.reserve_exact(1)?;
     children.push(generated_command(
         alloc,
-        help_name(),
+        HELP_NAME,
         last,
-        Some(help_about()),
+        Some(HELP_ABOUT),
         999,
         false,
         Vec::new(alloc),
     )?)?;
     generated_command(
         alloc,
-        help_name(),
+        HELP_NAME,
         name,
-        Some(help_about()),
+        Some(HELP_ABOUT),
         999,
         false,
         children,

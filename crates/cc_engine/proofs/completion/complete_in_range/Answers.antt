@@ -1,13 +1,13 @@
 use Rattle.std.proofs.Common.{map, string_bytes}
 use Rattle.cc_flat.specs.Flat.{tree_at}
-use Rattle.cc_values.proofs.Results.{IfOk-map}
+use Rattle.std.proofs.lemmas.Result.{IfOk-weaker}
 use Rattle.cc_engine.proofs.Begins.{text_at}
 use Rattle.cc_engine.proofs.Lines.{completes}
 use Rattle.cc_engine.proofs.completion.complete_in_range.Goals as goal
 
 pub returns : goal.returns
 returns g c =
-    IfOk-map c.offer_candidates.result
+    IfOk-weaker c.offer_candidates.result _ _
     (λ found offered. completes _ c.args.command.now (tree_at c.in_ok-flat.flat 0) c.command-node.result.now (tree_at c.in_ok-flat.flat c.walk-line.result.node) c.walk-line.result.state
     (map string_bytes c.args.words.now) (map string_bytes c.words_before.result.now) c.args.index c.word_at-word.result.now found.items (text_at c.args.words.now c.args.index)
     c.in_ok-flat.ensures.root c.command-node.ensures

@@ -1,12 +1,12 @@
 use Rattle.std.proofs.Common.{◌∙◌, ap, sym, rules}
 use Rattle.std.specs.Option.{option_copied}
 use Rattle.cc_values.proofs.Gathering.{of_completer, of_list, of_nothing, of_paths, of_values}
-use Rattle.cc_values.proofs.Results.{IfOk-map}
+use Rattle.std.proofs.lemmas.Result.{IfOk-weaker}
 use Rattle.cc_values.proofs.values.gather.Goals as goal
 
 pub returns-in-Some : goal.returns-in-Some
 returns-in-Some g c =
-    IfOk-map c.complete_at.result
+    IfOk-weaker c.complete_at.result _ _
     (λ found says. of_completer _ c.args.argument.now c.args.number c.args.part.now c.in-Some.completer found.items (sym c.get_completer.ensures ∙ c.in-Some.is) says)
     c.complete_at.ensures
 
@@ -17,7 +17,7 @@ returns-in-Some-get_candidates g c =
 
 pub returns-in-Some-possible_values : goal.returns-in-Some-possible_values
 returns-in-Some-possible_values g c =
-    IfOk-map c.candidates_beginning.result
+    IfOk-weaker c.candidates_beginning.result _ _
     (λ kept keeps. of_values _ c.args.argument.now c.args.number c.args.part.now c.in-Some-possible_values.values.now kept.items
     (sym c.get_completer.ensures ∙ c.in_default.is) (sym c.get_candidates.ensures ∙ c.in_default-get_candidates.is) (sym c.possible_values.ensures ∙ ap option_copied c.in-Some-possible_values.is) (search (rules, keeps)))
     c.candidates_beginning.ensures
@@ -30,7 +30,7 @@ returns-then-not-is_path g c =
 
 pub returns : goal.returns
 returns g c =
-    IfOk-map c.sorted_paths.result
+    IfOk-weaker c.sorted_paths.result _ _
     (λ found finds. of_paths _ c.args.argument.now c.args.number c.args.part.now finds.0 found.items c.get_value_hint-hint.result c.is_path.result
     (sym c.get_completer.ensures ∙ c.in_default.is) (sym c.get_candidates.ensures ∙ c.in_default-get_candidates.is) (sym c.possible_values.ensures ∙ ap option_copied c.in_default-possible_values.is)
     c.get_value_hint-hint.ensures c.is_path.ensures (search rules) finds.1 finds.2)

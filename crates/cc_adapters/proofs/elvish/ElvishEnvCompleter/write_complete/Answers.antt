@@ -1,7 +1,5 @@
 use Rattle.std.proofs.Common.{refl}
 use Rattle.cc_adapters.proofs.Replying.{replied_between}
-use Rattle.cc_replies.proofs.ReplyLaws.{values_reads}
-use Rattle.cc_replies.specs.Environment.{separator_of}
 use Rattle.cc_replies.specs.Reply.{values_reply}
 use Rattle.cc_adapters.proofs.elvish.ElvishEnvCompleter.write_complete.Goals as goal
 
@@ -9,6 +7,3 @@ pub returns-clause-reply : goal.returns-clause-reply
 returns-clause-reply g c =
     replied_between _ _ _ _ _ _ _ _ _ _ _ values_reply _ _ c.separator.ensures
     (c.index-index.ensures, refl) c.reply_at.ensures
-
-pub returns-clause-read_back : goal.returns-clause-read_back
-returns-clause-read_back g c = values_reads (separator_of c.args.env.now)

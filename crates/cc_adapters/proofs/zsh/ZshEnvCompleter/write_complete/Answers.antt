@@ -1,6 +1,4 @@
 use Rattle.cc_adapters.proofs.Replying.{out_of_memory, replied_between}
-use Rattle.cc_replies.proofs.ReplyLaws.{zsh_reads}
-use Rattle.cc_replies.specs.Environment.{separator_of}
 use Rattle.cc_replies.specs.Reply.{zsh_reply}
 use Rattle.cc_adapters.proofs.zsh.ZshEnvCompleter.write_complete.Goals as goal
 
@@ -9,13 +7,7 @@ returns-clause-reply g c =
     replied_between _ _ _ _ _ _ _ _ _ _ _ zsh_reply _ _ c.separator.ensures
     (c.index-index.ensures, c.in_ok-words.ensures) c.reply_at.ensures
 
-pub returns-clause-read_back : goal.returns-clause-read_back
-returns-clause-read_back g c = zsh_reads (separator_of c.args.env.now)
-
 pub returns-in_err-words-clause-reply : goal.returns-in_err-words-clause-reply
 returns-in_err-words-clause-reply g c =
     out_of_memory _ _ _ c.args.command.now _ _ _ _ _
     c.from_residual.ensures.1
-
-pub returns-in_err-words-clause-read_back : goal.returns-in_err-words-clause-read_back
-returns-in_err-words-clause-read_back g c = zsh_reads (separator_of c.args.env.now)

@@ -1,8 +1,7 @@
 use Rattle.std.proofs.Common.{◌∙◌, sym, ap, length, map, string_bytes}
 use Rattle.std.proofs.lemmas.Result.{err_from_is_err_and}
-use Rattle.cc_env.proofs.LastWords.{asked_fewer, asked_kept}
+use Rattle.cc_env.proofs.LastWords.{fewer, last_kept}
 use Rattle.cc_env.proofs.Texts.{text_registered, text_replied, text_without_arguments, text_without_command}
-use Rattle.cc_env.specs.Arguments.{asked_words}
 use Rattle.cc_env.specs.Steps.{made_bytes}
 use Rattle.cc_env.proofs.complete_env.CompleteEnv.make_text.Goals as goal
 
@@ -28,9 +27,8 @@ returns-then-is_empty g c =
 
 pub keep_last-words-requires : goal.keep_last-words-requires
 keep_last-words-requires g c =
-    let split = sym c.deref.ensures.value ∙ c.in-Some.ensures.cases.0 in
-    asked_fewer string_bytes c.args.args.items c.after_dashes-after.result.now
-    (c.after_dashes-after.ensures ∙ ap (λ a. asked_words (map string_bytes a)) (sym split))
+    fewer string_bytes c.args.args.items c.in-Some.program.now c.in-Some.rest.now c.after_dashes-after.result.now
+    (sym c.deref.ensures.value ∙ c.in-Some.ensures.cases.0) c.after_dashes-after.ensures
 
 pub returns : goal.returns
 returns g c =
@@ -40,6 +38,6 @@ returns g c =
     c.after_dashes-after.result.now (map string_bytes c.keep_last-words.result.items) made.0 c.in_ok-command.command _
     (made_bytes c.reply.result) made.1 made.2 made.3 split c.after_dashes-after.ensures
     (sym c.is_empty.ensures ∙ c.if-is_empty.false)
-    (ap (map string_bytes) c.keep_last-words.ensures ∙ asked_kept string_bytes c.args.args.items c.after_dashes-after.result.now
-    (c.after_dashes-after.ensures ∙ ap (λ a. asked_words (map string_bytes a)) (sym split)))
+    (ap (map string_bytes) c.keep_last-words.ensures
+    ∙ last_kept string_bytes c.args.args.items c.in-Some.program.now c.in-Some.rest.now c.after_dashes-after.result.now split c.after_dashes-after.ensures)
     c.reply.ensures.built c.reply.ensures.replied

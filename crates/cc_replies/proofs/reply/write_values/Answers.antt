@@ -1,8 +1,0 @@
-use Rattle.cc_replies.proofs.ReplyLaws.{values_reads}
-use Rattle.cc_replies.proofs.reply.write_values.Goals as goal
-
-pub returns-clause-read_back : goal.returns-clause-read_back
-returns-clause-read_back g c = values_reads c.args.between.now c.args.candidates.now
-
-pub returns-in_err-put_values-clause-read_back : goal.returns-in_err-put_values-clause-read_back
-returns-in_err-put_values-clause-read_back g c = values_reads c.args.between.now c.args.candidates.now

@@ -1,0 +1,2 @@
+pub mod ToolLine
+pub mod ToolPlans
