@@ -4,7 +4,8 @@ ghost use Rattle.std.specs.Prelude.{◌≡◌, IfOk, map, string_bytes};
 ghost use Rattle.std.specs.Option.{option_copied};
 ghost use Rattle.cc_engine.specs.Paths.{PathsOf};
 ghost use Rattle.complgen_live.specs.Replies.{EndsReply};
-ghost use Rattle.complgen_live.specs.TreeErrors.{DescribedBy, about_tree, bad_form_text, not_json_text};
+ghost use Rattle.complgen_live.specs.TreeErrors.{DescribedBy, about_tree, bad_form_text};
+ghost use Rattle.complgen_live.specs.TreeErrors.{not_json_text};
 
 use cc_base::{Error, Sink, Text};
 use cc_candidates::Completers;

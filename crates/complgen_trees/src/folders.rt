@@ -1,11 +1,11 @@
 //! The folders that hold tree files.
 
-ghost use Rattle.std.specs.Prelude.{◌≡◌, ◌++◌, IfOk, OnOk, codes, filter, map, option_map, string_bytes};
+ghost use Rattle.std.specs.Prelude.{◌≡◌, ◌++◌, IfOk, OnOk, codes, filter, map, string_bytes};
 ghost use Rattle.std.specs.Option.{option_copied};
 ghost use Rattle.cc_replies.specs.Environment.{value_of};
 ghost use Rattle.cc_paths.specs.PathTexts.{is_absolute};
-ghost use Rattle.complgen_trees.specs.Folders.{data_folder, is_some_text, pieces, some_text, system_folders};
-ghost use Rattle.complgen_trees.specs.Folders.{tree_folders, user_folders};
+ghost use Rattle.complgen_trees.specs.Folders.{data_folder, is_some_text, pieces, some_text};
+ghost use Rattle.complgen_trees.specs.Folders.{system_folders, tree_folders, user_folders};
 
 use cc_paths::join;
 use cc_replies::EnvValues;
