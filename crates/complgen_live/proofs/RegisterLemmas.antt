@@ -201,19 +201,19 @@ module _ {S : Type 0} (taken : S → List ℕ) (failed : S → Failures) (curren
 
   -- the same of the call as it is made: by the variable, without a binary and a completer, among
   -- these shells
-  pub registers_tried : (arguments : List (List ℕ)) (named_by : List ℕ)
+  pub registers_tried : (arguments : List (List ℕ)) (by_name : List ℕ)
       (bin called : Option (List ℕ)) (shells : List Builtin) (old new : S)
-      (result : Result Bool Error) → arguments ≡ program ∷ [] → named_by ≡ variable
+      (result : Result Bool Error) → arguments ≡ program ∷ [] → by_name ≡ variable
       → (bin ≡ None) × (called ≡ None) → shells ≡ all_builtins
       → Tries taken failed builtin_spec shells
-      (λ shell. MakesText Makes (builtin_spec shell) (names_of named_by bin called current) env Offers
-      arguments) (wanted_name (value_of named_by env)) old new result
+      (λ shell. MakesText Makes (builtin_spec shell) (names_of by_name bin called current) env Offers
+      arguments) (wanted_name (value_of by_name env)) old new result
       → RegistersAll taken failed (program_path current program) (name ∷ []) (requested env) old new
       (done_of result)
-  registers_tried arguments named_by bin called shells old new result are is none all tried =
+  registers_tried arguments by_name bin called shells old new result are is none all tried =
       let by_all = subst (λ s. Tries taken failed builtin_spec s
-      (λ shell. MakesText Makes (builtin_spec shell) (names_of named_by bin called current) env Offers
-      arguments) (wanted_name (value_of named_by env)) old new result) all tried in
+      (λ shell. MakesText Makes (builtin_spec shell) (names_of by_name bin called current) env Offers
+      arguments) (wanted_name (value_of by_name env)) old new result) all tried in
       let by_variable = subst (λ v. Tries taken failed builtin_spec all_builtins
       (λ shell. MakesText Makes (builtin_spec shell) (names_of v bin called current) env Offers
       arguments) (wanted_name (value_of v env)) old new result) is by_all in

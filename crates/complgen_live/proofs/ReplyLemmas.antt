@@ -66,8 +66,8 @@ module _ {S : Type 0} (taken : S → List ℕ) (failed : S → Failures) (env : 
   module _ (Makes : Result Tree Error → Type 0)
       (described : (made : Result Tree Error) → Makes made → DescribedBy path bytes made) where
     abbrev MakesBy : MayReturn → List (List ℕ) → Builtin → Result (List ℕ) Error → Type 0
-    MakesBy returned arguments shell result =
-        MakesText Makes (builtin_spec shell) (names_of variable None None current) env (Completes returned)
+    MakesBy sources arguments shell result =
+        MakesText Makes (builtin_spec shell) (names_of variable None None current) env (Completes sources)
         arguments result
 
     -- the file describes the command that the text is made of; or it describes none
@@ -118,32 +118,32 @@ module _ {S : Type 0} (taken : S → List ℕ) (failed : S → Failures) (env : 
         outcome.unknown_shell bytes name error requests done.1 done.2
     ends_wanted (known shell) result requests done = ends_known shell requests done
 
-    pub replies : (returned : MayReturn) (result : Result Bool Error) → returned ≡ paths_alone Finds
-        → EndsAs taken failed shell_names (MakesBy returned words) (requested env) old new result
+    pub replies : (sources : MayReturn) (result : Result Bool Error) → sources ≡ paths_alone Finds
+        → EndsAs taken failed shell_names (MakesBy sources words) (requested env) old new result
         → Reply result
-    replies returned result is done = ends_wanted (requested env) result refl
+    replies sources result is done = ends_wanted (requested env) result refl
         (subst (λ l. EndsAs taken failed shell_names (MakesBy l words) (requested env) old new result) is done)
 
     -- the same of the call as it is made: by the variable, without a binary and a completer, among
     -- these shells
-    pub replies_tried : (returned : MayReturn) (named_by : List ℕ) (bin called : Option (List ℕ))
-        (shells : List Builtin) (result : Result Bool Error) → returned ≡ paths_alone Finds
-        → named_by ≡ variable → (bin ≡ None) × (called ≡ None) → shells ≡ all_builtins
+    pub replies_tried : (sources : MayReturn) (by_name : List ℕ) (bin called : Option (List ℕ))
+        (shells : List Builtin) (result : Result Bool Error) → sources ≡ paths_alone Finds
+        → by_name ≡ variable → (bin ≡ None) × (called ≡ None) → shells ≡ all_builtins
         → Tries taken failed builtin_spec shells
-        (λ shell. MakesText Makes (builtin_spec shell) (names_of named_by bin called current) env
-        (Completes returned) words) (wanted_name (value_of named_by env)) old new result
+        (λ shell. MakesText Makes (builtin_spec shell) (names_of by_name bin called current) env
+        (Completes sources) words) (wanted_name (value_of by_name env)) old new result
         → Reply result
-    replies_tried returned named_by bin called shells result is by none all tried =
+    replies_tried sources by_name bin called shells result is by none all tried =
         let by_all = subst (λ s. Tries taken failed builtin_spec s
-        (λ shell. MakesText Makes (builtin_spec shell) (names_of named_by bin called current) env
-        (Completes returned) words) (wanted_name (value_of named_by env)) old new result) all tried in
+        (λ shell. MakesText Makes (builtin_spec shell) (names_of by_name bin called current) env
+        (Completes sources) words) (wanted_name (value_of by_name env)) old new result) all tried in
         let by_variable = subst (λ v. Tries taken failed builtin_spec all_builtins
         (λ shell. MakesText Makes (builtin_spec shell) (names_of v bin called current) env
-        (Completes returned) words) (wanted_name (value_of v env)) old new result) by by_all in
+        (Completes sources) words) (wanted_name (value_of v env)) old new result) by by_all in
         let without_bin = subst (λ b. Tries taken failed builtin_spec all_builtins
         (λ shell. MakesText Makes (builtin_spec shell) (names_of variable b called current) env
-        (Completes returned) words) (wanted_name (value_of variable env)) old new result) none.0 by_variable in
-        replies returned result is
+        (Completes sources) words) (wanted_name (value_of variable env)) old new result) none.0 by_variable in
+        replies sources result is
         (subst (λ c. Tries taken failed builtin_spec all_builtins
         (λ shell. MakesText Makes (builtin_spec shell) (names_of variable None c current) env
-        (Completes returned) words) (wanted_name (value_of variable env)) old new result) none.1 without_bin)
+        (Completes sources) words) (wanted_name (value_of variable env)) old new result) none.1 without_bin)

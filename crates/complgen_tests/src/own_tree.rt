@@ -1,8 +1,11 @@
 //! The built-in tree has the subcommands and the arguments of the command line, and no others.
 
 use crate::words::refusal_of;
+use cc_fixtures::words::to_strings;
 use cc_tree_file::read_tree;
 use clap_complete::command::{Arg, Command};
+use complgen_command_line::Refusal;
+use complgen_tool_line::{names_tool, plan_tool};
 use complgen_trees::OWN_TREE;
 use std::alloc::Global;
 use std::convert::AsStr;
@@ -59,6 +62,19 @@ fn has_arguments(rt: &impl Abort, alloc: Global, help: &str, child: &Command) {
     assert!(rt; shown == positionals, "values of {help}");
 }
 
+// The help of a subcommand, which one of two command lines has.
+fn help_of(rt: &impl Abort, alloc: Global, name: &str) -> Refusal {
+    let words = ["complgen", name, "-h"];
+    let tool = to_strings(alloc, words.as_slice()).expect(rt, "no words");
+    if !names_tool(tool.as_slice()) {
+        return refusal_of(rt, alloc, words.as_slice());
+    }
+    match plan_tool(alloc, tool.as_slice()) {
+        Ok(_) => panic!(rt; "a plan"),
+        Err(refusal) => refusal,
+    }
+}
+
 #[test]
 fn is_the_command_line(rt: HostRuntime) {
     let tree = read_tree(rt.alloc(), OWN_TREE.as_bytes()).expect(&rt, "no tree");
@@ -77,8 +93,7 @@ fn is_the_command_line(rt: HostRuntime) {
             start.as_str(),
             child.get_about().unwrap_or("none"),
         );
-        let words = ["complgen", child.get_name(), "-h"];
-        let own = refusal_of(&rt, rt.alloc(), words.as_slice());
+        let own = help_of(&rt, rt.alloc(), child.get_name());
         has_arguments(&rt, rt.alloc(), own.text.as_str(), child);
     }
 }

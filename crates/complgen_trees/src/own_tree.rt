@@ -103,6 +103,55 @@ pub const OWN_TREE: &str = r#"{
           "num_args": [0, null]
         }
       ]
+    },
+    {
+      "name": "check",
+      "about": "Says what is wrong with a tree file, and where",
+      "args": [
+        {
+          "id": "bin",
+          "long": "bin",
+          "value_names": ["NAME"],
+          "help": "The name by which the shell calls the program, where it is not the tree's own",
+          "value_hint": "CommandName"
+        },
+        {
+          "id": "tree",
+          "value_names": ["TREE"],
+          "help": "A JSON file that describes a command, with its arguments and subcommands",
+          "required": true,
+          "value_hint": "FilePath"
+        }
+      ]
+    },
+    {
+      "name": "scripts",
+      "about": "Writes the scripts of all shells to files",
+      "args": [
+        {
+          "id": "bin",
+          "long": "bin",
+          "value_names": ["NAME"],
+          "help": "The name by which the shell calls the program",
+          "required": true,
+          "value_hint": "CommandName"
+        },
+        {
+          "id": "out-dir",
+          "long": "out-dir",
+          "value_names": ["FOLDER"],
+          "help": "The folder where the scripts go, which has to be there",
+          "required": true,
+          "value_hint": "DirPath"
+        },
+        {
+          "id": "tree",
+          "value_names": ["TREE"],
+          "help": "A JSON file that describes a command, with its arguments and subcommands",
+          "required": true,
+          "value_hint": "FilePath"
+        }
+      ]
     }
   ]
 }
