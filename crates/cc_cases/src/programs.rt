@@ -10,6 +10,8 @@ use clap_complete::quote::posix_word;
 use clap_complete::{CompleteEnv, Error};
 use complgen_command_line::{Refusal, plan};
 use complgen_run::run;
+use complgen_tool_line::{ToolPlan, names_tool, plan_tool};
+use complgen_tools::check;
 use std::alloc::{AllocError, Global};
 use std::convert::AsStr;
 
@@ -93,25 +95,49 @@ fn variable(alloc: Global, word: &str) -> Result<Option<(String, String)>, Alloc
 // What `complgen` prints for these words.
 fn complgen(alloc: Global, document: &Document, words: &[String]) -> Result<Outcome, AllocError> {
     let mut out = Collected::new(alloc);
-    let refusal = carry_out(alloc, document, words, &mut out).err();
+    let carried_out = carry_out(alloc, document, words, &mut out);
     let mut text = String::from_utf8_lossy(alloc, out.as_slice())?;
-    let mut status = 0;
-    if let Some(refusal) = refusal {
-        text.push_str(refusal.text.as_str())?;
-        status = refusal.status;
+    match carried_out {
+        Ok(status) => Ok(Outcome { status, text }),
+        Err(refusal) => {
+            text.push_str(refusal.text.as_str())?;
+            let status = refusal.status;
+            Ok(Outcome { status, text })
+        }
     }
-    Ok(Outcome { status, text })
 }
 
+// Does what the words want, and returns the exit status.
 fn carry_out(
     alloc: Global,
     document: &Document,
     words: &[String],
     out: &mut Collected,
-) -> Result<(), Refusal> {
+) -> Result<u8, Refusal> {
+    if names_tool(words) {
+        return checked(alloc, document, words, out);
+    }
     let plan = plan(alloc, words)?;
     let file = document.tree(plan.tree());
-    run(alloc, &plan, file, &folders(), out)
+    run(alloc, &plan, file, &folders(), out)?;
+    Ok(0)
+}
+
+// Checks a tree file. No case writes files.
+fn checked(
+    alloc: Global,
+    document: &Document,
+    words: &[String],
+    out: &mut Collected,
+) -> Result<u8, Refusal> {
+    match plan_tool(alloc, words)? {
+        ToolPlan::Check(bin, tree) => {
+            let bin = bin.as_ref().map(|bin| bin.as_str());
+            let is_clean = check(alloc, bin, document.tree(tree.as_str()), out)?;
+            Ok(u8::from(!is_clean))
+        }
+        ToolPlan::Scripts(_, _, _) => Ok(3),
+    }
 }
 
 // What a program prints that completes itself.

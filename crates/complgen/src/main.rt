@@ -3,11 +3,13 @@
 #![tactic(auto)]
 
 mod live;
+mod tools;
 
 use clap_complete::aot::Counted;
 use clap_complete::engine::RealFolder;
 use complgen_command_line::{Refusal, WRITE_FAILED, plan};
 use complgen_run::run;
+use complgen_tool_line::names_tool;
 use complgen_trees::is_request;
 use std::alloc::AllocError;
 use std::convert::AsStr;
@@ -22,17 +24,22 @@ const NOT_UTF8: &str = "words: not UTF-8\n";
 
 fn main(rt: HostRuntime) -> ExitCode {
     match carry_out(&rt) {
-        Ok(()) => ExitCode::SUCCESS,
+        Ok(status) => ExitCode::from(status),
         Err(refusal) => ExitCode::from(report(&rt, &refusal)),
     }
 }
 
-// Does what the command line asks for, or what a shell requests.
-fn carry_out<R: Env + Files + Print + Eprint + AllocGlobal>(rt: &R) -> Result<(), Refusal> {
+// Does what a shell requests, or what the words want of a tool or of the program, and returns the
+// exit status.
+fn carry_out<R: Env + Files + Print + Eprint + AllocGlobal>(rt: &R) -> Result<u8, Refusal> {
     let words = words(rt)?;
     let env = live::environment(rt)?;
     if is_request(&env, words.as_slice()) {
-        return live::complete(rt, &env, words);
+        live::complete(rt, &env, words)?;
+        return Ok(0);
+    }
+    if names_tool(words.as_slice()) {
+        return tools::use_tool(rt, words.as_slice());
     }
     let plan = plan(rt.alloc(), words.as_slice())?;
     let file = contents(rt, plan.tree())?;
@@ -42,7 +49,8 @@ fn carry_out<R: Env + Files + Print + Eprint + AllocGlobal>(rt: &R) -> Result<()
     let folder = RealFolder::new(rt, home(rt)?);
     run(rt.alloc(), &plan, file, &folder, &mut out)?;
     out.flush()
-        .map_err(|_| Refusal::from_static(1, WRITE_FAILED))
+        .map_err(|_| Refusal::from_static(1, WRITE_FAILED))?;
+    Ok(0)
 }
 
 // The words of the command line; the first is the program's name.
