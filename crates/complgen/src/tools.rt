@@ -28,7 +28,14 @@ pub(crate) fn use_tool<R: Files + Print + AllocGlobal>(
             u8::from(!is_clean)
         }
         ToolPlan::Scripts(bin, folder, _) => {
-            scripts(rt, rt.alloc(), bin.as_str(), folder.as_str(), file, &mut out)?;
+            scripts(
+                rt,
+                rt.alloc(),
+                bin.as_str(),
+                folder.as_str(),
+                file,
+                &mut out,
+            )?;
             0
         }
     };

@@ -13,7 +13,7 @@ use Rattle.cc_command.specs.Tree.{Tree}
 use Rattle.cc_shell.specs.Shells.{all_shells, shell_spec}
 use Rattle.cc_shell.specs.declared.shell.Shell.{Shell}
 use Rattle.cc_shell.specs.declared.shell.Shell.TheVariants.{Bash, Elvish, Fish, Nushell, PowerShell, Zsh}
-use Rattle.cc_tree_file.specs.TreeFile.{Describes}
+use Rattle.cc_tree_file.specs.TreeFile.{HoldsTree}
 use Rattle.complgen_command_line.specs.Refusals.{IsOutOfMemory, IsRefusal}
 use Rattle.complgen_command_line.specs.declared.types.Refusal.{Refusal}
 use Rattle.complgen_run.specs.Refusals.{IsMade, Reports, error_line}
@@ -81,18 +81,18 @@ pub data EndsScripts {S : Type 0} (taken : S → List ℕ) (failed : S → Failu
       → Untouched taken failed old new
       → EndsScripts taken failed bin folder old new file (Err refusal)
   -- out of memory, and nothing is printed
-  out_of_memory : (file : Option (List ℕ)) (refusal : Refusal) → IsOutOfMemory refusal
+  no_memory : (file : Option (List ℕ)) (refusal : Refusal) → IsOutOfMemory refusal
       → Untouched taken failed old new
       → EndsScripts taken failed bin folder old new file (Err refusal)
   -- two commands share a label of the bash script, and nothing is printed
-  shared_label : (bytes : List ℕ) (tree : Tree) (refusal : Refusal) → Describes bytes (Some tree)
+  shared_label : (file : Option (List ℕ)) (tree : Tree) (refusal : Refusal) → HoldsTree file tree
       → SharesLabel Bash bin tree refusal → Untouched taken failed old new
-      → EndsScripts taken failed bin folder old new (Some bytes) (Err refusal)
+      → EndsScripts taken failed bin folder old new file (Err refusal)
   -- the scripts of the tree that the file describes are written to their files
-  files : (bytes : List ℕ) (tree : Tree) (result : Result (Unit {0}) Refusal)
-      → Describes bytes (Some tree)
+  files : (file : Option (List ℕ)) (tree : Tree) (result : Result (Unit {0}) Refusal)
+      → HoldsTree file tree
       → EndsFiles taken failed folder (path_lines bin folder all_shells) old new result
-      → EndsScripts taken failed bin folder old new (Some bytes) result
+      → EndsScripts taken failed bin folder old new file result
 
 -- the shells but bash
 abbrev pub other_shells : List Shell

@@ -1,6 +1,6 @@
 -- What a check of a tree file finds and prints, and how it ends.
 use Rattle.std.specs.Prelude.{◌≡◌, ◌+◌, ◌++◌, ◌&&◌, ◌==◌, ℕ, Bool, false, List, [], Option, Some, None}
-use Rattle.std.specs.Prelude.{IsTrue, Result, Ok, Err, codes, count_by, decimal, map, not, reverse}
+use Rattle.std.specs.Prelude.{IsTrue, Result, Ok, Err, codes, count_by, decimal, not, reverse}
 use Rattle.std.specs.Prelude.{string_bytes, length, min, take, take_while}
 use Rattle.std.specs.List.{flat_map}
 use Rattle.std.specs.declared.io.ErrorKind.{ErrorKind}
@@ -9,10 +9,6 @@ use Rattle.cc_base.specs.declared.failures.Failures.{Failures}
 use Rattle.cc_base.specs.declared.error.Error.TheVariants.{Write}
 use Rattle.cc_command.specs.Tree.{Tree}
 use Rattle.cc_command_warnings.specs.Notes.{are_notes}
-use Rattle.cc_command_warnings.specs.Texts.{level_of, warning_text}
-use Rattle.cc_command_warnings.specs.declared.warning.Level.TheVariants as warning
-use Rattle.cc_command_warnings.specs.declared.warning.Level.{Level as WarningLevel}
-use Rattle.cc_command_warnings.specs.declared.warning.Warning.{Warning}
 use Rattle.cc_tree_errors.specs.Checks.{DescribesNone}
 use Rattle.cc_tree_errors.specs.Places.{begins_character}
 use Rattle.cc_tree_errors.specs.declared.finding.Level.{Level}
@@ -57,26 +53,12 @@ finding_lines bytes found = flat_map (finding_line bytes) found
 
 -- ---- what is found
 
--- the level of a finding, and its text
-abbrev pub said : PlacedFinding → Level × List ℕ
-said finding = (finding.level, string_bytes finding.text)
-
--- the level of a warning as one of a finding
-abbrev pub as_level : WarningLevel → Level
-as_level warning.Warning = level.Warning
-as_level warning.Note = level.Note
-
--- the level of a warning, and its text
-abbrev pub warning_said : Warning → Level × List ℕ
-warning_said warning = (as_level (level_of warning.kind), warning_text warning)
-
--- What is said of a command in a file without errors: keys that stand twice, then the warnings and
--- notes about the command; and whether that is nothing but notes.
+-- What is found in a file without errors: keys that stand twice, then what there is to say of the
+-- command; and whether that is nothing but notes.
 pub record Warns (bin : Option (List ℕ)) (tree : Tree) (doubles found : List PlacedFinding)
     (clean : Bool) : Type 0 where
   pub warnings : List PlacedFinding
   pub all : found ≡ doubles ++ warnings
-  pub said : map said warnings ≡ map warning_said (warnings_of bin tree)
   pub is_clean : clean ≡ (is_nil doubles && are_notes (warnings_of bin tree))
 
 -- What a check finds in the bytes of a tree file, and whether that is nothing but notes.
