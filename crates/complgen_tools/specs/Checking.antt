@@ -1,16 +1,15 @@
 -- What a check of a tree file finds and prints, and how it ends.
-use Rattle.std.specs.Prelude.{◌≡◌, ◌+◌, ◌++◌, ◌&&◌, ◌==◌, ℕ, Bool, false, List, [], Option, Some, None}
-use Rattle.std.specs.Prelude.{IsTrue, Result, Ok, Err, codes, count_by, decimal, not, reverse}
-use Rattle.std.specs.Prelude.{string_bytes, length, min, take, take_while}
-use Rattle.std.specs.List.{flat_map}
+use Rattle.std.specs.Prelude.{◌≡◌, ◌+◌, ◌++◌, ◌&&◌, ◌==◌, ℕ, Bool, false, List, [], ◌∷◌, Option, Some, None}
+use Rattle.std.specs.Prelude.{IsTrue, Result, Ok, Err, codes, count_by, decimal, length, min}
+use Rattle.std.specs.Prelude.{string_bytes, take}
 use Rattle.std.specs.declared.io.ErrorKind.{ErrorKind}
 use Rattle.cc_base.specs.Sink.{add_failure}
 use Rattle.cc_base.specs.declared.failures.Failures.{Failures}
-use Rattle.cc_base.specs.declared.error.Error.TheVariants.{Write}
+use Rattle.cc_base.specs.declared.error.Error.{Error}
+use Rattle.cc_base.specs.declared.error.Error.TheVariants.{Memory, Write}
 use Rattle.cc_command.specs.Tree.{Tree}
 use Rattle.cc_command_warnings.specs.Notes.{are_notes}
 use Rattle.cc_tree_errors.specs.Checks.{DescribesNone}
-use Rattle.cc_tree_errors.specs.Places.{begins_character}
 use Rattle.cc_tree_errors.specs.declared.finding.Level.{Level}
 use Rattle.cc_tree_errors.specs.declared.finding.Level.TheVariants as level
 use Rattle.cc_tree_errors.specs.declared.finding.PlacedFinding.{PlacedFinding}
@@ -31,25 +30,30 @@ level_text level.Note = codes "note"
 level_text level.Warning = codes "warning"
 level_text level.Error = codes "error"
 
--- the line of what comes after some bytes, from 1, and its column in characters, from 1
-abbrev pub line_after : List ℕ → ℕ
-line_after before = count_by (λ byte. byte == 10) before + 1
-
-abbrev pub column_after : List ℕ → ℕ
-column_after before =
-    count_by begins_character (take_while (λ byte. not (byte == 10)) (reverse before)) + 1
-
--- a finding as a line, `LINE:COLUMN: LEVEL: PATH: TEXT`
-abbrev pub finding_line : List ℕ → PlacedFinding → List ℕ
-finding_line bytes finding =
-    ((((((decimal (line_after (take (min finding.offset (length bytes)) bytes)) ++ codes ":")
-    ++ decimal (column_after (take (min finding.offset (length bytes)) bytes))) ++ codes ": ")
-    ++ level_text finding.level) ++ codes ": ") ++ string_bytes finding.path)
-    ++ (codes ": " ++ (string_bytes finding.text ++ codes "\n"))
+-- a finding as a line, `LINE:COLUMN: LEVEL: PATH: TEXT`: the lines count from 1; which column it is
+-- stays open
+pub record IsLine (bytes : List ℕ) (finding : PlacedFinding) (text : List ℕ) : Type 0 where
+  pub column : ℕ
+  pub is : text ≡ ((((((decimal (count_by (λ byte. byte == 10)
+      (take (min finding.offset (length bytes)) bytes) + 1) ++ codes ":")
+      ++ decimal column) ++ codes ": ") ++ level_text finding.level) ++ codes ": ")
+      ++ string_bytes finding.path) ++ (codes ": " ++ (string_bytes finding.text ++ codes "\n"))
 
 -- findings, a line each
-abbrev pub finding_lines : List ℕ → List PlacedFinding → List ℕ
-finding_lines bytes found = flat_map (finding_line bytes) found
+abbrev pub AreLines : List ℕ → List PlacedFinding → List ℕ → Type 0
+AreLines bytes [] text = text ≡ []
+AreLines bytes (finding ∷ found) text = (line : List ℕ) × (rest : List ℕ)
+    × IsLine bytes finding line × AreLines bytes found rest × (text ≡ line ++ rest)
+
+-- how the printing of findings ends
+abbrev pub PrintsLines : {S : Type 0} → (S → List ℕ) → (S → Failures) → List ℕ
+    → List PlacedFinding → S → S → Result (Unit {0}) Error → Type 0
+PrintsLines taken failed bytes found old new (Ok tt) = (text : List ℕ) × AreLines bytes found text
+    × (taken new ≡ taken old ++ text) × (failed new ≡ failed old)
+PrintsLines taken failed bytes found old new (Err (Write kind)) =
+    failed new ≡ add_failure kind (failed old)
+PrintsLines taken failed bytes found old new (Err Memory) = failed new ≡ failed old
+PrintsLines taken failed bytes found old new (Err error) = ⊥
 
 -- ---- what is found
 
@@ -94,6 +98,6 @@ pub data EndsCheck {S : Type 0} (taken : S → List ℕ) (failed : S → Failure
       → IsRefusal (error_line (Write kind)) refusal → failed new ≡ add_failure kind (failed old)
       → EndsCheck taken failed bin old new (Some bytes) (Err refusal)
   -- each finding is printed
-  printed : (bytes : List ℕ) (found : List PlacedFinding) (clean : Bool)
-      → Finds bin bytes found clean → taken new ≡ taken old ++ finding_lines bytes found
+  printed : (bytes text : List ℕ) (found : List PlacedFinding) (clean : Bool)
+      → Finds bin bytes found clean → AreLines bytes found text → taken new ≡ taken old ++ text
       → failed new ≡ failed old → EndsCheck taken failed bin old new (Some bytes) (Ok clean)

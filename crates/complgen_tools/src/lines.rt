@@ -1,8 +1,8 @@
 //! Findings as lines.
 
 ghost use Rattle.std.specs.Prelude.{◌≡◌, string_bytes, IfOk};
-ghost use Rattle.cc_base.specs.Writes.{Writes};
-ghost use Rattle.complgen_tools.specs.Checking.{finding_line, finding_lines, level_text};
+ghost use Rattle.complgen_tools.specs.Checking.{IsLine, PrintsLines};
+ghost use Rattle.complgen_tools.specs.Checking as check;
 
 use cc_base::{Error, Sink, put_piece};
 use cc_tree_errors::{Level, PlacedFinding, line_and_column};
@@ -16,8 +16,7 @@ pub(crate) fn put_findings<W: Sink>(
     bytes: &[u8],
     findings: &[PlacedFinding],
 ) -> Result<(), Error>
-    ensures { Writes W.taken W.failed result out.old out.new
-        (finding_lines bytes.now findings.now) }
+    ensures { PrintsLines W.taken W.failed bytes.now findings.now out.old out.new result }
 {
     for finding in findings {
         let line = line(alloc, bytes, finding)?;
@@ -28,7 +27,7 @@ pub(crate) fn put_findings<W: Sink>(
 
 // A finding as a line.
 fn line(alloc: Global, bytes: &[u8], finding: &PlacedFinding) -> Result<String, AllocError>
-    ensures { IfOk result (λ line. string_bytes line ≡ finding_line bytes.now finding.now) }
+    ensures { IfOk result (λ line. IsLine bytes.now finding.now (string_bytes line)) }
 {
     let before = &bytes[..finding.offset.min(bytes.len())];
     let (line, column) = line_and_column(before);
@@ -38,7 +37,7 @@ fn line(alloc: Global, bytes: &[u8], finding: &PlacedFinding) -> Result<String, 
 }
 
 fn level_text(level: Level) -> &'static str
-    ensures { result.now ≡ level_text level }
+    ensures { result.now ≡ check.level_text level }
 {
     match level {
         Level::Note => "note",
