@@ -31,9 +31,9 @@ pub fn write_if_no_warnings<G: Generator + Drop, W: Sink>(
     ensures writes { IfOk result (λ done.
         done ≡ are_notes (warnings_of (Some (string_bytes bin_name)) command.old)) }
     ensures reads { IfOk result (λ done. IsTrue done →
-        G.Reads generator (built_under (Some (string_bytes bin_name)) command.old)) }
+        (G.spec generator).Reads (built_under (Some (string_bytes bin_name)) command.old)) }
     ensures errors { (shared_label (built_under (Some (string_bytes bin_name)) command.old) ≡ None →
-        G.clash generator (built_under (Some (string_bytes bin_name)) command.old) ≡ None) →
+        (G.spec generator).clash (built_under (Some (string_bytes bin_name)) command.old) ≡ None) →
         IfErr result IsMemoryOrWrite }
 {
     let found = tree_warnings(alloc, Some(bin_name.as_str()), command)?;

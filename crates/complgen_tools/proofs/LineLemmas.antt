@@ -38,5 +38,9 @@ module _ {S : Type 0} (taken : S → List ℕ) (failed : S → Failures) (bytes 
 
   pub prints_all : (new : S) → Prints taken failed bytes all [] old new
       → PrintsLines taken failed bytes all old new (Ok tt)
-  prints_all new done = (done.text ++ [], done.lines [] refl,
-      done.took ∙ ap (λ t. taken old ++ t) (sym (append-nil done.text)), done.failures)
+  prints_all new done = (
+    done.text ++ [],
+    done.lines [] refl,
+    done.took ∙ ap (λ t. taken old ++ t) (sym (append-nil done.text)),
+    done.failures,
+  )

@@ -20,5 +20,5 @@ returns-clause-reads g c = λ done.
     let holds = premises_hold (Some bin) tree none in
     let same = again_same bin tree c.tree_warnings.new.command
     (c.in_ok-found.ensures.built ∙ ap (λ name. built_as (Some name) tree) named) c.in_ok-found.ensures.whole in
-    subst (g.G.Generator.Reads c.args.generator) same
+    subst (λ (t : Tree). (g.G.Generator.spec c.args.generator).Reads t) same
     (c.in_ok-generate.ensures.plain (c.in_ok-found.ensures.plain none_so) holds.name)
