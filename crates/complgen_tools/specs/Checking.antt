@@ -1,7 +1,6 @@
 -- What a check of a tree file finds and prints, and how it ends.
-use Rattle.std.specs.Prelude.{◌≡◌, ◌+◌, ◌++◌, ◌&&◌, ◌==◌, ℕ, Bool, false, List, [], ◌∷◌, Option, Some, None}
-use Rattle.std.specs.Prelude.{IsTrue, Result, Ok, Err, codes, count_by, decimal, length, min}
-use Rattle.std.specs.Prelude.{string_bytes, take}
+use Rattle.std.specs.Prelude.{◌≡◌, ◌++◌, ◌&&◌, ℕ, Bool, false, List, [], ◌∷◌, Option, Some, None}
+use Rattle.std.specs.Prelude.{IsTrue, Result, Ok, Err, codes, decimal, string_bytes}
 use Rattle.std.specs.declared.io.ErrorKind.{ErrorKind}
 use Rattle.cc_base.specs.Sink.{add_failure}
 use Rattle.cc_base.specs.declared.failures.Failures.{Failures}
@@ -30,30 +29,34 @@ level_text level.Note = codes "note"
 level_text level.Warning = codes "warning"
 level_text level.Error = codes "error"
 
--- a finding as a line, `LINE:COLUMN: LEVEL: PATH: TEXT`: the lines count from 1; which column it is
--- stays open
-pub record IsLine (bytes : List ℕ) (finding : PlacedFinding) (text : List ℕ) : Type 0 where
+-- a finding as a line, `LINE:COLUMN: LEVEL: PATH: TEXT`
+abbrev pub line_text : ℕ → ℕ → PlacedFinding → List ℕ
+line_text line column finding =
+    ((((((decimal line ++ codes ":") ++ decimal column) ++ codes ": ")
+    ++ level_text finding.level) ++ codes ": ") ++ string_bytes finding.path)
+    ++ (codes ": " ++ (string_bytes finding.text ++ codes "\n"))
+
+-- a finding as a line, at some place; no clause says at which
+pub record IsLine (finding : PlacedFinding) (text : List ℕ) : Type 0 where
+  pub line : ℕ
   pub column : ℕ
-  pub is : text ≡ ((((((decimal (count_by (λ byte. byte == 10)
-      (take (min finding.offset (length bytes)) bytes) + 1) ++ codes ":")
-      ++ decimal column) ++ codes ": ") ++ level_text finding.level) ++ codes ": ")
-      ++ string_bytes finding.path) ++ (codes ": " ++ (string_bytes finding.text ++ codes "\n"))
+  pub is : text ≡ line_text line column finding
 
 -- findings, a line each
-abbrev pub AreLines : List ℕ → List PlacedFinding → List ℕ → Type 0
-AreLines bytes [] text = text ≡ []
-AreLines bytes (finding ∷ found) text = (line : List ℕ) × (rest : List ℕ)
-    × IsLine bytes finding line × AreLines bytes found rest × (text ≡ line ++ rest)
+abbrev pub AreLines : List PlacedFinding → List ℕ → Type 0
+AreLines [] text = text ≡ []
+AreLines (finding ∷ found) text = (line : List ℕ) × (rest : List ℕ)
+    × IsLine finding line × AreLines found rest × (text ≡ line ++ rest)
 
 -- how the printing of findings ends
-abbrev pub PrintsLines : {S : Type 0} → (S → List ℕ) → (S → Failures) → List ℕ
+abbrev pub PrintsLines : {S : Type 0} → (S → List ℕ) → (S → Failures)
     → List PlacedFinding → S → S → Result (Unit {0}) Error → Type 0
-PrintsLines taken failed bytes found old new (Ok tt) = (text : List ℕ) × AreLines bytes found text
+PrintsLines taken failed found old new (Ok tt) = (text : List ℕ) × AreLines found text
     × (taken new ≡ taken old ++ text) × (failed new ≡ failed old)
-PrintsLines taken failed bytes found old new (Err (Write kind)) =
+PrintsLines taken failed found old new (Err (Write kind)) =
     failed new ≡ add_failure kind (failed old)
-PrintsLines taken failed bytes found old new (Err Memory) = failed new ≡ failed old
-PrintsLines taken failed bytes found old new (Err error) = ⊥
+PrintsLines taken failed found old new (Err Memory) = failed new ≡ failed old
+PrintsLines taken failed found old new (Err error) = ⊥
 
 -- ---- what is found
 
@@ -99,5 +102,5 @@ pub data EndsCheck {S : Type 0} (taken : S → List ℕ) (failed : S → Failure
       → EndsCheck taken failed bin old new (Some bytes) (Err refusal)
   -- each finding is printed
   printed : (bytes text : List ℕ) (found : List PlacedFinding) (clean : Bool)
-      → Finds bin bytes found clean → AreLines bytes found text → taken new ≡ taken old ++ text
+      → Finds bin bytes found clean → AreLines found text → taken new ≡ taken old ++ text
       → failed new ≡ failed old → EndsCheck taken failed bin old new (Some bytes) (Ok clean)

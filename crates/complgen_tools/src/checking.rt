@@ -76,10 +76,10 @@ fn with_warnings(
     mut command: Command,
     doubles: Vec<PlacedFinding>,
 ) -> Result<Found, AllocError>
-    ensures warns { IfOk result (λ found. Warns (option_copied bin.entry) command.entry
+    ensures warns { IfOk result (λ found. Warns (option_copied bin.entry) command
         doubles.items found.findings.items found.is_clean) }
     ensures sound { IfOk result (λ found. IsTrue found.is_clean
-        → HoldPremises (option_copied bin.entry) command.entry) }
+        → HoldPremises (option_copied bin.entry) command) }
 {
     let warnings = tree_warnings(alloc, bin, &mut command)?;
     let is_clean = doubles.is_empty() && are_notes(&warnings);

@@ -16,7 +16,7 @@ pub(crate) fn put_findings<W: Sink>(
     bytes: &[u8],
     findings: &[PlacedFinding],
 ) -> Result<(), Error>
-    ensures { PrintsLines W.taken W.failed bytes.now findings.now out.old out.new result }
+    ensures { PrintsLines W.taken W.failed findings.now out.old out.new result }
 {
     for finding in findings {
         let line = line(alloc, bytes, finding)?;
@@ -27,10 +27,21 @@ pub(crate) fn put_findings<W: Sink>(
 
 // A finding as a line.
 fn line(alloc: Global, bytes: &[u8], finding: &PlacedFinding) -> Result<String, AllocError>
-    ensures { IfOk result (λ line. IsLine bytes.now finding.now (string_bytes line)) }
+    ensures { IfOk result (λ line. IsLine finding.now (string_bytes line)) }
 {
     let before = &bytes[..finding.offset.min(bytes.len())];
     let (line, column) = line_and_column(before);
+    line_text(alloc, line, column, finding)
+}
+
+fn line_text(
+    alloc: Global,
+    line: usize,
+    column: usize,
+    finding: &PlacedFinding,
+) -> Result<String, AllocError>
+    ensures { IfOk result (λ text. string_bytes text ≡ check.line_text line column finding.now) }
+{
     let level = level_text(finding.level);
     let (path, text) = (finding.path.as_str(), finding.text.as_str());
     format!(in alloc; "{line}:{column}: {level}: {path}: {text}\n")
