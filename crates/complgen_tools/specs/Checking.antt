@@ -32,9 +32,9 @@ level_text level.Error = codes "error"
 -- a finding as a line, `LINE:COLUMN: LEVEL: PATH: TEXT`
 abbrev pub line_text : ℕ → ℕ → PlacedFinding → List ℕ
 line_text line column finding =
-    ((((((decimal line ++ codes ":") ++ decimal column) ++ codes ": ")
-    ++ level_text finding.level) ++ codes ": ") ++ string_bytes finding.path)
-    ++ (codes ": " ++ (string_bytes finding.text ++ codes "\n"))
+    ((((((((decimal line ++ codes ":") ++ decimal column) ++ codes ": ")
+    ++ level_text finding.level) ++ codes ": ") ++ string_bytes finding.path) ++ codes ": ")
+    ++ string_bytes finding.text) ++ codes "\n"
 
 -- a finding as a line, at some place; no clause says at which
 pub record IsLine (finding : PlacedFinding) (text : List ℕ) : Type 0 where
