@@ -3,7 +3,7 @@
 ghost use Rattle.std.specs.Prelude.{IfOk, IsTrue, Some};
 ghost use Rattle.std.specs.Option.{option_copied};
 ghost use Rattle.cc_tree_warnings.specs.Promises.{HoldPremises};
-ghost use Rattle.complgen_tools.specs.Checking.{AreSound, EndsCheck, Finds, Warns};
+ghost use Rattle.complgen_tools.specs.Checking.{AreSound, FindsIn, Warns};
 
 use crate::lines::put_findings;
 use cc_base::Sink;
@@ -29,8 +29,8 @@ pub fn check<W: Sink>(
     file: Option<&[u8]>,
     out: &mut W,
 ) -> Result<bool, Refusal>
-    ensures ends { EndsCheck W.taken W.failed (option_copied bin.entry) out.old out.new
-        (option_copied file.entry) result }
+    ensures finds { IfOk result
+        (FindsIn (option_copied bin.entry) (option_copied file.entry)) }
     ensures sound { IfOk result (λ clean. IsTrue clean
         → AreSound (option_copied bin.entry) (option_copied file.entry)) }
 {
@@ -55,7 +55,7 @@ struct Found {
 // Errors; or, where there are none, keys that stand twice, and warnings and notes about the command.
 fn findings(alloc: Global, bin: Option<&str>, bytes: &[u8]) -> Result<Found, AllocError>
     ensures finds { IfOk result (λ found.
-        Finds (option_copied bin.entry) bytes.now found.findings.items found.is_clean) }
+        FindsIn (option_copied bin.entry) (Some bytes.now) found.is_clean) }
     ensures sound { IfOk result (λ found. IsTrue found.is_clean
         → AreSound (option_copied bin.entry) (Some bytes.now)) }
 {

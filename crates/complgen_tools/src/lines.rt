@@ -1,9 +1,5 @@
 //! Findings as lines.
 
-ghost use Rattle.std.specs.Prelude.{◌≡◌, string_bytes, IfOk};
-ghost use Rattle.complgen_tools.specs.Checking.{IsLine, PrintsLines};
-ghost use Rattle.complgen_tools.specs.Checking as check;
-
 use cc_base::{Error, Sink, put_piece};
 use cc_tree_errors::{Level, PlacedFinding, line_and_column};
 use std::alloc::{AllocError, Global};
@@ -15,9 +11,7 @@ pub(crate) fn put_findings<W: Sink>(
     alloc: Global,
     bytes: &[u8],
     findings: &[PlacedFinding],
-) -> Result<(), Error>
-    ensures { PrintsLines W.taken W.failed findings.now out.old out.new result }
-{
+) -> Result<(), Error> {
     for finding in findings {
         let line = line(alloc, bytes, finding)?;
         put_piece(out, line.as_str())?;
@@ -26,30 +20,15 @@ pub(crate) fn put_findings<W: Sink>(
 }
 
 // A finding as a line.
-fn line(alloc: Global, bytes: &[u8], finding: &PlacedFinding) -> Result<String, AllocError>
-    ensures { IfOk result (λ line. IsLine finding.now (string_bytes line)) }
-{
+fn line(alloc: Global, bytes: &[u8], finding: &PlacedFinding) -> Result<String, AllocError> {
     let before = &bytes[..finding.offset.min(bytes.len())];
     let (line, column) = line_and_column(before);
-    line_text(alloc, line, column, finding)
-}
-
-fn line_text(
-    alloc: Global,
-    line: usize,
-    column: usize,
-    finding: &PlacedFinding,
-) -> Result<String, AllocError>
-    ensures { IfOk result (λ text. string_bytes text ≡ check.line_text line column finding.now) }
-{
     let level = level_text(finding.level);
     let (path, text) = (finding.path.as_str(), finding.text.as_str());
     format!(in alloc; "{line}:{column}: {level}: {path}: {text}\n")
 }
 
-fn level_text(level: Level) -> &'static str
-    ensures { result.now ≡ check.level_text level }
-{
+fn level_text(level: Level) -> &'static str {
     match level {
         Level::Note => "note",
         Level::Warning => "warning",
