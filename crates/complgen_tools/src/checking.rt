@@ -105,12 +105,27 @@ fn as_finding(alloc: Global, warning: &Warning) -> Result<Finding<'static>, Allo
     };
     let path = steps(alloc, &warning.place)?;
     let text = warning.to_string(alloc)?;
+    let text = on_one_line(alloc, text.as_str())?;
     Ok(Finding {
         level,
         path,
         at_key: false,
         text,
     })
+}
+
+// A text with each control character as `?`: a name in the file may hold one that ends the line, or
+// that a terminal takes for a command.
+fn on_one_line(alloc: Global, text: &str) -> Result<String, AllocError> {
+    let mut shown = String::new(alloc);
+    for character in text.chars() {
+        shown.push(if character.is_control() {
+            '?'
+        } else {
+            character
+        })?;
+    }
+    Ok(shown)
 }
 
 // The steps to a place in the tree, from the whole file.
