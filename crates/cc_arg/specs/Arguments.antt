@@ -25,6 +25,7 @@ new_arg id = record {
   possible_values = None;
   value_hint = Unknown;
   value_terminator = None;
+  default_value = None;
   help_heading = None;
   value_delimiter = None;
   completer = None;

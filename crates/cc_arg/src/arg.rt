@@ -170,6 +170,15 @@ impl Arg {
         self
     }
 
+    /// Sets the value that a parser takes where the argument is left out. Scripts and candidates do
+    /// not change.
+    pub fn default_value(mut self, value: String) -> Arg
+        ensures { result ≡ record self { default_value = Some (string_bytes value) } }
+    {
+        self.parts.default_value = Some(Text::from(value));
+        self
+    }
+
     /// Sets the index of a positional, counted from 1. A build keeps it.
     pub fn index(mut self, index: usize) -> Arg
         ensures { result ≡ record self { index = Some index } }
@@ -381,6 +390,13 @@ impl Arg {
         ensures { option_copied result ≡ self.now.value_terminator }
     {
         text_of(&self.parts.value_terminator)
+    }
+
+    /// The value that a parser takes where the argument is left out.
+    pub fn get_default_value(&self) -> Option<&str>
+        ensures { option_copied result ≡ self.now.default_value }
+    {
+        text_of(&self.parts.default_value)
     }
 
     /// The heading of the argument.

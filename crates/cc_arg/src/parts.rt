@@ -43,6 +43,8 @@ pub struct ArgParts {
     pub value_hint: ValueHint,
     /// The word that ends its values.
     pub value_terminator: Option<Text>,
+    /// The value that a parser takes where the argument is left out.
+    pub default_value: Option<Text>,
     /// Its heading, a tag of candidates.
     pub help_heading: Option<Text>,
     /// The character between several values in one word.
@@ -89,6 +91,7 @@ impl ArgParts {
             possible_values: None,
             value_hint: ValueHint::Unknown,
             value_terminator: None,
+            default_value: None,
             help_heading: None,
             value_delimiter: None,
             completer: None,
@@ -110,7 +113,8 @@ impl ArgParts {
     {
         let (id, long, aliases, visible_aliases) = copy_longs(alloc, self)?;
         let (short_aliases, visible_short_aliases, help, help_heading) = copy_shorts(alloc, self)?;
-        let (value_names, possible_values, value_terminator, conflicts) = copy_values(alloc, self)?;
+        let (value_names, possible_values, conflicts) = copy_values(alloc, self)?;
+        let (value_terminator, default_value) = copy_words(alloc, self)?;
         Ok(ArgParts {
             id,
             short: self.short,
@@ -126,6 +130,7 @@ impl ArgParts {
             possible_values,
             value_hint: self.value_hint,
             value_terminator,
+            default_value,
             help_heading,
             value_delimiter: self.value_delimiter,
             completer: self.completer,
@@ -142,19 +147,16 @@ impl ArgParts {
     }
 }
 
-// The parts that own memory are copied in three groups, since a function's check grows with the
+// The parts that own memory are copied in four groups, since a function's check grows with the
 // values that it owns at each call that may fail.
 
 type Longs = (Text, Option<Text>, Items<Text>, Items<Text>);
 
 type ShortsAndHelp = (Items<char>, Items<char>, Option<Text>, Option<Text>);
 
-type Values = (
-    Items<Text>,
-    Option<Items<PossibleValue>>,
-    Option<Text>,
-    Items<Text>,
-);
+type Values = (Items<Text>, Option<Items<PossibleValue>>, Items<Text>);
+
+type Words = (Option<Text>, Option<Text>);
 
 // A copy of the id, the long and its aliases.
 fn copy_longs(alloc: Global, parts: &ArgParts) -> Result<Longs, AllocError>
@@ -181,17 +183,25 @@ fn copy_shorts(alloc: Global, parts: &ArgParts) -> Result<ShortsAndHelp, AllocEr
     Ok((short_aliases, visible_aliases, help, help_heading))
 }
 
-// A copy of the value names, the possible values, the terminator and the conflicts.
+// A copy of the value names, the possible values and the conflicts.
 fn copy_values(alloc: Global, parts: &ArgParts) -> Result<Values, AllocError>
     ensures { IfOk result (λ copy. (copy.0 ≡ parts.now.value_names)
-        × (copy.1 ≡ parts.now.possible_values) × (copy.2 ≡ parts.now.value_terminator)
-        × (copy.3 ≡ parts.now.conflicts)) }
+        × (copy.1 ≡ parts.now.possible_values) × (copy.2 ≡ parts.now.conflicts)) }
 {
     let value_names = Items::copy_of_texts(alloc, parts.value_names.as_slice())?;
     let possible_values = copy_of_given(alloc, &parts.possible_values)?;
-    let value_terminator = Text::copy_of_some(alloc, text_of(&parts.value_terminator))?;
     let conflicts = Items::copy_of_texts(alloc, parts.conflicts.as_slice())?;
-    Ok((value_names, possible_values, value_terminator, conflicts))
+    Ok((value_names, possible_values, conflicts))
+}
+
+// A copy of the terminator and the default value.
+fn copy_words(alloc: Global, parts: &ArgParts) -> Result<Words, AllocError>
+    ensures { IfOk result (λ copy. (copy.0 ≡ parts.now.value_terminator)
+        × (copy.1 ≡ parts.now.default_value)) }
+{
+    let value_terminator = Text::copy_of_some(alloc, text_of(&parts.value_terminator))?;
+    let default_value = Text::copy_of_some(alloc, text_of(&parts.default_value))?;
+    Ok((value_terminator, default_value))
 }
 
 // The text of a field, where it has one.

@@ -18,6 +18,10 @@ pub struct Node {
     pub about: Option<Text>,
     /// The version that its flag `version` shows.
     pub version: Option<Text>,
+    /// What a parser's long help says in place of `about`.
+    pub long_about: Option<Text>,
+    /// What a parser's help ends with.
+    pub after_help: Option<Text>,
     /// Names that work and are not shown.
     pub aliases: Items<Text>,
     /// Names that work and are shown.
@@ -42,6 +46,10 @@ pub struct Node {
     pub allow_external_subcommands: bool,
     /// Whether the words of a call do not begin with the program's name.
     pub no_binary_name: bool,
+    /// Whether a parser wants a subcommand.
+    pub subcommand_required: bool,
+    /// Whether a parser shows the help where there are no arguments.
+    pub arg_required_else_help: bool,
     /// The number of the list that names of other programs are taken from.
     pub candidates: Option<SubcommandCandidates>,
     /// Whether building made this node.
@@ -62,6 +70,8 @@ impl Node {
             bin_name: None,
             about: None,
             version: None,
+            long_about: None,
+            after_help: None,
             aliases: Items::new(alloc),
             visible_aliases: Items::new(alloc),
             subcommand_help_heading: None,
@@ -74,6 +84,8 @@ impl Node {
             disable_help_subcommand: false,
             allow_external_subcommands: false,
             no_binary_name: false,
+            subcommand_required: false,
+            arg_required_else_help: false,
             candidates: None,
             generated: false,
             built: false,

@@ -101,7 +101,7 @@ const ARGUMENT: &str = "{\"name\": \"app\", \"args\": [{\"id\": \"o\", \"short\"
     \"visible_aliases\": [\"output\"], \"value_names\": [\"FILE\"], \"value_hint\": \"FilePath\",
     \"possible_values\": [{\"name\": \"a\"}, {\"name\": \"b\", \"help\": \"B\", \"hide\": true}],
     \"conflicts_with\": [\"none\", \"p\"], \"index\": 3, \"value_terminator\": \";\",
-    \"required\": true, \"last\": true, \"global\": true, \"hide\": true}, {\"id\": \"p\"}]}";
+    \"default_value\": \"a\", \"required\": true, \"last\": true, \"global\": true, \"hide\": true}, {\"id\": \"p\"}]}";
 
 #[test]
 fn each_key_of_an_argument_sets_its_field(rt: HostRuntime) {
@@ -191,6 +191,7 @@ fn has_the_fields_of_an_argument(rt: &impl Abort, arg: &Arg) {
     same(rt, arg.get_value_hint(), ValueHint::FilePath);
     same(rt, arg.get_index(), Some(3));
     same(rt, arg.get_value_terminator(), Some(";"));
+    same(rt, arg.get_default_value(), Some("a"));
     same(rt, marks_of(arg), (true, true, true, true));
     has_the_possible_values(rt, possible_values(arg));
 }
@@ -314,4 +315,24 @@ fn each_error_shows_its_text(rt: HostRuntime) {
         debug_text(alloc, &TreeError::Memory),
         "out of memory Memory",
     );
+}
+
+// What a parser alone reads of a command.
+const PARSED: &str = "{\"name\": \"app\", \"version\": \"1.2\", \"long_about\": \"At length\",
+    \"after_help\": \"See also\", \"subcommand_required\": true, \"subcommands\": [
+    {\"name\": \"a\", \"arg_required_else_help\": true}]}";
+
+#[test]
+fn the_keys_that_a_parser_reads_set_their_fields(rt: HostRuntime) {
+    let command = tree(&rt, rt.alloc(), PARSED);
+    same(&rt, command.get_version(), Some("1.2"));
+    same(&rt, command.get_long_about(), Some("At length"));
+    same(&rt, command.get_after_help(), Some("See also"));
+    assert!(rt; command.is_subcommand_required_set());
+    assert!(rt; !command.is_arg_required_else_help_set());
+    let child = command.find_subcommand("a").expect(&rt, "no child");
+    assert!(rt; child.is_arg_required_else_help_set());
+    assert!(rt; !child.is_subcommand_required_set());
+    assert!(rt; !child.is_generated());
+    drop(command);
 }

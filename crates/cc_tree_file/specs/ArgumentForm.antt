@@ -38,7 +38,9 @@ values =
     ∷ setting (codes "possible_values") (given (list_of possible_value_of))
     (λ arg. arg.possible_values) (λ arg it. record arg { possible_values = it })
     ∷ setting (codes "value_hint") (λ d. as_str d >>= hint_of)
-    (λ arg. arg.value_hint) (λ arg it. record arg { value_hint = it }) ∷ []
+    (λ arg. arg.value_hint) (λ arg it. record arg { value_hint = it })
+    ∷ setting (codes "default_value") (given as_str)
+    (λ arg. arg.default_value) (λ arg it. record arg { default_value = it }) ∷ []
 
 -- the index, the display order, the word that ends the values, and the arguments that exclude it
 abbrev pub surroundings : List (Setting Arg)

@@ -20,7 +20,11 @@ texts =
     setting (codes "about") (given as_str)
     (λ node. node.about) (λ node it. record node { about = it })
     ∷ setting (codes "version") (given as_str)
-    (λ node. node.version) (λ node it. record node { version = it }) ∷ []
+    (λ node. node.version) (λ node it. record node { version = it })
+    ∷ setting (codes "long_about") (given as_str)
+    (λ node. node.long_about) (λ node it. record node { long_about = it })
+    ∷ setting (codes "after_help") (given as_str)
+    (λ node. node.after_help) (λ node it. record node { after_help = it }) ∷ []
 
 -- its bin name, and its aliases, hidden and shown
 abbrev pub names : List (Setting Node)
@@ -53,14 +57,20 @@ flags =
     (λ node. node.disable_help_subcommand) (λ node it. record node { disable_help_subcommand = it })
     ∷ []
 
--- whether other programs may be named, and whether the program's name is no word of a command line
+-- whether other programs may be named, whether the program's name is no word of a command line, and
+-- what a parser wants of one
 abbrev pub rules : List (Setting Node)
 rules =
     setting (codes "allow_external_subcommands") as_bool
     (λ node. node.allow_external_subcommands)
     (λ node it. record node { allow_external_subcommands = it })
     ∷ setting (codes "no_binary_name") as_bool
-    (λ node. node.no_binary_name) (λ node it. record node { no_binary_name = it }) ∷ []
+    (λ node. node.no_binary_name) (λ node it. record node { no_binary_name = it })
+    ∷ setting (codes "subcommand_required") as_bool
+    (λ node. node.subcommand_required) (λ node it. record node { subcommand_required = it })
+    ∷ setting (codes "arg_required_else_help") as_bool
+    (λ node. node.arg_required_else_help)
+    (λ node it. record node { arg_required_else_help = it }) ∷ []
 
 -- the keys that a command may have
 unfoldable pub command_keys : List (List ℕ)

@@ -30,6 +30,7 @@ macro_rules! each_key {
             "value_delimiter" values value_delimiter,
             "possible_values" values possible_values,
             "value_hint" values value_hint,
+            "default_value" values default_value,
             "index" surroundings index,
             "display_order" surroundings display_order,
             "value_terminator" surroundings value_terminator,

@@ -25,6 +25,8 @@ macro_rules! each_key {
             "name" name name,
             "about" texts about,
             "version" texts version,
+            "long_about" texts long_about,
+            "after_help" texts after_help,
             "bin_name" names bin_name,
             "aliases" names aliases,
             "visible_aliases" names visible_aliases,
@@ -36,6 +38,8 @@ macro_rules! each_key {
             "disable_help_subcommand" flags disable_help_subcommand,
             "allow_external_subcommands" rules allow_external_subcommands,
             "no_binary_name" rules no_binary_name,
+            "subcommand_required" rules subcommand_required,
+            "arg_required_else_help" rules arg_required_else_help,
             "args" lists arguments,
             "subcommands" lists children,
         }

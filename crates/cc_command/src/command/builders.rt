@@ -40,6 +40,26 @@ impl Command {
         self
     }
 
+    /// Sets what a parser's long help says in place of `about`. Scripts and candidates do not change.
+    pub fn long_about(mut self, about: String) -> Command
+        ensures { result
+            ≡ with_root (λ node. record node { long_about = Some (string_bytes about) }) self }
+    {
+        self.node.built = false;
+        self.node.long_about = Some(Text::from(about));
+        self
+    }
+
+    /// Sets what a parser's help ends with. Scripts and candidates do not change.
+    pub fn after_help(mut self, text: String) -> Command
+        ensures { result
+            ≡ with_root (λ node. record node { after_help = Some (string_bytes text) }) self }
+    {
+        self.node.built = false;
+        self.node.after_help = Some(Text::from(text));
+        self
+    }
+
     /// Sets the version, which a flag shows.
     pub fn version(mut self, version: String) -> Command
         ensures { result
@@ -169,6 +189,27 @@ impl Command {
     {
         self.node.built = false;
         self.node.no_binary_name = none;
+        self
+    }
+
+    /// Says whether a parser wants a subcommand. Scripts and candidates do not change.
+    pub fn subcommand_required(mut self, required: bool) -> Command
+        ensures { result
+            ≡ with_root (λ node. record node { subcommand_required = required }) self }
+    {
+        self.node.built = false;
+        self.node.subcommand_required = required;
+        self
+    }
+
+    /// Says whether a parser shows the help where there are no arguments. Scripts and candidates do
+    /// not change.
+    pub fn arg_required_else_help(mut self, help: bool) -> Command
+        ensures { result
+            ≡ with_root (λ node. record node { arg_required_else_help = help }) self }
+    {
+        self.node.built = false;
+        self.node.arg_required_else_help = help;
         self
     }
 

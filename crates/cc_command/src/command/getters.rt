@@ -35,6 +35,27 @@ impl Command {
         self.node.about.as_ref().map(|about| about.as_str())
     }
 
+    /// What a parser's long help says in place of `about`.
+    pub fn get_long_about(&self) -> Option<&str>
+        ensures { option_copied result ≡ self.now.node.long_about }
+    {
+        self.node.long_about.as_ref().map(|about| about.as_str())
+    }
+
+    /// What a parser's help ends with.
+    pub fn get_after_help(&self) -> Option<&str>
+        ensures { option_copied result ≡ self.now.node.after_help }
+    {
+        self.node.after_help.as_ref().map(|text| text.as_str())
+    }
+
+    /// The version, which a flag shows.
+    pub fn get_version(&self) -> Option<&str>
+        ensures { option_copied result ≡ self.now.node.version }
+    {
+        self.node.version.as_ref().map(|version| version.as_str())
+    }
+
     /// The names that are shown besides the name.
     pub fn get_visible_aliases(&self) -> &[Text]
         ensures { result.now ≡ self.now.node.visible_aliases }
@@ -92,6 +113,28 @@ impl Command {
         ensures { result ≡ self.now.node.no_binary_name }
     {
         self.node.no_binary_name
+    }
+
+    /// Whether a parser wants a subcommand.
+    pub fn is_subcommand_required_set(&self) -> bool
+        ensures { result ≡ self.now.node.subcommand_required }
+    {
+        self.node.subcommand_required
+    }
+
+    /// Whether a parser shows the help where there are no arguments.
+    pub fn is_arg_required_else_help_set(&self) -> bool
+        ensures { result ≡ self.now.node.arg_required_else_help }
+    {
+        self.node.arg_required_else_help
+    }
+
+    /// Whether a build made the command: a child `help`, or one of its copies. `clap` has no such
+    /// getter.
+    pub fn is_generated(&self) -> bool
+        ensures { result ≡ self.now.node.generated }
+    {
+        self.node.generated
     }
 
     /// The number of the list that names of other programs are taken from.
