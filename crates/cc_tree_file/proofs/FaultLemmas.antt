@@ -111,7 +111,7 @@ argument_texts : AllStep argument.texts
 argument_texts = (setting_steps _ _ _ _, (setting_steps _ _ _ _, tt))
 
 argument_values : AllStep argument.values
-argument_values = (setting_steps _ _ _ _, (setting_steps _ _ _ _, (setting_steps _ _ _ _, (setting_steps _ _ _ _, (setting_steps _ _ _ _, (setting_steps _ _ _ _, tt))))))
+argument_values = (setting_steps _ _ _ _, (setting_steps _ _ _ _, (setting_steps _ _ _ _, (setting_steps _ _ _ _, (setting_steps _ _ _ _, (setting_steps _ _ _ _, (setting_steps _ _ _ _, tt)))))))
 
 argument_surroundings : AllStep argument.surroundings
 argument_surroundings = (setting_steps _ _ _ _, (setting_steps _ _ _ _, (setting_steps _ _ _ _, (setting_steps _ _ _ _, tt))))
@@ -126,7 +126,7 @@ argument_shown_aliases : AllStep argument.shown_aliases
 argument_shown_aliases = (setting_steps _ _ _ _, (setting_steps _ _ _ _, tt))
 
 command_texts : AllStep command.texts
-command_texts = (setting_steps _ _ _ _, (setting_steps _ _ _ _, tt))
+command_texts = (setting_steps _ _ _ _, (setting_steps _ _ _ _, (setting_steps _ _ _ _, (setting_steps _ _ _ _, tt))))
 
 command_names : AllStep command.names
 command_names = (setting_steps _ _ _ _, (setting_steps _ _ _ _, (setting_steps _ _ _ _, tt)))
@@ -138,7 +138,7 @@ command_flags : AllStep command.flags
 command_flags = (setting_steps _ _ _ _, (setting_steps _ _ _ _, (setting_steps _ _ _ _, (setting_steps _ _ _ _, tt))))
 
 command_rules : AllStep command.rules
-command_rules = (setting_steps _ _ _ _, (setting_steps _ _ _ _, tt))
+command_rules = (setting_steps _ _ _ _, (setting_steps _ _ _ _, (setting_steps _ _ _ _, (setting_steps _ _ _ _, tt))))
 
 pub and_true : (a : Bool) → a ≡ (a && true)
 and_true true = refl
