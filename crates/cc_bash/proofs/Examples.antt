@@ -13,7 +13,8 @@ use Rattle.cc_command.specs.Made.{new_tree, with_argument, with_child}
 use Rattle.cc_command.specs.Texts.{help_name, version_name}
 use Rattle.cc_command.specs.Tree.{Tree, none, more}
 use Rattle.cc_command.specs.declared.node.Node.{Node}
-use Rattle.cc_quote.specs.PosixTokens.{sign, byte_of, cut, posix_tokens}
+use Rattle.cc_quote.specs.PosixSigns.{sign, byte_of}
+use Rattle.cc_quote.specs.PosixTokens.{cut, posix_tokens}
 use Rattle.cc_quote.specs.Tokens.{is_word}
 use Rattle.cc_bash.specs.Arms.{Arm, details_at, tree_arms, words_at, values, files, typed, nothing, filenames, plusdirs, nospace}
 use Rattle.cc_bash.specs.CaseTable.{Case, run, tree_cases}

@@ -12,8 +12,8 @@ use Rattle.cc_command.specs.Names.{full_name}
 use Rattle.cc_command.specs.Plain.{is_plain_tree}
 use Rattle.cc_quote.proofs.NameBytes.{plain_bytes, letter_or_joiner}
 use Rattle.cc_command.proofs.PlainParts.{IsPlainName, plain_full_name}
-use Rattle.cc_quote.specs.PosixTokens.{sign}
-use Rattle.cc_quote.specs.PosixTokens.Sign.{other}
+use Rattle.cc_quote.specs.PosixSigns.{sign}
+use Rattle.cc_quote.specs.PosixSigns.Sign.{other}
 use Rattle.cc_quote.proofs.PosixCutting.{IsOther, IsWord}
 use Rattle.cc_quote.specs.Escapes.{replace_byte}
 use Rattle.cc_bash.specs.Labels.{root_label, child_label}

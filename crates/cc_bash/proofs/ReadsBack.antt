@@ -4,10 +4,10 @@ use Rattle.std.specs.List.{AllByRecursion}
 use Rattle.cc_base.proofs.Lines.{IsLine}
 use Rattle.cc_base.proofs.Lines.IsLine.{line}
 use Rattle.cc_generator.proofs.ReadInTurn.{in_parts, items_begin}
-use Rattle.cc_quote.specs.PosixTokens.{sign, byte_of, cut, posix_tokens, double}
+use Rattle.cc_quote.specs.PosixSigns.{sign, byte_of}
+use Rattle.cc_quote.specs.PosixTokens.{cut, posix_tokens, double, between, in_bare}
 use Rattle.cc_quote.specs.Tokens.{Token, is_word}
 use Rattle.cc_quote.specs.Tokens.Piece.{bare}
-use Rattle.cc_quote.specs.PosixTokens.QuoteState.{between, in_bare}
 use Rattle.cc_quote.proofs.PosixCutting.{IsOther, IsKept-IsOther, tokens_from, bare_run, double_run}
 use Rattle.cc_bash.specs.Arms.{Arm}
 use Rattle.cc_bash.specs.CaseTable.{Case}

@@ -5,10 +5,10 @@ use Rattle.cc_base.specs.Bytes.{comma, close_parenthesis}
 use Rattle.cc_base.proofs.Lines.{IsLine}
 use Rattle.cc_base.proofs.Lines.IsLine.{line}
 use Rattle.cc_generator.proofs.ReadInTurn.{in_parts, in_turn}
-use Rattle.cc_quote.specs.PosixTokens.{QuoteState, sign, byte_of, cut, double}
+use Rattle.cc_quote.specs.PosixSigns.{sign, byte_of}
+use Rattle.cc_quote.specs.PosixTokens.{CutState, cut, double, between, in_bare, in_double}
 use Rattle.cc_quote.specs.Tokens.{Token, is_word}
 use Rattle.cc_quote.specs.Tokens.Piece.{bare}
-use Rattle.cc_quote.specs.PosixTokens.QuoteState.{between, in_bare, in_double}
 use Rattle.cc_quote.proofs.PosixCutting.{IsOther, IsWord, IsKept, tokens_from, bare_run, bare_word, double_run}
 use Rattle.cc_bash.specs.CaseTable.{Case}
 use Rattle.cc_bash.specs.Reader.{Table, State, pattern_of, assigned, case_by, with_case, next, read}
@@ -18,7 +18,7 @@ use Rattle.cc_bash.specs.Texts.{case_begins, case_comma, case_sets, case_ends}
 use Rattle.cc_bash.proofs.WordsRead.{Lacks, Lacks-append, parted_at}
 
 -- what the reader gives from a state on, where the script is cut from a state of quotes on
-abbrev pub reading : Bool → State → QuoteState → List ℕ → Option Table
+abbrev pub reading : Bool → State → CutState → List ℕ → Option Table
 reading whole state quote script = read whole state (tokens_from quote script)
 
 -- the case can be read

@@ -6,10 +6,10 @@ use Rattle.cc_base.specs.Bytes.{close_parenthesis, line_feed}
 use Rattle.cc_base.proofs.Lines.{IsLine}
 use Rattle.cc_base.proofs.Lines.IsLine.{line}
 use Rattle.cc_generator.proofs.ReadInTurn.{in_parts, in_turn}
-use Rattle.cc_quote.specs.PosixTokens.{sign, byte_of, cut, double}
+use Rattle.cc_quote.specs.PosixSigns.{sign, byte_of}
+use Rattle.cc_quote.specs.PosixTokens.{cut, double, between, in_bare}
 use Rattle.cc_quote.specs.Tokens.{Token, is_word}
 use Rattle.cc_quote.specs.Tokens.Piece.{bare}
-use Rattle.cc_quote.specs.PosixTokens.QuoteState.{between, in_bare}
 use Rattle.cc_quote.proofs.PosixCutting.{IsWord, tokens_from, bare_word, double_run}
 use Rattle.cc_bash.specs.Arms.{Offered, values, files, typed, nothing, Mode, filenames, plusdirs, nospace, Detail, Arm}
 use Rattle.cc_bash.specs.Reader.{Table, pattern_of, bare_text, double_text, is_empty_reply, is_typed_reply, is_compgen_reply, mode_named, with_detail, new_detail, next, read}

@@ -4,8 +4,8 @@ use Rattle.std.specs.List.{AllByRecursion}
 use Rattle.std.proofs.lemmas.Bool.{cases_Bool}
 use Rattle.std.proofs.lemmas.Bool.Decides.{nat_tests}
 use Rattle.cc_base.specs.Bytes.{space}
-use Rattle.cc_quote.specs.PosixTokens.{sign}
-use Rattle.cc_quote.specs.PosixTokens.Sign.{blank, other}
+use Rattle.cc_quote.specs.PosixSigns.{sign}
+use Rattle.cc_quote.specs.PosixSigns.Sign.{blank, other}
 use Rattle.cc_quote.proofs.PosixCutting.{IsOther, IsWord, IsKept, IsKept-append, IsKept-IsWord}
 use Rattle.cc_bash.specs.Reader.{parted, words_from}
 use Rattle.cc_bash.specs.Words.{words_after, words_text}

@@ -2,8 +2,8 @@
 use Rattle.std.proofs.Common.{◌≡◌, ◌≢◌, ℕ, true, false, List, [], ◌∷◌, ◌++◌, map, Some, None, unwrap_or, encode_utf8, refl, sym, subst, ◌∙◌, ap, append_assoc, append-nil}
 use Rattle.cc_base.specs.Bytes as ascii
 use Rattle.cc_quote.specs.BashDouble.{bash_double_from, bash_double_of, bash_double_signs, closes_double}
-use Rattle.cc_quote.specs.PosixTokens.{Sign, sign, byte_of}
-use Rattle.cc_quote.specs.PosixTokens.Sign.{double_quote, backslash, other}
+use Rattle.cc_quote.specs.PosixSigns.{Sign, sign, byte_of}
+use Rattle.cc_quote.specs.PosixSigns.Sign.{double_quote, backslash, other}
 use Rattle.cc_quote.specs.PosixQuote.{next_state, word_after}
 use Rattle.cc_quote.specs.declared.posix.QuoteState.{QuoteState}
 use Rattle.cc_quote.specs.declared.posix.QuoteState.TheVariants.{Before, InDouble, InDoubleEscaped}
@@ -21,7 +21,7 @@ pub data IsWithin : QuoteState → Type 0 where
 -- the quote that closes
 closes : (state : QuoteState) (s : Sign) (rest : List Sign) (word : List ℕ) → closes_double state s ≡ true
     → bash_double_from state word (s ∷ rest) ≡ Some (word, map byte_of rest)
-unfolding closes_double bash_double_from next_state
+unfolding closes_double bash_double_from
 closes InDouble double_quote rest word e = refl
 closes state s rest word e = cc
 
@@ -31,7 +31,7 @@ next_within InDouble backslash = InDoubleEscaped
 next_within _ _ = InDouble
 
 next_is : (state : QuoteState) (s : Sign) → IsWithin state → closes_double state s ≡ false → next_state state s ≡ Some (next_within state s)
-unfolding closes_double next_state
+unfolding closes_double
 next_is state double_quote between e = cc
 next_is state s between e = refl
 next_is state s escaped e = refl
@@ -39,7 +39,7 @@ next_is state s escaped e = refl
 -- any other byte
 goes_on : (state : QuoteState) (s : Sign) (rest : List Sign) (word : List ℕ) → IsWithin state → closes_double state s ≡ false
     → bash_double_from state word (s ∷ rest) ≡ bash_double_from (next_within state s) (word_after state s word (byte_of s ∷ [])) rest
-unfolding closes_double bash_double_from next_state
+unfolding closes_double bash_double_from
 goes_on state double_quote rest word between e = cc
 goes_on state s rest word between e = refl
 goes_on state s rest word escaped e = refl
@@ -54,7 +54,7 @@ never_closes state byte = refl
 -- bytes from 128 on
 high_run : (bytes rest word : List ℕ) → AreHigh bytes
     → bash_double_from InDouble word (map sign (bytes ++ rest)) ≡ bash_double_from InDouble (word ++ bytes) (map sign rest)
-unfolding bash_double_from next_state word_after byte_of
+unfolding bash_double_from byte_of
 high_run [] rest word h = ap (λ w. bash_double_from InDouble w (map sign rest)) (sym (append-nil word))
 high_run (byte ∷ bytes) rest word h =
     ap (λ s. bash_double_from InDouble word (s ∷ map sign (bytes ++ rest))) (high_sign byte h.0)
@@ -63,7 +63,6 @@ high_run (byte ∷ bytes) rest word h =
 
 -- the word after a first such byte, and more of them
 more : (state : QuoteState) (first : ℕ) (word run bytes : List ℕ) → word_after state (other first) word run ++ bytes ≡ word_after state (other first) word (run ++ bytes)
-unfolding word_after
 more InDoubleEscaped first word run bytes = append_assoc (word ++ ascii.backslash ∷ []) run bytes
 more state first word run bytes = append_assoc word run bytes
 

@@ -5,9 +5,9 @@ use Rattle.std.proofs.lemmas.Bool.Decides.{Decides-eqb, nat_tests}
 use Rattle.cc_base.specs.Bytes as ascii
 use Rattle.cc_quote.specs.BashDouble.{bash_double_from, bash_double_signs, bash_double_of, is_double_marked, bash_doubled}
 use Rattle.cc_quote.specs.Escapes.{marked_byte}
-use Rattle.cc_quote.specs.PosixTokens.{Sign, sign, byte_of}
-use Rattle.cc_quote.specs.PosixTokens.Sign.{double_quote, backslash, special}
-use Rattle.cc_quote.specs.PosixQuote.{next_state, word_after, ended, posix_word_from, posix_word_of}
+use Rattle.cc_quote.specs.PosixSigns.{Sign, sign, byte_of}
+use Rattle.cc_quote.specs.PosixSigns.Sign.{double_quote, backslash, special}
+use Rattle.cc_quote.specs.PosixQuote.{ended, posix_word_from, posix_word_of}
 use Rattle.cc_quote.specs.declared.posix.QuoteState.TheVariants.{InDouble}
 use Rattle.cc_quote.proofs.PosixWords.{byte_of-sign, bytes-signs}
 
@@ -30,7 +30,7 @@ kept byte h s e = tt
 -- such a byte between `"`
 kept_word : (s : Sign) (rest : List Sign) (word : List ℕ) → IsKept s
     → posix_word_from InDouble word (s ∷ rest) ≡ posix_word_from InDouble (word ++ byte_of s ∷ []) rest
-unfolding posix_word_from next_state word_after
+unfolding posix_word_from
 kept_word double_quote rest word h = absurd h
 kept_word backslash rest word h = absurd h
 kept_word (special b) rest word h = absurd h
@@ -39,7 +39,7 @@ kept_word s rest word h = refl
 -- such a byte between `"`, by the reader of these
 kept_double : (s : Sign) (rest : List Sign) (word : List ℕ) → IsKept s
     → bash_double_from InDouble word (s ∷ rest) ≡ bash_double_from InDouble (word ++ byte_of s ∷ []) rest
-unfolding bash_double_from next_state word_after
+unfolding bash_double_from
 kept_double double_quote rest word h = absurd h
 kept_double backslash rest word h = absurd h
 kept_double (special b) rest word h = absurd h
@@ -59,7 +59,7 @@ marked_cases byte P h a b c d = by_tests (byte == ascii.backslash) (byte == asci
 -- an escaped byte
 doubled_word_byte : (byte : ℕ) (rest word : List ℕ)
     → posix_word_from InDouble word (map sign (marked_byte is_double_marked byte ++ rest)) ≡ posix_word_from InDouble (word ++ byte ∷ []) (map sign rest)
-unfolding posix_word_from next_state word_after sign byte_of
+unfolding posix_word_from sign byte_of
 doubled_word_byte byte rest word = by_test (is_double_marked byte) refl
   where
     by_test : (q : Bool) → is_double_marked byte ≡ q
@@ -69,7 +69,7 @@ doubled_word_byte byte rest word = by_test (is_double_marked byte) refl
 
 doubled_byte : (byte : ℕ) (rest word : List ℕ)
     → bash_double_from InDouble word (map sign (marked_byte is_double_marked byte ++ rest)) ≡ bash_double_from InDouble (word ++ byte ∷ []) (map sign rest)
-unfolding bash_double_from next_state word_after sign byte_of
+unfolding bash_double_from sign byte_of
 doubled_byte byte rest word = by_test (is_double_marked byte) refl
   where
     by_test : (q : Bool) → is_double_marked byte ≡ q
@@ -97,12 +97,12 @@ doubled (byte ∷ text) rest word =
 
 -- between `"`, whatever follows
 pub doubled_reads : (text rest : List ℕ) → bash_double_of (codes "\"" ++ (bash_doubled text ++ (codes "\"" ++ rest))) ≡ Some (text, rest)
-unfolding bash_double_of bash_double_signs bash_double_from next_state word_after sign
+unfolding bash_double_of bash_double_signs bash_double_from sign
 doubled_reads text rest = doubled text (ascii.double_quote ∷ rest) [] ∙ ap (λ r. Some (text, r)) (bytes-signs rest)
 
 -- as a word, before a space
 pub doubled_is_word : (text rest : List ℕ) → posix_word_of (codes "\"" ++ (bash_doubled text ++ (codes "\"" ++ (ascii.space ∷ rest)))) ≡ Some (text, ascii.space ∷ rest)
-unfolding posix_word_of posix_word_from next_state word_after ended sign byte_of
+unfolding posix_word_of posix_word_from ended sign byte_of
 doubled_is_word text rest = doubled_word text (ascii.double_quote ∷ ascii.space ∷ rest) [] ∙ ap (λ r. Some (text, ascii.space ∷ r)) (bytes-signs rest)
 
 pub doubled_reads_back : (text : List ℕ) → bash_double_of (codes "\"" ++ bash_doubled text ++ codes "\"") ≡ Some (text, [])

@@ -7,8 +7,8 @@ use Rattle.cc_quote.specs.Signs.{sign as quoting_sign}
 use Rattle.cc_base.specs.Bytes.{is_blank, single_quote, line_feed, space, right_quote_first, right_quote_second, right_quote_third}
 use Rattle.cc_base.specs.Found.{without_blanks}
 use Rattle.cc_base.proofs.Finding.{no_blank_first}
-use Rattle.cc_quote.specs.PosixTokens.{sign, byte_of}
-use Rattle.cc_quote.specs.PosixTokens.Sign.{other}
+use Rattle.cc_quote.specs.PosixSigns.{sign, byte_of}
+use Rattle.cc_quote.specs.PosixSigns.Sign.{other}
 use Rattle.cc_quote.specs.PosixQuote.{next_state, word_after, ended, posix_word_from, posix_word_of, is_posix_safe, is_posix_safe_word, posix_escaped, posix_quoted}
 use Rattle.cc_quote.specs.declared.posix.QuoteState.TheVariants.{Before, Bare}
 use Rattle.cc_quote.specs.FishQuote.{fish_sign, begins_with_word, fish_word_from, fish_word_of, is_fish_safe, fish_quoted}
@@ -45,7 +45,7 @@ module _ (end : ℕ) (rest : List ℕ)
   IsBefore spelled text = BeginsBare (spelled ++ end ∷ rest) × (posix_word_of (spelled ++ end ∷ rest) ≡ Some (text, end ∷ rest))
 
   safe_word : (text : List ℕ) → is_posix_safe_word text ≡ true → IsBefore text text
-  unfolding posix_word_of is_posix_safe_word next_state word_after
+  unfolding posix_word_of is_posix_safe_word
   safe_word [] h = cc
   safe_word (byte ∷ text) h =
       let parts = and_parts (is_posix_safe byte) (list_all is_posix_safe text) h in
@@ -58,7 +58,7 @@ module _ (end : ℕ) (rest : List ℕ)
       )
 
   quoted_word : (text : List ℕ) → posix_word_of (codes "'" ++ (posix_escaped text ++ (codes "'" ++ end ∷ rest))) ≡ Some (text, end ∷ rest)
-  unfolding posix_word_of posix_word_from next_state word_after sign byte_of
+  unfolding posix_word_of posix_word_from sign byte_of
   quoted_word text = escaped_text text (single_quote ∷ end ∷ rest) [] ∙ ends text
 
   before : (text : List ℕ) → IsBefore (posix_quoted text) text
@@ -71,12 +71,12 @@ module _ (end : ℕ) (rest : List ℕ)
 
 -- a quoted word begins with no blank, and is read up to the space
 pub posix_before_space : (text rest : List ℕ) → BeginsBare (posix_quoted text ++ space ∷ rest) × (posix_word_of (posix_quoted text ++ space ∷ rest) ≡ Some (text, space ∷ rest))
-unfolding posix_word_from next_state ended sign byte_of
+unfolding posix_word_from ended sign byte_of
 posix_before_space text rest = before space rest (λ word. ap (λ r. Some (word, space ∷ r)) (bytes-signs rest)) text
 
 -- and up to a line feed
 pub posix_before_line_feed : (text rest : List ℕ) → BeginsBare (posix_quoted text ++ line_feed ∷ rest) × (posix_word_of (posix_quoted text ++ line_feed ∷ rest) ≡ Some (text, line_feed ∷ rest))
-unfolding posix_word_from next_state ended sign byte_of
+unfolding posix_word_from ended sign byte_of
 posix_before_line_feed text rest = before line_feed rest (λ word. ap (λ r. Some (word, line_feed ∷ r)) (bytes-signs rest)) text
 
 -- ---- fish

@@ -2,8 +2,8 @@
 use Rattle.std.proofs.Common.{◌≡◌, ℕ, zero, suc, ◌%◌, ◌/◌, ◌<◌, Bool, true, false, cond, ◌==◌, List, [], ◌∷◌, decimal, arith}
 use Rattle.std.specs.Fmt.{digits, digits_onto, digit_glyph}
 use Rattle.std.proofs.lemmas.Bool.Decides.{nat_tests}
-use Rattle.cc_quote.specs.PosixTokens.{sign}
-use Rattle.cc_quote.specs.PosixTokens.Sign.{other}
+use Rattle.cc_quote.specs.PosixSigns.{sign}
+use Rattle.cc_quote.specs.PosixSigns.Sign.{other}
 use Rattle.cc_quote.proofs.PosixCutting.{IsOther, IsWord}
 
 digit_other : (digit : ℕ) → digit < 10 →

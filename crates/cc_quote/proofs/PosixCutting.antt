@@ -1,9 +1,9 @@
 -- How a script for a posix shell is cut, for any text after the part that each lemma speaks of.
 use Rattle.std.proofs.Common.{◌≡◌, ℕ, List, [], ◌∷◌, ◌++◌, map, ap, ◌∙◌, sym, append_assoc, append-nil, inl, inr, ◌⊎◌}
 use Rattle.std.specs.List.{AllByRecursion}
-use Rattle.cc_quote.specs.PosixTokens.{QuoteState, sign, byte_of, cut}
-use Rattle.cc_quote.specs.PosixTokens.Sign.{blank, other}
-use Rattle.cc_quote.specs.PosixTokens.QuoteState.{between, in_bare, in_double}
+use Rattle.cc_quote.specs.PosixSigns.{sign, byte_of}
+use Rattle.cc_quote.specs.PosixTokens.{CutState, cut, between, in_bare, in_double}
+use Rattle.cc_quote.specs.PosixSigns.Sign.{blank, other}
 use Rattle.cc_quote.specs.Tokens.{Token}
 
 -- no byte ends a token, opens quotes or escapes
@@ -20,7 +20,7 @@ abbrev pub IsKept : List ℕ → Type 0
 IsKept text = AllByRecursion (λ byte. (sign byte ≡ other byte) ⊎ (sign byte ≡ blank byte)) text
 
 -- the tokens from a state on
-abbrev pub tokens_from : QuoteState → List ℕ → List Token
+abbrev pub tokens_from : CutState → List ℕ → List Token
 tokens_from state text = cut state (map sign text)
 
 pub IsKept-IsOther : (text : List ℕ) → IsOther text → IsKept text

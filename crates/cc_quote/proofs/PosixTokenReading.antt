@@ -21,6 +21,7 @@ use Rattle.std.proofs.Common.{
   append_assoc,
   append-nil,
 }
+use Rattle.std.specs.Bool.{⊤}
 use Rattle.cc_base.specs.Bytes as ascii
 use Rattle.cc_quote.specs.PosixQuote.{
   next_state,
@@ -29,38 +30,26 @@ use Rattle.cc_quote.specs.PosixQuote.{
   posix_word_from,
   posix_word_of,
 }
-use Rattle.cc_quote.specs.PosixTokens.{Sign, QuoteState, sign, byte_of, cut, posix_tokens}
-use Rattle.cc_quote.specs.PosixTokens.Sign.{
-  blank,
-  line_feed,
-  single_quote,
-  double_quote,
-  backslash,
-  other,
-}
-use Rattle.cc_quote.specs.PosixTokens.QuoteState.{
+use Rattle.cc_quote.specs.PosixSigns.{Sign, sign, byte_of}
+use Rattle.cc_quote.specs.PosixSigns.Sign.{blank, line_feed, single_quote, double_quote, backslash, other}
+use Rattle.cc_quote.specs.PosixTokens.{
+  PartialToken,
   between,
-  between_escaped,
-  in_bare,
-  in_bare_escaped,
-  in_single,
-  in_double,
-  in_double_escaped,
-  after_quotes,
-  after_quotes_escaped,
+  piece_of,
+  pieces_of,
+  unclosed_after,
+  begun,
+  token_after,
+  ended_token,
+  cut,
+  posix_tokens,
 }
-use Rattle.cc_quote.specs.PosixTokenWords.{
-  word_of_token,
-  ends_token,
-  begins_no_token,
-  IsFirstToken,
-  IsOpenToken,
-  IsTokenRead,
-  ReadsFirstToken,
-}
-use Rattle.cc_quote.specs.Tokens.{Token}
+use Rattle.cc_quote.specs.PosixTokens.PartialToken.{after_piece, in_piece}
+use Rattle.cc_quote.specs.PosixTokens.CutState.{at}
+use Rattle.cc_quote.specs.PosixTokenWords.{word_of_token, ends_token, begins_no_token, IsTokenRead, ReadsFirstToken}
+use Rattle.cc_quote.specs.Tokens.{Token, Piece}
 use Rattle.cc_quote.specs.Tokens.Piece.{bare, quoted, unclosed}
-use Rattle.cc_quote.specs.declared.posix.QuoteState.{QuoteState as WordState}
+use Rattle.cc_quote.specs.declared.posix.QuoteState.{QuoteState}
 use Rattle.cc_quote.specs.declared.posix.QuoteState.TheVariants.{
   Before,
   BeforeEscaped,
@@ -102,225 +91,239 @@ word-append (quoted opening text ∷ pieces) more =
     ∙ joined-before text (word_of_token pieces) (word_of_token more)
 word-append (unclosed opening text ∷ pieces) more = refl
 
--- the word so far is that of the pieces so far, and then the text of the piece that is open
-record Holds (pieces : Token) (run word : List ℕ) : Type 0 where
+-- the word is that of the pieces, and then the text of the one that is open
+record Holds (pieces : Token) (text word : List ℕ) : Type 0 where
   before : List ℕ
   spelled : word_of_token pieces ≡ Some before
-  whole : word ≡ before ++ run
+  whole : word ≡ before ++ text
 
--- a piece is opened
-opened : (pieces : Token) (word : List ℕ)
-    → word_of_token pieces ≡ Some word → Holds pieces [] word
+-- what a token has so far spells the word so far
+abbrev Spells : PartialToken → List ℕ → Type 0
+Spells (after_piece pieces) word = word_of_token pieces ≡ Some word
+Spells (in_piece pieces text) word = Holds pieces text word
+
+-- a piece begins
+opened : (pieces : Token) (word : List ℕ) → word_of_token pieces ≡ Some word → Holds pieces [] word
 opened pieces word h = record { before = word; spelled = h; whole = sym (append-nil word) }
 
-begun : (pieces : Token) (word run : List ℕ)
-    → word_of_token pieces ≡ Some word → Holds pieces run (word ++ run)
-begun pieces word run h = record { before = word; spelled = h; whole = refl }
-
-nothing_yet : (run : List ℕ) → Holds [] run run
-unfolding word_of_token
-nothing_yet run = record { before = []; spelled = refl; whole = refl }
-
--- bytes are added to it
-grown : (pieces : Token) (run word more : List ℕ)
-    → Holds pieces run word → Holds pieces (run ++ more) (word ++ more)
-grown pieces run word more h =
-    record {
-      before = h.before;
-      spelled = h.spelled;
-      whole = ap (λ w. w ++ more) h.whole ∙ append_assoc h.before run more;
-    }
-
--- it is closed
-closed_bare : (pieces : Token) (run word : List ℕ)
-    → Holds pieces run word → word_of_token (pieces ++ bare run ∷ []) ≡ Some word
-unfolding word_of_token
-closed_bare pieces run word h =
-    word-append pieces (bare run ∷ [])
-    ∙ ap (λ w. joined w (Some (run ++ []))) h.spelled
-    ∙ ap (λ r. Some (h.before ++ r)) (append-nil run)
-    ∙ ap Some (sym h.whole)
-
-closed_quoted : (pieces : Token) (opening text word : List ℕ)
-    → Holds pieces text word → word_of_token (pieces ++ quoted opening text ∷ []) ≡ Some word
-unfolding word_of_token
-closed_quoted pieces opening text word h =
-    word-append pieces (quoted opening text ∷ [])
-    ∙ ap (λ w. joined w (Some (text ++ []))) h.spelled
+-- and ends
+with_piece : (pieces : Token) (piece : Piece) (text word : List ℕ)
+    → word_of_token (piece ∷ []) ≡ Some (text ++ []) → Holds pieces text word
+    → word_of_token (pieces ++ piece ∷ []) ≡ Some word
+with_piece pieces piece text word e h =
+    word-append pieces (piece ∷ [])
+    ∙ ap (λ w. joined w (word_of_token (piece ∷ []))) h.spelled
+    ∙ ap (joined (Some h.before)) e
     ∙ ap (λ r. Some (h.before ++ r)) (append-nil text)
     ∙ ap Some (sym h.whole)
 
--- or the text ends before that
-open_last : (pieces more : Token) (word : List ℕ)
+pieces_spell : (state : QuoteState) (token : PartialToken) (word : List ℕ)
+    → Spells token word → word_of_token (pieces_of state token) ≡ Some word
+unfolding word_of_token
+pieces_spell state (after_piece pieces) word h = h
+pieces_spell InSingle (in_piece pieces text) word h =
+    with_piece pieces (piece_of InSingle text) text word refl h
+pieces_spell InDouble (in_piece pieces text) word h =
+    with_piece pieces (piece_of InDouble text) text word refl h
+pieces_spell state (in_piece pieces text) word h =
+    with_piece pieces (bare text) text word refl h
+
+-- it does not before the text ends
+no_word : (pieces more : Token) (word : List ℕ)
     → word_of_token pieces ≡ Some word → word_of_token more ≡ None
-    → IsOpenToken ((pieces ++ more) ∷ [])
-open_last pieces more word h e =
-    record {
-      token = pieces ++ more;
-      whole = refl;
-      no_word =
-          word-append pieces more
-          ∙ ap (λ w. joined w (word_of_token more)) h
-          ∙ ap (joined (Some word)) e;
-    }
+    → word_of_token (pieces ++ more) ≡ None
+no_word pieces more word h e =
+    word-append pieces more
+    ∙ ap (λ w. joined w (word_of_token more)) h
+    ∙ ap (joined (Some word)) e
+
+unclosed_spells : (opening : List ℕ) (token : PartialToken) (word : List ℕ)
+    → Spells token word → word_of_token (unclosed_after opening token) ≡ None
+unfolding word_of_token
+unclosed_spells opening (after_piece pieces) word h = no_word pieces (unclosed opening [] ∷ []) word h refl
+unclosed_spells opening (in_piece pieces text) word h =
+    no_word pieces (unclosed opening text ∷ []) h.before h.spelled refl
 
 -- ---- from state to state
 
--- the state of the reader of words, where the cutting is
-abbrev reader : QuoteState → WordState
-reader between = Before
-reader between_escaped = BeforeEscaped
-reader (in_bare_escaped pieces run) = BareEscaped
-reader (in_single pieces text) = InSingle
-reader (in_double pieces text) = InDouble
-reader (in_double_escaped pieces text) = InDoubleEscaped
-reader (after_quotes_escaped pieces) = BareEscaped
-reader _ = Bare
+with_backslash : (front text bytes : List ℕ)
+    → front ++ text ++ ascii.backslash ∷ [] ++ bytes ≡ front ++ (text ++ ascii.backslash ∷ [] ++ bytes)
+with_backslash front text bytes =
+    ap (λ w. w ++ bytes) (append_assoc front text (ascii.backslash ∷ []))
+    ∙ append_assoc front (text ++ ascii.backslash ∷ []) bytes
 
--- the word so far of a token that has begun
-abbrev IsSoFar : QuoteState → List ℕ → Type 0
-IsSoFar between word = ⊥
-IsSoFar between_escaped word = ⊥
-IsSoFar (in_bare pieces run) word = Holds pieces run word
-IsSoFar (in_bare_escaped pieces run) word = Holds pieces run word
-IsSoFar (in_single pieces text) word = Holds pieces text word
-IsSoFar (in_double pieces text) word = Holds pieces text word
-IsSoFar (in_double_escaped pieces text) word = Holds pieces text word
-IsSoFar (after_quotes pieces) word = word_of_token pieces ≡ Some word
-IsSoFar (after_quotes_escaped pieces) word = word_of_token pieces ≡ Some word
+-- the word grows at its end
+word_after-append : (state : QuoteState) (s : Sign) (front text bytes : List ℕ)
+    → word_after state s (front ++ text) bytes ≡ front ++ word_after state s text bytes
+word_after-append InSingle single_quote front text bytes = refl
+word_after-append InDouble double_quote front text bytes = refl
+word_after-append InDouble backslash front text bytes = refl
+word_after-append InDoubleEscaped line_feed front text bytes = refl
+word_after-append BeforeEscaped line_feed front text bytes = refl
+word_after-append BareEscaped line_feed front text bytes = refl
+word_after-append InDoubleEscaped (blank b) front text bytes =
+    with_backslash front text bytes
+word_after-append InDoubleEscaped single_quote front text bytes =
+    with_backslash front text bytes
+word_after-append InDoubleEscaped (other b) front text bytes =
+    with_backslash front text bytes
+word_after-append Before single_quote front text bytes = refl
+word_after-append Before double_quote front text bytes = refl
+word_after-append Before backslash front text bytes = refl
+word_after-append Bare single_quote front text bytes = refl
+word_after-append Bare double_quote front text bytes = refl
+word_after-append Bare backslash front text bytes = refl
+word_after-append state s front text bytes = append_assoc front text bytes
 
--- from such a state on, what is read is what the tokens tell
-abbrev Agree : QuoteState → List ℕ → List Sign → Type 0
-Agree p word signs = IsTokenRead (cut p signs) (posix_word_from (reader p) word signs)
-
-abbrev AgreeOn : List Sign → Type 0
-AgreeOn signs = (p : QuoteState) (word : List ℕ) → IsSoFar p word → Agree p word signs
-
--- a text that ends at its state
-at_end : AgreeOn []
-unfolding cut posix_word_from ended posix_tokens word_of_token ends_token
-at_end (in_bare pieces run) word h =
+grown : (state : QuoteState) (s : Sign) (pieces : Token) (text word : List ℕ)
+    → Holds pieces text word
+    → Holds pieces (word_after state s text (byte_of s ∷ [])) (word_after state s word (byte_of s ∷ []))
+grown state s pieces text word h =
     record {
-      token = pieces ++ bare run ∷ [];
+      before = h.before;
+      spelled = h.spelled;
+      whole =
+          ap (λ w. word_after state s w (byte_of s ∷ [])) h.whole
+          ∙ word_after-append state s h.before text (byte_of s ∷ []);
+    }
+
+-- a token has begun
+abbrev HasBegun : QuoteState → Type 0
+HasBegun Before = ⊥
+HasBegun BeforeEscaped = ⊥
+HasBegun _ = ⊤
+
+-- what a token has after one more byte spells the word after it
+spells_after : (state : QuoteState) (s : Sign) (token : PartialToken) (word : List ℕ)
+    → HasBegun state → Spells token word
+    → Spells (token_after state s token) (word_after state s word (byte_of s ∷ []))
+spells_after Before s token word b h = absurd b
+spells_after Bare single_quote token word b h =
+    opened (pieces_of Bare token) word (pieces_spell Bare token word h)
+spells_after Bare double_quote token word b h =
+    opened (pieces_of Bare token) word (pieces_spell Bare token word h)
+spells_after InSingle single_quote token word b h = pieces_spell InSingle token word h
+spells_after InDouble double_quote token word b h = pieces_spell InDouble token word h
+spells_after state s (after_piece pieces) word b h =
+    spells_begun pieces (word_after state s [] (byte_of s ∷ [])) (word_after state s word (byte_of s ∷ []))
+    (grown state s pieces [] word (opened pieces word h))
+  where
+    spells_begun : (pieces : Token) (text word : List ℕ) → Holds pieces text word → Spells (begun pieces text) word
+    spells_begun pieces [] word h = h.spelled ∙ ap Some (sym (append-nil h.before) ∙ sym h.whole)
+    spells_begun pieces (byte ∷ text) word h = h
+spells_after state s (in_piece pieces text) word b h = grown state s pieces text word h
+
+stays_begun : (state next : QuoteState) (s : Sign)
+    → HasBegun state → next_state state s ≡ Some next → HasBegun next
+stays_begun state next s b e = subst Follows e (follows state s b)
+  where
+    Follows : Option QuoteState → Type 0
+    Follows None = ⊤
+    Follows (Some next) = HasBegun next
+
+    follows : (state : QuoteState) (s : Sign) → HasBegun state → Follows (next_state state s)
+    follows Before s b = absurd b
+    follows BeforeEscaped s b = absurd b
+    follows Bare line_feed b = tt
+    follows InSingle line_feed b = tt
+    follows InDouble line_feed b = tt
+    follows state s b = tt
+
+-- a token that has begun ends at a state, at the end of the text
+at_end : (state : QuoteState) (token : PartialToken) (word : List ℕ)
+    → HasBegun state → Spells token word → IsTokenRead (ended_token state token) (ended state word [])
+unfolding ended posix_tokens cut word_of_token ends_token
+at_end Before token word b h = absurd b
+at_end BeforeEscaped token word b h = absurd b
+at_end Bare token word b h =
+    record {
+      token = pieces_of Bare token;
       whole = refl;
-      spells = closed_bare pieces run word h;
+      spells = pieces_spell Bare token word h;
       ends = refl;
     }
-at_end (in_bare_escaped pieces run) word h =
-    open_last pieces (bare run ∷ unclosed (ascii.backslash ∷ []) [] ∷ []) h.before h.spelled refl
-at_end (in_single pieces text) word h =
-    open_last pieces (unclosed (ascii.single_quote ∷ []) text ∷ []) h.before h.spelled refl
-at_end (in_double pieces text) word h =
-    open_last pieces (unclosed (ascii.double_quote ∷ []) text ∷ []) h.before h.spelled refl
-at_end (in_double_escaped pieces text) word h =
-    open_last pieces (unclosed (ascii.double_quote ∷ []) text ∷ []) h.before h.spelled refl
-at_end (after_quotes pieces) word h =
-    record { token = pieces; whole = refl; spells = h; ends = refl }
-at_end (after_quotes_escaped pieces) word h =
-    open_last pieces (unclosed (ascii.backslash ∷ []) [] ∷ []) word h refl
-at_end _ word h = absurd h
+at_end BareEscaped token word b h =
+    record {
+      token = pieces_of Bare token ++ unclosed (ascii.backslash ∷ []) [] ∷ [];
+      whole = refl;
+      no_word = no_word (pieces_of Bare token) (unclosed (ascii.backslash ∷ []) [] ∷ []) word (pieces_spell Bare token word h) refl;
+    }
+at_end InSingle token word b h =
+    record { token = unclosed_after (ascii.single_quote ∷ []) token; whole = refl; no_word = unclosed_spells (ascii.single_quote ∷ []) token word h }
+at_end state token word b h =
+    record { token = unclosed_after (ascii.double_quote ∷ []) token; whole = refl; no_word = unclosed_spells (ascii.double_quote ∷ []) token word h }
 
--- a token that ends before a blank or a line feed
-ended_token : (s : Sign) (text : List ℕ) (token : Token) (word : List ℕ)
-    → sign (byte_of s) ≡ s → ends_token (s ∷ map sign text) ≡ true
-    → cut between (s ∷ map sign text) ≡ cut between (map sign text)
-    → word_of_token token ≡ Some word
-    → IsFirstToken
-    (token ∷ cut between (map sign text))
-    word
-    (byte_of s ∷ map byte_of (map sign text))
-unfolding posix_tokens
-ended_token s text token word is ends skips spells =
+-- or before a blank or a line feed
+at_blank : (state : QuoteState) (s : Sign) (text : List ℕ) (token : PartialToken) (word : List ℕ)
+    → next_state state s ≡ None → sign (byte_of s) ≡ s → HasBegun state → Spells token word
+    → IsTokenRead
+    (ended_token state token ++ cut between (map sign text))
+    (ended state word (byte_of s ∷ map byte_of (map sign text)))
+unfolding cut ended posix_tokens ends_token
+at_blank Before s text token word e is b h = absurd b
+at_blank BeforeEscaped s text token word e is b h = absurd b
+at_blank Bare s text token word e is b h =
     let same : sign (byte_of s) ∷ map sign (map byte_of (map sign text)) ≡ s ∷ map sign text =
     ap (λ t. sign (byte_of s) ∷ map sign t) (bytes-signs text)
     ∙ ap (λ x. x ∷ map sign text) is in
     record {
-      token = token;
-      whole = ap (λ tokens. token ∷ tokens) (sym (ap (cut between) same ∙ skips));
-      spells = spells;
-      ends = ap ends_token same ∙ ends;
+      token = pieces_of Bare token;
+      whole =
+          ap (λ tokens. pieces_of Bare token ∷ tokens)
+          (sym (ap (cut between) same ∙ skips s e));
+      spells = pieces_spell Bare token word h;
+      ends = ap ends_token same ∙ ends s e;
     }
+  where
+    skips : (s : Sign) → next_state Bare s ≡ None → cut between (s ∷ map sign text) ≡ cut between (map sign text)
+    skips (blank b) e = refl
+    skips line_feed e = refl
+    skips s e = cc
 
--- one sign in each state, before a text whose signs agree
-module _ (text : List ℕ) (goes : AgreeOn (map sign text)) where
-  -- between `"` the backslash stays before a byte that it does not escape
-  kept : (pieces : Token) (run word : List ℕ) (byte : ℕ) → Holds pieces run word
-      → Agree (in_double pieces (run ++ ascii.backslash ∷ byte ∷ []))
-      (word ++ ascii.backslash ∷ [] ++ byte ∷ []) (map sign text)
-  kept pieces run word byte h =
-      goes (in_double pieces (run ++ ascii.backslash ∷ byte ∷ []))
-      (word ++ ascii.backslash ∷ [] ++ byte ∷ [])
-      (subst (Holds pieces (run ++ ascii.backslash ∷ byte ∷ []))
-      (sym (append_assoc word (ascii.backslash ∷ []) (byte ∷ [])))
-      (grown pieces run word (ascii.backslash ∷ byte ∷ []) h))
+    ends : (s : Sign) → next_state Bare s ≡ None → ends_token (s ∷ map sign text) ≡ true
+    ends (blank b) e = refl
+    ends line_feed e = refl
+    ends s e = cc
+at_blank InSingle line_feed text token word e is b h = cc
+at_blank InDouble line_feed text token word e is b h = cc
+at_blank state s text token word e is b h = cc
 
-  one_sign : (p : QuoteState) (s : Sign) (word : List ℕ) → sign (byte_of s) ≡ s → IsSoFar p word
-      → Agree p word (s ∷ map sign text)
-  unfolding cut posix_word_from next_state word_after ended ends_token byte_of
-  one_sign (in_bare pieces run) (blank b) word is h =
-      ended_token (blank b) text (pieces ++ bare run ∷ []) word is refl refl
-      (closed_bare pieces run word h)
-  one_sign (in_bare pieces run) line_feed word is h =
-      ended_token line_feed text (pieces ++ bare run ∷ []) word is refl refl
-      (closed_bare pieces run word h)
-  one_sign (in_bare pieces run) single_quote word is h =
-      let closed : Token = pieces ++ bare run ∷ [] in
-      goes (in_single closed []) word (opened closed word (closed_bare pieces run word h))
-  one_sign (in_bare pieces run) double_quote word is h =
-      let closed : Token = pieces ++ bare run ∷ [] in
-      goes (in_double closed []) word (opened closed word (closed_bare pieces run word h))
-  one_sign (in_bare pieces run) backslash word is h = goes (in_bare_escaped pieces run) word h
-  one_sign (in_bare pieces run) s word is h =
-      let byte : List ℕ = byte_of s ∷ [] in
-      goes (in_bare pieces (run ++ byte)) (word ++ byte) (grown pieces run word byte h)
-  one_sign (in_bare_escaped pieces run) line_feed word is h = goes (in_bare pieces run) word h
-  one_sign (in_bare_escaped pieces run) s word is h =
-      let byte : List ℕ = byte_of s ∷ [] in
-      goes (in_bare pieces (run ++ byte)) (word ++ byte) (grown pieces run word byte h)
-  one_sign (in_single pieces run) single_quote word is h =
-      goes (after_quotes (pieces ++ quoted (ascii.single_quote ∷ []) run ∷ [])) word
-      (closed_quoted pieces (ascii.single_quote ∷ []) run word h)
-  one_sign (in_single pieces run) s word is h =
-      let byte : List ℕ = byte_of s ∷ [] in
-      goes (in_single pieces (run ++ byte)) (word ++ byte) (grown pieces run word byte h)
-  one_sign (in_double pieces run) double_quote word is h =
-      goes (after_quotes (pieces ++ quoted (ascii.double_quote ∷ []) run ∷ [])) word
-      (closed_quoted pieces (ascii.double_quote ∷ []) run word h)
-  one_sign (in_double pieces run) backslash word is h = goes (in_double_escaped pieces run) word h
-  one_sign (in_double pieces run) s word is h =
-      let byte : List ℕ = byte_of s ∷ [] in
-      goes (in_double pieces (run ++ byte)) (word ++ byte) (grown pieces run word byte h)
-  one_sign (in_double_escaped pieces run) (blank b) word is h = kept pieces run word b h
-  one_sign (in_double_escaped pieces run) line_feed word is h = goes (in_double pieces run) word h
-  one_sign (in_double_escaped pieces run) single_quote word is h =
-      kept pieces run word ascii.single_quote h
-  one_sign (in_double_escaped pieces run) (other b) word is h = kept pieces run word b h
-  one_sign (in_double_escaped pieces run) s word is h =
-      let byte : List ℕ = byte_of s ∷ [] in
-      goes (in_double pieces (run ++ byte)) (word ++ byte) (grown pieces run word byte h)
-  one_sign (after_quotes pieces) (blank b) word is h =
-      ended_token (blank b) text pieces word is refl refl h
-  one_sign (after_quotes pieces) line_feed word is h =
-      ended_token line_feed text pieces word is refl refl h
-  one_sign (after_quotes pieces) single_quote word is h =
-      goes (in_single pieces []) word (opened pieces word h)
-  one_sign (after_quotes pieces) double_quote word is h =
-      goes (in_double pieces []) word (opened pieces word h)
-  one_sign (after_quotes pieces) backslash word is h = goes (after_quotes_escaped pieces) word h
-  one_sign (after_quotes pieces) s word is h =
-      let byte : List ℕ = byte_of s ∷ [] in
-      goes (in_bare pieces byte) (word ++ byte) (begun pieces word byte h)
-  one_sign (after_quotes_escaped pieces) line_feed word is h = goes (after_quotes pieces) word h
-  one_sign (after_quotes_escaped pieces) s word is h =
-      let byte : List ℕ = byte_of s ∷ [] in
-      goes (in_bare pieces byte) (word ++ byte) (begun pieces word byte h)
-  one_sign p s word is h = absurd h
+-- what is read of a token that has begun is what the tokens tell
+abbrev Agree : QuoteState → PartialToken → List ℕ → List Sign → Type 0
+Agree state token word signs =
+    IsTokenRead (cut (at state token) signs) (posix_word_from state word signs)
 
--- a token that has begun
+abbrev AgreeOn : List Sign → Type 0
+AgreeOn signs =
+    (state : QuoteState) (token : PartialToken) (word : List ℕ)
+    → HasBegun state → Spells token word → Agree state token word signs
+
 in_token : (text : List ℕ) → AgreeOn (map sign text)
-in_token [] p word h = at_end p word h
-in_token (byte ∷ text) p word h =
-    one_sign text (in_token text) p (sign byte) word (ap sign (byte_of-sign byte)) h
+unfolding cut posix_word_from
+in_token [] state token word b h = at_end state token word b h
+in_token (byte ∷ text) state token word b h =
+    by (next_state state s) refl
+    (λ next e.
+      in_token text next (token_after state s token) (word_after state s word (byte_of s ∷ []))
+      (stays_begun state next s b e) (spells_after state s token word b h))
+  where
+    s : Sign
+    s = sign byte
+
+    by : (after : Option QuoteState) → next_state state s ≡ after
+        → ((next : QuoteState) → next_state state s ≡ Some next
+        → Agree next (token_after state s token) (word_after state s word (byte_of s ∷ [])) (map sign text))
+        → IsTokenRead
+        (elim after [
+          | Some next ↦ cut (at next (token_after state s token)) (map sign text)
+          | None ↦ ended_token state token ++ cut between (map sign text)
+        ])
+        (elim after [
+          | Some next ↦ posix_word_from next (word_after state s word (byte_of s ∷ [])) (map sign text)
+          | None ↦ ended state word (byte_of s ∷ map byte_of (map sign text))
+        ])
+    by (Some next) e goes = goes next e
+    by None e goes = at_blank state s text token word e (ap sign (byte_of-sign byte)) b h
 
 -- ---- before a token
 
@@ -342,11 +345,13 @@ begins_one : (signs : List Sign) (tokens : List Token) (read : Option (List ℕ 
 begins_one signs tokens read e h = record { nothing = λ t. cc; token = λ _. h }
 
 -- a token begins with the sign before this state
-begins_at : (p : QuoteState) (word : List ℕ) (signs rest : List Sign)
-    → AgreeOn rest → begins_no_token signs ≡ false → IsSoFar p word
-    → Begins signs (cut p rest) (posix_word_from (reader p) word rest)
-begins_at p word signs rest goes e h =
-    begins_one signs (cut p rest) (posix_word_from (reader p) word rest) e (goes p word h)
+begins_at : (state : QuoteState) (text : List ℕ) (signs rest : List Sign)
+    → AgreeOn rest → begins_no_token signs ≡ false → HasBegun state
+    → Begins signs (cut (at state (in_piece [] text)) rest) (posix_word_from state text rest)
+unfolding word_of_token
+begins_at state text signs rest goes e b =
+    begins_one signs (cut (at state (in_piece [] text)) rest) (posix_word_from state text rest) e
+    (goes state (in_piece [] text) text b record { before = []; spelled = refl; whole = refl })
 
 abbrev BeginsOn : List Sign → Type 0
 BeginsOn signs = Begins signs (cut between signs) (posix_word_from Before [] signs)
@@ -356,30 +361,30 @@ abbrev BeginsEscapedOn : List Sign → Type 0
 BeginsEscapedOn signs =
     Begins
     (backslash ∷ signs)
-    (cut between_escaped signs)
+    (cut (at BeforeEscaped (after_piece [])) signs)
     (posix_word_from BeforeEscaped [] signs)
 
 escaped_goes : (s : Sign) (signs : List Sign)
     → AgreeOn signs → BeginsOn signs → BeginsEscapedOn (s ∷ signs)
-unfolding cut posix_word_from next_state word_after byte_of begins_no_token ends_token
+unfolding cut posix_word_from byte_of begins_no_token ends_token
 escaped_goes line_feed signs goes begins = record { nothing = begins.nothing; token = begins.token }
 escaped_goes s signs goes begins =
     let byte : List ℕ = byte_of s ∷ [] in
-    begins_at (in_bare [] byte) byte (backslash ∷ s ∷ signs) signs goes refl (nothing_yet byte)
+    begins_at Bare byte (backslash ∷ s ∷ signs) signs goes refl tt
 
 between_goes : (s : Sign) (signs : List Sign)
     → AgreeOn signs → BeginsEscapedOn signs → BeginsOn (s ∷ signs)
-unfolding cut posix_word_from next_state word_after ended byte_of begins_no_token ends_token
+unfolding cut posix_word_from ended byte_of begins_no_token ends_token
 between_goes (blank b) signs goes begins = begins_none (blank b ∷ signs) (cut between signs) refl
 between_goes line_feed signs goes begins = begins_none (line_feed ∷ signs) (cut between signs) refl
 between_goes single_quote signs goes begins =
-    begins_at (in_single [] []) [] (single_quote ∷ signs) signs goes refl (nothing_yet [])
+    begins_at InSingle [] (single_quote ∷ signs) signs goes refl tt
 between_goes double_quote signs goes begins =
-    begins_at (in_double [] []) [] (double_quote ∷ signs) signs goes refl (nothing_yet [])
+    begins_at InDouble [] (double_quote ∷ signs) signs goes refl tt
 between_goes backslash signs goes begins = record { nothing = begins.nothing; token = begins.token }
 between_goes s signs goes begins =
     let byte : List ℕ = byte_of s ∷ [] in
-    begins_at (in_bare [] byte) byte (s ∷ signs) signs goes refl (nothing_yet byte)
+    begins_at Bare byte (s ∷ signs) signs goes refl tt
 
 -- both, by one induction
 before_token : (text : List ℕ) → BeginsOn (map sign text) × BeginsEscapedOn (map sign text)

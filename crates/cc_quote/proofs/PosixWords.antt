@@ -7,8 +7,8 @@ use Rattle.std.proofs.lemmas.Bool.Decides.{Decides-eqb, nat_tests}
 use Rattle.memchr.specs.Find.{is_byte}
 use Rattle.cc_base.specs.Bytes as ascii
 use Rattle.cc_quote.specs.Escapes.{escaped_byte as written}
-use Rattle.cc_quote.specs.PosixTokens.{Sign, sign, byte_of}
-use Rattle.cc_quote.specs.PosixTokens.Sign.{single_quote, other}
+use Rattle.cc_quote.specs.PosixSigns.{Sign, sign, byte_of}
+use Rattle.cc_quote.specs.PosixSigns.Sign.{single_quote, other}
 use Rattle.cc_quote.specs.PosixQuote.{next_state, word_after, ended, posix_word_from, posix_word_of, is_posix_safe, is_posix_safe_word, posix_escaped, posix_quoted}
 use Rattle.cc_quote.specs.declared.posix.QuoteState.{QuoteState}
 use Rattle.cc_quote.specs.declared.posix.QuoteState.TheVariants.{Before, Bare, InSingle, InDouble, InDoubleEscaped}
@@ -63,14 +63,12 @@ after_other InDoubleEscaped = InDouble
 after_other _ = Bare
 
 pub next-other : (state : QuoteState) (byte : ℕ) → next_state state (other byte) ≡ Some (after_other state)
-unfolding next_state
 next-other Before byte = refl
 next-other state byte = refl
 
 -- two such bytes in a row
 pub more-other : (state : QuoteState) (first byte : ℕ) (word run bytes : List ℕ)
     → word_after (after_other state) (other byte) (word_after state (other first) word run) bytes ≡ word_after state (other first) word (run ++ bytes)
-unfolding word_after
 more-other InDoubleEscaped first byte word run bytes = append_assoc (word ++ codes "\\") run bytes
 more-other state first byte word run bytes = append_assoc word run bytes
 
@@ -96,7 +94,6 @@ high_run state first run (byte ∷ bytes) rest word h =
 
 -- what the state and the word are after such a byte does not depend on which it is
 pub same-word : (state : QuoteState) (a b : ℕ) (word bytes : List ℕ) → word_after state (other a) word bytes ≡ word_after state (other b) word bytes
-unfolding word_after
 same-word Before a b word bytes = refl
 same-word state a b word bytes = refl
 
@@ -138,7 +135,6 @@ safe_sign byte h = grind (arith, nat_tests)
 
 -- such bytes in a bare word
 pub bare_run : (run rest word : List ℕ) → list_all is_posix_safe run ≡ true → posix_word_from Bare word (map sign (run ++ rest)) ≡ posix_word_from Bare (word ++ run) (map sign rest)
-unfolding next_state word_after
 bare_run [] rest word h = ap (λ w. posix_word_from Bare w (map sign rest)) (sym (append-nil word))
 bare_run (byte ∷ run) rest word h =
     let parts = and_parts (is_posix_safe byte) (list_all is_posix_safe run) h in
@@ -150,7 +146,7 @@ bare_run (byte ∷ run) rest word h =
 
 -- such a word
 safe_reads : (text : List ℕ) → is_posix_safe_word text ≡ true → posix_word_of text ≡ Some (text, [])
-unfolding posix_word_of is_posix_safe_word next_state word_after posix_word_from ended
+unfolding posix_word_of is_posix_safe_word posix_word_from ended
 safe_reads [] h = cc
 safe_reads (byte ∷ text) h =
     let parts = and_parts (is_posix_safe byte) (list_all is_posix_safe text) h in
@@ -165,7 +161,7 @@ abbrev pub posix_escaped_byte : ℕ → List ℕ
 posix_escaped_byte = written (is_byte 39) (λ _. codes "'\\''")
 
 escaped_byte : (byte : ℕ) (rest word : List ℕ) → posix_word_from InSingle word (map sign (posix_escaped_byte byte ++ rest)) ≡ posix_word_from InSingle (word ++ byte ∷ []) (map sign rest)
-unfolding posix_word_from next_state word_after sign byte_of
+unfolding posix_word_from sign byte_of
 escaped_byte byte rest word = by_test (byte == ascii.single_quote) refl
   where
     kept : byte == ascii.single_quote ≡ false → sign byte ≢ single_quote
@@ -189,7 +185,7 @@ escaped_text (byte ∷ text) rest word =
     ∙ ap (λ w. posix_word_from InSingle w (map sign rest)) (append_assoc word (byte ∷ []) text)
 
 pub quoted_reads : (text : List ℕ) → posix_word_of (codes "'" ++ posix_escaped text ++ codes "'") ≡ Some (text, [])
-unfolding posix_word_of posix_word_from next_state word_after ended sign
+unfolding posix_word_of posix_word_from ended sign
 quoted_reads text = escaped_text text (ascii.single_quote ∷ []) []
 
 -- a text that was quoted is read as the text, and nothing is left

@@ -3,8 +3,8 @@ use Rattle.std.specs.Prelude.{ℕ, Bool, true, false, List, [], ◌∷◌, Optio
 use Rattle.cc_base.specs.Bytes as ascii
 use Rattle.cc_quote.specs.Escapes.{marked}
 use Rattle.cc_quote.specs.PosixQuote.{next_state, word_after}
-use Rattle.cc_quote.specs.PosixTokens.{Sign, sign, byte_of}
-use Rattle.cc_quote.specs.PosixTokens.Sign.{double_quote}
+use Rattle.cc_quote.specs.PosixSigns.{Sign, sign, byte_of}
+use Rattle.cc_quote.specs.PosixSigns.Sign.{double_quote}
 use Rattle.cc_quote.specs.declared.posix.QuoteState.{QuoteState}
 use Rattle.cc_quote.specs.declared.posix.QuoteState.TheVariants.{Bare, InDouble}
 

@@ -9,6 +9,7 @@ pub mod FishTokens
 pub mod PlainName
 pub mod PlainPath
 pub mod PosixQuote
+pub mod PosixSigns
 pub mod PosixTokenWords
 pub mod PosixTokens
 pub mod PowershellQuote

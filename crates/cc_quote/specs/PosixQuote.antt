@@ -20,8 +20,8 @@ use Rattle.std.specs.Char.{is_ascii_alphanumeric}
 use Rattle.std.specs.List.{list_all, list_any}
 use Rattle.cc_base.specs.Bytes.{single_quote as single_quote_byte}
 use Rattle.cc_quote.specs.Escapes.{replace_byte}
-use Rattle.cc_quote.specs.PosixTokens.{Sign, sign, byte_of}
-use Rattle.cc_quote.specs.PosixTokens.Sign.{
+use Rattle.cc_quote.specs.PosixSigns.{Sign, sign, byte_of}
+use Rattle.cc_quote.specs.PosixSigns.Sign.{
   blank,
   line_feed,
   single_quote,
@@ -43,7 +43,7 @@ use Rattle.cc_quote.specs.declared.posix.QuoteState.TheVariants.{
 -- ---- how a word is read
 
 -- the state after one more byte, which has this sign; none where the word ends before it
-unfoldable pub next_state : QuoteState → Sign → Option QuoteState
+abbrev pub next_state : QuoteState → Sign → Option QuoteState
 next_state Before (blank _) = None
 next_state Before line_feed = None
 next_state Before single_quote = Some InSingle
@@ -69,7 +69,7 @@ next_state InDoubleEscaped _ = Some InDouble
 -- The word after one more character, which has this sign and these bytes: they are added, but for
 -- quotes that open or close, a backslash that escapes, and a line feed after one. Between `"` a
 -- backslash stays before what it does not escape.
-unfoldable pub word_after : QuoteState → Sign → List ℕ → List ℕ → List ℕ
+abbrev pub word_after : QuoteState → Sign → List ℕ → List ℕ → List ℕ
 word_after InSingle single_quote word bytes = word
 word_after InSingle _ word bytes = word ++ bytes
 word_after InDouble double_quote word bytes = word

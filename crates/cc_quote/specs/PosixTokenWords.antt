@@ -15,8 +15,9 @@ use Rattle.std.specs.Prelude.{
   map,
   option_map,
 }
-use Rattle.cc_quote.specs.PosixTokens.{Sign, sign, posix_tokens}
-use Rattle.cc_quote.specs.PosixTokens.Sign.{blank, line_feed, backslash}
+use Rattle.cc_quote.specs.PosixSigns.{Sign, sign}
+use Rattle.cc_quote.specs.PosixTokens.{posix_tokens}
+use Rattle.cc_quote.specs.PosixSigns.Sign.{blank, line_feed, backslash}
 use Rattle.cc_quote.specs.Tokens.{Token}
 use Rattle.cc_quote.specs.Tokens.Piece.{bare, quoted, unclosed}
 

@@ -1,61 +1,19 @@
 -- The tokens of a script for a posix shell, as bash or zsh. It is cut at blanks and line feeds
--- outside quotes; a token keeps its pieces, each with its kind of quote. Nothing is a comment.
-use Rattle.std.specs.Prelude.{
-  ℕ,
-  List,
-  [],
-  ◌∷◌,
-  ◌++◌,
-  ◌==◌,
-  ◌||◌,
-  if◌then◌else◌,
-  map,
-  Bool,
-  bytes_eq,
-}
+-- outside quotes, as words are read; a token keeps its pieces, each with its kind of quote. Nothing
+-- is a comment.
+use Rattle.std.specs.Prelude.{ℕ, Bool, List, [], ◌∷◌, ◌++◌, map, Some, None, bytes_eq}
 use Rattle.cc_base.specs.Bytes.{
-  tab as tab_byte,
-  line_feed as line_feed_byte,
-  space as space_byte,
   double_quote as double_quote_byte,
-  dollar as dollar_byte,
   single_quote as single_quote_byte,
   backslash as backslash_byte,
-  backtick as backtick_byte,
 }
+use Rattle.cc_quote.specs.PosixQuote.{next_state, word_after}
+use Rattle.cc_quote.specs.PosixSigns.{Sign, sign, byte_of}
+use Rattle.cc_quote.specs.PosixSigns.Sign.{single_quote, double_quote}
 use Rattle.cc_quote.specs.Tokens.{Piece, Token}
 use Rattle.cc_quote.specs.Tokens.Piece.{bare, quoted, unclosed}
-
--- what a byte is to the cutting: a space or a tab, a line feed, a quote of either kind, a
--- backslash, one of the two others that a backslash escapes within double quotes, or any other
-pub data Sign : Type 0 where
-  blank : ℕ → Sign
-  line_feed : Sign
-  single_quote : Sign
-  double_quote : Sign
-  backslash : Sign
-  special : ℕ → Sign
-  other : ℕ → Sign
-
--- the sign of a byte
-unfoldable pub sign : ℕ → Sign
-sign byte =
-    if byte == space_byte || byte == tab_byte then blank byte
-    else (if byte == line_feed_byte then line_feed
-    else (if byte == single_quote_byte then single_quote
-    else (if byte == double_quote_byte then double_quote
-    else (if byte == backslash_byte then backslash
-    else (if byte == dollar_byte || byte == backtick_byte then special byte else other byte)))))
-
--- the byte of a sign
-unfoldable pub byte_of : Sign → ℕ
-byte_of (blank byte) = byte
-byte_of line_feed = line_feed_byte
-byte_of single_quote = single_quote_byte
-byte_of double_quote = double_quote_byte
-byte_of backslash = backslash_byte
-byte_of (special byte) = byte
-byte_of (other byte) = byte
+use Rattle.cc_quote.specs.declared.posix.QuoteState.{QuoteState}
+use Rattle.cc_quote.specs.declared.posix.QuoteState.TheVariants.{Before, Bare, InSingle, InDouble, InDoubleEscaped}
 
 -- what single or double quotes hold
 abbrev pub single : List ℕ → Piece
@@ -68,75 +26,78 @@ double text = quoted (double_quote_byte ∷ []) text
 abbrev pub is_double_quote : List ℕ → Bool
 is_double_quote opening = bytes_eq opening (double_quote_byte ∷ [])
 
--- where the cutting is: between two tokens, or in one, with the pieces that it has so far and
--- the text of the piece that is open; after a closing quote; and after a backslash in each of these
--- but single quotes
-pub data QuoteState : Type 0 where
-  between : QuoteState
-  between_escaped : QuoteState
-  in_bare : Token → List ℕ → QuoteState
-  in_bare_escaped : Token → List ℕ → QuoteState
-  in_single : Token → List ℕ → QuoteState
-  in_double : Token → List ℕ → QuoteState
-  in_double_escaped : Token → List ℕ → QuoteState
-  after_quotes : Token → QuoteState
-  after_quotes_escaped : Token → QuoteState
+-- what a token has so far: its pieces, and the text of the piece that is open, where one is
+pub data PartialToken : Type 0 where
+  after_piece : Token → PartialToken
+  in_piece : Token → List ℕ → PartialToken
 
--- The tokens that the signs give from a state on. A backslash with a line feed vanishes outside
--- quotes and within double ones. Before any other byte outside quotes, and before `$`, a backtick,
--- `"` and `\` within double ones, the backslash alone vanishes.
-unfoldable pub cut : QuoteState → List Sign → List Token
-cut between [] = []
-cut between (blank _ ∷ signs) = cut between signs
-cut between (line_feed ∷ signs) = cut between signs
-cut between (single_quote ∷ signs) = cut (in_single [] []) signs
-cut between (double_quote ∷ signs) = cut (in_double [] []) signs
-cut between (backslash ∷ signs) = cut between_escaped signs
-cut between (s ∷ signs) = cut (in_bare [] (byte_of s ∷ [])) signs
-cut between_escaped [] = (unclosed (backslash_byte ∷ []) [] ∷ []) ∷ []
-cut between_escaped (line_feed ∷ signs) = cut between signs
-cut between_escaped (s ∷ signs) = cut (in_bare [] (byte_of s ∷ [])) signs
-cut (in_bare pieces run) [] = (pieces ++ bare run ∷ []) ∷ []
-cut (in_bare pieces run) (blank _ ∷ signs) = (pieces ++ bare run ∷ []) ∷ cut between signs
-cut (in_bare pieces run) (line_feed ∷ signs) = (pieces ++ bare run ∷ []) ∷ cut between signs
-cut (in_bare pieces run) (single_quote ∷ signs) = cut (in_single (pieces ++ bare run ∷ []) []) signs
-cut (in_bare pieces run) (double_quote ∷ signs) = cut (in_double (pieces ++ bare run ∷ []) []) signs
-cut (in_bare pieces run) (backslash ∷ signs) = cut (in_bare_escaped pieces run) signs
-cut (in_bare pieces run) (s ∷ signs) = cut (in_bare pieces (run ++ byte_of s ∷ [])) signs
-cut (in_bare_escaped pieces run) [] =
-    (pieces ++ bare run ∷ unclosed (backslash_byte ∷ []) [] ∷ []) ∷ []
-cut (in_bare_escaped pieces run) (line_feed ∷ signs) = cut (in_bare pieces run) signs
-cut (in_bare_escaped pieces run) (s ∷ signs) = cut (in_bare pieces (run ++ byte_of s ∷ [])) signs
-cut (in_single pieces text) [] = (pieces ++ unclosed (single_quote_byte ∷ []) text ∷ []) ∷ []
-cut (in_single pieces text) (single_quote ∷ signs) =
-    cut (after_quotes (pieces ++ single text ∷ [])) signs
-cut (in_single pieces text) (s ∷ signs) = cut (in_single pieces (text ++ byte_of s ∷ [])) signs
-cut (in_double pieces text) [] = (pieces ++ unclosed (double_quote_byte ∷ []) text ∷ []) ∷ []
-cut (in_double pieces text) (double_quote ∷ signs) =
-    cut (after_quotes (pieces ++ double text ∷ [])) signs
-cut (in_double pieces text) (backslash ∷ signs) = cut (in_double_escaped pieces text) signs
-cut (in_double pieces text) (s ∷ signs) = cut (in_double pieces (text ++ byte_of s ∷ [])) signs
-cut (in_double_escaped pieces text) [] =
-    (pieces ++ unclosed (double_quote_byte ∷ []) text ∷ []) ∷ []
-cut (in_double_escaped pieces text) (line_feed ∷ signs) = cut (in_double pieces text) signs
-cut (in_double_escaped pieces text) (blank byte ∷ signs) =
-    cut (in_double pieces (text ++ backslash_byte ∷ byte ∷ [])) signs
-cut (in_double_escaped pieces text) (single_quote ∷ signs) =
-    cut (in_double pieces (text ++ backslash_byte ∷ single_quote_byte ∷ [])) signs
-cut (in_double_escaped pieces text) (other byte ∷ signs) =
-    cut (in_double pieces (text ++ backslash_byte ∷ byte ∷ [])) signs
-cut (in_double_escaped pieces text) (s ∷ signs) =
-    cut (in_double pieces (text ++ byte_of s ∷ [])) signs
-cut (after_quotes pieces) [] = pieces ∷ []
-cut (after_quotes pieces) (blank _ ∷ signs) = pieces ∷ cut between signs
-cut (after_quotes pieces) (line_feed ∷ signs) = pieces ∷ cut between signs
-cut (after_quotes pieces) (single_quote ∷ signs) = cut (in_single pieces []) signs
-cut (after_quotes pieces) (double_quote ∷ signs) = cut (in_double pieces []) signs
-cut (after_quotes pieces) (backslash ∷ signs) = cut (after_quotes_escaped pieces) signs
-cut (after_quotes pieces) (s ∷ signs) = cut (in_bare pieces (byte_of s ∷ [])) signs
-cut (after_quotes_escaped pieces) [] = (pieces ++ unclosed (backslash_byte ∷ []) [] ∷ []) ∷ []
-cut (after_quotes_escaped pieces) (line_feed ∷ signs) = cut (after_quotes pieces) signs
-cut (after_quotes_escaped pieces) (s ∷ signs) = cut (in_bare pieces (byte_of s ∷ [])) signs
+-- where the cutting is: where the reader of words is, in a token that has this so far
+pub data CutState : Type 0 where
+  at : QuoteState → PartialToken → CutState
+
+-- between two tokens, and in a piece of each kind
+abbrev pub between : CutState
+between = at Before (after_piece [])
+
+abbrev pub in_bare : Token → List ℕ → CutState
+in_bare pieces run = at Bare (in_piece pieces run)
+
+abbrev pub in_single : Token → List ℕ → CutState
+in_single pieces text = at InSingle (in_piece pieces text)
+
+abbrev pub in_double : Token → List ℕ → CutState
+in_double pieces text = at InDouble (in_piece pieces text)
+
+-- the piece that is open at a state
+abbrev pub piece_of : QuoteState → List ℕ → Piece
+piece_of InSingle text = single text
+piece_of InDouble text = double text
+piece_of _ text = bare text
+
+-- the pieces with the one that is open at a state
+abbrev pub pieces_of : QuoteState → PartialToken → Token
+pieces_of state (after_piece pieces) = pieces
+pieces_of state (in_piece pieces text) = pieces ++ piece_of state text ∷ []
+
+-- the pieces with one that stays open after this
+abbrev pub unclosed_after : List ℕ → PartialToken → Token
+unclosed_after opening (after_piece pieces) = pieces ++ unclosed opening [] ∷ []
+unclosed_after opening (in_piece pieces text) = pieces ++ unclosed opening text ∷ []
+
+-- a piece begins where there is a text for it
+abbrev pub begun : Token → List ℕ → PartialToken
+begun pieces [] = after_piece pieces
+begun pieces text = in_piece pieces text
+
+-- The token after one more byte, which has this sign, at a state where it does not end: a quote
+-- that opens or closes ends a piece, else the piece that is open grows as the word does.
+abbrev pub token_after : QuoteState → Sign → PartialToken → PartialToken
+token_after Before single_quote token = in_piece [] []
+token_after Before double_quote token = in_piece [] []
+token_after Bare single_quote token = in_piece (pieces_of Bare token) []
+token_after Bare double_quote token = in_piece (pieces_of Bare token) []
+token_after InSingle single_quote token = after_piece (pieces_of InSingle token)
+token_after InDouble double_quote token = after_piece (pieces_of InDouble token)
+token_after state s (after_piece pieces) = begun pieces (word_after state s [] (byte_of s ∷ []))
+token_after state s (in_piece pieces text) =
+    in_piece pieces (word_after state s text (byte_of s ∷ []))
+
+-- the token that ends at a state, where one has begun
+abbrev pub ended_token : QuoteState → PartialToken → List Token
+ended_token Before token = []
+ended_token Bare token = pieces_of Bare token ∷ []
+ended_token InSingle token = unclosed_after (single_quote_byte ∷ []) token ∷ []
+ended_token InDouble token = unclosed_after (double_quote_byte ∷ []) token ∷ []
+ended_token InDoubleEscaped token = unclosed_after (double_quote_byte ∷ []) token ∷ []
+ended_token _ token = (pieces_of Bare token ++ unclosed (backslash_byte ∷ []) [] ∷ []) ∷ []
+
+-- the tokens that the signs give from a state on
+unfoldable pub cut : CutState → List Sign → List Token
+cut (at state token) [] = ended_token state token
+cut (at state token) (s ∷ signs) = elim (next_state state s) [
+  | Some next ↦ cut (at next (token_after state s token)) signs
+  | None ↦ ended_token state token ++ cut between signs
+]
 
 -- the tokens of a script
 unfoldable pub posix_tokens : List ℕ → List Token

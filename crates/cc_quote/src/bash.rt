@@ -10,7 +10,7 @@ ghost use Rattle.cc_quote.specs.BashDouble.{
   is_double_marked,
 };
 ghost use Rattle.cc_quote.specs.Escapes.{backslashed};
-ghost use Rattle.cc_quote.specs.PosixTokens.{sign};
+ghost use Rattle.cc_quote.specs.PosixSigns.{sign};
 ghost use Rattle.cc_quote.specs.QuotedWord.{contents};
 ghost use Rattle.cc_quote.specs.declared.posix.QuoteState.TheVariants.{InDouble};
 
@@ -90,7 +90,7 @@ fn read_double(alloc: Global, text: &str) -> Result<Option<(String, &str)>, Allo
 }
 
 // Whether a character is the quote that closes.
-#[tactic(auto, unfolding(crate::specs::BashDouble::closes_double, crate::specs::PosixTokens::sign))]
+#[tactic(auto, unfolding(crate::specs::BashDouble::closes_double, crate::specs::PosixSigns::sign))]
 fn closes_double(state: QuoteState, character: char) -> bool
     ensures { result ≡ closes_double state (sign character) }
 {

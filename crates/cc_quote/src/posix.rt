@@ -27,7 +27,7 @@ ghost use Rattle.cc_quote.specs.PosixQuote.{
   word_after,
 };
 ghost use Rattle.cc_quote.specs.PosixTokenWords.{ReadsFirstToken};
-ghost use Rattle.cc_quote.specs.PosixTokens.{sign};
+ghost use Rattle.cc_quote.specs.PosixSigns.{sign};
 ghost use Rattle.cc_quote.specs.QuotedWord.{contents};
 
 use crate::escape::{Replace, push_escaped};
@@ -138,7 +138,7 @@ fn read_word(alloc: Global, text: &str) -> Result<Option<(String, &str)>, AllocE
 }
 
 // The state after a character; `None` where the word ends before it.
-#[tactic(auto, unfolding(crate::specs::PosixQuote::next_state, crate::specs::PosixTokens::sign))]
+#[tactic(auto, unfolding(crate::specs::PosixSigns::sign))]
 pub(crate) fn next_state(state: QuoteState, character: char) -> Option<QuoteState>
     ensures { result ≡ next_state state (sign character) }
 {
@@ -165,7 +165,7 @@ pub(crate) fn next_state(state: QuoteState, character: char) -> Option<QuoteStat
 }
 
 // Adds to the word what the character at a state spells.
-#[tactic(auto, unfolding(crate::specs::PosixQuote::word_after, crate::specs::PosixTokens::sign))]
+#[tactic(auto, unfolding(crate::specs::PosixSigns::sign))]
 pub(crate) fn push_added(
     state: QuoteState,
     character: char,

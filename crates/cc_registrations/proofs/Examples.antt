@@ -1,7 +1,7 @@
 -- Registrations that are read as the definitions say.
 use Rattle.std.proofs.Common.{◌≡◌, true, false, Some, refl, codes}
 use Rattle.cc_quote.specs.PosixQuote.{next_state, word_after as added, ended as ended_word, posix_word_from, posix_word_of, is_posix_safe, is_posix_safe_word, posix_quoted}
-use Rattle.cc_quote.specs.PosixTokens.{sign, byte_of}
+use Rattle.cc_quote.specs.PosixSigns.{sign, byte_of}
 use Rattle.cc_base.specs.Found.{after, with_front, cut_at, up_to, after_mark, between, without_blanks, after_last_from, last_line, last_run, word_by, word_after, ended, words_from, before_last}
 use Rattle.cc_quote.specs.PlainPath.{is_path_byte, is_plain_path}
 use Rattle.cc_quote.specs.FishQuote.{is_fish_safe, fish_sign, fish_quoted, fish_quoted_for_eval}

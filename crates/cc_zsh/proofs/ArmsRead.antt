@@ -11,8 +11,8 @@ use Rattle.cc_command.specs.ArgumentLists.{positionals}
 use Rattle.cc_command.specs.Names.{full_name, visible_names}
 use Rattle.cc_command.specs.Tree.{Forest, none, more, Tree, has_nodes}
 use Rattle.cc_command.proofs.PlainParts.{IsPlainName}
-use Rattle.cc_quote.specs.PosixTokens.{sign, byte_of, cut}
-use Rattle.cc_quote.specs.PosixTokens.QuoteState.{between}
+use Rattle.cc_quote.specs.PosixSigns.{sign, byte_of}
+use Rattle.cc_quote.specs.PosixTokens.{cut, between}
 use Rattle.cc_quote.specs.Tokens.{is_word}
 use Rattle.cc_quote.specs.Tokens.Piece.{bare}
 use Rattle.cc_quote.proofs.PosixCutting.{IsOther, IsKept-IsOther, tokens_from, bare_run, double_run}

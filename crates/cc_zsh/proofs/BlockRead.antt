@@ -11,8 +11,8 @@ use Rattle.cc_command.specs.declared.node.Node.{Node}
 use Rattle.cc_command.specs.Names.{full_name}
 use Rattle.cc_command.specs.Tree.{Forest, Tree, has_nodes}
 use Rattle.cc_command.proofs.PlainParts.{IsPlainArgument, IsPlainNode}
-use Rattle.cc_quote.specs.PosixTokens.{sign, byte_of, cut, double}
-use Rattle.cc_quote.specs.PosixTokens.QuoteState.{between, in_double}
+use Rattle.cc_quote.specs.PosixSigns.{sign, byte_of}
+use Rattle.cc_quote.specs.PosixTokens.{cut, double, between, in_double}
 use Rattle.cc_quote.specs.Tokens.{Token, is_word}
 use Rattle.cc_quote.proofs.PosixCutting.{IsKept-IsOther, tokens_from, double_run}
 use Rattle.cc_quote.specs.Escapes.{replace_byte}

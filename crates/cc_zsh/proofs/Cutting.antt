@@ -5,9 +5,9 @@ use Rattle.std.proofs.lemmas.Bool.Decides.{Decides-eqb, nat_tests}
 use Rattle.std.proofs.lemmas.List.Concat.{flat_map-append}
 use Rattle.cc_base.specs.Bytes as ascii
 use Rattle.cc_quote.specs.PosixQuote.{posix_escaped}
-use Rattle.cc_quote.specs.PosixTokens.{Sign, sign, byte_of, cut, single}
-use Rattle.cc_quote.specs.PosixTokens.Sign.{single_quote}
-use Rattle.cc_quote.specs.PosixTokens.QuoteState.{between, in_single}
+use Rattle.cc_quote.specs.PosixSigns.{Sign, sign, byte_of}
+use Rattle.cc_quote.specs.PosixTokens.{cut, single, between, in_single}
+use Rattle.cc_quote.specs.PosixSigns.Sign.{single_quote}
 use Rattle.cc_quote.specs.Tokens.{Piece, Token, is_word}
 use Rattle.cc_quote.specs.Tokens.Piece.{bare}
 use Rattle.cc_quote.proofs.PosixCutting.{tokens_from}

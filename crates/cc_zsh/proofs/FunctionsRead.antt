@@ -6,8 +6,8 @@ use Rattle.cc_base.specs.Bytes.{backslash, close_parenthesis, colon, open_parent
 use Rattle.cc_base.proofs.Lines.{IsLine}
 use Rattle.cc_base.proofs.Lines.IsLine.{line}
 use Rattle.cc_generator.proofs.ReadInTurn.{in_parts, in_turn, items_begin}
-use Rattle.cc_quote.specs.PosixTokens.{sign, byte_of, cut}
-use Rattle.cc_quote.specs.PosixTokens.QuoteState.{between, in_bare, in_single}
+use Rattle.cc_quote.specs.PosixSigns.{sign, byte_of}
+use Rattle.cc_quote.specs.PosixTokens.{cut, between, in_bare, in_single}
 use Rattle.cc_quote.specs.QuotedWord.{line_feeds_as_spaces}
 use Rattle.cc_quote.specs.Tokens.{is_word}
 use Rattle.cc_quote.specs.Tokens.Piece.{bare}

@@ -3,8 +3,8 @@ use Rattle.std.proofs.Common.{◌≡◌, ℕ, cond, List, [], ◌∷◌, ◌++�
 use Rattle.std.specs.List.{AllByRecursion}
 use Rattle.std.specs.Option.{option_to_list}
 use Rattle.cc_base.specs.Bytes.{single_quote}
-use Rattle.cc_quote.specs.PosixTokens.{QuoteState, sign, cut}
-use Rattle.cc_quote.specs.PosixTokens.QuoteState.{between, in_single}
+use Rattle.cc_quote.specs.PosixSigns.{sign}
+use Rattle.cc_quote.specs.PosixTokens.{CutState, cut, between, in_single}
 use Rattle.cc_quote.proofs.PosixCutting.{tokens_from}
 use Rattle.cc_zsh.specs.Options.{line_end}
 use Rattle.cc_zsh.specs.Reader.{Block, Parts, Path, State, ZshOption, first_named, named_function, next, option_of, read, with_word}
@@ -12,7 +12,7 @@ use Rattle.cc_zsh.specs.Reader.State.{at_ret, in_block}
 use Rattle.cc_zsh.proofs.Cutting.{Escapes, quoted_token, single_cut, token_quoted, not_word, names_none, word_of-quoted}
 
 -- what the reader gives from a state on, where the script is cut from a state of quotes on
-abbrev pub reading : State → QuoteState → List ℕ → Option Parts
+abbrev pub reading : State → CutState → List ℕ → Option Parts
 reading state quote script = read state (tokens_from quote script)
 
 -- a block with more options

@@ -18,8 +18,8 @@ use Rattle.cc_command.specs.Plain.{passes_if_some}
 use Rattle.cc_quote.specs.PlainName.{letter, joiner, foreign, is_joined, name_byte, is_plain_name}
 use Rattle.cc_quote.proofs.NameBytes.{plain_bytes, letter_or_joiner}
 use Rattle.cc_command.proofs.PlainParts.{IsPlainName, IsPlainShort, IsPlainArgument, shown_plain}
-use Rattle.cc_quote.specs.PosixTokens.{sign}
-use Rattle.cc_quote.specs.PosixTokens.Sign.{other}
+use Rattle.cc_quote.specs.PosixSigns.{sign}
+use Rattle.cc_quote.specs.PosixSigns.Sign.{other}
 use Rattle.cc_quote.proofs.PosixCutting.{IsOther}
 use Rattle.cc_command.specs.ArgumentLists.{first_with_id}
 use Rattle.cc_generator.specs.ArgumentNames.{long_word, short_word}

@@ -2,7 +2,8 @@
 use Rattle.std.proofs.Common.{◌≡◌, ◌∷◌, ◌++◌, [], List, ℕ, true, false, refl, codes, Some, None}
 use Rattle.cc_base.specs.Found.{after as text_after}
 use Rattle.cc_quote.specs.PlainName.{is_joined, is_plain_name, name_byte}
-use Rattle.cc_quote.specs.PosixTokens.{sign, byte_of, cut, posix_tokens}
+use Rattle.cc_quote.specs.PosixSigns.{sign, byte_of}
+use Rattle.cc_quote.specs.PosixTokens.{cut, posix_tokens}
 use Rattle.cc_quote.specs.Tokens.{is_word}
 use Rattle.cc_quote.specs.ZshQuote.{marks, marks_from, unmarked}
 use Rattle.cc_zsh.specs.Functions.{Entry}

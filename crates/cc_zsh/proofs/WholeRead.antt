@@ -9,8 +9,8 @@ use Rattle.cc_base.proofs.Members.{AllByRecursion-weaker}
 use Rattle.cc_command.specs.declared.node.Node.{Node}
 use Rattle.cc_command.specs.Names.{full_name}
 use Rattle.cc_command.specs.Tree.{Forest, none, more, Tree}
-use Rattle.cc_quote.specs.PosixTokens.{sign, byte_of, cut, posix_tokens}
-use Rattle.cc_quote.specs.PosixTokens.QuoteState.{between, in_bare}
+use Rattle.cc_quote.specs.PosixSigns.{sign, byte_of}
+use Rattle.cc_quote.specs.PosixTokens.{cut, posix_tokens, between, in_bare}
 use Rattle.cc_quote.specs.Tokens.{is_word}
 use Rattle.cc_quote.specs.Tokens.Piece.{bare}
 use Rattle.cc_quote.proofs.PosixCutting.{IsOther, IsKept-IsOther, tokens_from, bare_word, bare_run, double_run}

@@ -26,6 +26,7 @@ pub use Rattle.cc_quote.specs.FishTokens
 pub use Rattle.cc_quote.specs.PlainName
 pub use Rattle.cc_quote.specs.PlainPath
 pub use Rattle.cc_quote.specs.PosixQuote
+pub use Rattle.cc_quote.specs.PosixSigns
 pub use Rattle.cc_quote.specs.PosixTokenWords
 pub use Rattle.cc_quote.specs.PosixTokens
 pub use Rattle.cc_quote.specs.PowershellQuote

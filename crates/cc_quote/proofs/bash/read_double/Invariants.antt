@@ -2,7 +2,7 @@ use Rattle.std.proofs.Common.{◌≡◌, [], length, map, string_bytes}
 use denote.Text.{Utf8}
 use denote.Shadow.{shadow}
 use Rattle.cc_quote.specs.BashDouble.{bash_double_from}
-use Rattle.cc_quote.specs.PosixTokens.{sign}
+use Rattle.cc_quote.specs.PosixSigns.{sign}
 use Rattle.cc_quote.specs.declared.posix.QuoteState.TheVariants.{InDouble}
 use Rattle.cc_quote.proofs.BashCharacters.{IsWithin}
 use Rattle.cc_quote.proofs.bash.read_double.Given as goal

@@ -1,7 +1,7 @@
 use Rattle.std.proofs.Common.{◌∙◌, ap, sym, map, string_bytes}
 use Rattle.std.proofs.lemmas.Str.{IsUtf8-past_char}
 use Rattle.cc_quote.specs.PosixQuote.{posix_word_from, posix_word_of, ended}
-use Rattle.cc_quote.specs.PosixTokens.{sign}
+use Rattle.cc_quote.specs.PosixSigns.{sign}
 use Rattle.cc_quote.specs.declared.posix.QuoteState.TheVariants.{Before}
 use Rattle.cc_quote.proofs.Characters.{shorter}
 use Rattle.cc_quote.proofs.PosixWords.{character_read, character_stops}

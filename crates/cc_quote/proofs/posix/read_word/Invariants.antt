@@ -2,7 +2,7 @@ use Rattle.std.proofs.Common.{◌≡◌, length, map, string_bytes}
 use denote.Text.{Utf8}
 use denote.Shadow.{shadow}
 use Rattle.cc_quote.specs.PosixQuote.{posix_word_from, posix_word_of}
-use Rattle.cc_quote.specs.PosixTokens.{sign}
+use Rattle.cc_quote.specs.PosixSigns.{sign}
 use Rattle.cc_quote.proofs.posix.read_word.Given as goal
 
 abbrev pub invariant-loop-character : goal.invariant-loop-character
