@@ -9,19 +9,19 @@ use Rattle.cc_base.specs.Found.{without_blanks}
 use Rattle.cc_base.proofs.Finding.{no_blank_first}
 use Rattle.cc_quote.specs.PosixSigns.{sign, byte_of}
 use Rattle.cc_quote.specs.PosixSigns.Sign.{other}
-use Rattle.cc_quote.specs.PosixQuote.{next_state, word_after, ended, posix_word_from, posix_word_of, is_posix_safe, is_posix_safe_word, posix_escaped, posix_quoted}
+use Rattle.cc_quote.specs.PosixQuote.{next_state, word_after, posix_word_from, posix_word_of, is_posix_safe, is_posix_safe_word, posix_escaped, posix_quoted}
 use Rattle.cc_quote.specs.declared.posix.QuoteState.TheVariants.{Before, Bare}
 use Rattle.cc_quote.specs.FishQuote.{fish_sign, begins_with_word, fish_word_from, fish_word_of, is_fish_safe, fish_quoted}
-use Rattle.cc_quote.specs.FishQuote.FishState.{bare}
+use Rattle.cc_quote.specs.FishQuote.{bare}
 use Rattle.std.specs.Str.{NonePass}
 use Rattle.cc_quote.specs.ElvishQuote.{elvish_word_of}
 use Rattle.cc_quote.specs.PowershellQuote.{powershell_signs, powershell_word_of}
 use Rattle.cc_quote.proofs.ElvishWords.{elvish_begins_none, elvish_signs}
 use Rattle.cc_quote.proofs.PowershellSigns.{powershell_begins_none, powershell_signs_are}
 use Rattle.cc_quote.proofs.WordReading.{word_before_space}
-use Rattle.cc_quote.proofs.PosixWords.{bytes-signs, goes_on, safe_sign, bare_run, escaped_text}
+use Rattle.cc_quote.proofs.PosixWords.{goes_on, safe_sign, bare_run, escaped_text}
 use Rattle.cc_quote.proofs.FishWords.{safe_sign as fish_safe_sign, safe_bytes, fish_quoted_read}
-use Rattle.cc_quote.proofs.FishReaders.{word_after as word_goes_on}
+use Rattle.cc_quote.proofs.FishReaders.{word_goes_on}
 
 -- whether a text begins with a byte that is no blank
 abbrev pub BeginsBare : List ℕ → Type 0
@@ -40,7 +40,7 @@ posix_safe_not_blank byte h = grind (arith, nat_tests)
 
 -- a word that is quoted where it must be, before a byte at which it ends
 module _ (end : ℕ) (rest : List ℕ)
-    (ends : (word : List ℕ) → posix_word_from Bare word (map sign (end ∷ rest)) ≡ Some (word, end ∷ rest)) where
+    (ends : (word : List ℕ) → posix_word_from Bare word (end ∷ rest) ≡ Some (word, end ∷ rest)) where
   abbrev IsBefore : List ℕ → List ℕ → Type 0
   IsBefore spelled text = BeginsBare (spelled ++ end ∷ rest) × (posix_word_of (spelled ++ end ∷ rest) ≡ Some (text, end ∷ rest))
 
@@ -51,8 +51,8 @@ module _ (end : ℕ) (rest : List ℕ)
       let parts = and_parts (is_posix_safe byte) (list_all is_posix_safe text) h in
       let is : sign byte ≡ other byte = safe_sign byte parts.0 in (
         posix_safe_not_blank byte parts.0,
-        goes_on Before Bare byte (map sign (text ++ end ∷ rest)) [] (ap (next_state Before) is)
-            ∙ ap (λ s. posix_word_from Bare (word_after Before s [] (byte ∷ [])) (map sign (text ++ end ∷ rest))) is
+        goes_on Before Bare byte (text ++ end ∷ rest) [] (ap (next_state Before) is)
+            ∙ ap (λ s. posix_word_from Bare (word_after Before s [] (byte ∷ [])) (text ++ end ∷ rest)) is
             ∙ bare_run text (end ∷ rest) (byte ∷ []) parts.1
             ∙ ends (byte ∷ text),
       )
@@ -71,13 +71,13 @@ module _ (end : ℕ) (rest : List ℕ)
 
 -- a quoted word begins with no blank, and is read up to the space
 pub posix_before_space : (text rest : List ℕ) → BeginsBare (posix_quoted text ++ space ∷ rest) × (posix_word_of (posix_quoted text ++ space ∷ rest) ≡ Some (text, space ∷ rest))
-unfolding posix_word_from ended sign byte_of
-posix_before_space text rest = before space rest (λ word. ap (λ r. Some (word, space ∷ r)) (bytes-signs rest)) text
+unfolding posix_word_from sign byte_of
+posix_before_space text rest = before space rest (λ word. refl) text
 
 -- and up to a line feed
 pub posix_before_line_feed : (text rest : List ℕ) → BeginsBare (posix_quoted text ++ line_feed ∷ rest) × (posix_word_of (posix_quoted text ++ line_feed ∷ rest) ≡ Some (text, line_feed ∷ rest))
-unfolding posix_word_from ended sign byte_of
-posix_before_line_feed text rest = before line_feed rest (λ word. ap (λ r. Some (word, line_feed ∷ r)) (bytes-signs rest)) text
+unfolding posix_word_from sign byte_of
+posix_before_line_feed text rest = before line_feed rest (λ word. refl) text
 
 -- ---- fish
 

@@ -4,7 +4,7 @@ use Rattle.std.specs.List.{AllByRecursion}
 use Rattle.cc_base.specs.Bytes as ascii
 use Rattle.cc_quote.specs.FishQuote.{FishSign, FishState, fish_sign, next_state, advance, begins_word, begins_with_word}
 use Rattle.cc_quote.specs.FishQuote.FishSign.{blank, line_feed, hash}
-use Rattle.cc_quote.specs.FishQuote.FishState.{bare}
+use Rattle.cc_quote.specs.FishQuote.{bare}
 use Rattle.cc_quote.specs.FishTokens.{between, in_word, commands_from}
 use Rattle.cc_quote.proofs.FishWords.{IsSafe, safe_bare}
 use Rattle.cc_base.proofs.Cases.{option_cases}
@@ -47,7 +47,7 @@ word_begins (byte ∷ text) words rest h = by (fish_sign byte) refl h
     by blank e h = cc
     by line_feed e h = cc
     by hash e h = cc
-    by sign e h = rw (commands_from, e, next_state, e)
+    by sign e h = rw (commands_from, e, next_state, e, e)
 
 -- the text spells the word
 pub record Spells (text word : List ℕ) : Type 0 where

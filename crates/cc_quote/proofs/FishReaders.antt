@@ -1,13 +1,16 @@
 -- What the readers of fish's words read back.
-use Rattle.std.proofs.Common.{◌≡◌, ℕ, List, [], ◌∷◌, ◌++◌, refl, ap, ◌∙◌, sym, append_assoc, append-nil, inl, inr, Some, None, codes, arith}
+use Rattle.std.proofs.Common.{◌≡◌, ℕ, List, [], ◌∷◌, ◌++◌, refl, ap, ◌∙◌, sym, append_assoc, append-nil, inl, inr, Option, Some, None, option_map, codes, arith}
 use Rattle.std.proofs.lemmas.Bool.{cases_Bool}
 use Rattle.std.proofs.lemmas.Bool.Decides.{nat_tests}
 use Rattle.std.specs.List.{list_all}
 use Rattle.cc_base.proofs.Cases.{option_cases}
 use Rattle.cc_quote.specs.QuotedWord.{line_feeds_as_spaces}
 use Rattle.cc_quote.specs.Escapes.{marked_byte}
-use Rattle.cc_quote.specs.FishQuote.{FishState, fish_sign, next_state, advance, fish_word_from, fish_word_of, fish_double_from, fish_double_of, is_fish_safe, is_double_marked, double_escaped, single_quoted, fish_quoted, fish_quoted_for_eval, fish_help_for_eval_of, fish_escaped, ReadsTwice}
-use Rattle.cc_quote.specs.FishQuote.FishState.{bare, in_double}
+use Rattle.cc_quote.specs.FishQuote.{FishState, fish_sign, advance, fish_word_from, fish_word_of, fish_double_from, fish_double_of, is_fish_safe, is_double_marked, double_escaped, single_quoted, fish_quoted, fish_quoted_for_eval, fish_help_for_eval_of, fish_escaped, ReadsTwice}
+use Rattle.cc_quote.specs.FishQuote.{bare, in_double, fish_next, fish_added, is_bare}
+use Rattle.cc_quote.specs.FishQuote.FishState.{at}
+use Rattle.cc_quote.specs.WordReader.{ended}
+use Rattle.cc_quote.specs.declared.fish_reader.QuoteState.{QuoteState}
 use Rattle.cc_quote.proofs.FishEscaped.{fish_escaped_composed}
 use Rattle.cc_quote.proofs.FishWords.{safe_sign, safe_bytes, single_quoted_read, fish_quoted_read}
 
@@ -16,16 +19,24 @@ advance_none [] = refl
 advance_none (byte ∷ bytes) = refl
 
 -- the reader of a word goes over bytes that lead on
-pub word_after : (bytes : List ℕ) (from to : FishState) (rest : List ℕ) → advance (Some from) bytes ≡ Some to → fish_word_from from (bytes ++ rest) ≡ fish_word_from to rest
-word_after [] from to rest h = let same : from ≡ to = cc in ap (λ state. fish_word_from state rest) same
-word_after (byte ∷ bytes) from to rest h = elim (option_cases (next_state from byte)) [
-  | inl found ↦ rw (fish_word_from, found.1) (word_after bytes found.0 to rest (ap (λ state. advance state bytes) (sym found.1) ∙ h))
-  | inr none ↦ absurd (let stops : None ≡ Some to = sym (advance_none bytes) ∙ ap (λ state. advance state bytes) (sym none) ∙ h in cc)
-]
+pub word_goes_on : (bytes : List ℕ) (from to : FishState) (rest : List ℕ) → advance (Some from) bytes ≡ Some to → fish_word_from from (bytes ++ rest) ≡ fish_word_from to rest
+word_goes_on [] from to rest h = let same : from ≡ to = cc in ap (λ state. fish_word_from state rest) same
+word_goes_on (byte ∷ bytes) (at state word) to rest h =
+    let then : List ℕ = fish_added state byte word (byte ∷ []) in
+    let advanced : Option QuoteState → Option FishState = λ after. advance (option_map (λ next. at next then) after) bytes in
+    elim (option_cases (fish_next state byte)) [
+      | inl found ↦
+          ap (λ after. elim after [
+            | Some next ↦ fish_word_from (at next then) (bytes ++ rest)
+            | None ↦ ended (is_bare state) word (byte ∷ (bytes ++ rest))
+          ]) found.1
+          ∙ word_goes_on bytes (at found.0 then) to rest (ap advanced (sym found.1) ∙ h)
+      | inr none ↦ absurd (let stops : None ≡ Some to = sym (advance_none bytes) ∙ ap advanced (sym none) ∙ h in cc)
+    ]
 
 -- a text that spells a word is read as that word
 spelled_word : (bytes word : List ℕ) → advance (Some (bare [])) bytes ≡ Some (bare word) → fish_word_from (bare []) bytes ≡ Some (word, [])
-spelled_word bytes word h = ap (fish_word_from (bare [])) (sym (append-nil bytes)) ∙ word_after bytes (bare []) (bare word) [] h
+spelled_word bytes word h = ap (fish_word_from (bare [])) (sym (append-nil bytes)) ∙ word_goes_on bytes (bare []) (bare word) [] h
 
 -- a text in `'`
 pub single_quoted_reads_back : (text : List ℕ) → fish_word_of (single_quoted text) ≡ Some (text, [])

@@ -7,7 +7,7 @@ use Rattle.cc_base.specs.Bytes.{backslash, dollar, double_quote, hash, single_qu
 use Rattle.cc_quote.specs.Escapes.{marked_byte}
 use Rattle.cc_quote.specs.FishQuote.{FishState, fish_sign, next_state, advance, is_fish_safe, is_single_marked, single_escaped, is_double_marked, double_escaped, single_quoted, fish_quoted}
 use Rattle.cc_quote.specs.FishQuote.FishSign.{other}
-use Rattle.cc_quote.specs.FishQuote.FishState.{bare, in_single, in_double}
+use Rattle.cc_quote.specs.FishQuote.{bare, in_single, in_double}
 
 -- a text of bytes that need no quotes
 abbrev pub IsSafe : List ℕ → Type 0

@@ -3,6 +3,7 @@ pub mod BashDoubles
 pub mod BeforeBlanks
 pub mod Blanks
 pub mod ByteEscapes
+pub mod CharacterReading
 pub mod Characters
 pub mod Digits
 pub mod ElvishCutting

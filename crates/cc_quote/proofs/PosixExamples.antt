@@ -1,6 +1,6 @@
 -- Scripts for a posix shell that are cut as the definitions say.
 use Rattle.std.proofs.Common.{◌≡◌, ◌∷◌, [], true, false, refl, codes, map, Some, None}
-use Rattle.cc_quote.specs.PosixQuote.{ended, posix_word_from, posix_word_of}
+use Rattle.cc_quote.specs.PosixQuote.{posix_word_from, posix_word_of}
 use Rattle.cc_quote.specs.PosixSigns.{sign, byte_of}
 use Rattle.cc_quote.specs.PosixTokens.{cut, posix_tokens, single, double}
 use Rattle.cc_quote.specs.PosixTokenWords.{word_of_token, ends_token, begins_no_token}
@@ -28,19 +28,19 @@ backslash_row = refl
 
 -- words: pieces of each kind, a quote that is open at the end, and a backslash that is last
 word_row : posix_word_of (codes "'a'\\''b' c") ≡ Some (codes "a'b", codes " c")
-unfolding sign byte_of ended posix_word_from posix_word_of
+unfolding sign byte_of posix_word_from posix_word_of
 word_row = refl
 
 pieces_row : posix_word_of (codes "\"a\\$b\\c\"d\\ e\\\nf g") ≡ Some (codes "a$b\\cd ef", codes " g")
-unfolding sign byte_of ended posix_word_from posix_word_of
+unfolding sign byte_of posix_word_from posix_word_of
 pieces_row = refl
 
 open_word_row : posix_word_of (codes "'a") ≡ None
-unfolding sign byte_of ended posix_word_from posix_word_of
+unfolding sign byte_of posix_word_from posix_word_of
 open_word_row = refl
 
 last_backslash_row : posix_word_of (codes "a\\") ≡ None
-unfolding sign byte_of ended posix_word_from posix_word_of
+unfolding sign byte_of posix_word_from posix_word_of
 last_backslash_row = refl
 
 -- the words of tokens: those of its pieces in turn, and none where a quote or a backslash is open
@@ -65,7 +65,7 @@ unfolding sign byte_of cut posix_tokens
 first_tokens = refl
 
 first_word : posix_word_of (codes "'b c'\\''d'\tx") ≡ Some (codes "b c'd", codes "\tx")
-unfolding sign byte_of ended posix_word_from posix_word_of
+unfolding sign byte_of posix_word_from posix_word_of
 first_word = refl
 
 -- where no token begins: after backslashes with a line feed each, at a blank or the end
@@ -74,7 +74,7 @@ unfolding sign begins_no_token ends_token
 none_row = refl
 
 none_word_row : posix_word_of (codes "\\\n\\\n b") ≡ None
-unfolding sign byte_of ended posix_word_from posix_word_of
+unfolding sign byte_of posix_word_from posix_word_of
 none_word_row = refl
 
 some_row : begins_no_token (map sign (codes "\\\n\\ b")) ≡ false

@@ -2,7 +2,8 @@
 use Rattle.std.proofs.Common.{◌≡◌, ℕ, Bool, true, false, List, [], ◌∷◌, ◌++◌, map, Option, Some, None, option_map, refl, sym, subst, ◌∙◌, ap, append_assoc, append-nil}
 use Rattle.std.specs.Bool.{⊤}
 use Rattle.cc_base.specs.Bytes as ascii
-use Rattle.cc_quote.specs.PosixQuote.{next_state, word_after, ended, posix_word_from, posix_word_of}
+use Rattle.cc_quote.specs.PosixQuote.{next_state, word_after, is_bare, posix_word_from, posix_word_of}
+use Rattle.cc_quote.specs.WordReader.{ended}
 use Rattle.cc_quote.specs.PosixSigns.{Sign, sign, byte_of}
 use Rattle.cc_quote.specs.PosixSigns.Sign.{blank, line_feed, single_quote, double_quote, backslash, other}
 use Rattle.cc_quote.specs.PosixTokens.{PartialToken, between, piece_of, pieces_of, unclosed_after, begun, token_after, ended_token, cut, posix_tokens}
@@ -13,7 +14,7 @@ use Rattle.cc_quote.specs.Tokens.{Token, Piece}
 use Rattle.cc_quote.specs.Tokens.Piece.{bare, quoted, unclosed}
 use Rattle.cc_quote.specs.declared.posix.QuoteState.{QuoteState}
 use Rattle.cc_quote.specs.declared.posix.QuoteState.TheVariants.{Before, BeforeEscaped, Bare, BareEscaped, InSingle, InDouble, InDoubleEscaped}
-use Rattle.cc_quote.proofs.PosixWords.{bytes-signs}
+use Rattle.cc_quote.proofs.PosixWords.{byte_of-sign}
 
 -- ---- the pieces of a token
 
@@ -157,8 +158,8 @@ spells_after state s (after_piece pieces) word b h =
     begins (byte ∷ text) word h = h
 
 -- it ends at the end of the text
-at_end : (state : QuoteState) (token : PartialToken) (word : List ℕ) → HasBegun state → Spells token word → IsTokenRead (ended_token state token) (ended state word [])
-unfolding ended posix_tokens cut word_of_token ends_token
+at_end : (state : QuoteState) (token : PartialToken) (word : List ℕ) → HasBegun state → Spells token word → IsTokenRead (ended_token state token) (ended (is_bare state) word [])
+unfolding posix_tokens cut word_of_token ends_token
 at_end Before token word b h = absurd b
 at_end BeforeEscaped token word b h = absurd b
 at_end Bare token word b h = record { token = pieces_of Bare token; whole = refl; spells = pieces_spell Bare token word h; ends = refl }
@@ -184,8 +185,8 @@ first_token s signs rest token word r ends skips spells = record {
 }
 
 at_blank : (state : QuoteState) (s : Sign) (signs : List Sign) (rest : List ℕ) (token : PartialToken) (word : List ℕ) → next_state state s ≡ None
-    → map sign rest ≡ s ∷ signs → HasBegun state → Spells token word → IsTokenRead (ended_token state token ++ cut between signs) (ended state word rest)
-unfolding cut ended ends_token
+    → map sign rest ≡ s ∷ signs → HasBegun state → Spells token word → IsTokenRead (ended_token state token ++ cut between signs) (ended (is_bare state) word rest)
+unfolding cut ends_token
 at_blank Before s signs rest token word e r b h = absurd b
 at_blank BeforeEscaped s signs rest token word e r b h = absurd b
 at_blank Bare (blank byte) signs rest token word e r b h = first_token (blank byte) signs rest (pieces_of Bare token) word r refl refl (pieces_spell Bare token word h)
@@ -195,39 +196,39 @@ at_blank InDouble line_feed signs rest token word e r b h = cc
 at_blank state s signs rest token word e r b h = cc
 
 -- what is read of a token that has begun is what the tokens tell
-abbrev Agree : List Sign → QuoteState → PartialToken → List ℕ → Type 0
-Agree signs state token word = IsTokenRead (cut (at state token) signs) (posix_word_from state word signs)
+abbrev Agree : List ℕ → QuoteState → PartialToken → List ℕ → Type 0
+Agree text state token word = IsTokenRead (cut (at state token) (map sign text)) (posix_word_from state word text)
 
-abbrev AgreeOn : List Sign → Type 0
-AgreeOn signs = (state : QuoteState) (token : PartialToken) (word : List ℕ) → HasBegun state → Spells token word → Agree signs state token word
+abbrev AgreeOn : List ℕ → Type 0
+AgreeOn text = (state : QuoteState) (token : PartialToken) (word : List ℕ) → HasBegun state → Spells token word → Agree text state token word
 
-in_token : (text : List ℕ) → AgreeOn (map sign text)
+in_token : (text : List ℕ) → AgreeOn text
 unfolding cut posix_word_from
 in_token [] state token word b h = at_end state token word b h
 in_token (byte ∷ text) state token word b h =
     by (next_state state s) refl
-    (λ next e. in_token text next (token_after state s token) word_then (stays_begun state next s b e) (spells_after state s token word b h))
+    (λ next e. in_token text next (token_after state s token) word_then (stays_begun state next s b e)
+    (subst (λ x. Spells (token_after state s token) (word_after state s word (x ∷ []))) (byte_of-sign byte) (spells_after state s token word b h)))
   where
     s : Sign
     s = sign byte
 
     word_then : List ℕ
-    word_then = word_after state s word (byte_of s ∷ [])
+    word_then = word_after state s word (byte ∷ [])
 
     by : (after : Option QuoteState) → next_state state s ≡ after
-        → ((next : QuoteState) → next_state state s ≡ Some next → Agree (map sign text) next (token_after state s token) word_then)
+        → ((next : QuoteState) → next_state state s ≡ Some next → Agree text next (token_after state s token) word_then)
         → IsTokenRead
         (elim after [
           | Some next ↦ cut (at next (token_after state s token)) (map sign text)
           | None ↦ ended_token state token ++ cut between (map sign text)
         ])
         (elim after [
-          | Some next ↦ posix_word_from next word_then (map sign text)
-          | None ↦ ended state word (byte_of s ∷ map byte_of (map sign text))
+          | Some next ↦ posix_word_from next word_then text
+          | None ↦ ended (is_bare state) word (byte ∷ text)
         ])
     by (Some next) e goes = goes next e
-    by None e goes =
-        at_blank state s (map sign text) (map byte_of (map sign (byte ∷ text))) token word e (ap (map sign) (bytes-signs (byte ∷ text))) b h
+    by None e goes = at_blank state s (map sign text) (byte ∷ text) token word e refl b h
 
 -- ---- before a token
 
@@ -241,34 +242,52 @@ spells_text : (text : List ℕ) → Holds [] text text
 unfolding word_of_token
 spells_text text = record { before = []; spelled = refl; whole = refl }
 
-abbrev Begins : List Sign → Type 0
-Begins signs = Reads (begins_no_token signs) (cut between signs) (posix_word_from Before [] signs)
+-- over a byte of this sign before a token, and after a backslash there
+abbrev Begins : Sign → ℕ → List ℕ → Type 0
+Begins s byte text =
+    Reads (begins_no_token (s ∷ map sign text)) (cut between (s ∷ map sign text))
+    (elim (next_state Before s) [
+      | Some next ↦ posix_word_from next (word_after Before s [] (byte ∷ [])) text
+      | None ↦ None
+    ])
 
--- after a backslash
-abbrev BeginsEscaped : List Sign → Type 0
-BeginsEscaped signs = Reads (begins_no_token (backslash ∷ signs)) (cut (at BeforeEscaped (after_piece [])) signs) (posix_word_from BeforeEscaped [] signs)
+abbrev BeginsEscaped : Sign → ℕ → List ℕ → Type 0
+BeginsEscaped s byte text =
+    Reads (begins_no_token (backslash ∷ s ∷ map sign text)) (cut (at BeforeEscaped (after_piece [])) (s ∷ map sign text))
+    (elim (next_state BeforeEscaped s) [
+      | Some next ↦ posix_word_from next (word_after BeforeEscaped s [] (byte ∷ [])) text
+      | None ↦ None
+    ])
 
-escaped_goes : (s : Sign) (signs : List Sign) → AgreeOn signs → Begins signs → BeginsEscaped (s ∷ signs)
-unfolding cut posix_word_from byte_of begins_no_token ends_token
-escaped_goes line_feed signs goes begins = begins
-escaped_goes s signs goes begins = goes Bare (in_piece [] (byte_of s ∷ [])) (byte_of s ∷ []) tt (spells_text (byte_of s ∷ []))
+-- where no token has begun, and after a backslash there
+abbrev Starts : List ℕ → Type 0
+Starts text = Reads (begins_no_token (map sign text)) (cut between (map sign text)) (posix_word_from Before [] text)
 
-between_goes : (s : Sign) (signs : List Sign) → AgreeOn signs → BeginsEscaped signs → Begins (s ∷ signs)
-unfolding cut posix_word_from ended byte_of begins_no_token ends_token
-between_goes (blank b) signs goes begins = refl
-between_goes line_feed signs goes begins = refl
-between_goes single_quote signs goes begins = goes InSingle (in_piece [] []) [] tt (spells_text [])
-between_goes double_quote signs goes begins = goes InDouble (in_piece [] []) [] tt (spells_text [])
-between_goes backslash signs goes begins = begins
-between_goes s signs goes begins = goes Bare (in_piece [] (byte_of s ∷ [])) (byte_of s ∷ []) tt (spells_text (byte_of s ∷ []))
+abbrev StartsEscaped : List ℕ → Type 0
+StartsEscaped text = Reads (begins_no_token (backslash ∷ map sign text)) (cut (at BeforeEscaped (after_piece [])) (map sign text)) (posix_word_from BeforeEscaped [] text)
+
+between_goes : (s : Sign) (text : List ℕ) → StartsEscaped text → Begins s (byte_of s) text
+unfolding cut byte_of begins_no_token ends_token
+between_goes (blank b) text starts = refl
+between_goes line_feed text starts = refl
+between_goes single_quote text starts = in_token text InSingle (in_piece [] []) [] tt (spells_text [])
+between_goes double_quote text starts = in_token text InDouble (in_piece [] []) [] tt (spells_text [])
+between_goes backslash text starts = starts
+between_goes s text starts = in_token text Bare (in_piece [] (byte_of s ∷ [])) (byte_of s ∷ []) tt (spells_text (byte_of s ∷ []))
+
+escaped_goes : (s : Sign) (text : List ℕ) → Starts text → BeginsEscaped s (byte_of s) text
+unfolding cut byte_of begins_no_token ends_token
+escaped_goes line_feed text starts = starts
+escaped_goes s text starts = in_token text Bare (in_piece [] (byte_of s ∷ [])) (byte_of s ∷ []) tt (spells_text (byte_of s ∷ []))
 
 -- both, by one induction
-before_token : (text : List ℕ) → Begins (map sign text) × BeginsEscaped (map sign text)
-unfolding cut posix_word_from ended begins_no_token ends_token word_of_token
+before_token : (text : List ℕ) → Starts text × StartsEscaped text
+unfolding cut posix_word_from begins_no_token ends_token word_of_token
 before_token [] = (refl, record { token = unclosed (ascii.backslash ∷ []) [] ∷ []; whole = refl; no_word = refl })
-before_token (byte ∷ text) =
-    let parts = before_token text in
-    (between_goes (sign byte) (map sign text) (in_token text) parts.1, escaped_goes (sign byte) (map sign text) (in_token text) parts.0)
+before_token (byte ∷ text) = (
+  subst (λ b. Begins (sign byte) b text) (byte_of-sign byte) (between_goes (sign byte) text (before_token text).1),
+  subst (λ b. BeginsEscaped (sign byte) b text) (byte_of-sign byte) (escaped_goes (sign byte) text (before_token text).0),
+)
 
 -- what is read at the start of a text is what its tokens tell
 pub reads_first_token : (text : List ℕ) (read : Option (List ℕ × List ℕ)) → read ≡ posix_word_of text → ReadsFirstToken text read

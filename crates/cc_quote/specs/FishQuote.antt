@@ -1,10 +1,20 @@
 -- Words as fish spells them, and how a text is quoted for it.
-use Rattle.std.specs.Prelude.{◌≡◌, ℕ, Bool, true, false, List, [], ◌∷◌, ◌++◌, Option, Some, None, codes, ◌==◌, ◌||◌, if◌then◌else◌}
+use Rattle.std.specs.Prelude.{◌≡◌, ℕ, Bool, true, false, List, [], ◌∷◌, ◌++◌, Option, Some, None, option_map, codes, ◌==◌, ◌||◌, if◌then◌else◌}
 use Rattle.std.specs.Char.{is_ascii_alphanumeric}
 use Rattle.std.specs.List.{list_all, list_any}
 use Rattle.cc_base.specs.Bytes as ascii
 use Rattle.cc_quote.specs.Escapes.{backslashed, escaped_by, marked}
 use Rattle.cc_quote.specs.QuotedWord.{line_feeds_as_spaces}
+use Rattle.cc_quote.specs.WordReader.{word_from, after_double_quote}
+use Rattle.cc_quote.specs.declared.fish_reader.QuoteState.{QuoteState}
+use Rattle.cc_quote.specs.declared.fish_reader.QuoteState.TheVariants.{
+  Bare,
+  BareEscaped,
+  InSingle,
+  InSingleEscaped,
+  InDouble,
+  InDoubleEscaped,
+}
 use Rattle.memchr.specs.Find.{is_byte3}
 
 -- ---- how a word is read
@@ -30,49 +40,82 @@ fish_sign byte =
     else if byte == ascii.backslash then backslash else if byte == ascii.dollar then dollar
     else if byte == ascii.hash then hash else other
 
--- Where the reader is in a word that spells this so far: outside quotes, after a backslash
--- there, between `'`, after a backslash there, between `"`, or after a backslash there.
+-- the state after one more character, which has this sign; none where the word ends before it
+abbrev pub next_quote : QuoteState → FishSign → Option QuoteState
+next_quote Bare blank = None
+next_quote Bare line_feed = None
+next_quote Bare single = Some InSingle
+next_quote Bare double = Some InDouble
+next_quote Bare backslash = Some BareEscaped
+next_quote Bare _ = Some Bare
+next_quote BareEscaped _ = Some Bare
+next_quote InSingle single = Some Bare
+next_quote InSingle backslash = Some InSingleEscaped
+next_quote InSingle _ = Some InSingle
+next_quote InSingleEscaped _ = Some InSingle
+next_quote InDouble double = Some Bare
+next_quote InDouble backslash = Some InDoubleEscaped
+next_quote InDouble _ = Some InDouble
+next_quote InDoubleEscaped _ = Some InDouble
+
+-- what a character spells after a backslash outside quotes: `t` (116) a tab, `n` (110) a line
+-- feed, any other itself
+abbrev pub unescaped : ℕ → List ℕ → List ℕ
+unescaped character bytes =
+    if character == 116 then ascii.tab ∷ []
+    else (if character == 110 then ascii.line_feed ∷ [] else bytes)
+
+-- the word after one more character, which has this sign, this number and these bytes
+abbrev pub word_after : QuoteState → FishSign → ℕ → List ℕ → List ℕ → List ℕ
+word_after Bare single _ word bytes = word
+word_after Bare double _ word bytes = word
+word_after Bare backslash _ word bytes = word
+word_after BareEscaped _ character word bytes = word ++ unescaped character bytes
+word_after InSingle single _ word bytes = word
+word_after InSingle backslash _ word bytes = word
+word_after InSingleEscaped single _ word bytes = word ++ bytes
+word_after InSingleEscaped backslash _ word bytes = word ++ bytes
+word_after InSingleEscaped _ _ word bytes = word ++ codes "\\" ++ bytes
+word_after InDouble double _ word bytes = word
+word_after InDouble backslash _ word bytes = word
+word_after InDoubleEscaped double _ word bytes = word ++ bytes
+word_after InDoubleEscaped backslash _ word bytes = word ++ bytes
+word_after InDoubleEscaped dollar _ word bytes = word ++ bytes
+word_after InDoubleEscaped line_feed _ word bytes = word
+word_after InDoubleEscaped _ _ word bytes = word ++ codes "\\" ++ bytes
+word_after _ _ _ word bytes = word ++ bytes
+
+-- the same of a character, of which the number tells the sign
+abbrev pub fish_next : QuoteState → ℕ → Option QuoteState
+fish_next state character = next_quote state (fish_sign character)
+
+abbrev pub fish_added : QuoteState → ℕ → List ℕ → List ℕ → List ℕ
+fish_added state character word bytes = word_after state (fish_sign character) character word bytes
+
+-- whether a word may end at a state: no quote and no escape is open
+abbrev pub is_bare : QuoteState → Bool
+is_bare Bare = true
+is_bare _ = false
+
+-- where the reader is in a word that spells this so far
 pub data FishState : Type 0 where
-  bare : List ℕ → FishState
-  bare_escape : List ℕ → FishState
-  in_single : List ℕ → FishState
-  single_escape : List ℕ → FishState
-  in_double : List ℕ → FishState
-  double_escape : List ℕ → FishState
+  at : QuoteState → List ℕ → FishState
 
--- what a byte spells after a backslash outside quotes: `t` (116) a tab, `n` (110) a line feed, any
--- other itself
-abbrev pub after_backslash : ℕ → ℕ
-after_backslash byte =
-    if byte == 116 then ascii.tab else if byte == 110 then ascii.line_feed else byte
+-- outside quotes, and between `"`
+abbrev pub bare : List ℕ → FishState
+bare word = at Bare word
 
--- the state after one more byte, which has this sign; none where the word ends before it
-abbrev pub state_after : FishState → FishSign → ℕ → Option FishState
-state_after (bare word) blank byte = None
-state_after (bare word) line_feed byte = None
-state_after (bare word) single byte = Some (in_single word)
-state_after (bare word) double byte = Some (in_double word)
-state_after (bare word) backslash byte = Some (bare_escape word)
-state_after (bare word) _ byte = Some (bare (word ++ byte ∷ []))
-state_after (bare_escape word) _ byte = Some (bare (word ++ after_backslash byte ∷ []))
-state_after (in_single word) single byte = Some (bare word)
-state_after (in_single word) backslash byte = Some (single_escape word)
-state_after (in_single word) _ byte = Some (in_single (word ++ byte ∷ []))
-state_after (single_escape word) single byte = Some (in_single (word ++ byte ∷ []))
-state_after (single_escape word) backslash byte = Some (in_single (word ++ byte ∷ []))
-state_after (single_escape word) _ byte = Some (in_single (word ++ codes "\\" ++ byte ∷ []))
-state_after (in_double word) double byte = Some (bare word)
-state_after (in_double word) backslash byte = Some (double_escape word)
-state_after (in_double word) _ byte = Some (in_double (word ++ byte ∷ []))
-state_after (double_escape word) double byte = Some (in_double (word ++ byte ∷ []))
-state_after (double_escape word) backslash byte = Some (in_double (word ++ byte ∷ []))
-state_after (double_escape word) dollar byte = Some (in_double (word ++ byte ∷ []))
-state_after (double_escape word) line_feed byte = Some (in_double word)
-state_after (double_escape word) _ byte = Some (in_double (word ++ codes "\\" ++ byte ∷ []))
+abbrev pub in_single : List ℕ → FishState
+in_single word = at InSingle word
+
+abbrev pub in_double : List ℕ → FishState
+in_double word = at InDouble word
 
 -- the state after one more byte; none where the word ends before it
 abbrev pub next_state : FishState → ℕ → Option FishState
-next_state state byte = state_after state (fish_sign byte) byte
+next_state (at state word) byte =
+    option_map (λ next. at next (word_after state (fish_sign byte) byte word (byte ∷ [])))
+    (next_quote state (fish_sign byte))
 
 -- the state after some more bytes; none where the word ends before the last of them
 abbrev pub advance : Option FishState → List ℕ → Option FishState
@@ -82,21 +125,11 @@ advance (Some state) (byte ∷ bytes) = advance (next_state state byte) bytes
 
 -- what the word spells so far
 abbrev pub spelled : FishState → List ℕ
-spelled (bare word) = word
-spelled (bare_escape word) = word
-spelled (in_single word) = word
-spelled (single_escape word) = word
-spelled (in_double word) = word
-spelled (double_escape word) = word
+spelled (at state word) = word
 
 -- from a state on, the word and what follows it; none where a quote or an escape is open at the end
 abbrev pub fish_word_from : FishState → List ℕ → Option (List ℕ × List ℕ)
-fish_word_from (bare word) [] = Some (word, [])
-fish_word_from state [] = None
-fish_word_from state (byte ∷ bytes) = elim (next_state state byte) [
-  | Some next ↦ fish_word_from next bytes
-  | None ↦ Some (spelled state, byte ∷ bytes)
-]
+fish_word_from (at state word) text = word_from fish_next fish_added is_bare state word text
 
 -- whether a word begins with a byte of this sign: no blank is before it, and `#` begins a
 -- comment
@@ -115,21 +148,20 @@ begins_with_word (byte ∷ bytes) = begins_word (fish_sign byte)
 abbrev pub fish_word_of : List ℕ → Option (List ℕ × List ℕ)
 fish_word_of text = if begins_with_word text then fish_word_from (bare []) text else None
 
+-- the state after a character between `"`, and none after the `"` that closes them
+abbrev pub double_next : QuoteState → ℕ → Option QuoteState
+double_next InDouble character = fish_next InDouble character
+double_next InDoubleEscaped character = fish_next InDoubleEscaped character
+double_next _ character = None
+
 -- from a state between `"` on, what is spelled up to the `"` that closes them, and what follows it
 abbrev pub fish_double_from : FishState → List ℕ → Option (List ℕ × List ℕ)
-fish_double_from state [] = None
-fish_double_from state (byte ∷ bytes) = elim (next_state state byte) [
-  | Some (bare word) ↦ Some (word, bytes)
-  | Some next ↦ fish_double_from next bytes
-  | None ↦ None
-]
+fish_double_from (at state word) text = word_from double_next fish_added is_bare state word text
 
 -- what a text that begins with `"` spells between it and the `"` that closes it, and what follows
 -- that
 abbrev pub fish_double_of : List ℕ → Option (List ℕ × List ℕ)
-fish_double_of [] = None
-fish_double_of (byte ∷ bytes) =
-    if byte == ascii.double_quote then fish_double_from (in_double []) bytes else None
+fish_double_of text = after_double_quote (fish_double_from (in_double [])) text
 
 -- ---- how a text is quoted
 

@@ -1,9 +1,10 @@
 -- How a fish script is cut into commands, each a list of the words that it spells; none for a last
 -- one in which a quote or an escape is open at the end.
 use Rattle.std.specs.Prelude.{ℕ, List, [], ◌∷◌, ◌++◌, Option, Some, None}
-use Rattle.cc_quote.specs.FishQuote.{fish_sign, FishState, next_state, spelled}
+use Rattle.cc_quote.specs.FishQuote.{fish_sign, FishState, bare, next_state, spelled}
 use Rattle.cc_quote.specs.FishQuote.FishSign.{blank, line_feed, hash}
-use Rattle.cc_quote.specs.FishQuote.FishState.{bare}
+use Rattle.cc_quote.specs.FishQuote.FishState.{at}
+use Rattle.cc_quote.specs.declared.fish_reader.QuoteState.TheVariants.{Bare}
 
 -- where the cutting is, with the words of the command so far: before a word, in a comment,
 -- which goes to the end of its line, or in a word
@@ -16,7 +17,7 @@ pub data CommandState : Type 0 where
 abbrev pub commands_from : CommandState → List ℕ → List (Option (List (List ℕ)))
 commands_from (between words) [] = Some words ∷ []
 commands_from (comment words) [] = Some words ∷ []
-commands_from (in_word words (bare word)) [] = Some (words ++ word ∷ []) ∷ []
+commands_from (in_word words (at Bare word)) [] = Some (words ++ word ∷ []) ∷ []
 commands_from (in_word words _) [] = None ∷ []
 commands_from (between words) (byte ∷ bytes) = elim (fish_sign byte) [
   | blank ↦ commands_from (between words) bytes

@@ -3,7 +3,6 @@ pub mod ElvishQuote
 pub mod ElvishTokens
 pub mod Escapes
 pub mod FishEscapes
-pub mod FishStates
 pub mod FishQuote
 pub mod FishTokens
 pub mod PlainName
@@ -17,5 +16,6 @@ pub mod PowershellTokens
 pub mod QuotedWord
 pub mod Signs
 pub mod Tokens
+pub mod WordReader
 pub mod ZshQuote
 pub mod ZshReply

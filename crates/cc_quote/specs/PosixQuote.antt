@@ -2,6 +2,7 @@
 use Rattle.std.specs.Prelude.{
   ℕ,
   Bool,
+  true,
   false,
   List,
   [],
@@ -10,7 +11,6 @@ use Rattle.std.specs.Prelude.{
   Option,
   Some,
   None,
-  map,
   codes,
   ◌==◌,
   ◌||◌,
@@ -20,7 +20,7 @@ use Rattle.std.specs.Char.{is_ascii_alphanumeric}
 use Rattle.std.specs.List.{list_all, list_any}
 use Rattle.cc_base.specs.Bytes.{single_quote as single_quote_byte}
 use Rattle.cc_quote.specs.Escapes.{replace_byte}
-use Rattle.cc_quote.specs.PosixSigns.{Sign, sign, byte_of}
+use Rattle.cc_quote.specs.PosixSigns.{Sign, sign}
 use Rattle.cc_quote.specs.PosixSigns.Sign.{
   blank,
   line_feed,
@@ -29,6 +29,7 @@ use Rattle.cc_quote.specs.PosixSigns.Sign.{
   backslash,
   special,
 }
+use Rattle.cc_quote.specs.WordReader.{word_from}
 use Rattle.cc_quote.specs.declared.posix.QuoteState.{QuoteState}
 use Rattle.cc_quote.specs.declared.posix.QuoteState.TheVariants.{
   Before,
@@ -89,23 +90,25 @@ word_after _ double_quote word bytes = word
 word_after _ backslash word bytes = word
 word_after _ _ word bytes = word ++ bytes
 
--- the word and what follows it, where the reading stops at a state; a word must have begun, and no
--- quote and no escape may be open
-unfoldable pub ended : QuoteState → List ℕ → List ℕ → Option (List ℕ × List ℕ)
-ended Bare word rest = Some (word, rest)
-ended _ word rest = None
+-- the same of a character, of which the number tells the sign
+abbrev pub posix_next : QuoteState → ℕ → Option QuoteState
+posix_next state character = next_state state (sign character)
+
+abbrev pub posix_added : QuoteState → ℕ → List ℕ → List ℕ → List ℕ
+posix_added state character word bytes = word_after state (sign character) word bytes
+
+-- whether a word may end at a state: it must have begun, and no quote and no escape may be open
+abbrev pub is_bare : QuoteState → Bool
+is_bare Bare = true
+is_bare _ = false
 
 -- from a state and a word so far on
-unfoldable pub posix_word_from : QuoteState → List ℕ → List Sign → Option (List ℕ × List ℕ)
-posix_word_from state word [] = ended state word []
-posix_word_from state word (s ∷ rest) = elim (next_state state s) [
-  | Some next ↦ posix_word_from next (word_after state s word (byte_of s ∷ [])) rest
-  | None ↦ ended state word (byte_of s ∷ map byte_of rest)
-]
+unfoldable pub posix_word_from : QuoteState → List ℕ → List ℕ → Option (List ℕ × List ℕ)
+posix_word_from state word text = word_from posix_next posix_added is_bare state word text
 
 -- the word that a text begins with, and what follows it
 unfoldable pub posix_word_of : List ℕ → Option (List ℕ × List ℕ)
-posix_word_of text = posix_word_from Before [] (map sign text)
+posix_word_of text = posix_word_from Before [] text
 
 -- ---- how a text is quoted
 

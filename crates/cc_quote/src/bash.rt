@@ -1,24 +1,16 @@
 //! Texts between two `"` of bash.
 
-ghost use Rattle.std.specs.Prelude.{◌≡◌, [], ◌++◌, codes, map, IfOk, IfErr, Some};
+ghost use Rattle.std.specs.Prelude.{◌≡◌, [], ◌++◌, codes, IfOk, IfErr, Some};
 ghost use Rattle.std.specs.String.{string_bytes};
-ghost use Rattle.cc_quote.specs.BashDouble.{
-  bash_double_from,
-  bash_double_of,
-  bash_doubled,
-  closes_double,
-  is_double_marked,
-};
+ghost use Rattle.cc_quote.specs.BashDouble.{bash_double_of, bash_doubled, is_double_marked};
 ghost use Rattle.cc_quote.specs.Escapes.{backslashed};
-ghost use Rattle.cc_quote.specs.PosixSigns.{sign};
 ghost use Rattle.cc_quote.specs.QuotedWord.{contents};
-ghost use Rattle.cc_quote.specs.declared.posix.QuoteState.TheVariants.{InDouble};
 
 use crate::escape::{ByteEscape, escape_text};
-use crate::posix::{QuoteState, next_state, push_added};
-use crate::word::split_first;
+use crate::posix::QuoteState;
+use crate::word_state::read_word;
 use cc_base::Error;
-use std::alloc::{AllocError, Global};
+use std::alloc::Global;
 
 /// bash's escape of a text between two `"`: a backslash before `\`, `"`, `$` and a backtick.
 pub struct BashDouble;
@@ -62,37 +54,7 @@ pub fn bash_double_word(alloc: Global, text: &str) -> Result<Option<(String, &st
     ensures memory { IfErr result (λ error. error ≡ Error.Memory) }
 {
     match text.strip_prefix('"') {
-        Some(inside) => Ok(read_double(alloc, inside)?),
+        Some(inside) => Ok(read_word(alloc, QuoteState::InDouble, true, inside)?),
         None => Ok(None),
     }
-}
-
-// The text up to the quote that closes, where memory suffices.
-fn read_double(alloc: Global, text: &str) -> Result<Option<(String, &str)>, AllocError>
-    ensures { IfOk result (λ read. contents read
-        ≡ bash_double_from InDouble [] (map sign text.now)) }
-{
-    let mut state = QuoteState::InDouble;
-    let mut word = String::new(alloc);
-    let mut rest = text;
-    while let Some((character, after)) = split_first(rest) {
-        if closes_double(state, character) {
-            return Ok(Some((word, after)));
-        }
-        let Some(next) = next_state(state, character) else {
-            return Ok(None);
-        };
-        push_added(state, character, &mut word)?;
-        state = next;
-        rest = after;
-    }
-    Ok(None)
-}
-
-// Whether a character is the quote that closes.
-#[tactic(auto, unfolding(crate::specs::BashDouble::closes_double, crate::specs::PosixSigns::sign))]
-fn closes_double(state: QuoteState, character: char) -> bool
-    ensures { result ≡ closes_double state (sign character) }
-{
-    matches!((state, character), (QuoteState::InDouble, '"'))
 }

@@ -12,6 +12,7 @@ mod names;
 mod posix;
 mod powershell;
 mod word;
+mod word_state;
 mod zsh;
 mod zsh_reply;
 

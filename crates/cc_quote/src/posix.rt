@@ -8,6 +8,7 @@ ghost use Rattle.std.specs.Prelude.{
   encode_utf8,
   map,
   option_map,
+  false,
   true,
   IfOk,
   IfErr,
@@ -16,12 +17,15 @@ ghost use Rattle.std.specs.Prelude.{
 };
 ghost use Rattle.std.specs.List.{list_all};
 ghost use Rattle.std.specs.String.{string_bytes};
+ghost use Rattle.cc_quote.specs.BashDouble.{double_next};
 ghost use Rattle.cc_quote.specs.PosixQuote.{
-  ended,
+  is_bare,
   is_posix_safe,
   is_posix_safe_word,
   next_state,
+  posix_added,
   posix_escaped,
+  posix_next,
   posix_quoted,
   posix_word_of,
   word_after,
@@ -31,7 +35,7 @@ ghost use Rattle.cc_quote.specs.PosixSigns.{sign};
 ghost use Rattle.cc_quote.specs.QuotedWord.{contents};
 
 use crate::escape::{Replace, push_escaped};
-use crate::word::split_first;
+use crate::word_state::{WordState, read_word};
 use cc_base::Error;
 use std::alloc::{AllocError, Global};
 
@@ -116,30 +120,53 @@ pub fn posix_word(alloc: Global, text: &str) -> Result<Option<(String, &str)>, E
     ensures token { IfOk result (λ read. ReadsFirstToken text.now (contents read)) }
     ensures memory { IfErr result (λ error. error ≡ Error.Memory) }
 {
-    Ok(read_word(alloc, text)?)
+    Ok(read_word(alloc, QuoteState::Before, false, text)?)
 }
 
-// The word, where memory suffices.
-fn read_word(alloc: Global, text: &str) -> Result<Option<(String, &str)>, AllocError>
-    ensures { IfOk result (λ read. contents read ≡ posix_word_of text.now) }
-{
-    let mut state = QuoteState::Before;
-    let mut word = String::new(alloc);
-    let mut rest = text;
-    while let Some((character, after)) = split_first(rest) {
-        let Some(next) = next_state(state, character) else {
-            return Ok(end_word(state, word, rest));
-        };
-        push_added(state, character, &mut word)?;
-        state = next;
-        rest = after;
+impl WordState for QuoteState {
+    ghost next = { elim [
+      | true ↦ double_next
+      | false ↦ posix_next
+    ] };
+
+    ghost added = { posix_added };
+
+    ghost may_end = { is_bare };
+
+    fn next_state(self, is_double: bool, character: char) -> Option<Self> {
+        if is_double && !matches!(self, QuoteState::InDouble | QuoteState::InDoubleEscaped) {
+            return None;
+        }
+        next_state(self, character)
     }
-    Ok(end_word(state, word, rest))
+
+    #[tactic(auto, unfolding(crate::specs::PosixSigns::sign))]
+    fn push_added(self, character: char, word: &mut String) -> Result<(), AllocError> {
+        match (self, character) {
+            (QuoteState::InSingle, '\'') => Ok(()),
+            (QuoteState::InDouble | QuoteState::Before | QuoteState::Bare, '"' | '\\') => Ok(()),
+            (QuoteState::Before | QuoteState::Bare, '\'') => Ok(()),
+            (
+                QuoteState::InDoubleEscaped | QuoteState::BeforeEscaped | QuoteState::BareEscaped,
+                '\n',
+            ) => Ok(()),
+            (QuoteState::InDoubleEscaped, '"' | '\\' | '$' | '`') => word.push(character),
+            (QuoteState::InDoubleEscaped, _) => {
+                word.push('\\')?;
+                word.push(character)
+            }
+            _ => word.push(character),
+        }
+    }
+
+    fn may_end(self) -> bool {
+        matches!(self, QuoteState::Bare)
+    }
 }
 
 // The state after a character; `None` where the word ends before it.
 #[tactic(auto, unfolding(crate::specs::PosixSigns::sign))]
-pub(crate) fn next_state(state: QuoteState, character: char) -> Option<QuoteState>
+fn next_state(state: QuoteState, character: char) -> Option<QuoteState>
     ensures { result ≡ next_state state (sign character) }
 {
     match (state, character) {
@@ -161,42 +188,5 @@ pub(crate) fn next_state(state: QuoteState, character: char) -> Option<QuoteStat
         (QuoteState::InDouble, '"') => Some(QuoteState::Bare),
         (QuoteState::InDouble, '\\') => Some(QuoteState::InDoubleEscaped),
         (QuoteState::InDouble | QuoteState::InDoubleEscaped, _) => Some(QuoteState::InDouble),
-    }
-}
-
-// Adds to the word what the character at a state spells.
-#[tactic(auto, unfolding(crate::specs::PosixSigns::sign))]
-pub(crate) fn push_added(
-    state: QuoteState,
-    character: char,
-    word: &mut String,
-) -> Result<(), AllocError>
-    ensures { OnOk result
-        (string_bytes word.new
-        ≡ word_after state (sign character) (string_bytes word.old) (encode_utf8 character)) }
-{
-    match (state, character) {
-        (QuoteState::InSingle, '\'') => Ok(()),
-        (QuoteState::InDouble | QuoteState::Before | QuoteState::Bare, '"' | '\\') => Ok(()),
-        (QuoteState::Before | QuoteState::Bare, '\'') => Ok(()),
-        (QuoteState::InDoubleEscaped | QuoteState::BeforeEscaped | QuoteState::BareEscaped, '\n') =>
-            Ok(()),
-        (QuoteState::InDoubleEscaped, '"' | '\\' | '$' | '`') => word.push(character),
-        (QuoteState::InDoubleEscaped, _) => {
-            word.push('\\')?;
-            word.push(character)
-        }
-        _ => word.push(character),
-    }
-}
-
-// The word and what follows it, where the reading stops at a state.
-#[tactic(auto, unfolding(crate::specs::PosixQuote::ended))]
-fn end_word(state: QuoteState, word: String, rest: &str) -> Option<(String, &str)>
-    ensures { contents result ≡ ended state (string_bytes word) rest.now }
-{
-    match state {
-        QuoteState::Bare => Some((word, rest)),
-        _ => None,
     }
 }

@@ -1,6 +1,6 @@
 -- Registrations that are read as the definitions say.
 use Rattle.std.proofs.Common.{◌≡◌, true, false, Some, refl, codes}
-use Rattle.cc_quote.specs.PosixQuote.{ended as ended_word, posix_word_from, posix_word_of, is_posix_safe, is_posix_safe_word, posix_quoted}
+use Rattle.cc_quote.specs.PosixQuote.{posix_word_from, posix_word_of, is_posix_safe, is_posix_safe_word, posix_quoted}
 use Rattle.cc_quote.specs.PosixSigns.{sign, byte_of}
 use Rattle.cc_base.specs.Found.{after, with_front, cut_at, up_to, after_mark, between, without_blanks, after_last_from, last_line, last_run, word_by, word_after, ended, words_from, before_last}
 use Rattle.cc_quote.specs.PlainPath.{is_path_byte, is_plain_path}
@@ -18,7 +18,7 @@ use Rattle.cc_registrations.specs.ZshRegistration.{ZshRegistrationReads}
 use Rattle.cc_registrations.specs.BashRegistration.{function_begins, function_head, call_begins, call_ends, name_ends, otherwise, registration_ends, registration_front, sorted_call, plain_call, registration_tail, bash_registration, variable_ends, bash_variable, bash_completer, bash_name, bash_binary, BashRegistrationReads}
 
 bash_row : BashRegistrationReads (codes "V") (codes "VAR-x") (codes "my-bin") (codes "/o'p $x COMPLETER \"a\\")
-unfolding ended_word posix_word_from posix_word_of sign byte_of after with_front cut_at up_to after_mark between without_blanks after_last_from last_line word_by word_after ended words_from before_last function_begins function_head call_begins call_ends name_ends otherwise registration_ends registration_front sorted_call plain_call registration_tail bash_registration variable_ends bash_variable bash_completer bash_name bash_binary
+unfolding posix_word_from posix_word_of sign byte_of after with_front cut_at up_to after_mark between without_blanks after_last_from last_line word_by word_after ended words_from before_last function_begins function_head call_begins call_ends name_ends otherwise registration_ends registration_front sorted_call plain_call registration_tail bash_registration variable_ends bash_variable bash_completer bash_name bash_binary
 bash_row = record {
   variable_read = refl;
   completer_read = refl;
@@ -35,7 +35,7 @@ fish_row = record {
 }
 
 zsh_row : ZshRegistrationReads (codes "V") (codes "VAR-x") (codes "a_clap_dynamic_completer_b") (codes "/o'p $x COMPLETER \"a\\")
-unfolding ended_word posix_word_from posix_word_of sign byte_of is_posix_safe is_posix_safe_word posix_quoted after with_front cut_at up_to after_mark between without_blanks after_last_from last_line word_by word_after zsh.registration_begins zsh.function_begins zsh.function_head zsh.call_begins zsh.call_ends zsh.name_ends zsh.registration_ends zsh.registration_head zsh.registration_front zsh.registration_tail zsh.zsh_registration zsh.variable_ends zsh.zsh_variable zsh.zsh_completer zsh.zsh_name zsh.zsh_binary
+unfolding posix_word_from posix_word_of sign byte_of is_posix_safe is_posix_safe_word posix_quoted after with_front cut_at up_to after_mark between without_blanks after_last_from last_line word_by word_after zsh.registration_begins zsh.function_begins zsh.function_head zsh.call_begins zsh.call_ends zsh.name_ends zsh.registration_ends zsh.registration_head zsh.registration_front zsh.registration_tail zsh.zsh_registration zsh.variable_ends zsh.zsh_variable zsh.zsh_completer zsh.zsh_name zsh.zsh_binary
 zsh_row = record {
   variable_read = refl;
   completer_read = refl;

@@ -6,7 +6,7 @@ use Rattle.cc_base.specs.Bytes.{dash, equals, space}
 use Rattle.cc_quote.specs.PlainName.{is_plain_name, name_byte}
 use Rattle.cc_quote.proofs.NameBytes.{plain_bytes, name_lacks, fish_plain, fish_safe_bytes, no_joiner_first, plain_some}
 use Rattle.cc_quote.specs.FishQuote.{fish_sign, fish_quoted, fish_quoted_for_eval, fish_double_from, fish_double_of, fish_word_of}
-use Rattle.cc_quote.specs.FishQuote.FishState.{in_double}
+use Rattle.cc_quote.specs.FishQuote.{in_double}
 use Rattle.cc_quote.proofs.FishWords.{safe_double_escaped}
 use Rattle.cc_quote.proofs.FishReaders.{double_from}
 use Rattle.cc_quote.proofs.BeforeBlanks.{fish_before_space, bare_first}

@@ -34,6 +34,7 @@ pub use Rattle.cc_quote.specs.PowershellTokens
 pub use Rattle.cc_quote.specs.QuotedWord
 pub use Rattle.cc_quote.specs.Signs
 pub use Rattle.cc_quote.specs.Tokens
+pub use Rattle.cc_quote.specs.WordReader
 pub use Rattle.cc_quote.specs.ZshQuote
 pub use Rattle.cc_quote.specs.ZshReply
 -- the command tree

@@ -1,14 +1,16 @@
-use Rattle.std.proofs.Common.{◌∙◌, Some, None, ap, sym, arith}
+use Rattle.std.proofs.Common.{◌∙◌, [], Some, None, ap, sym, arith}
 use Rattle.std.proofs.lemmas.Str.Pattern.{strip_prefix_char}
 use Rattle.cc_base.specs.Bytes.{double_quote}
-use Rattle.cc_quote.specs.FishQuote.{fish_double_of}
-use Rattle.cc_quote.proofs.FishCharacters.{double_none}
+use Rattle.cc_quote.specs.FishQuote.{in_double, fish_double_from, fish_double_of}
+use Rattle.cc_quote.proofs.CharacterReading.{double_none}
+use Rattle.cc_quote.proofs.FishCharacters.{double_reads}
 use Rattle.cc_quote.proofs.fish_reader.fish_double.Goals as goal
 
-pub returns-in_ok-read_double-in-Some-clause-double : goal.returns-in_ok-read_double-in-Some-clause-double
-returns-in_ok-read_double-in-Some-clause-double c =
-    c.in_ok-read_double-in-Some.ensures ∙ ap fish_double_of (sym (strip_prefix_char double_quote c.args.text.now (Some c.in-Some.inside) c.in-Some.ensures.cases (omega arith)))
+pub returns-in_ok-read_word-in-Some-clause-double : goal.returns-in_ok-read_word-in-Some-clause-double
+returns-in_ok-read_word-in-Some-clause-double c =
+    c.in_ok-read_word-in-Some.ensures double_reads
+    ∙ ap fish_double_of (sym (strip_prefix_char double_quote c.args.text.now (Some c.in-Some.inside) c.in-Some.ensures.cases (omega arith)))
 
 pub returns-in-None-clause-double : goal.returns-in-None-clause-double
 returns-in-None-clause-double c =
-    sym (double_none c.args.text.now (strip_prefix_char double_quote c.args.text.now None c.in-None.ensures.cases (omega arith)))
+    sym (double_none (fish_double_from (in_double [])) c.args.text.now (strip_prefix_char double_quote c.args.text.now None c.in-None.ensures.cases (omega arith)))
