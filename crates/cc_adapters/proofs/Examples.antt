@@ -4,24 +4,18 @@ use Rattle.cc_adapters.specs.Wanted.{with_next}
 use Rattle.cc_adapters.specs.Builtins.{builtin_spec}
 use Rattle.cc_adapters.specs.declared.builtin.Builtin.TheVariants.{Powershell}
 
--- the index of the word after `app`
-next_word : with_next (codes "app" ∷ []) 1 ≡ codes "app" ∷ [] ∷ []
-next_word = refl
-
--- that of `app` itself
-indexed_word : with_next (codes "app" ∷ []) 0 ≡ codes "app" ∷ []
-indexed_word = refl
+next_word :
+    -- the index of the word after `app`
+    (with_next (codes "app" ∷ []) 1 ≡ codes "app" ∷ [] ∷ [])
+    -- that of `app` itself
+    × (with_next (codes "app" ∷ []) 0 ≡ codes "app" ∷ [])
+next_word = (refl, refl)
 
 -- ---- names
 
-powershell_row : (builtin_spec Powershell).named (codes "powershell") ≡ true
-powershell_row = refl
-
-pwsh_row : (builtin_spec Powershell).named (codes "pwsh") ≡ true
-pwsh_row = refl
-
-powershell_ise_row : (builtin_spec Powershell).named (codes "powershell_ise") ≡ true
-powershell_ise_row = refl
-
-other_row : (builtin_spec Powershell).named (codes "zsh") ≡ false
-other_row = refl
+powershell_names :
+    ((builtin_spec Powershell).named (codes "powershell") ≡ true)
+    × ((builtin_spec Powershell).named (codes "pwsh") ≡ true)
+    × ((builtin_spec Powershell).named (codes "powershell_ise") ≡ true)
+    × ((builtin_spec Powershell).named (codes "zsh") ≡ false)
+powershell_names = (refl, refl, refl, refl)

@@ -28,11 +28,11 @@ agrees : (sources : MayReturn) (root : Tree) (words : List (List ℕ)) (index : 
 agrees sources root words index found reads none completes = record {
   tree = completes.tree;
   state = completes.state;
-  line = completes.line;
+  leads = completes.leads;
   only = completes.only;
   offers = completes.offers;
   reads = reads;
-  leads = leads root completes.tree (words_before root.node words index) reads
+  bash_leads = leads root completes.tree (words_before root.node words index) reads
       (completes.visible none);
 }
 

@@ -15,7 +15,7 @@ use Rattle.cc_engine.specs.Completion.{Offers, is_in_range, words_before}
 use Rattle.cc_quote.specs.PlainName.{is_plain_name}
 use Rattle.cc_values.specs.Values.{MayReturn}
 use Rattle.cc_walk.specs.declared.state.State.{State}
-use Rattle.cc_walk.specs.Line.{IsLine, IsOnlyLine}
+use Rattle.cc_walk.specs.Destination.{WordsLeadTo, WordsLeadOnlyTo}
 use Rattle.cc_walk.specs.Visible.{HasNoHiddenAlias}
 
 -- Over the words the cases of the root's script lead to the label of the node at which the walk by
@@ -42,11 +42,11 @@ pub record AgreesWithBash (sources : MayReturn) (root : Tree) (words : List (Lis
     (found : List CompletionCandidate) : Type 0 where
   pub tree : Tree
   pub state : State
-  pub line : IsLine root (words_before root.node words index) tree state
-  pub only : IsOnlyLine root (words_before root.node words index) tree state
+  pub leads : WordsLeadTo root (words_before root.node words index) tree state
+  pub only : WordsLeadOnlyTo root (words_before root.node words index) tree state
   pub offers : Offers sources tree state (get_or words index []) found
   pub reads : BashReads root
-  pub leads : BashLeadsTo root (words_before root.node words index) tree
+  pub bash_leads : BashLeadsTo root (words_before root.node words index) tree
 
 -- How a call that writes a script and then finds no candidates ends, by what its sink had taken
 -- before and after: out of memory, with the tree as it was and nothing taken, or built; else with

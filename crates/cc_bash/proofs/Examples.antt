@@ -31,7 +31,8 @@ abbrev my_app : Tree
 my_app = built_under (Some (codes "my-app"))
     (with_child (new_tree (codes "my-app")) (new_tree (codes "test")))
 
-my_app_cases : tree_cases my_app
+of_my_app :
+    (tree_cases my_app
     ≡ record { from = codes "my__app"; word = codes "help"; to = codes "my__app__subcmd__help" }
     ∷ record { from = codes "my__app"; word = codes "test"; to = codes "my__app__subcmd__test" }
     ∷ record {
@@ -46,11 +47,8 @@ my_app_cases : tree_cases my_app
       to =
           codes "my__app__subcmd__help__subcmd__test";
     }
-    ∷ []
-unfolding insert in_order tree_cases help_argument version_argument help_name version_name
-my_app_cases = refl
-
-my_app_arms : tree_arms my_app
+    ∷ [])
+    × (tree_arms my_app
     ≡ record {
       label = codes "my__app";
       level = codes "1";
@@ -86,45 +84,30 @@ my_app_arms : tree_arms my_app
           codes "-h" ∷ codes "--help" ∷ [];
       details = [];
     }
-    ∷ []
-unfolding insert in_order tree_arms words_at details_at digits encode_utf8 help_argument version_argument help_name version_name
-my_app_arms = refl
-
--- words that are no names stay where they are
-my_app_run : run (tree_cases my_app) (codes "my__app")
+    ∷ [])
+    -- words that are no names stay where they are
+    × (run (tree_cases my_app) (codes "my__app")
     (codes "--flag" ∷ codes "test" ∷ codes "--" ∷ [])
     ≡ codes "my__app" ∷ codes "my__app" ∷ codes "my__app__subcmd__test"
-    ∷ codes "my__app__subcmd__test" ∷ []
-unfolding insert in_order tree_cases help_argument version_argument help_name version_name
-my_app_run = refl
-
--- the nodes of `my-app`, by their labels
-my_app_path_nodes : map (path_node_label my_app) (all_path_nodes my_app)
+    ∷ codes "my__app__subcmd__test" ∷ [])
+    -- the nodes of `my-app`, by their labels
+    × (map (path_node_label my_app) (all_path_nodes my_app)
     ≡ codes "my__app" ∷ codes "my__app__subcmd__test" ∷ codes "my__app__subcmd__help"
     ∷ codes "my__app__subcmd__help__subcmd__test" ∷ codes "my__app__subcmd__help__subcmd__help"
-    ∷ []
-unfolding help_argument version_argument help_name version_name
-my_app_path_nodes = refl
-
--- at the label to which words lead is the arm of the third level
-my_app_reached : option_map (λ arm. arm.level) (arm_after
+    ∷ [])
+    -- at the label to which words lead is the arm of the third level
+    × (option_map (λ arm. arm.level) (arm_after
     (Some (record { root = codes "my__app"; cases = tree_cases my_app; arms = tree_arms my_app }))
     (codes "--flag" ∷ codes "help" ∷ codes "test" ∷ []))
-    ≡ Some (codes "3")
-unfolding insert in_order tree_cases tree_arms words_at details_at digits encode_utf8 help_argument version_argument help_name version_name
-my_app_reached = refl
-
-my_app_clear : shared_label my_app ≡ None
-unfolding help_argument version_argument help_name version_name
-my_app_clear = refl
-
--- `p` with `a-b`, then `a` that holds `b`
-clashing_label : shared_label (built_under (Some (codes "p"))
+    ≡ Some (codes "3"))
+    × (shared_label my_app ≡ None)
+    -- `p` with `a-b`, then `a` that holds `b`
+    × (shared_label (built_under (Some (codes "p"))
     (with_child (with_child (new_tree (codes "p")) (new_tree (codes "a-b")))
     (with_child (new_tree (codes "a")) (new_tree (codes "b")))))
-    ≡ Some (codes "p__subcmd__a__subcmd__b")
-unfolding help_argument version_argument help_name version_name
-clashing_label = refl
+    ≡ Some (codes "p__subcmd__a__subcmd__b"))
+unfolding insert in_order tree_cases help_argument version_argument help_name version_name tree_arms words_at details_at digits encode_utf8
+of_my_app = (refl, refl, refl, refl, refl, refl, refl)
 
 -- an option with a value that is shown and one that is hidden, and a positional with the same values
 abbrev color : Arg
@@ -147,23 +130,19 @@ offering =
     let tree : Tree = record { node = node; children = more (new_tree (codes "run")).node none none } in
     built_under (Some (codes "app")) tree
 
--- hidden values of positionals are offered, those of options are not
-offering_words : words_at offering
+of_offering :
+    -- hidden values of positionals are offered, those of options are not
+    (words_at offering
     ≡ codes "-c" ∷ codes "-h" ∷ codes "--color" ∷ codes "--help" ∷ codes "low" ∷ codes "high"
-    ∷ codes "run" ∷ codes "help" ∷ []
-unfolding words_at encode_utf8 help_argument version_argument help_name version_name
-offering_words = refl
-
-offering_details : details_at offering.node
+    ∷ codes "run" ∷ codes "help" ∷ [])
+    × (details_at offering.node
     ≡ record { word = codes "--color"; offered = values (codes "auto" ∷ []); mode = None }
     ∷ record { word = codes "-c"; offered = values (codes "auto" ∷ []); mode = None }
-    ∷ []
-unfolding details_at encode_utf8 help_argument version_argument help_name version_name
-offering_details = refl
-
--- a value with a space is not quiet
-not_quiet : is_quiet_value (codes "a b") ≡ Bool.false
-not_quiet = refl
+    ∷ [])
+    -- a value with a space is not quiet
+    × (is_quiet_value (codes "a b") ≡ Bool.false)
+unfolding words_at encode_utf8 help_argument version_argument help_name version_name details_at
+of_offering = (refl, refl, refl)
 
 -- a script with details of every kind is read back
 abbrev given_cases : List Case

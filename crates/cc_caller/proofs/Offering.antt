@@ -15,15 +15,16 @@ use Rattle.clap_complete.specs.Built.{built_tree}
 use Rattle.clap_complete.specs.Generated.{help_argument}
 use Rattle.clap_complete.specs.Texts.{help_name}
 use Rattle.clap_complete.specs.Tree.{Tree}
-use Rattle.clap_complete.specs.Completion.{Completes, Offers, Refuses, is_in_range, row_candidates}
+use Rattle.clap_complete.specs.Completion.{Completes, Offers, Refuses, is_in_range, match_candidates}
 use Rattle.clap_complete.specs.OfferedChildren.{in_candidates_order, subcommand_candidates}
 use Rattle.clap_complete.specs.Finished.{finish}
-use Rattle.clap_complete.specs.OptionRows.{Listed, row_of}
+use Rattle.clap_complete.specs.OptionMatch.TheVariants.{Listed}
+use Rattle.clap_complete.specs.OptionMatches.{match_of}
 use Rattle.clap_complete.specs.ValueParts.{front_length}
 use Rattle.clap_complete.specs.ArgumentValues.{MayReturn, as_value, gather, question, values}
-use Rattle.clap_complete.specs.WalkBlocks.{Block, Dashes, Flag, Opened, Values, join, start, state_after}
+use Rattle.clap_complete.specs.WalkBlocks.{Block, Dashes, join, start, state_after}
 use Rattle.clap_complete.specs.WalkState.{State}
-use Rattle.clap_complete.specs.WalkLine.{IsLine}
+use Rattle.clap_complete.specs.WalkDestination.{WordsLeadTo}
 use Rattle.clap_complete.specs.WalkLookup.{positional_at}
 use Rattle.clap_complete.specs.WalkReach.{Descend, Reach, Stay}
 use Rattle.cc_caller.specs.KnownNames.{OffersTools, is_bare, names_beginning, runner, tool_candidate}
@@ -43,23 +44,21 @@ no_descent (Descend skipped name after cut all found reach) e = absurd (not_empt
 no_blocks : (blocks : List Block) → join blocks ≡ [] → blocks ≡ []
 no_blocks [] e = refl
 no_blocks (Dashes word ∷ blocks) e = cc
-no_blocks (Opened opener option values ∷ blocks) e = cc
-no_blocks (Values first more ∷ blocks) e = cc
-no_blocks (Flag word ∷ blocks) e = cc
+no_blocks (block ∷ blocks) e = cc
 
 -- they lead nowhere but to the root, where nothing is pending
-no_words : (root tree : Tree) (state : State) → IsLine root [] tree state → (tree ≡ root) × (state ≡ start false)
-no_words root tree state line =
-    let at : (tree ≡ root) × (line.tail ≡ []) × (line.before ≡ false) = no_descent line.reach refl in
-    (at.0, line.ends ∙ ap (state_after tree.node.arguments (start line.before)) (no_blocks line.blocks (line.joined ∙ at.1)) ∙ ap start at.2)
+no_words : (root tree : Tree) (state : State) → WordsLeadTo root [] tree state → (tree ≡ root) × (state ≡ start false)
+no_words root tree state leads =
+    let at : (tree ≡ root) × (leads.tail ≡ []) × (leads.before ≡ false) = no_descent leads.reach refl in
+    (at.0, leads.ends ∙ ap (state_after tree.node.arguments (start leads.before)) (no_blocks leads.blocks (leads.joined ∙ at.1)) ∙ ap start at.2)
 
 -- THE WORD
 
--- such a word asks nothing of the options
-bare_row : (arguments : List Arg) (word : List ℕ) → is_bare word ≡ true → row_of arguments word ≡ Listed []
-unfolding row_of
-bare_row arguments [] bare = cc
-bare_row arguments (byte ∷ bytes) bare =
+-- such a word matches no option
+bare_match : (arguments : List Arg) (word : List ℕ) → is_bare word ≡ true → match_of arguments word ≡ Listed []
+unfolding match_of
+bare_match arguments [] bare = cc
+bare_match arguments (byte ∷ bytes) bare =
     elim (cases_Bool (byte == 45)) [ inl t ↦ (let apart : false ≡ true = ap not (sym t) ∙ bare in cc) | inr f ↦ rw f refl ]
 
 -- a candidate of a name as a value
@@ -74,7 +73,7 @@ at_root : (sources : MayReturn) (completer : ArgValueCompleter) (names : List (L
 unfolding positional_at help_argument help_name question front_length values gather printed printed_names printed_values subcommand_candidates in_candidates_order in_order
 at_root sources completer names word found returns (returned, allowed, is) bare =
     is
-    ∙ ap (λ row. finish (map (as_value [] (codes "[tool]")) returned.positional ++ row_candidates row returned.within)) (bare_row (built_tree (runner completer)).node.arguments word bare)
+    ∙ ap (λ row. finish (map (as_value [] (codes "[tool]")) returned.positional ++ match_candidates row returned.within)) (bare_match (built_tree (runner completer)).node.arguments word bare)
     ∙ ap finish (append-nil (map (as_value [] (codes "[tool]")) returned.positional))
     ∙ ap (λ list. finish (map (as_value [] (codes "[tool]")) list)) (returns returned.positional allowed.positional)
     ∙ ap finish (as_tools names)
@@ -94,7 +93,7 @@ offers_tools items sources completer names word words old new (Ok found) old_is 
     let at : Completes sources (built_tree (runner completer)) (codes "run" ∷ word ∷ []) 1 (items found) =
     subst (λ t. Completes sources t (codes "run" ∷ word ∷ []) 1 (items found)) (built ∙ ap built_tree old_is)
     (subst (λ ws. Completes sources new ws 1 (items found)) words_are completes) in
-    let stays : (at.tree ≡ built_tree (runner completer)) × (at.state ≡ start false) = no_words (built_tree (runner completer)) at.tree at.state at.line in
+    let stays : (at.tree ≡ built_tree (runner completer)) × (at.state ≡ start false) = no_words (built_tree (runner completer)) at.tree at.state at.leads in
     at_root sources completer (names_beginning names word) word (items found) returns
     (subst (λ state. Offers sources (built_tree (runner completer)) state word (items found)) stays.1
     (subst (λ tree. Offers sources tree at.state word (items found)) stays.0 at.offers))

@@ -1,13 +1,13 @@
 -- What is offered begins with the word, or comes from a completer or a folder.
 use Rattle.std.proofs.Common.{◌≡◌, ◌⊎◌, ◌∙◌, ap, inl, inr, refl, subst, sym, zero, suc, ℕ, List, [], ◌∷◌, ◌++◌, append_assoc}
-use Rattle.std.specs.Prelude.{Bool, true, false, Option, Some, None, Contains, IsUtf8, ◌==◌, chars, codes, drop, encode_utf8, encode_utf8_all, filter, find, flat_map, get_or, length, map, nat_eq, nat_le, string_bytes, if◌then◌else◌}
-use Rattle.std.specs.List.{AllByRecursion, dedup, dedup_from, starts_with}
+use Rattle.std.specs.Prelude.{Bool, true, false, Option, Some, None, Contains, IsUtf8, ◌==◌, chars, codes, encode_utf8, encode_utf8_all, filter, find, flat_map, get_or, map, nat_eq, nat_le, string_bytes, if◌then◌else◌}
+use Rattle.std.specs.List.{AllByRecursion, dedup, starts_with}
 use Rattle.std.specs.Ordering.{eq_by_cmp, is_lt}
 use Rattle.std.specs.declared.string.String.{String}
 use Rattle.std.proofs.lemmas.Bool.{cases_Bool, eqb-true}
-use Rattle.std.proofs.lemmas.Bool.Decides.{Decides-eqb}
 use Rattle.std.proofs.lemmas.List.{take-append-drop}
-use Rattle.std.proofs.lemmas.Slice.Eq.{starts_is}
+use Rattle.std.proofs.lemmas.List.Elements.{All-from_recursion, recursion_from_All}
+use Rattle.std.proofs.lemmas.List.Filters.{All-dedup}
 use Rattle.std.proofs.lemmas.Str.{IsUtf8-nil, IsUtf8-past_char, IsUtf8-string_bytes, encodes-chars}
 use Rattle.cc_base.specs.Bytes.{dash, equals}
 use Rattle.cc_arg.specs.declared.parts.ArgParts.{ArgParts as Arg}
@@ -29,22 +29,24 @@ use Rattle.cc_gather.specs.Finished.{comes_before, finish, first_of_ids, group, 
 use Rattle.cc_gather.specs.Lookup.{has_own_long}
 use Rattle.cc_gather.specs.Numbers.{is_number}
 use Rattle.cc_gather.specs.Options.{hidden_candidates, long_candidate, long_candidates, longs, short_candidate, short_candidates, shorts}
-use Rattle.cc_gather.specs.Rows.{Listed, Row, ValuesOf, after_equals, after_one_dash, after_two_dashes, value_query_after, cluster_row, flag_row, long_row, with_prefix, row_of, short_row, without_end}
-use Rattle.cc_gather.proofs.FirstOfIds.{all-first_of_ids}
-use Rattle.cc_gather.proofs.Law.{all-shown, passing}
+use Rattle.cc_gather.specs.OptionMatches.{after_equals, after_one_dash, after_two_dashes, value_query_after, cluster_match, flag_match, long_match, with_prefix, match_of, short_match, without_end}
+use Rattle.cc_gather.specs.declared.options.OptionMatch.{OptionMatch}
+use Rattle.cc_gather.specs.declared.options.OptionMatch.TheVariants.{Listed, ValuesOf}
+use Rattle.cc_gather.proofs.FirstOfIds.{all-first_of_ids, passing}
+use Rattle.cc_gather.proofs.Law.{all-shown}
 use Rattle.cc_gather.proofs.WordKinds.{ends_past_dash, with_end}
 use Rattle.cc_values.proofs.LastPosition.{begins_so, so_begins}
 use Rattle.cc_values.specs.Parts.{front, front_length, part}
-use Rattle.cc_values.specs.Values.{Allows, MayReturn, Question, as_value, candidates, completer, gather, gathered_by, is_path, nothing, paths, question, question_by, question_of_hint, sorted, value_candidate, values}
+use Rattle.cc_values.specs.Values.{Allows, MayReturn, Question, as_value, candidates, completer, gather, gathered_by, is_path, paths, question, question_by, question_of_hint, sorted, value_candidate, values}
 use Rattle.cc_walk.specs.declared.word_class.ValueCharacter.{ValueCharacter}
 use Rattle.cc_walk.specs.declared.state.Pending.{Pending}
-use Rattle.cc_walk.specs.declared.state.Pending.TheVariants.{Nothing, OptionOpen, PositionalRun, PositionMoved}
+use Rattle.cc_walk.specs.declared.state.Pending.TheVariants.{OptionOpen}
 use Rattle.cc_walk.specs.declared.state.State.{State}
 use Rattle.cc_walk.specs.Lookup.{positional_at}
 use Rattle.cc_walk.specs.WordClasses.{character_value, value_argument, value_character}
 use Rattle.cc_walk.specs.Words.{EndsWith, before_equals}
 use Rattle.cc_engine.specs.declared.open_lists.OpenLists.{OpenLists}
-use Rattle.cc_engine.specs.Completion.{AreAllowed, BeginsOrIsCompleted, Returned, candidates_for, finished_last, questions_of_lists, offered, offered_children, offered_row, open_question, opened_values, positional_question, positional_values, questions, row_candidates, row_question, completed}
+use Rattle.cc_engine.specs.Completion.{AreAllowed, BeginsOrIsCompleted, Returned, candidates_for, finished_last, questions_of_lists, offered, offered_children, offered_match, open_question, opened_values, positional_question, positional_values, questions, match_candidates, match_question, completed}
 use Rattle.cc_engine.specs.OpenLists.{least, open_lists_by}
 
 abbrev Candidates : Type 0
@@ -75,18 +77,8 @@ all_unmapped : {X Y : Type 0} (P : Y → Type 0) (f : X → Y) (xs : List X) →
 all_unmapped P f [] h = tt
 all_unmapped P f (x ∷ xs) h = (h.0, all_unmapped P f xs h.1)
 
-all_dedup_from : {X : Type 0} (P : X → Type 0) (same : X → X → Bool) (k : X) (xs : List X) → P k → AllByRecursion P xs → AllByRecursion P (dedup_from same k xs)
-all_dedup_from P same k [] pk h = (pk, tt)
-all_dedup_from P same k (x ∷ xs) pk h = by (same x k) (all_dedup_from P same k xs pk h.1) (all_dedup_from P same x xs h.0 h.1)
-  where
-    by : (b : Bool) → AllByRecursion P (dedup_from same k xs) → AllByRecursion P (dedup_from same x xs)
-        → AllByRecursion P (if b then dedup_from same k xs else k ∷ dedup_from same x xs)
-    by true more last = more
-    by false more last = (pk, last)
-
 all_dedup : {X : Type 0} (P : X → Type 0) (same : X → X → Bool) (xs : List X) → AllByRecursion P xs → AllByRecursion P (dedup same xs)
-all_dedup P same [] h = tt
-all_dedup P same (x ∷ xs) h = all_dedup_from P same x xs h.0 h.1
+all_dedup P same xs h = recursion_from_All P (dedup same xs) (All-dedup same P xs (All-from_recursion P xs h))
 
 -- THE CHILDREN
 
@@ -144,9 +136,8 @@ all_positional : (sources : MayReturn) (P : CompletionCandidate → Type 0) (wor
     → Allows sources (positional_question positional number word) returned
     → AllByRecursion P (completed (positional_question positional number word) (positional_values positional number word returned))
     → AllByRecursion P (positional_values positional number word returned)
-all_positional sources P word ok None number returned allowed h = tt
-all_positional sources P word ok (Some arg) None returned allowed h = tt
 all_positional sources P word ok (Some arg) (Some number) returned allowed h = all_values sources P arg number word returned ok allowed h
+all_positional sources P word ok _ _ returned allowed h = tt
 
 all_opened : (sources : MayReturn) (P : CompletionCandidate → Type 0) (word : List ℕ) → IsOfBeginning P word
     → (pending : Pending) (returned : Candidates)
@@ -159,7 +150,7 @@ all_opened sources P word ok _ returned allowed h = tt
 -- THE OPTIONS
 
 -- what is listed is so, and what is wanted follows the text before it
-abbrev Fits : (CompletionCandidate → Type 0) → List ℕ → Row → Type 0
+abbrev Fits : (CompletionCandidate → Type 0) → List ℕ → OptionMatch → Type 0
 Fits P word (Listed found) = AllByRecursion P found
 Fits P word (ValuesOf wanted) = wanted.before ++ wanted.text ≡ word
 
@@ -194,12 +185,12 @@ equals_split (c ∷ s) t h = by (c == equals) refl h (equals_split s t)
     by false e h more = ap (λ r. c ∷ r) (more h)
 
 flag_fits : (P : CompletionCandidate → Type 0) (named : Option Arg) (flag text long : List ℕ) → flag ++ (equals ∷ text) ≡ long
-    → Fits P (codes "--" ++ long) (flag_row named flag text)
+    → Fits P (codes "--" ++ long) (flag_match named flag text)
 flag_fits P None flag text long is = tt
 flag_fits P (Some argument) flag text long is = ap (λ r. codes "--" ++ r) (append_assoc flag (codes "=") text ∙ is)
 
 long_fits : (P : CompletionCandidate → Type 0) (arguments : List Arg) (long : List ℕ) (o : Option (List ℕ)) → after_equals long ≡ o
-    → IsOfBeginning P (codes "--" ++ long) → Fits P (codes "--" ++ long) (long_row arguments long o)
+    → IsOfBeginning P (codes "--" ++ long) → Fits P (codes "--" ++ long) (long_match arguments long o)
 long_fits P arguments long None e ok = all_passed P (begins (codes "--" ++ long)) ok (longs arguments)
 long_fits P arguments long (Some text) e ok =
     flag_fits P (find (has_own_long (before_equals long)) arguments) (before_equals long) text long (equals_split long text e)
@@ -232,17 +223,17 @@ value_ends arguments (c ∷ cs) found e = by (value_argument arguments c) e (val
         (encode_utf8 c, ap (λ s. encode_utf8 c ++ s) is)
 
 short_fits : (P : CompletionCandidate → Type 0) (arguments : List Arg) (after : List ℕ) → IsUtf8 after → IsOfBeginning P (codes "-" ++ after)
-    → Fits P (codes "-" ++ after) (short_row arguments after)
+    → Fits P (codes "-" ++ after) (short_match arguments after)
 short_fits P arguments after valid ok = by (is_number after)
   where
-    listed : (o : Option ValueCharacter) → value_character arguments (chars after) ≡ o → Fits P (codes "-" ++ after) (cluster_row arguments (codes "-" ++ after) o)
+    listed : (o : Option ValueCharacter) → value_character arguments (chars after) ≡ o → Fits P (codes "-" ++ after) (cluster_match arguments (codes "-" ++ after) o)
     listed None e = all_shorts P (codes "-" ++ after) ok arguments
     listed (Some found) e =
         let word : List ℕ = codes "-" ++ after in
         let ends : EndsWith after found.after = subst (λ s. EndsWith s found.after) (encodes-chars after valid) (value_ends arguments (chars after) found e) in
         wanted_whole found.argument (without_end word found.after) found.after ∙ with_end word found.after (ends_past_dash word after found.after refl ends)
 
-    by : (b : Bool) → Fits P (codes "-" ++ after) (if b then Listed [] else cluster_row arguments (codes "-" ++ after) (value_character arguments (chars after)))
+    by : (b : Bool) → Fits P (codes "-" ++ after) (if b then Listed [] else cluster_match arguments (codes "-" ++ after) (value_character arguments (chars after)))
     by true = tt
     by false = listed (value_character arguments (chars after)) refl
 
@@ -256,16 +247,16 @@ dash_fits P arguments [] valid ok =
     (all_longs P (λ a hidden name. ok (long_candidate a hidden name) (so_begins (codes "--" ++ name) (dash ∷ []) (dash ∷ name) refl)) arguments)
 dash_fits P arguments (c ∷ s) valid ok = by (c == dash) refl
   where
-    by : (b : Bool) → (c == dash) ≡ b → Fits P (dash ∷ c ∷ s) (if b then after_two_dashes arguments s else short_row arguments (c ∷ s))
+    by : (b : Bool) → (c == dash) ≡ b → Fits P (dash ∷ c ∷ s) (if b then after_two_dashes arguments s else short_match arguments (c ∷ s))
     by true e =
         subst (λ x. IsOfBeginning P (dash ∷ x ∷ s) → Fits P (dash ∷ x ∷ s) (after_two_dashes arguments s)) (sym (eqb-true c dash e)) (two_fits P arguments s) ok
     by false e = short_fits P arguments (c ∷ s) (past_dash (c ∷ s) valid) ok
 
-row_fits : (P : CompletionCandidate → Type 0) (arguments : List Arg) (word : List ℕ) → IsUtf8 word → IsOfBeginning P word → Fits P word (row_of arguments word)
-unfolding row_of
-row_fits P arguments [] valid ok =
+match_fits : (P : CompletionCandidate → Type 0) (arguments : List Arg) (word : List ℕ) → IsUtf8 word → IsOfBeginning P word → Fits P word (match_of arguments word)
+unfolding match_of
+match_fits P arguments [] valid ok =
     all_of P (λ c. ok c (so_begins c.value [] c.value refl)) (longs arguments ++ shorts (codes "-") arguments)
-row_fits P arguments (c ∷ s) valid ok = by (c == dash) refl
+match_fits P arguments (c ∷ s) valid ok = by (c == dash) refl
   where
     by : (b : Bool) → (c == dash) ≡ b → Fits P (c ∷ s) (if b then after_one_dash arguments s else Listed [])
     by true e =
@@ -278,18 +269,18 @@ completed_unmapped P f (completer which number text) cs h = all_unmapped P f cs 
 completed_unmapped P f (paths hint text) cs h = all_unmapped P f cs h
 completed_unmapped P f _ cs h = tt
 
-all_row : (sources : MayReturn) (P : CompletionCandidate → Type 0) (word : List ℕ) → IsOfBeginning P word → (row : Row) → Fits P word row → (returned : Candidates)
-    → Allows sources (row_question row) returned → AllByRecursion P (completed (row_question row) (row_candidates row returned)) → AllByRecursion P (row_candidates row returned)
-all_row sources P word ok (Listed found) fits returned allowed h = fits
-all_row sources P word ok (ValuesOf wanted) fits returned allowed h =
+all_matched : (sources : MayReturn) (P : CompletionCandidate → Type 0) (word : List ℕ) → IsOfBeginning P word → (matched : OptionMatch) → Fits P word matched → (returned : Candidates)
+    → Allows sources (match_question matched) returned → AllByRecursion P (completed (match_question matched) (match_candidates matched returned)) → AllByRecursion P (match_candidates matched returned)
+all_matched sources P word ok (Listed found) fits returned allowed h = fits
+all_matched sources P word ok (ValuesOf wanted) fits returned allowed h =
     AllByRecursion-map P (with_prefix wanted.before) (values wanted.argument wanted.text returned)
     (all_values sources (λ c. P (with_prefix wanted.before c)) wanted.argument 0 wanted.text returned
     (λ c e. ok (with_prefix wanted.before c) (put_before wanted.before wanted.text word c.value fits e)) allowed
-    (completed_unmapped P (with_prefix wanted.before) (row_question (ValuesOf wanted)) (values wanted.argument wanted.text returned) h))
+    (completed_unmapped P (with_prefix wanted.before) (match_question (ValuesOf wanted)) (values wanted.argument wanted.text returned) h))
 
 offered_fits : (P : CompletionCandidate → Type 0) (offers : Bool) (arguments : List Arg) (word : List ℕ) → IsUtf8 word → IsOfBeginning P word
-    → Fits P word (offered_row offers arguments word)
-offered_fits P true arguments word valid ok = row_fits P arguments word valid ok
+    → Fits P word (offered_match offers arguments word)
+offered_fits P true arguments word valid ok = match_fits P arguments word valid ok
 offered_fits P false arguments word valid ok = tt
 
 -- WHAT IS FINISHED
@@ -315,15 +306,15 @@ all_offered : (sources : MayReturn) (P : CompletionCandidate → Type 0) (word :
     → AreAllowed sources (questions_of_lists tree position lists pending word) returned
     → AllByRecursion P (completed (positional_question (positional_at tree.node.arguments position) lists.value word)
     (positional_values (positional_at tree.node.arguments position) lists.value word returned.positional))
-    → AllByRecursion P (completed (row_question (offered_row lists.options tree.node.arguments word)) (row_candidates (offered_row lists.options tree.node.arguments word) returned.within))
+    → AllByRecursion P (completed (match_question (offered_match lists.options tree.node.arguments word)) (match_candidates (offered_match lists.options tree.node.arguments word) returned.within))
     → AllByRecursion P (offered tree position lists word returned)
 all_offered sources P word valid ok tree position lists pending returned allowed values within =
     let positional = positional_values (positional_at tree.node.arguments position) lists.value word returned.positional in
     let children = offered_children lists.children tree word returned.children in
-    AllByRecursion-append P (children ++ positional) (row_candidates (offered_row lists.options tree.node.arguments word) returned.within)
+    AllByRecursion-append P (children ++ positional) (match_candidates (offered_match lists.options tree.node.arguments word) returned.within)
     (AllByRecursion-append P children positional (all_children P word ok lists.children tree returned.children)
     (all_positional sources P word ok (positional_at tree.node.arguments position) lists.value returned.positional allowed.positional values))
-    (all_row sources P word ok (offered_row lists.options tree.node.arguments word) (offered_fits P lists.options tree.node.arguments word valid ok) returned.within allowed.within within)
+    (all_matched sources P word ok (offered_match lists.options tree.node.arguments word) (offered_fits P lists.options tree.node.arguments word valid ok) returned.within allowed.within within)
 
 pub begins_or_is_completed : (sources : MayReturn) (tree : Tree) (state : State) (word : List ℕ) (returned : Returned) (found : Candidates) → IsUtf8 word
     → AreAllowed sources (questions tree state word) returned → found ≡ candidates_for tree state word returned
@@ -332,7 +323,7 @@ begins_or_is_completed sources tree state word returned found valid allowed is =
     let lists = open_lists_by tree.node.arguments state.position state.escaped state.pending in
     let positional = completed (positional_question (positional_at tree.node.arguments state.position) lists.value word)
     (positional_values (positional_at tree.node.arguments state.position) lists.value word returned.positional) in
-    let within = completed (row_question (offered_row lists.options tree.node.arguments word)) (row_candidates (offered_row lists.options tree.node.arguments word) returned.within) in
+    let within = completed (match_question (offered_match lists.options tree.node.arguments word)) (match_candidates (offered_match lists.options tree.node.arguments word) returned.within) in
     let opened = completed (open_question state.pending word) (opened_values state.pending word returned.opened) in
     let P : CompletionCandidate → Type 0 = λ c. (begins word c ≡ true) ⊎ Contains (positional ++ (within ++ opened)) c in
     let ok : IsOfBeginning P word = λ c e. inl e in

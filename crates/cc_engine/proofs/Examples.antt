@@ -22,7 +22,7 @@ use Rattle.cc_gather.specs.Children.{in_candidates_order, subcommand_candidates}
 use Rattle.cc_gather.specs.Finished.{finish, group, shown_or_all}
 use Rattle.cc_gather.specs.Numbers.{is_number}
 use Rattle.cc_gather.specs.Options.{longs, shorts}
-use Rattle.cc_gather.specs.Rows.{row_of}
+use Rattle.cc_gather.specs.OptionMatches.{match_of}
 use Rattle.cc_paths.specs.PathCandidates.{grouped_candidates, groups}
 use Rattle.cc_paths.specs.PathTexts.{word_prefix}
 use Rattle.cc_values.specs.Parts.{front_length}
@@ -36,7 +36,7 @@ use Rattle.cc_engine.specs.Completion.{Returned, Questions, candidates_for, is_i
 -- what opens each definition
 unfoldable definitions : ⊤
 unfolding help_argument help_name help_about help_help subcommand_candidates in_candidates_order
-    in_order insert finish shown_or_all group positional_at row_of longs shorts lib.Utf8.encode
+    in_order insert finish shown_or_all group positional_at match_of longs shorts lib.Utf8.encode
     class_of capacity_at allows_hyphens_at chars values gather front_length printed printed_names
     printed_values printed_after_name question groups path_join path_file_name
     split_last_component trim_trailing word_prefix sorted is_number
@@ -82,49 +82,30 @@ app = built_tree (with_child (new_tree (codes "app")) test)
 
 -- THE INDEX
 
--- the program's name is not completed, unless there is none, and no word past the last
-program_name : is_in_range app.node 2 0 ≡ false
+the_index :
+    -- the program's name is not completed, unless there is none, and no word past the last
+    (is_in_range app.node 2 0 ≡ false)
+    × (is_in_range app.node 1 1 ≡ false)
+    × (is_in_range app.node 2 1 ≡ true)
+    × (is_in_range (record app.node { no_binary_name = true }) 1 0 ≡ true)
+    × (words_before app.node (codes "app" ∷ codes "--" ∷ codes "te" ∷ []) 2
+    ≡ codes "--" ∷ [])
+    × (words_before (record app.node { no_binary_name = true }) (codes "--" ∷ codes "te" ∷ []) 1
+    ≡ codes "--" ∷ [])
 unfolding definitions
-program_name = refl
-
-past_the_last : is_in_range app.node 1 1 ≡ false
-unfolding definitions
-past_the_last = refl
-
-last_word : is_in_range app.node 2 1 ≡ true
-unfolding definitions
-last_word = refl
-
-no_program_name : is_in_range (record app.node { no_binary_name = true }) 1 0 ≡ true
-unfolding definitions
-no_program_name = refl
-
-words_after_the_name : words_before app.node (codes "app" ∷ codes "--" ∷ codes "te" ∷ []) 2
-    ≡ codes "--" ∷ []
-unfolding definitions
-words_after_the_name = refl
-
-all_words : words_before (record app.node { no_binary_name = true }) (codes "--" ∷ codes "te" ∷ []) 1
-    ≡ codes "--" ∷ []
-unfolding definitions
-all_words = refl
+the_index = (refl, refl, refl, refl, refl, refl)
 
 -- CHILDREN
 
--- the first name of each child by the candidates' order, then the help flag
-empty_word : offered_after app [] [] no_lists ≡ codes "t" ∷ codes "help" ∷ codes "--help" ∷ []
+children :
+    -- the first name of each child by the candidates' order, then the help flag
+    (offered_after app [] [] no_lists ≡ codes "t" ∷ codes "help" ∷ codes "--help" ∷ [])
+    -- after `--` no option
+    × (offered_after app (codes "--" ∷ []) [] no_lists ≡ codes "t" ∷ codes "help" ∷ [])
+    -- at a child without children that `--` precedes, nothing
+    × (offered_after app (codes "--" ∷ codes "test" ∷ []) [] no_lists ≡ [])
 unfolding definitions
-empty_word = refl
-
--- after `--` no option
-after_dashes : offered_after app (codes "--" ∷ []) [] no_lists ≡ codes "t" ∷ codes "help" ∷ []
-unfolding definitions
-after_dashes = refl
-
--- at a child without children that `--` precedes, nothing
-at_a_child : offered_after app (codes "--" ∷ codes "test" ∷ []) [] no_lists ≡ []
-unfolding definitions
-at_a_child = refl
+children = (refl, refl, refl)
 
 -- A POSITIONAL
 
@@ -154,22 +135,17 @@ pair = record (new_arg (codes "pair")) { num_args = Some (exactly 2) }
 abbrev kinds : Arg
 kinds = record (new_arg (codes "kinds")) { value_delimiter = Some 44; completer = Some zeroth }
 
--- the second of two values has the number 1
-second_value : (questions_after (completed pair) (codes "a" ∷ []) []).positional ≡ completer 0 1 []
+second_of_two :
+    -- the second of two values has the number 1
+    ((questions_after (completed pair) (codes "a" ∷ []) []).positional ≡ completer 0 1 [])
+    -- only what follows the last delimiter is completed
+    × ((questions_after (completed kinds) [] (codes "a,b,c")).positional
+    ≡ completer 0 0 (codes "c"))
+    -- and is after the parts before it
+    × (map (λ c. c.value) (values kinds (codes "a,b,c") (new_candidate (codes "cc") ∷ []))
+    ≡ codes "a,b,cc" ∷ [])
 unfolding definitions
-second_value = refl
-
--- only what follows the last delimiter is completed
-last_part : (questions_after (completed kinds) [] (codes "a,b,c")).positional
-    ≡ completer 0 0 (codes "c")
-unfolding definitions
-last_part = refl
-
--- and is after the parts before it
-after_parts : map (λ c. c.value) (values kinds (codes "a,b,c") (new_candidate (codes "cc") ∷ []))
-    ≡ codes "a,b,cc" ∷ []
-unfolding definitions
-after_parts = refl
+second_of_two = (refl, refl, refl)
 
 -- `app` with a positional that is a file's path, and no flag
 abbrev files : Tree
@@ -188,17 +164,15 @@ folder_paths = grouped_candidates [] false
     ∷ record { name = codes "a.txt"; is_folder = false; passes = true }
     ∷ record { name = codes "src"; is_folder = true; passes = false } ∷ [])
 
--- what is found there: a file, then the folders, of which one is hidden
-found_paths : map (λ c. c.value) folder_paths
-    ≡ codes "a.txt" ∷ codes ".git/" ∷ codes "src/" ∷ []
+offered_paths :
+    -- what is found there: a file, then the folders, of which one is hidden
+    (map (λ c. c.value) folder_paths
+    ≡ codes "a.txt" ∷ codes ".git/" ∷ codes "src/" ∷ [])
+    -- of these paths the visible ones
+    × (offered_after files [] [] (record no_lists { positional = folder_paths })
+    ≡ codes "a.txt" ∷ codes "src/" ∷ [])
 unfolding definitions
-found_paths = refl
-
--- of these paths the visible ones
-visible_paths : offered_after files [] [] (record no_lists { positional = folder_paths })
-    ≡ codes "a.txt" ∷ codes "src/" ∷ []
-unfolding definitions
-visible_paths = refl
+offered_paths = (refl, refl)
 
 -- AN OPEN OPTION
 
@@ -218,15 +192,13 @@ options = built_tree (with (with (new_tree (codes "app"))
     }))
     (record (option (codes "port")) { help_heading = Some (codes "Net") }))
 
-first_value : (questions_after options (codes "--col" ∷ []) []).opened ≡ completer 0 0 []
+open_option :
+    ((questions_after options (codes "--col" ∷ []) []).opened ≡ completer 0 0 [])
+    -- the value has the id of `--col`, which goes only after the others are finished
+    × (offered_after options (codes "--col" ∷ []) [] (record no_lists { opened = auto ∷ [] })
+    ≡ codes "auto" ∷ codes "--help" ∷ codes "--port" ∷ [])
 unfolding definitions
-first_value = refl
-
--- the value has the id of `--col`, which goes only after the others are finished
-finished_twice : offered_after options (codes "--col" ∷ []) [] (record no_lists { opened = auto ∷ [] })
-    ≡ codes "auto" ∷ codes "--help" ∷ codes "--port" ∷ []
-unfolding definitions
-finished_twice = refl
+open_option = (refl, refl)
 
 -- WITHIN A WORD
 
@@ -237,27 +209,19 @@ colors = built_tree (without_help (with (with (new_tree (codes "app"))
     (record (option (codes "color")) { short = Some 49; completer = Some zeroth }))
     (record (new_arg (codes "count")) { allow_hyphen_values = true; completer = Some zeroth })))
 
--- the value of a long is its first
-long_value : (questions_after colors [] (codes "--color=a")).within ≡ completer 0 0 (codes "a")
-unfolding definitions
-long_value = refl
-
--- and its candidates are after the long
-after_the_long : offered_after colors [] (codes "--color=a")
+within_a_word :
+    -- the value of a long is its first
+    ((questions_after colors [] (codes "--color=a")).within ≡ completer 0 0 (codes "a"))
+    -- and its candidates are after the long
+    × (offered_after colors [] (codes "--color=a")
     (record no_lists { within = new_candidate (codes "auto") ∷ [] })
-    ≡ codes "--color=auto" ∷ []
+    ≡ codes "--color=auto" ∷ [])
+    -- a number wants nothing of the options, also where its first digit is a short that takes values
+    × ((questions_after colors [] (codes "-15")).within ≡ nothing)
+    -- it is the positional's
+    × ((questions_after colors [] (codes "-15")).positional ≡ completer 0 0 (codes "-15"))
 unfolding definitions
-after_the_long = refl
-
--- a number wants nothing of the options, also where its first digit is a short that takes values
-number_of_no_option : (questions_after colors [] (codes "-15")).within ≡ nothing
-unfolding definitions
-number_of_no_option = refl
-
--- it is the positional's
-number_of_a_positional : (questions_after colors [] (codes "-15")).positional ≡ completer 0 0 (codes "-15")
-unfolding definitions
-number_of_a_positional = refl
+within_a_word = (refl, refl, refl, refl)
 
 -- OPTIONS
 
@@ -278,58 +242,32 @@ colored = built_tree (with (with (new_tree (codes "app"))
       action = Some SetTrue;
     }))
 
--- of an argument's names the first
-first_names : offered_after colored [] [] no_lists
-    ≡ codes "--color" ∷ codes "--verbose" ∷ codes "--help" ∷ []
+options_and_values :
+    -- of an argument's names the first
+    (offered_after colored [] [] no_lists
+    ≡ codes "--color" ∷ codes "--verbose" ∷ codes "--help" ∷ [])
+    -- the shorts come first after a dash
+    × (offered_after colored [] (codes "-") no_lists
+    ≡ codes "-c" ∷ codes "-v" ∷ codes "-h" ∷ [])
+    -- a hidden alias where nothing else begins so
+    × (offered_after colored [] (codes "--no") no_lists ≡ codes "--noisy" ∷ [])
+    -- of the values of a long the visible one
+    × (offered_after colored [] (codes "--color=") no_lists
+    ≡ codes "--color=auto" ∷ [])
+    -- the hidden one where no visible one begins so
+    × (offered_after colored [] (codes "--color=n") no_lists ≡ codes "--color=never" ∷ [])
+    -- the values of a short after another
+    × (offered_after colored [] (codes "-vc=a") no_lists ≡ codes "-vc=auto" ∷ [])
+    -- an option that needs a value leaves nothing but its values
+    × (offered_after colored (codes "--color" ∷ []) [] no_lists ≡ codes "auto" ∷ [])
+    -- a `=` closes the option
+    × (offered_after colored (codes "-c=" ∷ []) [] no_lists
+    ≡ codes "--color" ∷ codes "--verbose" ∷ codes "--help" ∷ [])
+    -- nothing begins with a number
+    × (offered_after colored [] (codes "-1") no_lists ≡ [])
+    × (offered_after colored [] (codes "-5e3") no_lists ≡ [])
 unfolding definitions
-first_names = refl
-
--- the shorts come first after a dash
-after_a_dash : offered_after colored [] (codes "-") no_lists
-    ≡ codes "-c" ∷ codes "-v" ∷ codes "-h" ∷ []
-unfolding definitions
-after_a_dash = refl
-
--- a hidden alias where nothing else begins so
-hidden_alias : offered_after colored [] (codes "--no") no_lists ≡ codes "--noisy" ∷ []
-unfolding definitions
-hidden_alias = refl
-
--- of the values of a long the visible one
-values_of_a_long : offered_after colored [] (codes "--color=") no_lists
-    ≡ codes "--color=auto" ∷ []
-unfolding definitions
-values_of_a_long = refl
-
--- the hidden one where no visible one begins so
-hidden_value : offered_after colored [] (codes "--color=n") no_lists ≡ codes "--color=never" ∷ []
-unfolding definitions
-hidden_value = refl
-
--- the values of a short after another
-values_of_a_short : offered_after colored [] (codes "-vc=a") no_lists ≡ codes "-vc=auto" ∷ []
-unfolding definitions
-values_of_a_short = refl
-
--- an option that needs a value leaves nothing but its values
-values_alone : offered_after colored (codes "--color" ∷ []) [] no_lists ≡ codes "auto" ∷ []
-unfolding definitions
-values_alone = refl
-
--- a `=` closes the option
-closed_option : offered_after colored (codes "-c=" ∷ []) [] no_lists
-    ≡ codes "--color" ∷ codes "--verbose" ∷ codes "--help" ∷ []
-unfolding definitions
-closed_option = refl
-
--- nothing begins with a number
-negative_number : offered_after colored [] (codes "-1") no_lists ≡ []
-unfolding definitions
-negative_number = refl
-
-with_exponent : offered_after colored [] (codes "-5e3") no_lists ≡ []
-unfolding definitions
-with_exponent = refl
+options_and_values = (refl, refl, refl, refl, refl, refl, refl, refl, refl, refl)
 
 -- ODD WORDS
 
@@ -340,19 +278,14 @@ deep =
     built_tree (with_child (new_tree (codes "app"))
     (record child { node = record child.node { aliases = codes "tst" ∷ [] } }))
 
--- a hidden alias leads down
-below_a_hidden_alias : offered_after deep (codes "tst" ∷ []) [] no_lists
-    ≡ codes "--deep" ∷ codes "--help" ∷ []
+below_names :
+    -- a hidden alias leads down
+    (offered_after deep (codes "tst" ∷ []) [] no_lists
+    ≡ codes "--deep" ∷ codes "--help" ∷ [])
+    -- so does a name after `--`, where no option is left
+    × (offered_after deep (codes "--" ∷ codes "test" ∷ []) [] no_lists ≡ [])
+    -- `-` is the option's value, so the first positional is next, which has no values to offer
+    × (offered_after hyphens (codes "--opt" ∷ codes "-" ∷ []) [] no_lists
+    ≡ codes "--opt" ∷ codes "--help" ∷ [])
 unfolding definitions
-below_a_hidden_alias = refl
-
--- so does a name after `--`, where no option is left
-below_a_name : offered_after deep (codes "--" ∷ codes "test" ∷ []) [] no_lists ≡ []
-unfolding definitions
-below_a_name = refl
-
--- `-` is the option's value, so the first positional is next, which has no values to offer
-dash_as_a_value : offered_after hyphens (codes "--opt" ∷ codes "-" ∷ []) [] no_lists
-    ≡ codes "--opt" ∷ codes "--help" ∷ []
-unfolding definitions
-dash_as_a_value = refl
+below_names = (refl, refl, refl)

@@ -1,22 +1,16 @@
 -- What is so of every result.
-use Rattle.std.proofs.Common.{◌≡◌, ◌∙◌, ap, inl, inr, refl, subst, sym, ℕ, List, [], ◌∷◌, ◌++◌}
-use Rattle.std.specs.Prelude.{Bool, true, false, ◌||◌, filter, get_or, nat_le, if◌then◌else◌}
+use Rattle.std.proofs.Common.{◌≡◌, ◌∙◌, refl, subst, sym, ℕ, List, [], ◌++◌}
+use Rattle.std.specs.Prelude.{Bool, true, false, ◌||◌, get_or}
 use Rattle.std.specs.List.{list_any}
-use Rattle.std.proofs.lemmas.Bool.{cases_Bool}
-use Rattle.std.proofs.lemmas.List.{append-nil}
 use Rattle.std.proofs.lemmas.List.Folds.{list_any-append}
-use Rattle.cc_base.specs.Sorting.{in_order, insert}
 use Rattle.cc_candidates.specs.declared.candidate.CompletionCandidate.{CompletionCandidate}
 use Rattle.cc_command.specs.Tree.{Tree}
-use Rattle.cc_gather.specs.Finished.{AreGrouped, AreShown, Differ, comes_before, finish, first_of_ids, group, is_shown, shown_or_all}
+use Rattle.cc_gather.specs.Finished.{AreGrouped, AreShown, Differ, finish, first_of_ids, is_shown, shown_or_all}
 use Rattle.cc_gather.proofs.Law.{differ, order, some_visible, visible}
-use Rattle.cc_values.specs.Values.{MayReturn, values}
-use Rattle.cc_walk.specs.declared.state.Pending.{Pending}
-use Rattle.cc_walk.specs.declared.state.Pending.TheVariants.{Nothing, OptionOpen, PositionalRun, PositionMoved}
+use Rattle.cc_values.specs.Values.{MayReturn}
 use Rattle.cc_walk.specs.declared.state.State.{State}
 use Rattle.cc_engine.specs.Completion.{Completes, Returned, IsSorted, ShowsVisible, candidates_for, besides, finished_last, offered, opened_values}
-use Rattle.cc_engine.specs.OpenLists.{all_open, least, none_open, open_lists_by}
-use Rattle.cc_engine.proofs.OneFinishing.{nothing_offered}
+use Rattle.cc_engine.proofs.OneFinishing.{to_gathered}
 
 abbrev Candidates : Type 0
 Candidates = List CompletionCandidate
@@ -42,25 +36,12 @@ any_after opened others e =
     by true y is e = refl
     by false y is e = some_visible others (is ∙ e)
 
-beside_option : (tree : Tree) (position : ℕ) (escaped : Bool) (word : List ℕ) (returned : Returned) (opened : Candidates) (enough : Bool)
-    → list_any is_shown (opened ++ offered tree position (if enough then all_open escaped else none_open) word returned) ≡ true
-    → list_any is_shown (if enough then opened ++ finish (offered tree position (if enough then all_open escaped else none_open) word returned) else opened) ≡ true
-beside_option tree position escaped word returned opened true e = any_after opened (offered tree position (all_open escaped) word returned) e
-beside_option tree position escaped word returned opened false e =
-    ap (list_any is_shown) (sym (append-nil opened)) ∙ ap (λ rest. list_any is_shown (opened ++ rest)) (sym (nothing_offered tree position word returned)) ∙ e
-
-by_pending : (tree : Tree) (state : State) (word : List ℕ) (returned : Returned) (pending : Pending)
-    → list_any is_shown (opened_values pending word returned.opened
-    ++ offered tree state.position (open_lists_by tree.node.arguments state.position state.escaped pending) word returned) ≡ true
-    → list_any is_shown (finished_last pending word returned.opened (offered tree state.position (open_lists_by tree.node.arguments state.position state.escaped pending) word returned)) ≡ true
-by_pending tree state word returned (OptionOpen option count) e =
-    beside_option tree state.position state.escaped word returned (values option word returned.opened) (nat_le (least option) count) e
-by_pending tree state word returned _ e = e
-
 pub shows_visible : (tree : Tree) (state : State) (word : List ℕ) (returned : Returned) (found : Candidates)
     → found ≡ candidates_for tree state word returned → ShowsVisible tree state word returned found
 shows_visible tree state word returned found is any = subst AreShown (sym is)
-    (visible (finished_last state.pending word returned.opened (besides tree state word returned)) (by_pending tree state word returned state.pending any))
+    (visible (finished_last state.pending word returned.opened (besides tree state word returned))
+    (to_gathered (λ xs ys. list_any is_shown ys ≡ true → list_any is_shown xs ≡ true) (λ xs e. e) tree state.position state.escaped word returned state.pending
+    (any_after (opened_values state.pending word returned.opened) (besides tree state word returned)) any))
 
 -- THE RESULT IS SORTED
 

@@ -1,6 +1,6 @@
 mod Begins
+mod Completing
 mod Examples
 mod Laws
-mod Lines
 mod Offering
 mod OneFinishing

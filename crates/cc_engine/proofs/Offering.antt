@@ -7,7 +7,7 @@ use Rattle.cc_command.specs.Tree.{Tree}
 use Rattle.cc_gather.specs.Finished.{finish}
 use Rattle.cc_values.specs.Values.{Allows, ArgumentValues, MayReturn}
 use Rattle.cc_walk.specs.declared.state.Pending.{Pending}
-use Rattle.cc_walk.specs.declared.state.Pending.TheVariants.{Nothing, OptionOpen, PositionalRun, PositionMoved}
+use Rattle.cc_walk.specs.declared.state.Pending.TheVariants.{OptionOpen}
 use Rattle.cc_walk.specs.declared.state.State.{State}
 use Rattle.cc_engine.specs.declared.open_lists.OpenLists.{OpenLists}
 use Rattle.cc_engine.specs.Completion.{AreOffered, Offers, finished_last, open_question}

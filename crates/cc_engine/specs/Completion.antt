@@ -13,13 +13,15 @@ use Rattle.cc_command.specs.declared.node.Node.{Node}
 use Rattle.cc_command.specs.Tree.{Tree}
 use Rattle.cc_gather.specs.Children.{subcommand_candidates}
 use Rattle.cc_gather.specs.Finished.{finish, first_of_ids, is_shown, shown_or_all, AreGrouped, AreShown, ShareNone}
-use Rattle.cc_gather.specs.Rows.{Row, Listed, ValuesOf, with_prefix, row_of}
+use Rattle.cc_gather.specs.OptionMatches.{match_of, with_prefix}
+use Rattle.cc_gather.specs.declared.options.OptionMatch.{OptionMatch}
+use Rattle.cc_gather.specs.declared.options.OptionMatch.TheVariants.{Listed, ValuesOf}
 use Rattle.cc_values.specs.Parts.{part}
 use Rattle.cc_values.specs.Values.{Allows, MayReturn, Question, nothing, candidates, completer, paths, question, values}
 use Rattle.cc_walk.specs.declared.state.Pending.{Pending}
 use Rattle.cc_walk.specs.declared.state.Pending.TheVariants.{OptionOpen}
 use Rattle.cc_walk.specs.declared.state.State.{State}
-use Rattle.cc_walk.specs.Line.{IsLine, IsOnlyLine}
+use Rattle.cc_walk.specs.Destination.{WordsLeadTo, WordsLeadOnlyTo}
 use Rattle.cc_walk.specs.Lookup.{positional_at}
 use Rattle.cc_walk.specs.Visible.{HasNoHiddenAlias, visible_end}
 use Rattle.cc_engine.specs.declared.open_lists.OpenLists.{OpenLists}
@@ -46,32 +48,30 @@ offered_children offered tree word returned =
 -- THE VALUES OF THE POSITIONAL
 
 abbrev pub positional_question : Option Arg → Option ℕ → List ℕ → Question
-positional_question None number word = nothing
-positional_question (Some argument) None word = nothing
 positional_question (Some argument) (Some number) word =
     question argument number (part argument.value_delimiter word)
+positional_question _ _ word = nothing
 
 abbrev pub positional_values : Option Arg → Option ℕ → List ℕ → List CompletionCandidate
     → List CompletionCandidate
-positional_values None number word returned = []
-positional_values (Some argument) None word returned = []
 positional_values (Some argument) (Some number) word returned = values argument word returned
+positional_values _ _ word returned = []
 
 -- THE OPTIONS
 
--- the row of the word, where options are offered
-abbrev pub offered_row : Bool → List Arg → List ℕ → Row
-offered_row offered arguments word = if offered then row_of arguments word else Listed []
+-- what the word matches, where options are offered
+abbrev pub offered_match : Bool → List Arg → List ℕ → OptionMatch
+offered_match offered arguments word = if offered then match_of arguments word else Listed []
 
 -- values within the word are the first of their argument
-abbrev pub row_question : Row → Question
-row_question (Listed found) = nothing
-row_question (ValuesOf wanted) =
+abbrev pub match_question : OptionMatch → Question
+match_question (Listed found) = nothing
+match_question (ValuesOf wanted) =
     question wanted.argument 0 (part wanted.argument.value_delimiter wanted.text)
 
-abbrev pub row_candidates : Row → List CompletionCandidate → List CompletionCandidate
-row_candidates (Listed found) returned = found
-row_candidates (ValuesOf wanted) returned =
+abbrev pub match_candidates : OptionMatch → List CompletionCandidate → List CompletionCandidate
+match_candidates (Listed found) returned = found
+match_candidates (ValuesOf wanted) returned =
     map (with_prefix wanted.before) (values wanted.argument wanted.text returned)
 
 -- THE OPEN OPTION
@@ -111,7 +111,7 @@ abbrev pub questions_of_lists : Tree → ℕ → OpenLists → Pending → List 
 questions_of_lists tree position lists pending word = record {
   children = children_question lists.children tree.node;
   positional = positional_question (positional_at tree.node.arguments position) lists.value word;
-  within = row_question (offered_row lists.options tree.node.arguments word);
+  within = match_question (offered_match lists.options tree.node.arguments word);
   opened = open_question pending word;
 }
 
@@ -128,7 +128,7 @@ offered tree position lists word returned =
     (offered_children lists.children tree word returned.children
     ++ positional_values
     (positional_at tree.node.arguments position) lists.value word returned.positional)
-    ++ row_candidates (offered_row lists.options tree.node.arguments word) returned.within
+    ++ match_candidates (offered_match lists.options tree.node.arguments word) returned.within
 
 -- the list whose finishing is offered: the values of an option that has too few alone; those of one
 -- that may end here, and after them what is offered besides, finished; else what is offered besides
@@ -166,10 +166,10 @@ pub record AreOffered (sources : MayReturn) (tree : Tree) (position : ℕ) (list
       (positional_question (positional_at tree.node.arguments position) lists.value word) positional
   pub within : List CompletionCandidate
   pub within_returned : Allows sources
-      (row_question (offered_row lists.options tree.node.arguments word)) within
+      (match_question (offered_match lists.options tree.node.arguments word)) within
   pub is : found ≡ (offered_children lists.children tree word children
       ++ positional_values (positional_at tree.node.arguments position) lists.value word positional)
-      ++ row_candidates (offered_row lists.options tree.node.arguments word) within
+      ++ match_candidates (offered_match lists.options tree.node.arguments word) within
 
 -- WHAT IS SO OF THE RESULT
 
@@ -217,8 +217,8 @@ completed_by_lists tree position lists pending word returned =
     completed (positional_question (positional_at tree.node.arguments position) lists.value word)
     (positional_values (positional_at tree.node.arguments position) lists.value word
     returned.positional)
-    ++ (completed (row_question (offered_row lists.options tree.node.arguments word))
-    (row_candidates (offered_row lists.options tree.node.arguments word) returned.within)
+    ++ (completed (match_question (offered_match lists.options tree.node.arguments word))
+    (match_candidates (offered_match lists.options tree.node.arguments word) returned.within)
     ++ completed (open_question pending word) (opened_values pending word returned.opened))
 
 -- the same for the word at a node, where the words before it lead to this state
@@ -257,8 +257,8 @@ pub record Completes (sources : MayReturn) (root : Tree) (words : List (List ℕ
     (result : List CompletionCandidate) : Type 0 where
   pub tree : Tree
   pub state : State
-  pub line : IsLine root (words_before root.node words index) tree state
-  pub only : IsOnlyLine root (words_before root.node words index) tree state
+  pub leads : WordsLeadTo root (words_before root.node words index) tree state
+  pub only : WordsLeadOnlyTo root (words_before root.node words index) tree state
   pub visible : HasNoHiddenAlias root (words_before root.node words index)
       → tree ≡ visible_end root (words_before root.node words index)
   pub offers : Offers sources tree state (get_or words index []) result

@@ -100,10 +100,10 @@ fn complete_in_range<P: PathSource>(
         command.now (map string_bytes words.now) index found.items) }
 {
     let flat = Flat::new(alloc, command)?;
-    let line = walk(&flat, words_before(command, words, index));
-    let node = flat.command(line.node);
+    let walked = walk(&flat, words_before(command, words, index));
+    let node = flat.command(walked.node);
     let word = word_at(words, index);
-    offer_candidates(alloc, node, &line.state, word, sources)
+    offer_candidates(alloc, node, &walked.state, word, sources)
 }
 
 // The words before the index, without the program's name.

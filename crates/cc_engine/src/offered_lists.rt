@@ -5,7 +5,7 @@ ghost use Rattle.std.specs.Option.{option_copied};
 ghost use Rattle.cc_candidates.specs.declared.candidate.CompletionCandidate.{CompletionCandidate};
 ghost use Rattle.cc_engine.specs.Completion.{children_question, offered_children};
 ghost use Rattle.cc_engine.specs.Completion.{positional_question, positional_values};
-ghost use Rattle.cc_engine.specs.Completion.{offered_row, row_candidates, row_question};
+ghost use Rattle.cc_engine.specs.Completion.{offered_match, match_candidates, match_question};
 ghost use Rattle.cc_values.specs.Values.{Allows, returned_by};
 
 use crate::sources::Sources;
@@ -74,16 +74,16 @@ pub(crate) fn options<P: PathSource>(
         ⟦<Completers as CandidateSources>⟧.may_complete
         ⟦<Completers as CandidateSources>⟧.may_list sources.now.completers.now
         (P.finds sources.now.paths.now))
-        (row_question (offered_row offered arguments.now word.now)) returned
-        × (found.items ≡ row_candidates (offered_row offered arguments.now word.now) returned)) }
+        (match_question (offered_match offered arguments.now word.now)) returned
+        × (found.items ≡ match_candidates (offered_match offered arguments.now word.now) returned)) }
 {
     if !offered {
         return Ok(Vec::new(alloc));
     }
     match match_options(alloc, arguments, word)? {
-        OptionMatch::Listed(found) => Ok(found),
+        OptionMatch::Listed(found) => Ok(found.into_vec()),
         OptionMatch::ValuesOf(wanted) => {
-            let values = sources.values(alloc, wanted.argument, wanted.text.as_str(), 0)?;
+            let values = sources.values(alloc, wanted.argument.get(), wanted.text.as_str(), 0)?;
             all_with_prefix(alloc, values, wanted.before.as_str())
         }
     }

@@ -6,45 +6,36 @@ use Rattle.cc_env.specs.Arguments.{after_dashes, program_path}
 use Rattle.cc_env.specs.Wanted.{wanted_name, wanted_of, known, unknown, unknown_shell}
 use Rattle.cc_env.specs.Steps.{completer_path}
 
--- no value, the empty one and `0`
-nothing_rows : map wanted_name (None ∷ Some [] ∷ Some (codes "0") ∷ []) ≡ None ∷ None ∷ None ∷ []
-nothing_rows = refl
-
--- the last piece of a path without its extension; a value without a last piece counts as it is
-name_rows : map (λ value. wanted_name (Some value)) (codes "/usr/bin/fish" ∷ codes "/bin/tcsh"
+wanted_names :
+    -- no value, the empty one and `0`
+    (map wanted_name (None ∷ Some [] ∷ Some (codes "0") ∷ []) ≡ None ∷ None ∷ None ∷ [])
+    -- the last piece of a path without its extension; a value without a last piece counts as it is
+    × (map (λ value. wanted_name (Some value)) (codes "/usr/bin/fish" ∷ codes "/bin/tcsh"
     ∷ codes "/usr/bin/pwsh" ∷ codes "powershell.exe" ∷ codes "powershell_ise.exe" ∷ codes "/bin/.." ∷ [])
     ≡ map Some (codes "fish" ∷ codes "tcsh" ∷ codes "pwsh"
-    ∷ codes "powershell" ∷ codes "powershell_ise" ∷ codes "/bin/.." ∷ [])
+    ∷ codes "powershell" ∷ codes "powershell_ise" ∷ codes "/bin/.." ∷ []))
 unfolding path_file_stem path_file_name rsplit_once split_last_component trim_trailing
-name_rows = refl
+wanted_names = (refl, refl)
 
 abbrev five_names : List (List ℕ)
 five_names = codes "bash" ∷ codes "elvish" ∷ codes "fish" ∷ codes "powershell" ∷ codes "zsh" ∷ []
 
-unknown_row : wanted_of bytes_eq five_names (Some (codes "tcsh")) ≡ unknown (codes "tcsh")
-unknown_row = refl
-
-known_row : wanted_of bytes_eq five_names (Some (codes "fish")) ≡ known (codes "fish")
-known_row = refl
-
-message_row : unknown_shell five_names (codes "tcsh")
-    ≡ codes "unknown shell `tcsh`, expected one of `bash`, `elvish`, `fish`, `powershell`, `zsh`"
-message_row = refl
+shells :
+    (wanted_of bytes_eq five_names (Some (codes "tcsh")) ≡ unknown (codes "tcsh"))
+    × (wanted_of bytes_eq five_names (Some (codes "fish")) ≡ known (codes "fish"))
+    × (unknown_shell five_names (codes "tcsh")
+    ≡ codes "unknown shell `tcsh`, expected one of `bash`, `elvish`, `fish`, `powershell`, `zsh`")
+shells = (refl, refl, refl)
 
 -- ---- the arguments
 
-words_row : after_dashes (codes "--" ∷ codes "app" ∷ codes "--" ∷ []) ≡ codes "app" ∷ codes "--" ∷ []
-words_row = refl
-
-no_dashes_row : after_dashes (codes "fish" ∷ []) ≡ []
-no_dashes_row = refl
-
--- a path through a folder is joined to the current folder; a name alone, with a slash at its end or
--- not, and an absolute path stay
-path_rows : map (program_path (Some (codes "/w"))) (codes "./app" ∷ codes "app" ∷ codes "app/" ∷ codes "/bin/app" ∷ [])
-    ≡ codes "/w/./app" ∷ codes "app" ∷ codes "app/" ∷ codes "/bin/app" ∷ []
+words :
+    (after_dashes (codes "--" ∷ codes "app" ∷ codes "--" ∷ []) ≡ codes "app" ∷ codes "--" ∷ [])
+    × (after_dashes (codes "fish" ∷ []) ≡ [])
+    -- a path through a folder is joined to the current folder; a name alone, with a slash at its end or
+    -- not, and an absolute path stay
+    × (map (program_path (Some (codes "/w"))) (codes "./app" ∷ codes "app" ∷ codes "app/" ∷ codes "/bin/app" ∷ [])
+    ≡ codes "/w/./app" ∷ codes "app" ∷ codes "app/" ∷ codes "/bin/app" ∷ [])
+    × (completer_path (Some (codes "my")) (Some (codes "/w")) (codes "./app") ≡ codes "my")
 unfolding path_join trim_trailing
-path_rows = refl
-
-set_row : completer_path (Some (codes "my")) (Some (codes "/w")) (codes "./app") ≡ codes "my"
-set_row = refl
+words = (refl, refl, refl, refl)

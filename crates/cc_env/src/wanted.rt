@@ -1,6 +1,6 @@
 //! The shell that the environment wants.
 
-ghost use Rattle.std.specs.Prelude.{◌≡◌, ◌++◌, true, codes, find, map, option_map};
+ghost use Rattle.std.specs.Prelude.{◌≡◌, ◌++◌, true, codes, find, map};
 ghost use Rattle.std.specs.Prelude.{None, Some, IfErr, IfOk, OnOk};
 ghost use Rattle.std.specs.Option.{option_copied};
 ghost use Rattle.std.specs.String.{string_bytes};

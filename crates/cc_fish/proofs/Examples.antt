@@ -38,8 +38,9 @@ child_at when name = record (only_at when) { marks = record no_record.marks { no
 
 -- ---- scripts as they are read
 
--- children called `and` and `not`, one below the other
-and_not_read : records
+records_read :
+    -- children called `and` and `not`, one below the other
+    (records
     (line (codes "complete -c app -n \"__fish_app_needs_command\" -f -a \"and\"")
     ++ line (codes "complete -c app -n \"__fish_app_needs_command\" -f -a \"not\"")
     ++ line (codes "complete -c app -n \"__fish_app_using_subcommand and; and not __fish_seen_subcommand_from not and\" -f -a \"not\"")
@@ -51,13 +52,10 @@ and_not_read : records
     ∷ child_at (at (codes "and" ∷ []) (codes "not" ∷ codes "and" ∷ [])) (codes "not")
     ∷ record (only_at (at (codes "and" ∷ codes "not" ∷ []) [])) { shorts = codes "v" ∷ [] }
     ∷ record (only_at (at (codes "not" ∷ codes "and" ∷ []) (codes "and" ∷ []))) { longs = codes "not" ∷ [] }
-    ∷ [])
-unfolding fish_sign fish_commands after before_ending
-and_not_read = refl
-
--- a comment, a command of another name, and a record three levels deep, with names, a help and
--- marks
-deep_read : records
+    ∷ []))
+    -- a comment, a command of another name, and a record three levels deep, with names, a help and
+    -- marks
+    × (records
     (line (codes "# complete -c app -s x")
     ++ line (codes "    set -l complete (commandline -opc)")
     ++ line (codes "complete -c app -n \"__fish_app_using_subcommand a; and __fish_seen_subcommand_from b; and __fish_seen_subcommand_from c\" -s h -s ? -l help -l usage -d 'Print help' -r -F"))
@@ -68,12 +66,9 @@ deep_read : records
       description = Some (codes "Print help");
       marks = record { required = true; no_files = Bool.false; files = true };
     }
-    ∷ [])
-unfolding fish_sign fish_commands after before_ending
-deep_read = refl
-
--- values that hold quotes, `$`, backslashes and a line feed, and a help that holds them too
-values_read : records
+    ∷ []))
+    -- values that hold quotes, `$`, backslashes and a line feed, and a help that holds them too
+    × (records
     (codes "complete -c app -l o -d 'it\\'s \\\\ \"$x\"' -r -f -a \""
     ++ line (codes "'it\\\\'s \\\\\\\\ \\$x \\\"q\\\"")
     ++ line (codes "two lines'\\t'\\$HOME \\\"x\\\" \\\\'y\\\\\\\\'")
@@ -87,12 +82,9 @@ values_read : records
           ((codes "it's \\ $x \"q\"" ++ 10 ∷ codes "two lines" ++ 9 ∷ codes "$HOME \"x\" 'y\\")
           ∷ (codes "plain" ++ 9 ∷ []) ∷ []);
     }
-    ∷ [])
-unfolding fish_sign fish_commands
-values_read = refl
-
--- a help that is empty, and a list that offers nothing
-empty_read : records (line (codes "complete -c app -s e -d '' -r -f -a \"\""))
+    ∷ []))
+    -- a help that is empty, and a list that offers nothing
+    × (records (line (codes "complete -c app -s e -d '' -r -f -a \"\""))
     ≡ Some
     (record (only_at None) {
       shorts = codes "e" ∷ [];
@@ -100,9 +92,9 @@ empty_read : records (line (codes "complete -c app -s e -d '' -r -f -a \"\""))
       marks = record { required = true; no_files = true; files = Bool.false };
       offered = Some [];
     }
-    ∷ [])
-unfolding fish_sign fish_commands
-empty_read = refl
+    ∷ []))
+unfolding fish_sign fish_commands after before_ending
+records_read = (refl, refl, refl, refl)
 
 -- ---- scripts that can't be read
 
@@ -138,27 +130,22 @@ abbrev deep : Tree
 deep = with_child (new_tree (codes "app")) (with_child (new_tree (codes "a")) (with_child (new_tree (codes "b"))
     (record { node = with_argument (new_tree (codes "c")).node (flag (codes "v") 118); children = none })))
 
-deep_text : body_text (codes "app") (codes "app") deep
+deep_texts :
+    (body_text (codes "app") (codes "app") deep
     ≡ line (codes "complete -c app -n \"__fish_app_needs_command\" -f -a \"a\"")
     ++ line (codes "complete -c app -n \"__fish_app_using_subcommand a; and not __fish_seen_subcommand_from b\" -f -a \"b\"")
     ++ line (codes "complete -c app -n \"__fish_app_using_subcommand a; and __fish_seen_subcommand_from b; and not __fish_seen_subcommand_from c\" -f -a \"c\"")
-    ++ line (codes "complete -c app -n \"__fish_app_using_subcommand a; and __fish_seen_subcommand_from b; and __fish_seen_subcommand_from c\" -s v")
-unfolding encode_utf8 paths_below body_text visit_text node_text options_text flags_text below_text argument_text values_text child_text names_text front_text key_condition not_seen
-deep_text = refl
-
-deep_tables : tables deep
+    ++ line (codes "complete -c app -n \"__fish_app_using_subcommand a; and __fish_seen_subcommand_from b; and __fish_seen_subcommand_from c\" -s v"))
+    × (tables deep
     ≡ child_at (at [] []) (codes "a")
     ∷ child_at (at (codes "a" ∷ []) (codes "b" ∷ [])) (codes "b")
     ∷ child_at (at (codes "a" ∷ codes "b" ∷ []) (codes "c" ∷ [])) (codes "c")
     ∷ record (only_at (at (codes "a" ∷ codes "b" ∷ codes "c" ∷ []) [])) { shorts = codes "v" ∷ [] }
-    ∷ []
-unfolding encode_utf8 paths_below
-deep_tables = refl
-
--- `app` without children, with what building adds
-alone_text : fish_script (built_under (Some (codes "app")) (new_tree (codes "app"))) ≡ line (codes "complete -c app -s h -l help -d 'Print help'")
-unfolding encode_utf8 paths_below help_argument version_argument help_name help_help version_name fish_escaped script_text head_text body_text visit_text node_text options_text flags_text below_text argument_text values_text names_text front_text key_condition
-alone_text = refl
+    ∷ [])
+    -- `app` without children, with what building adds
+    × (fish_script (built_under (Some (codes "app")) (new_tree (codes "app"))) ≡ line (codes "complete -c app -s h -l help -d 'Print help'"))
+unfolding encode_utf8 paths_below body_text visit_text node_text options_text flags_text below_text argument_text values_text child_text names_text front_text key_condition not_seen help_argument version_argument help_name help_help version_name fish_escaped script_text head_text
+deep_texts = (refl, refl, refl)
 
 -- an option with a value that is shown and one that is hidden
 abbrev color : Arg
@@ -169,28 +156,21 @@ color = record (new_arg (codes "color")) {
   possible_values = Some (new_possible_value (codes "auto") ∷ record (new_possible_value (codes "never")) { hide = true } ∷ []);
 }
 
-color_text : argument_text (front_text (codes "app") (Some (codes "__fish_app_needs_command"))) true color
-    ≡ line (codes "complete -c app -n \"__fish_app_needs_command\" -s c -l color -d 'Colour' -r -f -a \"auto\\t''\"")
-unfolding encode_utf8 fish_escaped is_fish_safe fish_quoted fish_quoted_for_eval fish_help_for_eval_of value_text value_lines list_begin listed_text values_text names_text argument_text front_text
-color_text = refl
-
-color_spec : spec_text color ≡ codes " c/color="
-unfolding encode_utf8 fish_escaped spec_text
-color_spec = refl
+color_texts :
+    (argument_text (front_text (codes "app") (Some (codes "__fish_app_needs_command"))) true color
+    ≡ line (codes "complete -c app -n \"__fish_app_needs_command\" -s c -l color -d 'Colour' -r -f -a \"auto\\t''\""))
+    × (spec_text color ≡ codes " c/color=")
+unfolding encode_utf8 fish_escaped is_fish_safe fish_quoted fish_quoted_for_eval fish_help_for_eval_of value_text value_lines list_begin listed_text values_text names_text argument_text front_text spec_text
+color_texts = (refl, refl)
 
 -- a flag whose long holds a quote
 abbrev quoted : Arg
 quoted = record (new_arg (codes "a")) { long = Some (codes "it's"); action = Some SetTrue }
 
-quoted_text : argument_text (front_text (codes "app") None) false quoted ≡ line (codes "complete -c app -l it\\'s")
-unfolding fish_escaped values_text names_text argument_text front_text
-quoted_text = refl
-
-quoted_spec : spec_text quoted ≡ codes " it\\'s"
-unfolding fish_escaped spec_text
-quoted_spec = refl
-
--- a value with a help that fish would expand
-expanded_text : listed_text (record (new_possible_value (codes "v")) { help = Some (codes "$HOME \"x\"") } ∷ []) ≡ codes " -r -f -a \"v\\t'\\$HOME \\\"x\\\"'\""
-unfolding is_fish_safe fish_quoted fish_quoted_for_eval fish_help_for_eval_of value_text value_lines list_begin listed_text
-expanded_text = refl
+quoted_texts :
+    (argument_text (front_text (codes "app") None) false quoted ≡ line (codes "complete -c app -l it\\'s"))
+    × (spec_text quoted ≡ codes " it\\'s")
+    -- a value with a help that fish would expand
+    × (listed_text (record (new_possible_value (codes "v")) { help = Some (codes "$HOME \"x\"") } ∷ []) ≡ codes " -r -f -a \"v\\t'\\$HOME \\\"x\\\"'\"")
+unfolding fish_escaped values_text names_text argument_text front_text spec_text is_fish_safe fish_quoted fish_quoted_for_eval fish_help_for_eval_of value_text value_lines list_begin listed_text
+quoted_texts = (refl, refl, refl)

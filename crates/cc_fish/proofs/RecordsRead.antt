@@ -1,6 +1,7 @@
 -- The words of a record are read back to the record.
 use Rattle.std.proofs.Common.{◌≡◌, ℕ, Bool, true, false, List, [], ◌∷◌, ◌++◌, refl, ap, ◌∙◌, sym, subst, append_assoc, append-nil, Option, Some, None, IsTrue, map, cond, codes, encode_utf8, is_some, option_map, not, flat_map}
 use Rattle.std.specs.List.{AllByRecursion}
+use Rattle.std.proofs.lemmas.List.Concat.{flat_map_single}
 use Rattle.cc_arg.specs.declared.parts.ArgParts.{ArgParts as Arg}
 use Rattle.cc_arg.specs.declared.possible_value.PossibleValue.{PossibleValue}
 use Rattle.cc_arg.specs.declared.value_hint.ValueHint.{ValueHint}
@@ -170,8 +171,7 @@ yields_flat_map P text reads each (x ∷ xs) (h, hs) = yields_append (text x) (f
 
 yields_map : {X : Type 0} (P : X → Type 0) (text : X → List ℕ) (read : X → Record) → ((x : X) → P x → Yields (text x) (read x ∷ [])) → (xs : List X) → AllByRecursion P xs
     → Yields (flat_map text xs) (map read xs)
-yields_map P text read each [] h = yields_none
-yields_map P text read each (x ∷ xs) (h, hs) = yields_append (text x) (flat_map text xs) (read x ∷ []) (map read xs) (each x h) (yields_map P text read each xs hs)
+yields_map P text read each xs h = subst (Yields (flat_map text xs)) (flat_map_single read xs) (yields_flat_map P text (λ x. read x ∷ []) each xs h)
 
 -- ---- the records of a node
 

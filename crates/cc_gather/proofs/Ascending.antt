@@ -1,6 +1,6 @@
 -- Candidates whose ids ascend share none.
 use Rattle.std.proofs.Common.{◌≡◌, ◌∙◌, ℕ, true, false, List, [], ◌∷◌, Option, Some, None, ap, refl}
-use Rattle.std.proofs.Common.{Ordering, Less, Equal, Greater}
+use Rattle.std.proofs.Common.{Ordering, Less}
 use Rattle.std.specs.Cmp.{IsTotalOrder}
 use Rattle.std.specs.Cmp.Lexicographic.{nat_list_cmp_total, options_total, texts_ties}
 use Rattle.std.specs.List.{AllByRecursion}
@@ -17,8 +17,7 @@ texts_total = options_total nat_list_cmp_total
 
 less : (o : Ordering) → is_lt o ≡ true → o ≡ Less
 less Less h = refl
-less Equal h = cc
-less Greater h = cc
+less _ h = cc
 
 -- the ids come after this one
 abbrev AreAfter : Option (List ℕ) → List CompletionCandidate → Type 0

@@ -9,7 +9,9 @@ use Rattle.cc_base.specs.Sorting.{insert, in_order}
 use Rattle.std.specs.Str.{chars}
 use Rattle.cc_gather.specs.Finished.{finish, group, shown_or_all}
 use Rattle.cc_gather.specs.Numbers.{is_number}
-use Rattle.cc_gather.specs.Rows.{Row, Listed, ValuesOf, row_of}
+use Rattle.cc_gather.specs.OptionMatches.{match_of}
+use Rattle.cc_gather.specs.declared.options.OptionMatch.{OptionMatch}
+use Rattle.cc_gather.specs.declared.options.OptionMatch.TheVariants.{Listed, ValuesOf}
 use Rattle.cc_gather.specs.Options.{longs, shorts}
 
 abbrev candidate : List ℕ → List ℕ → List ℕ → ℕ → CompletionCandidate
@@ -27,14 +29,12 @@ port = candidate (codes "--port") (codes "arg::port") (codes "Net") 1
 abbrev help : CompletionCandidate
 help = candidate (codes "--help") (codes "arg::help") (codes "Options") 999
 
--- after an open option that shares an id with what follows: twice finished, and once
-twice : map (λ c. c.value) (finish (auto ∷ finish (col ∷ port ∷ help ∷ []))) ≡ codes "auto" ∷ codes "--help" ∷ codes "--port" ∷ []
+finished :
+    -- after an open option that shares an id with what follows: twice finished, and once
+    (map (λ c. c.value) (finish (auto ∷ finish (col ∷ port ∷ help ∷ []))) ≡ codes "auto" ∷ codes "--help" ∷ codes "--port" ∷ [])
+    × (map (λ c. c.value) (finish (auto ∷ col ∷ port ∷ help ∷ [])) ≡ codes "auto" ∷ codes "--port" ∷ codes "--help" ∷ [])
 unfolding finish group shown_or_all in_order insert
-twice = refl
-
-once : map (λ c. c.value) (finish (auto ∷ col ∷ port ∷ help ∷ [])) ≡ codes "auto" ∷ codes "--port" ∷ codes "--help" ∷ []
-unfolding finish group shown_or_all in_order insert
-once = refl
+finished = (refl, refl)
 
 abbrev color : Arg
 color = record (new_arg (codes "color")) { short = Some 99; long = Some (codes "color"); num_args = Some (exactly 1) }
@@ -51,58 +51,36 @@ verbose = record (new_arg (codes "verbose")) {
 abbrev arguments : List Arg
 arguments = color ∷ verbose ∷ []
 
--- the values of a row, or the texts of what it wants
-abbrev shape : Row → List (List ℕ)
+-- the values of what is listed, or the texts of what is wanted
+abbrev shape : OptionMatch → List (List ℕ)
 shape (Listed candidates) = map (λ c. c.value) candidates
 shape (ValuesOf wanted) = wanted.argument.id ∷ wanted.before ∷ wanted.text ∷ []
 
 -- what opens each definition
 unfoldable definitions : ⊤
-unfolding row_of longs shorts is_number chars lib.Utf8.encode
+unfolding match_of longs shorts is_number chars lib.Utf8.encode
 definitions = tt
 
-nothing_typed : shape (row_of arguments (codes "")) ≡
-    codes "--color" ∷ codes "--verbose" ∷ codes "--loud" ∷ codes "--noisy" ∷ codes "-c" ∷ codes "-v" ∷ []
+matched :
+    (shape (match_of arguments (codes "")) ≡
+    codes "--color" ∷ codes "--verbose" ∷ codes "--loud" ∷ codes "--noisy" ∷ codes "-c" ∷ codes "-v" ∷ [])
+    × (shape (match_of arguments (codes "-")) ≡
+    codes "-c" ∷ codes "-v" ∷ codes "--color" ∷ codes "--verbose" ∷ codes "--loud" ∷ codes "--noisy" ∷ [])
+    × (shape (match_of arguments (codes "--no")) ≡ codes "--noisy" ∷ [])
+    × (shape (match_of arguments (codes "--color=n")) ≡ codes "color" ∷ codes "--color=" ∷ codes "n" ∷ [])
+    × (shape (match_of arguments (codes "--loud=n")) ≡ [])
+    × (shape (match_of arguments (codes "-5e3")) ≡ [])
+    × (shape (match_of arguments (codes "run")) ≡ [])
+    × (shape (match_of arguments (codes "-vc=a")) ≡ codes "color" ∷ codes "-vc=" ∷ codes "a" ∷ [])
 unfolding definitions
-nothing_typed = refl
+matched = (refl, refl, refl, refl, refl, refl, refl, refl)
 
-dash : shape (row_of arguments (codes "-")) ≡
-    codes "-c" ∷ codes "-v" ∷ codes "--color" ∷ codes "--verbose" ∷ codes "--loud" ∷ codes "--noisy" ∷ []
-unfolding definitions
-dash = refl
-
-long : shape (row_of arguments (codes "--no")) ≡ codes "--noisy" ∷ []
-unfolding definitions
-long = refl
-
-with_equals : shape (row_of arguments (codes "--color=n")) ≡ codes "color" ∷ codes "--color=" ∷ codes "n" ∷ []
-unfolding definitions
-with_equals = refl
-
-alias_with_equals : shape (row_of arguments (codes "--loud=n")) ≡ []
-unfolding definitions
-alias_with_equals = refl
-
-negative : shape (row_of arguments (codes "-5e3")) ≡ []
-unfolding definitions
-negative = refl
-
-plain : shape (row_of arguments (codes "run")) ≡ []
-unfolding definitions
-plain = refl
-
-value_character : shape (row_of arguments (codes "-vc=a")) ≡ codes "color" ∷ codes "-vc=" ∷ codes "a" ∷ []
-unfolding definitions
-value_character = refl
-
--- which texts are numbers
-numbers : list_all is_number (codes "1" ∷ codes "1." ∷ codes "1.5" ∷ codes "1e5" ∷ codes "1.e5" ∷ codes "12.34e56" ∷ [])
-    ≡ true
+numbers :
+    -- which texts are numbers
+    (list_all is_number (codes "1" ∷ codes "1." ∷ codes "1.5" ∷ codes "1e5" ∷ codes "1.e5" ∷ codes "12.34e56" ∷ [])
+    ≡ true)
+    -- no byte; a point or an `e` first, an `e` last, a point after it, two of either, a sign
+    × (list_any is_number ([] ∷ codes ".5" ∷ codes "e1" ∷ codes "1e" ∷ codes "1e5." ∷ codes "1e1e1" ∷ codes "1.2.3"
+    ∷ codes "1e-5" ∷ []) ≡ false)
 unfolding is_number
-numbers = refl
-
--- no byte; a point or an `e` first, an `e` last, a point after it, two of either, a sign
-no_numbers : list_any is_number ([] ∷ codes ".5" ∷ codes "e1" ∷ codes "1e" ∷ codes "1e5." ∷ codes "1e1e1" ∷ codes "1.2.3"
-    ∷ codes "1e-5" ∷ []) ≡ false
-unfolding is_number
-no_numbers = refl
+numbers = (refl, refl)

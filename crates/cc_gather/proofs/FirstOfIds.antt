@@ -2,15 +2,15 @@
 use Rattle.std.proofs.Common.{◌≡◌, ℕ, List, [], ◌∷◌, ◌++◌, Bool, true, false, cond, not, Option, Some, None, inl, inr, refl, ap, sym, ◌∙◌}
 use Rattle.std.specs.Prelude.{filter}
 use Rattle.std.specs.List.{AllByRecursion}
-use Rattle.std.proofs.lemmas.List.Elements.{filter-append}
+use Rattle.std.proofs.lemmas.List.Elements.{filter-append, filter_passes, recursion_from_All}
 use Rattle.cc_candidates.specs.declared.candidate.CompletionCandidate.{CompletionCandidate}
 use Rattle.std.specs.Str.{bytes_eq}
 use Rattle.std.specs.Ordering.{is_eq}
 use Rattle.std.specs.Cmp.Lexicographic.{texts_ties, same_text, nat_list_cmp_total}
 use Rattle.std.proofs.lemmas.Cmp.{tied_itself}
-use Rattle.std.proofs.lemmas.Bool.{cases_Bool}
+use Rattle.std.proofs.lemmas.Bool.{cases_Bool, not-true}
 use Rattle.cc_base.specs.Sorting.{insert, in_order}
-use Rattle.cc_base.proofs.Members.{AllByRecursion-filter}
+use Rattle.cc_base.proofs.Members.{AllByRecursion-filter, AllByRecursion-weaker}
 use Rattle.cc_base.proofs.Sorted.{AllByRecursion-in_order}
 use Rattle.cc_gather.specs.Finished.{share, first_of_ids, SharesNone, ShareNone, Differ}
 
@@ -40,14 +40,13 @@ differ_filter p (c ∷ cs) h = by (p c) (differ_filter p cs h.1)
     by true r = (AllByRecursion-filter (λ d. share c.id d.id ≡ false) p cs h.0, r)
     by false r = r
 
+pub passing : {X : Type 0} (p : X → Bool) (xs : List X) → AllByRecursion (λ x. p x ≡ true) (filter p xs)
+passing p xs = recursion_from_All (λ x. p x ≡ true) (filter p xs) (filter_passes p xs)
+
 none_left : (c : CompletionCandidate) (cs : List CompletionCandidate) → SharesNone c (filter (λ d. not (share c.id d.id)) cs)
-none_left c [] = tt
-none_left c (d ∷ cs) = by (share c.id d.id) refl (none_left c cs)
-  where
-    by : (b : Bool) → share c.id d.id ≡ b → SharesNone c (filter (λ x. not (share c.id x.id)) cs)
-        → SharesNone c (cond (not b) (d ∷ filter (λ x. not (share c.id x.id)) cs) (filter (λ x. not (share c.id x.id)) cs))
-    by true e r = r
-    by false e r = (e, r)
+none_left c cs =
+    AllByRecursion-weaker (λ d. not (share c.id d.id) ≡ true) (λ d. share c.id d.id ≡ false) (λ d. not-true (share c.id d.id))
+    (filter (λ d. not (share c.id d.id)) cs) (passing (λ d. not (share c.id d.id)) cs)
 
 pub first_of_ids-differ : (cs : List CompletionCandidate) → Differ (first_of_ids cs)
 first_of_ids-differ [] = tt
@@ -61,8 +60,6 @@ first_of_ids-stays (c ∷ cs) h = ap (λ r. c ∷ filter (λ d. not (share c.id 
 -- an id is shared both ways
 share_back : (a b : Option (List ℕ)) → share a b ≡ false → share b a ≡ false
 share_back None None h = refl
-share_back None (Some y) h = refl
-share_back (Some x) None h = refl
 share_back (Some x) (Some y) h = elim (cases_Bool (bytes_eq y x)) [
   | inl t ↦
       let is : x ≡ y = sym (same_text y x (sym t)) in
@@ -70,6 +67,7 @@ share_back (Some x) (Some y) h = elim (cases_Bool (bytes_eq y x)) [
       let no : true ≡ false = sym same ∙ ap (bytes_eq x) is ∙ h in cc
   | inr f ↦ f
 ]
+share_back a b h = refl
 
 all-insert : {X : Type 0} (P : X → Type 0) (by : X → X → Bool) (x : X) (ys : List X) → P x → AllByRecursion P ys → AllByRecursion P (insert by x ys)
 unfolding insert

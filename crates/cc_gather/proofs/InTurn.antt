@@ -37,9 +37,8 @@ seen_more before after id updates (Some q) =
 
 same_tag : (a b : Option (List ℕ)) → option_eq bytes_eq a b ≡ is_eq (texts_cmp a b)
 same_tag None None = refl
-same_tag None (Some y) = refl
-same_tag (Some x) None = refl
 same_tag (Some x) (Some y) = texts_ties x y
+same_tag a b = refl
 
 -- a rank that is kept is found from then on, where the tag had none
 kept_by : (b : Bool) (was : Option ℕ) (next : ℕ) → (b ≡ true → was ≡ None) → cond b (Some next) was ≡ option_or was (cond b (Some next) None)
@@ -149,9 +148,8 @@ first_rank-push (x ∷ cs) c tag = elim (cases_Bool (option_eq bytes_eq x.tag ta
 ]
   where
     moved : (was : Option ℕ) (b : Bool) → option_map suc (option_or was (cond b (Some (length cs)) None)) ≡ option_or (option_map suc was) (cond b (Some (suc (length cs))) None)
-    moved (Some p) b = refl
     moved None true = refl
-    moved None false = refl
+    moved was b = refl
 
 -- a tag without a rank gets one
 pub rank_added : (before after : BTreeMap (Option (List ℕ)) ℕ) (tag : Option (List ℕ)) (next : ℕ) → get texts_cmp before tag ≡ None →

@@ -6,8 +6,8 @@ use Rattle.std.specs.Option.{option_cmp}
 use Rattle.std.specs.Ordering.{is_lt, nat_cmp, ordering_then}
 use Rattle.std.proofs.Math.Bool.{or-true}
 use Rattle.std.proofs.lemmas.Bool.{cases_Bool, cases_order, or_left, or_right}
-use Rattle.std.proofs.lemmas.List.Elements.{filter-append}
-use Rattle.std.proofs.lemmas.List.Folds.{list_any-append}
+use Rattle.std.proofs.lemmas.List.Elements.{All-from_recursion, filter-append}
+use Rattle.std.proofs.lemmas.List.Folds.{list_any-append, list_any_none}
 use Rattle.cc_base.specs.Sorting.{in_order}
 use Rattle.cc_base.proofs.Members.{AllByRecursion-IsIn, AllByRecursion-append, AllByRecursion-filter, AllByRecursion-from_IsIn}
 use Rattle.cc_base.proofs.Sorted.{AllByRecursion-in_order, in_order-IsIn, in_order-sorted, stable-in_order, up-in_order, apart}
@@ -15,7 +15,7 @@ use Rattle.cc_candidates.specs.declared.candidate.CompletionCandidate.{Completio
 use Rattle.cc_gather.specs.Finished.{is_shown, shown_or_all, share, has_tag, rank_of, first_of_ids, comes_before, group, finish, SharesNone, ShareNone, Differ, AreGrouped, AreShown}
 use Rattle.cc_gather.proofs.InOrder.{in_order-alike, filter-in_order, sorted_after}
 use Rattle.cc_gather.proofs.Ranks.{Tag, Has, tag_itself, rank_front, rank_back, rank_below, rank_tag, ranks_rise, below, cmp_less, cmp_equal, cmp_greater}
-use Rattle.cc_gather.proofs.FirstOfIds.{first_of_ids-append, first_of_ids-differ, first_of_ids-stays, differ-in_order, all-first_of_ids}
+use Rattle.cc_gather.proofs.FirstOfIds.{first_of_ids-append, first_of_ids-differ, first_of_ids-stays, differ-in_order, all-first_of_ids, passing}
 
 abbrev Candidates : Type 0
 Candidates = List CompletionCandidate
@@ -37,8 +37,7 @@ has_front a v t h = list_any-append (has_tag t) a v ∙ or_left (list_any (has_t
 
 -- a test that passes in a list passes in the list in order
 none_any : {X : Type 0} (p : X → Bool) (xs : List X) → AllByRecursion (λ x. p x ≡ false) xs → list_any p xs ≡ false
-none_any p [] h = refl
-none_any p (x ∷ xs) h = let e = h.0 in rw e (none_any p xs h.1)
+none_any p xs h = list_any_none p xs (All-from_recursion (λ x. p x ≡ false) xs h)
 
 any_none : {X : Type 0} (p : X → Bool) (xs : List X) → list_any p xs ≡ false → AllByRecursion (λ x. p x ≡ false) xs
 any_none p [] h = tt
@@ -170,14 +169,6 @@ kept p (x ∷ xs) h = let e = h.0 in rw e (ap (λ s. x ∷ s) (kept p xs h.1))
 dropped : {X : Type 0} (p : X → Bool) (xs : List X) → AllByRecursion (λ x. p x ≡ false) xs → filter p xs ≡ []
 dropped p [] h = refl
 dropped p (x ∷ xs) h = let e = h.0 in rw e (dropped p xs h.1)
-
-pub passing : {X : Type 0} (p : X → Bool) (xs : List X) → AllByRecursion (λ x. p x ≡ true) (filter p xs)
-passing p [] = tt
-passing p (x ∷ xs) = by (p x) refl (passing p xs)
-  where
-    by : (b : Bool) → p x ≡ b → AllByRecursion (λ x. p x ≡ true) (filter p xs) → AllByRecursion (λ x. p x ≡ true) (cond b (x ∷ filter p xs) (filter p xs))
-    by true e h = (e, h)
-    by false e h = h
 
 -- of a list in which all are visible and one is there, the first of ids has a visible one
 first_shown : (cs : Candidates) → AreShown cs → list_any is_shown cs ≡ true → list_any is_shown (first_of_ids cs) ≡ true

@@ -11,49 +11,50 @@ use Rattle.cc_arg.specs.declared.parts.ArgParts.{ArgParts as Arg}
 use Rattle.cc_candidates.specs.Beginning.{begins}
 use Rattle.cc_gather.specs.Lookup.{has_own_long}
 use Rattle.cc_gather.specs.Options.{longs, shorts}
-use Rattle.cc_gather.specs.Rows.{Listed, flag_row, long_row, short_row, after_equals, value_query_after, without_end, after_one_dash, after_two_dashes, row_of}
+use Rattle.cc_gather.specs.OptionMatches.{flag_match, long_match, short_match, after_equals, value_query_after, without_end, after_one_dash, after_two_dashes, match_of}
+use Rattle.cc_gather.specs.declared.options.OptionMatch.TheVariants.{Listed}
 use Rattle.cc_walk.specs.Words.{EndsWith, before_equals}
 use Rattle.cc_walk.proofs.Forms.{empty, flag_some, no_equals_tail}
 
 -- THE KINDS OF WORDS
 
-pub row_plain : (arguments : List Arg) (w : List ℕ) → ((rest : List ℕ) → w ≡ dash ∷ rest → ⊥) →
-    row_of arguments w ≡ Listed (if length w == 0 then longs arguments ++ shorts (codes "-") arguments else [])
-unfolding row_of
-row_plain arguments [] h = refl
-row_plain arguments (c ∷ s) h =
+pub match_plain : (arguments : List Arg) (w : List ℕ) → ((rest : List ℕ) → w ≡ dash ∷ rest → ⊥) →
+    match_of arguments w ≡ Listed (if length w == 0 then longs arguments ++ shorts (codes "-") arguments else [])
+unfolding match_of
+match_plain arguments [] h = refl
+match_plain arguments (c ∷ s) h =
     let long : eqb (suc (length s)) 0 ≡ false = ne_eqb (suc (length s)) 0 (λ e. omega (arith, e)) in
     rw (ne_eqb c dash (λ e. h s (ap (λ x. x ∷ s) e)))
     (ap (λ b. Listed (if b then longs arguments ++ shorts (codes "-") arguments else [])) (sym long))
 
-pub row_dash : (arguments : List Arg) (w s : List ℕ) → w ≡ dash ∷ s → (length s == 0) ≡ true →
-    row_of arguments w ≡ Listed (shorts (codes "-") arguments ++ longs arguments)
-unfolding row_of
-row_dash arguments w s e h = ap (row_of arguments) (e ∙ ap (λ t. dash ∷ t) (empty s h))
+pub match_dash : (arguments : List Arg) (w s : List ℕ) → w ≡ dash ∷ s → (length s == 0) ≡ true →
+    match_of arguments w ≡ Listed (shorts (codes "-") arguments ++ longs arguments)
+unfolding match_of
+match_dash arguments w s e h = ap (match_of arguments) (e ∙ ap (λ t. dash ∷ t) (empty s h))
 
 one_short : (arguments : List Arg) (s : List ℕ) → (length s == 0) ≡ false → ((rest : List ℕ) → s ≡ dash ∷ rest → ⊥) →
-    after_one_dash arguments s ≡ short_row arguments s
+    after_one_dash arguments s ≡ short_match arguments s
 one_short arguments [] e h = cc
 one_short arguments (c ∷ s) e h = rw (ne_eqb c dash (λ e. h s (ap (λ x. x ∷ s) e))) refl
 
-pub row_short : (arguments : List Arg) (w s : List ℕ) → w ≡ dash ∷ s → (length s == 0) ≡ false → ((rest : List ℕ) → s ≡ dash ∷ rest → ⊥) →
-    row_of arguments w ≡ short_row arguments s
-unfolding row_of
-row_short arguments w s e f h = ap (row_of arguments) e ∙ one_short arguments s f h
+pub match_short : (arguments : List Arg) (w s : List ℕ) → w ≡ dash ∷ s → (length s == 0) ≡ false → ((rest : List ℕ) → s ≡ dash ∷ rest → ⊥) →
+    match_of arguments w ≡ short_match arguments s
+unfolding match_of
+match_short arguments w s e f h = ap (match_of arguments) e ∙ one_short arguments s f h
 
-pub row_two : (arguments : List Arg) (w s t : List ℕ) → w ≡ dash ∷ s → s ≡ dash ∷ t → (length t == 0) ≡ true →
-    row_of arguments w ≡ Listed (longs arguments)
-unfolding row_of
-row_two arguments w s t e f h = ap (row_of arguments) (e ∙ ap (λ x. dash ∷ x) (f ∙ ap (λ x. dash ∷ x) (empty t h)))
+pub match_two : (arguments : List Arg) (w s t : List ℕ) → w ≡ dash ∷ s → s ≡ dash ∷ t → (length t == 0) ≡ true →
+    match_of arguments w ≡ Listed (longs arguments)
+unfolding match_of
+match_two arguments w s t e f h = ap (match_of arguments) (e ∙ ap (λ x. dash ∷ x) (f ∙ ap (λ x. dash ∷ x) (empty t h)))
 
-two_long : (arguments : List Arg) (t : List ℕ) → (length t == 0) ≡ false → after_two_dashes arguments t ≡ long_row arguments t (after_equals t)
+two_long : (arguments : List Arg) (t : List ℕ) → (length t == 0) ≡ false → after_two_dashes arguments t ≡ long_match arguments t (after_equals t)
 two_long arguments [] e = cc
 two_long arguments (c ∷ t) e = refl
 
-pub row_long : (arguments : List Arg) (w s t : List ℕ) → w ≡ dash ∷ s → s ≡ dash ∷ t → (length t == 0) ≡ false →
-    row_of arguments w ≡ long_row arguments t (after_equals t)
-unfolding row_of
-row_long arguments w s t e f h = ap (row_of arguments) (e ∙ ap (λ x. dash ∷ x) f) ∙ two_long arguments t h
+pub match_long : (arguments : List Arg) (w s t : List ℕ) → w ≡ dash ∷ s → s ≡ dash ∷ t → (length t == 0) ≡ false →
+    match_of arguments w ≡ long_match arguments t (after_equals t)
+unfolding match_of
+match_long arguments w s t e f h = ap (match_of arguments) (e ∙ ap (λ x. dash ∷ x) f) ∙ two_long arguments t h
 
 -- THE FIRST `=`
 
@@ -70,14 +71,14 @@ after_some (c ∷ s) t h =
     rw other (after_some s t (no_equals_tail c s h))
 
 pub long_none : (arguments : List Arg) (long : List ℕ) → ((i : ℕ) → i < length long → get_or long i 0 ≡ equals → ⊥) →
-    long_row arguments long (after_equals long) ≡ Listed (filter (begins (codes "--" ++ long)) (longs arguments))
-long_none arguments long h = ap (long_row arguments long) (after_none long h)
+    long_match arguments long (after_equals long) ≡ Listed (filter (begins (codes "--" ++ long)) (longs arguments))
+long_none arguments long h = ap (long_match arguments long) (after_none long h)
 
 pub long_some : (arguments : List Arg) (long flag text : List ℕ) → long ≡ flag ++ equals ∷ text → ((i : ℕ) → i < length flag → get_or flag i 0 ≡ equals → ⊥) →
-    long_row arguments long (after_equals long) ≡ flag_row (find (has_own_long flag) arguments) flag text
+    long_match arguments long (after_equals long) ≡ flag_match (find (has_own_long flag) arguments) flag text
 long_some arguments long flag text is h =
-    ap (long_row arguments long) (ap after_equals is ∙ after_some flag text h)
-    ∙ ap (λ f. flag_row (find (has_own_long f) arguments) f text) (ap before_equals is ∙ (flag_some flag text h).0)
+    ap (long_match arguments long) (ap after_equals is ∙ after_some flag text h)
+    ∙ ap (λ f. flag_match (find (has_own_long f) arguments) f text) (ap before_equals is ∙ (flag_some flag text h).0)
 
 -- A `=` IN FRONT OF A VALUE
 

@@ -5,5 +5,4 @@ pub mod Numbers
 pub mod OptionMatches
 pub mod Options
 pub mod Ranked
-pub mod Rows
 pub mod Seen

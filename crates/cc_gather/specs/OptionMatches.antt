@@ -1,12 +1,79 @@
--- What the code finds for a word, as a row.
+-- What a word wants of the options.
+use Rattle.std.specs.Prelude.{ℕ, List, [], ◌∷◌, ◌++◌, ◌-◌, ◌==◌, filter, find, length, take, Option, Some, None, codes, chars, if◌then◌else◌}
+use Rattle.cc_base.specs.Bytes.{dash, equals}
+use Rattle.cc_arg.specs.declared.parts.ArgParts.{ArgParts as Arg}
+use Rattle.cc_candidates.specs.declared.candidate.CompletionCandidate.{CompletionCandidate}
+use Rattle.cc_candidates.specs.Beginning.{begins}
+use Rattle.cc_gather.specs.Numbers.{is_number}
+use Rattle.cc_gather.specs.Lookup.{has_own_long}
+use Rattle.cc_gather.specs.Options.{longs, shorts}
 use Rattle.cc_gather.specs.declared.options.OptionMatch.{OptionMatch}
 use Rattle.cc_gather.specs.declared.options.OptionMatch.TheVariants.{Listed, ValuesOf}
 use Rattle.cc_gather.specs.declared.options.ValueQuery.{ValueQuery}
-use Rattle.cc_gather.specs.Rows.{Wanted, Row}
+use Rattle.cc_walk.specs.WordClasses.{value_character}
+use Rattle.cc_walk.specs.Words.{before_equals}
+use Rattle.cc_walk.specs.declared.word_class.ValueCharacter.{ValueCharacter}
 
-abbrev pub query_of : ValueQuery → Wanted
-query_of wanted = record { argument = wanted.argument.now; before = wanted.before; text = wanted.text }
+-- THE LONG OF A WORD
 
-abbrev pub row_of_match : OptionMatch → Row
-row_of_match (Listed candidates) = Row.Listed candidates.items
-row_of_match (ValuesOf wanted) = Row.ValuesOf (query_of wanted)
+-- what is after the first `=`, if there is one
+abbrev pub after_equals : List ℕ → Option (List ℕ)
+after_equals [] = None
+after_equals (c ∷ s) = if c == equals then Some s else after_equals s
+
+-- values of the argument that the flag names
+abbrev pub flag_match : Option Arg → List ℕ → List ℕ → OptionMatch
+flag_match None flag text = Listed []
+flag_match (Some argument) flag text =
+    ValuesOf (record { argument = argument; before = codes "--" ++ flag ++ codes "="; text = text })
+
+-- after `--`: the longs that begin so; with a `=` the values of the first argument with that long
+abbrev pub long_match : List Arg → List ℕ → Option (List ℕ) → OptionMatch
+long_match arguments long None = Listed (filter (begins (codes "--" ++ long)) (longs arguments))
+long_match arguments long (Some text) =
+    flag_match (find (has_own_long (before_equals long)) arguments) (before_equals long) text
+
+-- THE SHORTS OF A WORD
+
+-- a `=` in front of a value belongs to what is before it
+abbrev pub value_query_after : Arg → List ℕ → List ℕ → ValueQuery
+value_query_after argument before [] = record { argument = argument; before = before; text = [] }
+value_query_after argument before (c ∷ s) =
+    if c == equals then record { argument = argument; before = before ++ codes "="; text = s }
+    else record { argument = argument; before = before; text = c ∷ s }
+
+-- what is in a text before an end of it
+abbrev pub without_end : List ℕ → List ℕ → List ℕ
+without_end text end = take (length text - length end) text
+
+-- the values of the first character whose argument takes some, for what follows it in the word;
+-- without one the shorts after the word
+abbrev pub cluster_match : List Arg → List ℕ → Option ValueCharacter → OptionMatch
+cluster_match arguments word None = Listed (shorts word arguments)
+cluster_match arguments word (Some found) =
+    ValuesOf (value_query_after found.argument (without_end word found.after) found.after)
+
+-- after `-`: none for a negative number
+abbrev pub short_match : List Arg → List ℕ → OptionMatch
+short_match arguments after =
+    if is_number after then Listed []
+    else cluster_match arguments (codes "-" ++ after) (value_character arguments (chars after))
+
+-- THE WORD
+
+abbrev pub after_two_dashes : List Arg → List ℕ → OptionMatch
+after_two_dashes arguments [] = Listed (longs arguments)
+after_two_dashes arguments (c ∷ s) = long_match arguments (c ∷ s) (after_equals (c ∷ s))
+
+abbrev pub after_one_dash : List Arg → List ℕ → OptionMatch
+after_one_dash arguments [] = Listed (shorts (codes "-") arguments ++ longs arguments)
+after_one_dash arguments (c ∷ s) =
+    if c == dash then after_two_dashes arguments s else short_match arguments (c ∷ s)
+
+unfoldable pub match_of : List Arg → List ℕ → OptionMatch
+match_of arguments [] = Listed (longs arguments ++ shorts (codes "-") arguments)
+match_of arguments (c ∷ s) = if c == dash then after_one_dash arguments s else Listed []
+
+-- the candidate with a text before its value
+abbrev pub with_prefix : List ℕ → CompletionCandidate → CompletionCandidate
+with_prefix before c = record c { value = before ++ c.value }

@@ -55,19 +55,19 @@ fn group_first_of_ids(
 /// memory runs out.
 pub fn finish_after(
     alloc: Global,
-    first: Vec<CompletionCandidate>,
-    rest: Vec<CompletionCandidate>,
+    candidates: Vec<CompletionCandidate>,
+    others: Vec<CompletionCandidate>,
 ) -> Result<Vec<CompletionCandidate>, AllocError>
     ensures value { IfOk result
-        (λ finished. finished.items ≡ finish (first.items ++ finish rest.items)) }
+        (λ finished. finished.items ≡ finish (candidates.items ++ finish others.items)) }
 
     // Where the two share no id, that is one finishing of the whole.
-    ensures once { IfOk result (λ finished. ShareNone first.items rest.items →
-        finished.items ≡ finish (first.items ++ rest.items)) }
+    ensures once { IfOk result (λ finished. ShareNone candidates.items others.items →
+        finished.items ≡ finish (candidates.items ++ others.items)) }
 {
-    let mut all = first;
-    let mut rest = finish(alloc, rest)?;
-    all.append(&mut rest)?;
+    let mut all = candidates;
+    let mut others = finish(alloc, others)?;
+    all.append(&mut others)?;
     finish(alloc, all)
 }
 

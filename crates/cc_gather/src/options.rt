@@ -3,24 +3,23 @@
 ghost use Rattle.std.specs.Prelude.{◌≡◌, ◌++◌, [], ◌==◌, map, codes, find, length, IfOk, if◌then◌else◌};
 ghost use Rattle.std.specs.String.{string_bytes};
 ghost use Rattle.cc_gather.specs.Lookup.{has_own_long};
-ghost use Rattle.cc_gather.specs.OptionMatches.{query_of, row_of_match};
 ghost use Rattle.cc_gather.specs.Options.{longs, shorts};
-ghost use Rattle.cc_gather.specs.Rows.{after_equals, value_query_after, flag_row, long_row, with_prefix, row_of, short_row, without_end};
+ghost use Rattle.cc_gather.specs.OptionMatches.{after_equals, value_query_after, flag_match, long_match, with_prefix, match_of, short_match, without_end};
 ghost use Rattle.cc_walk.specs.Words.{EndsWith};
 
 use crate::negative_numbers::is_number;
 use crate::option_names::{longs, longs_beginning, shorts, with_own_long};
 use cc_arg::Arg;
-use cc_base::{Text, TextRef};
+use cc_base::{Items, Text, TextRef};
 use cc_candidates::CompletionCandidate;
-use cc_walk::{ValueCharacter, value_character};
+use cc_walk::{ArgRef, ValueCharacter, value_character};
 use std::alloc::{AllocError, Global};
 
 /// What a word wants of the options of a command.
 #[derive(Drop)]
 pub enum OptionMatch<'a> {
     /// These candidates.
-    Listed(Vec<CompletionCandidate>),
+    Listed(Items<CompletionCandidate>),
     /// Values of an argument.
     ValuesOf(ValueQuery<'a>),
 }
@@ -29,7 +28,7 @@ pub enum OptionMatch<'a> {
 #[derive(Drop)]
 pub struct ValueQuery<'a> {
     /// The argument.
-    pub argument: &'a Arg,
+    pub argument: ArgRef<'a>,
     /// What the word has before the value: a flag with its `=`, or a dash and shorts.
     pub before: Text,
     /// The text to complete.
@@ -42,19 +41,19 @@ pub fn match_options<'a>(
     arguments: &'a [Arg],
     word: &'a str,
 ) -> Result<OptionMatch<'a>, AllocError>
-    ensures { IfOk result (λ row. row_of_match row ≡ row_of arguments.now word.now) }
+    ensures { IfOk result (λ matched. matched ≡ match_of arguments.now word.now) }
 {
     let Some(rest) = word.strip_prefix('-') else {
-        return Ok(OptionMatch::Listed(without_dash(alloc, arguments, word)?));
+        return Ok(OptionMatch::Listed(Items::from(without_dash(alloc, arguments, word)?)));
     };
     if rest.is_empty() {
-        return Ok(OptionMatch::Listed(shorts_then_longs(alloc, arguments)?));
+        return Ok(OptionMatch::Listed(Items::from(shorts_then_longs(alloc, arguments)?)));
     }
     let Some(long) = rest.strip_prefix('-') else {
         return short_options(alloc, arguments, word, rest);
     };
     if long.is_empty() {
-        return Ok(OptionMatch::Listed(longs(alloc, arguments)?));
+        return Ok(OptionMatch::Listed(Items::from(longs(alloc, arguments)?)));
     }
     long_options(alloc, arguments, long)
 }
@@ -120,10 +119,10 @@ fn long_options<'a>(
     long: &'a str,
 ) -> Result<OptionMatch<'a>, AllocError>
     ensures { IfOk result
-        (λ row. row_of_match row ≡ long_row arguments.now long.now (after_equals long.now)) }
+        (λ matched. matched ≡ long_match arguments.now long.now (after_equals long.now)) }
 {
     match long.split_once('=') {
-        None => Ok(OptionMatch::Listed(longs_beginning(alloc, arguments, long)?)),
+        None => Ok(OptionMatch::Listed(Items::from(longs_beginning(alloc, arguments, long)?))),
         Some((flag, text)) => flag_values(alloc, arguments, flag, text),
     }
 }
@@ -134,15 +133,15 @@ fn flag_values<'a>(
     flag: &str,
     text: &'a str,
 ) -> Result<OptionMatch<'a>, AllocError>
-    ensures { IfOk result (λ row. row_of_match row
-        ≡ flag_row (find (has_own_long flag.now) arguments.now) flag.now text.now) }
+    ensures { IfOk result (λ matched. matched
+        ≡ flag_match (find (has_own_long flag.now) arguments.now) flag.now text.now) }
 {
     let Some(argument) = with_own_long(arguments, flag) else {
-        return Ok(OptionMatch::Listed(Vec::new(alloc)));
+        return Ok(OptionMatch::Listed(Items::new(alloc)));
     };
     let before = flag_before(alloc, flag)?;
     Ok(OptionMatch::ValuesOf(ValueQuery {
-        argument,
+        argument: ArgRef::new(argument),
         before,
         text: TextRef::new(text),
     }))
@@ -165,14 +164,14 @@ fn short_options<'a>(
     rest: &'a str,
 ) -> Result<OptionMatch<'a>, AllocError>
     requires { word.now ≡ codes "-" ++ rest.now }
-    ensures { IfOk result (λ row. row_of_match row ≡ short_row arguments.now rest.now) }
+    ensures { IfOk result (λ matched. matched ≡ short_match arguments.now rest.now) }
 {
     if is_number(rest) {
-        return Ok(OptionMatch::Listed(Vec::new(alloc)));
+        return Ok(OptionMatch::Listed(Items::new(alloc)));
     }
     match value_character(arguments, rest) {
         Some(found) => Ok(OptionMatch::ValuesOf(character_values(alloc, word, found)?)),
-        None => Ok(OptionMatch::Listed(shorts(alloc, arguments, word)?)),
+        None => Ok(OptionMatch::Listed(Items::from(shorts(alloc, arguments, word)?))),
     }
 }
 
@@ -183,7 +182,7 @@ fn character_values<'a>(
     found: ValueCharacter<'a, 'a>,
 ) -> Result<ValueQuery<'a>, AllocError>
     requires { EndsWith word.now found.after }
-    ensures { IfOk result (λ wanted. query_of wanted
+    ensures { IfOk result (λ wanted. wanted
         ≡ value_query_after found.entry.argument (without_end word.now found.entry.after)
         found.entry.after) }
 {
@@ -206,19 +205,19 @@ fn value_query_after<'a>(
     mut before: String,
     rest: &'a str,
 ) -> Result<ValueQuery<'a>, AllocError>
-    ensures { IfOk result (λ wanted. query_of wanted
+    ensures { IfOk result (λ wanted. wanted
         ≡ value_query_after argument.now (string_bytes before) rest.now) }
 {
     let Some(text) = rest.strip_prefix('=') else {
         return Ok(ValueQuery {
-            argument,
+            argument: ArgRef::new(argument),
             before: Text::from(before),
             text: TextRef::new(rest),
         });
     };
     before.push_str("=")?;
     Ok(ValueQuery {
-        argument,
+        argument: ArgRef::new(argument),
         before: Text::from(before),
         text: TextRef::new(text),
     })

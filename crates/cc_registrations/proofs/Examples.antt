@@ -67,52 +67,33 @@ powershell_row = record {
 
 -- ---- which completers those two promise to read
 
-plain_path_row : is_plain_path (codes "/w/./app") ≡ true
+plain_paths :
+    (is_plain_path (codes "/w/./app") ≡ true)
+    × (is_plain_path (codes "/path with a space/c") ≡ false)
+    × (is_plain_path (codes "") ≡ false)
 unfolding is_plain_path is_path_byte
-plain_path_row = refl
-
-spaced_path_row : is_plain_path (codes "/path with a space/c") ≡ false
-unfolding is_plain_path is_path_byte
-spaced_path_row = refl
-
-empty_path_row : is_plain_path (codes "") ≡ false
-unfolding is_plain_path
-empty_path_row = refl
+plain_paths = (refl, refl, refl)
 
 -- ---- completers with blanks and quotes, as they are written
 
-bash_named_completer_row : between (codes "V=\"bash\" \\\n        ") (codes " -- ")
+odd_completers :
+    (between (codes "V=\"bash\" \\\n        ") (codes " -- ")
     (bash_registration (codes "V") (codes "n") (codes "n") (codes "/opt/VAR \"NAME\"/c"))
-    ≡ Some (codes "\"/opt/VAR \\\"NAME\\\"/c\"")
-unfolding after with_front cut_at up_to after_mark between function_begins function_head call_begins call_ends name_ends otherwise registration_ends registration_front sorted_call plain_call registration_tail bash_registration
-bash_named_completer_row = refl
-
-bash_odd_completer_row : between (codes "V=\"bash\" \\\n        ") (codes " -- ")
+    ≡ Some (codes "\"/opt/VAR \\\"NAME\\\"/c\""))
+    × (between (codes "V=\"bash\" \\\n        ") (codes " -- ")
     (bash_registration (codes "V") (codes "n") (codes "n") (codes "/o'p $x COMPLETER"))
-    ≡ Some (codes "\"/o'p \\$x COMPLETER\"")
-unfolding after with_front cut_at up_to after_mark between function_begins function_head call_begins call_ends name_ends otherwise registration_ends registration_front sorted_call plain_call registration_tail bash_registration
-bash_odd_completer_row = refl
-
-zsh_named_completer_row : between (codes "V=\"zsh\" \\\n        ") (codes " -- ")
+    ≡ Some (codes "\"/o'p \\$x COMPLETER\""))
+    × (between (codes "V=\"zsh\" \\\n        ") (codes " -- ")
     (zsh.zsh_registration (codes "V") (codes "n") (codes "n") (codes "/opt/VAR \"NAME\"/c"))
-    ≡ Some (codes "'/opt/VAR \"NAME\"/c'")
-unfolding is_posix_safe is_posix_safe_word posix_quoted after with_front cut_at up_to after_mark between zsh.registration_begins zsh.function_begins zsh.function_head zsh.call_begins zsh.call_ends zsh.name_ends zsh.registration_ends zsh.registration_head zsh.registration_front zsh.registration_tail zsh.zsh_registration
-zsh_named_completer_row = refl
-
-zsh_odd_completer_row : between (codes "V=\"zsh\" \\\n        ") (codes " -- ")
+    ≡ Some (codes "'/opt/VAR \"NAME\"/c'"))
+    × (between (codes "V=\"zsh\" \\\n        ") (codes " -- ")
     (zsh.zsh_registration (codes "V") (codes "n") (codes "n") (codes "/o'p $x COMPLETER"))
-    ≡ Some (codes "'/o'\\''p $x COMPLETER'")
-unfolding is_posix_safe is_posix_safe_word posix_quoted after with_front cut_at up_to after_mark between zsh.registration_begins zsh.function_begins zsh.function_head zsh.call_begins zsh.call_ends zsh.name_ends zsh.registration_ends zsh.registration_head zsh.registration_front zsh.registration_tail zsh.zsh_registration
-zsh_odd_completer_row = refl
-
-fish_spaced_completer_row : between (codes " --arguments \"(") (codes " -- ")
+    ≡ Some (codes "'/o'\\''p $x COMPLETER'"))
+    × (between (codes " --arguments \"(") (codes " -- ")
     (fish.fish_registration (codes "V") (codes "n") (codes "/path with a space/completer"))
-    ≡ Some (codes "V=fish '/path with a space/completer'")
-unfolding is_fish_safe fish_sign fish_quoted fish_quoted_for_eval after with_front cut_at up_to after_mark between fish.registration_begins fish.arguments_begin fish.shell_set fish.registration_ends fish.fish_registration
-fish_spaced_completer_row = refl
-
-fish_variable_completer_row : between (codes " --arguments \"(") (codes " -- ")
+    ≡ Some (codes "V=fish '/path with a space/completer'"))
+    × (between (codes " --arguments \"(") (codes " -- ")
     (fish.fish_registration (codes "V") (codes "n") (codes "/p/$var/c"))
-    ≡ Some (codes "V=fish '/p/\\$var/c'")
-unfolding is_fish_safe fish_sign fish_quoted fish_quoted_for_eval after with_front cut_at up_to after_mark between fish.registration_begins fish.arguments_begin fish.shell_set fish.registration_ends fish.fish_registration
-fish_variable_completer_row = refl
+    ≡ Some (codes "V=fish '/p/\\$var/c'"))
+unfolding after with_front cut_at up_to after_mark between function_begins function_head call_begins call_ends name_ends otherwise registration_ends registration_front sorted_call plain_call registration_tail bash_registration is_posix_safe is_posix_safe_word posix_quoted zsh.registration_begins zsh.function_begins zsh.function_head zsh.call_begins zsh.call_ends zsh.name_ends zsh.registration_ends zsh.registration_head zsh.registration_front zsh.registration_tail zsh.zsh_registration is_fish_safe fish_sign fish_quoted fish_quoted_for_eval fish.registration_begins fish.arguments_begin fish.shell_set fish.registration_ends fish.fish_registration
+odd_completers = (refl, refl, refl, refl, refl, refl)

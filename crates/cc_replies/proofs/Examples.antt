@@ -41,33 +41,23 @@ unset_row = refl
 abbrev helped : List ℕ → List ℕ → CompletionCandidate
 helped value help = record (new_candidate value) { help = Some help }
 
--- two values for bash, which sets a vertical tab between them
-bash_row :
-    values_reply (11 ∷ [])
+replies :
+    -- two values for bash, which sets a vertical tab between them
+    (values_reply (11 ∷ [])
     (new_candidate (codes "t") ∷ helped (codes "help") (codes "Print") ∷ [])
-    ≡ codes "t" ++ 11 ∷ codes "help"
-bash_row = refl
-
-elvish_row :
-    values_reply (codes "\n")
+    ≡ codes "t" ++ 11 ∷ codes "help")
+    × (values_reply (codes "\n")
     (new_candidate (codes "t") ∷ new_candidate (codes "help") ∷ [])
-    ≡ codes "t\nhelp"
-elvish_row = refl
-
--- a colon in a value and one in a help
-zsh_row :
-    zsh_reply (codes "\n")
+    ≡ codes "t\nhelp")
+    -- a colon in a value and one in a help
+    × (zsh_reply (codes "\n")
     (helped (codes "a:b") (codes "c:d\ne") ∷ new_candidate (codes "t") ∷ [])
-    ≡ codes "a\\:b:c:d\nt"
-unfolding zsh_item colon_help after cut_at with_front first_line without_return
-zsh_row = refl
-
-fish_row :
-    lines_reply
+    ≡ codes "a\\:b:c:d\nt")
+    × (lines_reply
     (helped (codes "--help") (codes "Print help\r\nand more") ∷ new_candidate (codes "t") ∷ [])
-    ≡ codes "--help\tPrint help\nt\n"
-unfolding shown_line tab_help after cut_at with_front first_line without_return
-fish_row = refl
+    ≡ codes "--help\tPrint help\nt\n")
+unfolding zsh_item colon_help after cut_at with_front first_line without_return shown_line tab_help
+replies = (refl, refl, refl, refl)
 
 -- ---- the candidates of `app`, which has a child `test` shown as `t`, for an empty word
 
@@ -77,29 +67,18 @@ three =
     ∷ helped (codes "help") (codes "Print this message or the help of the given subcommand(s)")
     ∷ helped (codes "--help") (codes "Print help") ∷ []
 
-three_elvish_row : values_reply (codes "\n") three ≡ codes "t\nhelp\n--help"
-three_elvish_row = refl
-
-three_zsh_row : zsh_reply (codes "\n") three
-    ≡ codes "t\nhelp:Print this message or the help of the given subcommand(s)\n--help:Print help"
-unfolding zsh_item colon_help after cut_at with_front first_line without_return
-three_zsh_row = refl
-
-three_fish_row : lines_reply three
-    ≡ codes "t\nhelp\tPrint this message or the help of the given subcommand(s)\n--help\tPrint help\n"
-unfolding shown_line tab_help after cut_at with_front first_line without_return
-three_fish_row = refl
-
--- their replies are read back, with either separator that shells set
-three_values_row : are_readable_values 11 three ≡ true
-three_values_row = refl
-
-three_zsh_items_row : are_readable_zsh_items 10 three ≡ true
-unfolding after cut_at with_front first_line without_return
-three_zsh_items_row = refl
-
-three_lines_row : are_readable_lines three ≡ true
-three_lines_row = refl
+three_replies :
+    (values_reply (codes "\n") three ≡ codes "t\nhelp\n--help")
+    × (zsh_reply (codes "\n") three
+    ≡ codes "t\nhelp:Print this message or the help of the given subcommand(s)\n--help:Print help")
+    × (lines_reply three
+    ≡ codes "t\nhelp\tPrint this message or the help of the given subcommand(s)\n--help\tPrint help\n")
+    -- their replies are read back, with either separator that shells set
+    × (are_readable_values 11 three ≡ true)
+    × (are_readable_zsh_items 10 three ≡ true)
+    × (are_readable_lines three ≡ true)
+unfolding zsh_item colon_help after cut_at with_front first_line without_return shown_line tab_help
+three_replies = (refl, refl, refl, refl, refl, refl)
 
 -- a help with the separator in its first line, and a value with a tab
 abbrev spread : List CompletionCandidate
@@ -110,27 +89,17 @@ spread_values_row : values_read 11 (values_reply (11 ∷ []) spread) ≡ codes "
 unfolding ValuesRead
 spread_values_row = values_back (11 ∷ []) spread 11 refl refl
 
--- zsh is sent the help
-spread_zsh_items_row : are_readable_zsh_items 11 spread ≡ false
+readable :
+    -- zsh is sent the help
+    (are_readable_zsh_items 11 spread ≡ false)
+    -- with a line feed between items that help is in one piece
+    × (are_readable_zsh_items 10 spread ≡ true)
+    -- in a line a tab ends the value
+    × (are_readable_lines spread ≡ false)
+    -- items of zsh have colons and backslashes of their own
+    × (are_readable_zsh_items 58 three ≡ false)
+    -- an empty value is none, but a line may be empty before its help
+    × (are_readable_values 10 (new_candidate [] ∷ []) ≡ false)
+    × (are_readable_lines (helped [] (codes "Print") ∷ []) ≡ true)
 unfolding after cut_at with_front first_line without_return
-spread_zsh_items_row = refl
-
--- with a line feed between items that help is in one piece
-spread_zsh_row : are_readable_zsh_items 10 spread ≡ true
-unfolding after cut_at with_front first_line without_return
-spread_zsh_row = refl
-
--- in a line a tab ends the value
-spread_lines_row : are_readable_lines spread ≡ false
-spread_lines_row = refl
-
--- items of zsh have colons and backslashes of their own
-colon_between_row : are_readable_zsh_items 58 three ≡ false
-colon_between_row = refl
-
--- an empty value is none, but a line may be empty before its help
-empty_value_row : are_readable_values 10 (new_candidate [] ∷ []) ≡ false
-empty_value_row = refl
-
-empty_line_row : are_readable_lines (helped [] (codes "Print") ∷ []) ≡ true
-empty_line_row = refl
+readable = (refl, refl, refl, refl, refl, refl)

@@ -17,21 +17,16 @@ use Rattle.cc_tables.specs.Script.{head_text, named_text, script_text, table_tex
 use Rattle.cc_tables.specs.TableReader.{after_step, next, tables_of, read}
 use Rattle.cc_tables.specs.Tables.{Table, path_tables, tree_tables}
 
--- a row
-row : row_text (record { word = codes "c"; text = codes "it's\n[x]:\\" }) ≡ codes "\n            cand c 'it''s [x]:\\'"
-unfolding row_begin text_begin row_end row_text
-row = refl
-
--- a table without rows
-table : table_text elvish_frame row_text (record { key = codes "app"; rows = [] }) ≡ codes "\n        &'app'= {\n        }"
-unfolding elvish_frame table_text
-table = refl
-
--- a script without tables
-script : script_text elvish_frame row_text (codes "app") []
-    ≡ codes "\nuse builtin;\nuse str;\n\nset edit:completion:arg-completer[app] = {|@words|\n    fn spaces {|n|\n        builtin:repeat $n ' ' | str:join ''\n    }\n    fn cand {|text desc|\n        edit:complex-candidate $text &display=$text' '(spaces (- 14 (wcswidth $text)))$desc\n    }\n    var command = 'app'\n    for word $words[1..-1] {\n        if (str:has-prefix $word '-') {\n            break\n        }\n        set command = $command';'$word\n    }\n    var completions = [\n    ]\n    $completions[$command]\n}\n"
-unfolding elvish_named elvish_frame named_text head_text script_text
-script = refl
+texts :
+    -- a row
+    (row_text (record { word = codes "c"; text = codes "it's\n[x]:\\" }) ≡ codes "\n            cand c 'it''s [x]:\\'")
+    -- a table without rows
+    × (table_text elvish_frame row_text (record { key = codes "app"; rows = [] }) ≡ codes "\n        &'app'= {\n        }")
+    -- a script without tables
+    × (script_text elvish_frame row_text (codes "app") []
+    ≡ codes "\nuse builtin;\nuse str;\n\nset edit:completion:arg-completer[app] = {|@words|\n    fn spaces {|n|\n        builtin:repeat $n ' ' | str:join ''\n    }\n    fn cand {|text desc|\n        edit:complex-candidate $text &display=$text' '(spaces (- 14 (wcswidth $text)))$desc\n    }\n    var command = 'app'\n    for word $words[1..-1] {\n        if (str:has-prefix $word '-') {\n            break\n        }\n        set command = $command';'$word\n    }\n    var completions = [\n    ]\n    $completions[$command]\n}\n")
+unfolding row_begin text_begin row_end row_text elvish_frame table_text elvish_named named_text head_text script_text
+texts = (refl, refl, refl)
 
 -- a node with a flag, a positional, an option whose help is empty, and a child, each with an alias,
 -- and some with a hidden alias
@@ -92,15 +87,13 @@ read_back =
     ∷ record { key = codes "app;run"; rows = record { word = codes "cand"; text = codes "'}" } ∷ [] }
     ∷ []
 
--- a script with these tables reads back to them
-two_tables : elvish_tables (script_text elvish_frame row_text (codes "app") given) ≡ Some read_back
+reads :
+    -- a script with these tables reads back to them
+    (elvish_tables (script_text elvish_frame row_text (codes "app") given) ≡ Some read_back)
+    -- a program named as the word after which its tables are
+    × (elvish_tables (script_text elvish_frame row_text (codes "completions") []) ≡ Some [])
 unfolding is_word strip_words after_words sign cut elvish_tokens part step spelling after_step next tables_of read tables_begin elvish_tables elvish_named elvish_frame named_text head_text row_begin text_begin row_end row_text table_text script_text
-two_tables = refl
-
--- a program named as the word after which its tables are
-no_table : elvish_tables (script_text elvish_frame row_text (codes "completions") []) ≡ Some []
-unfolding is_word strip_words after_words sign cut elvish_tokens part step spelling after_step next tables_of read tables_begin elvish_tables elvish_named elvish_frame named_text head_text script_text
-no_table = refl
+reads = (refl, refl)
 
 -- tables that are not closed, a description that is not quoted, and no tables at all
 malformed : (elvish_tables (codes "completions = [ &'app'= { }") ≡ None)

@@ -1,15 +1,14 @@
 -- The Elvish script of a plain tree reads to the tree's tables.
-use Rattle.std.proofs.Common.{◌≡◌, ◌≢◌, ◌==◌, ◌||◌, not, ℕ, Bool, true, false, cond, IsTrue, codes, refl}
-use Rattle.std.proofs.Common.{arith}
-use Rattle.std.specs.Char.{is_ascii_alphanumeric}
+use Rattle.std.proofs.Common.{◌≢◌, ◌==◌, not, ℕ, IsTrue, codes, refl, arith}
 use Rattle.std.proofs.lemmas.Bool.Decides.{nat_tests}
 use Rattle.cc_base.proofs.Members.{AllByRecursion-weaker}
 use Rattle.cc_command.specs.Names.{full_name}
 use Rattle.cc_command.specs.Plain.{is_plain_tree}
-use Rattle.cc_quote.specs.PlainName.{name_byte, foreign, joiner, letter}
+use Rattle.cc_quote.specs.PlainName.{name_byte, foreign}
+use Rattle.cc_quote.proofs.NameBytes.{letter_or_joiner}
 use Rattle.cc_command.specs.Tree.{Tree}
 use Rattle.cc_command.proofs.PlainParts.{plain_full_name}
-use Rattle.cc_base.specs.Bytes.{single_quote, dash, underscore}
+use Rattle.cc_base.specs.Bytes.{single_quote}
 use Rattle.cc_quote.specs.ElvishTokens.{is_bare, IsBareWord}
 use Rattle.cc_tables.specs.ElvishReader.{elvish_tables, ElvishReads, offer_read}
 use Rattle.cc_tables.specs.ElvishScript.{elvish_frame, offer_text}
@@ -23,13 +22,8 @@ use Rattle.cc_tables.proofs.PlainTables.{of_plain_name, reads_offers}
 
 -- a byte that may occur in a plain name is bare
 bare_byte : (byte : ℕ) → name_byte byte ≢ foreign → IsTrue (is_bare byte)
-unfolding name_byte is_bare
-bare_byte byte h = by_tests (is_ascii_alphanumeric byte) (byte == dash || byte == underscore) refl refl h
-  where
-    by_tests : (a j : Bool) → is_ascii_alphanumeric byte ≡ a → (byte == dash || byte == underscore) ≡ j → cond a letter (cond j joiner foreign) ≢ foreign → IsTrue (is_bare byte)
-    by_tests true j e f k = grind (arith, nat_tests)
-    by_tests false true e f k = grind (arith, nat_tests)
-    by_tests false false e f k = absurd (k refl)
+unfolding is_bare
+bare_byte byte h = let k = letter_or_joiner byte h in grind (arith, nat_tests)
 
 -- and no quote
 no_quote_byte : (byte : ℕ) → name_byte byte ≢ foreign → IsTrue (not (byte == single_quote))

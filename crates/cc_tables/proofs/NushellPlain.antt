@@ -1,17 +1,16 @@
 -- The Nushell script of a plain tree reads to the tree's blocks.
-use Rattle.std.proofs.Common.{◌≡◌, ◌≢◌, ◌==◌, ◌||◌, ℕ, Bool, true, false, IsTrue, List, map}
-use Rattle.std.proofs.Common.{codes, flat_map, refl, ap, ◌∙◌, inl, inr}
+use Rattle.std.proofs.Common.{◌≡◌, ◌≢◌, ◌==◌, ℕ, Bool, true, false, IsTrue, List, map, codes, flat_map, refl}
 use Rattle.std.specs.List.{AllByRecursion}
-use Rattle.std.proofs.lemmas.Bool.Decides.{eqb_tells}
 use Rattle.cc_base.proofs.Members.{AllByRecursion-weaker, AllByRecursion-append, AllByRecursion-map}
 use Rattle.cc_arg.specs.declared.parts.ArgParts.{ArgParts as Arg}
 use Rattle.cc_command.specs.ArgumentLists.{options, flags}
 use Rattle.cc_command.specs.Names.{full_name}
 use Rattle.cc_command.specs.Plain.{is_plain_tree}
 use Rattle.cc_quote.specs.PlainName.{name_byte, foreign}
+use Rattle.cc_quote.proofs.NameBytes.{name_is_not}
 use Rattle.cc_command.specs.Tree.{Tree}
 use Rattle.cc_command.proofs.PlainParts.{IsPlainArgument, IsPlainBelow, plain_node}
-use Rattle.cc_base.specs.Bytes.{line_feed, space}
+use Rattle.cc_base.specs.Bytes.{colon, line_feed, space}
 use Rattle.cc_tables.specs.NushellReader.{NushellReads, ends_name, line_read, nushell_blocks}
 use Rattle.cc_tables.specs.NushellScript.{argument_lines, line_text, node_lines, nushell_frame}
 use Rattle.cc_tables.specs.NushellScript.{offer_line}
@@ -24,29 +23,13 @@ use Rattle.cc_tables.proofs.PlainOffers.{IsPlainOffer, arguments_plain}
 use Rattle.cc_tables.proofs.PlainTables.{reads_tables, space_foreign, tables_readable}
 
 -- a byte of a plain name is no byte that occurs in none
-is_no : (byte stop : ℕ) → name_byte stop ≡ foreign → name_byte byte ≢ foreign
-    → (byte == stop) ≡ false
-is_no byte stop f h =
-    elim (eqb_tells byte stop) [
-      | inl same ↦ absurd (h (ap name_byte same.1 ∙ f))
-      | inr differs ↦ differs.0
-    ]
-
-line_feed_foreign : name_byte line_feed ≡ foreign
-unfolding name_byte
-line_feed_foreign = refl
-
-colon_foreign : name_byte 58 ≡ foreign
-unfolding name_byte
-colon_foreign = refl
-
 no_line_feed : (byte : ℕ) → name_byte byte ≢ foreign → (byte == line_feed) ≡ false
-no_line_feed byte h = is_no byte line_feed line_feed_foreign h
+unfolding name_byte
+no_line_feed byte h = name_is_not byte line_feed h refl
 
 no_end : (byte : ℕ) → name_byte byte ≢ foreign → ends_name byte ≡ false
-no_end byte h =
-    ap (λ test. test || (byte == space)) (is_no byte 58 colon_foreign h)
-    ∙ is_no byte space space_foreign h
+unfolding name_byte
+no_end byte h = rw (name_is_not byte colon h refl, name_is_not byte space h refl) refl
 
 -- the line of a plain offer
 line_readable : (takes_value : Bool) (offer : Offer) → IsPlainOffer offer

@@ -19,22 +19,17 @@ use Rattle.cc_tables.specs.Script.{head_text, named_text, script_text, table_tex
 use Rattle.cc_tables.specs.TableReader.{after_step, next, tables_of, read}
 use Rattle.cc_tables.specs.Tables.{Table}
 
--- a row
-row : row_text (record { word = codes "-V"; list = codes "-V "; kind = parameter_name; text = codes "it's\n[x]:\\" })
-    ≡ codes "\n            [CompletionResult]::new('-V', '-V ', [CompletionResultType]::ParameterName, 'it''s [x]:\\')"
-unfolding kind_text row_begin list_begin kind_begin text_begin row_end words_text details_text row_text
-row = refl
-
--- a table without rows
-table : table_text powershell_frame row_text (record { key = codes "app"; rows = [] }) ≡ codes "\n        'app' {\n            break\n        }"
-unfolding powershell_frame table_text
-table = refl
-
--- a script without tables
-script : script_text powershell_frame row_text (codes "app") []
-    ≡ codes "\nusing namespace System.Management.Automation\nusing namespace System.Management.Automation.Language\n\nRegister-ArgumentCompleter -Native -CommandName 'app' -ScriptBlock {\n    param($wordToComplete, $commandAst, $cursorPosition)\n\n    $commandElements = $commandAst.CommandElements\n    $command = @(\n        'app'\n        for ($i = 1; $i -lt $commandElements.Count; $i++) {\n            $element = $commandElements[$i]\n            if ($element -isnot [StringConstantExpressionAst] -or\n                $element.StringConstantType -ne [StringConstantType]::BareWord -or\n                $element.Value.StartsWith('-') -or\n                $element.Value -eq $wordToComplete) {\n                break\n        }\n        $element.Value\n    }) -join ';'\n\n    $completions = @(switch ($command) {\n    })\n\n    $completions.Where{ $_.CompletionText -like \"$wordToComplete*\" } |\n        Sort-Object -Property ListItemText\n}\n"
-unfolding powershell_named powershell_frame named_text head_text script_text
-script = refl
+texts :
+    -- a row
+    (row_text (record { word = codes "-V"; list = codes "-V "; kind = parameter_name; text = codes "it's\n[x]:\\" })
+    ≡ codes "\n            [CompletionResult]::new('-V', '-V ', [CompletionResultType]::ParameterName, 'it''s [x]:\\')")
+    -- a table without rows
+    × (table_text powershell_frame row_text (record { key = codes "app"; rows = [] }) ≡ codes "\n        'app' {\n            break\n        }")
+    -- a script without tables
+    × (script_text powershell_frame row_text (codes "app") []
+    ≡ codes "\nusing namespace System.Management.Automation\nusing namespace System.Management.Automation.Language\n\nRegister-ArgumentCompleter -Native -CommandName 'app' -ScriptBlock {\n    param($wordToComplete, $commandAst, $cursorPosition)\n\n    $commandElements = $commandAst.CommandElements\n    $command = @(\n        'app'\n        for ($i = 1; $i -lt $commandElements.Count; $i++) {\n            $element = $commandElements[$i]\n            if ($element -isnot [StringConstantExpressionAst] -or\n                $element.StringConstantType -ne [StringConstantType]::BareWord -or\n                $element.Value.StartsWith('-') -or\n                $element.Value -eq $wordToComplete) {\n                break\n        }\n        $element.Value\n    }) -join ';'\n\n    $completions = @(switch ($command) {\n    })\n\n    $completions.Where{ $_.CompletionText -like \"$wordToComplete*\" } |\n        Sort-Object -Property ListItemText\n}\n")
+unfolding kind_text row_begin list_begin kind_begin text_begin row_end words_text details_text row_text powershell_frame table_text powershell_named named_text head_text script_text
+texts = (refl, refl, refl)
 
 -- two tables as a program's help gives them
 abbrev given : List (Table Row)
@@ -66,22 +61,18 @@ read_back =
 abbrev switch : Arg
 switch = record (new_arg (codes "switch")) { short = Some 83; visible_short_aliases = 120 ∷ []; help = Some [] }
 
--- its rows: a space is after the capital, and the short describes both
-switch_rows : flat_map row_text (map offer_row (argument_offers switch)) ≡ codes "\n            [CompletionResult]::new('-S', '-S ', [CompletionResultType]::ParameterName, 'S')\n            [CompletionResult]::new('-x', '-x', [CompletionResultType]::ParameterName, 'S')"
-unfolding encode_utf8 kind_text row_begin list_begin kind_begin text_begin row_end words_text details_text row_text
-switch_rows = refl
-
--- a long is described by its help, and an alias by the same
-level_rows : map offer_row (argument_offers (record (new_arg (codes "level")) { long = Some (codes "level"); visible_aliases = codes "depth" ∷ []; help = Some (codes "How deep") }))
+switch_rows :
+    -- its rows: a space is after the capital, and the short describes both
+    (flat_map row_text (map offer_row (argument_offers switch)) ≡ codes "\n            [CompletionResult]::new('-S', '-S ', [CompletionResultType]::ParameterName, 'S')\n            [CompletionResult]::new('-x', '-x', [CompletionResultType]::ParameterName, 'S')")
+    -- a long is described by its help, and an alias by the same
+    × (map offer_row (argument_offers (record (new_arg (codes "level")) { long = Some (codes "level"); visible_aliases = codes "depth" ∷ []; help = Some (codes "How deep") }))
     ≡ record { word = codes "--level"; list = codes "--level"; kind = parameter_name; text = codes "How deep" }
     ∷ record { word = codes "--depth"; list = codes "--depth"; kind = parameter_name; text = codes "How deep" }
-    ∷ []
-level_rows = refl
-
--- a script with these tables reads back to them
-two_tables : powershell_tables (script_text powershell_frame row_text (codes "app") given) ≡ Some read_back
-unfolding encode_utf8 is_word strip_words after_words sign sign_before powershell_signs cut powershell_tokens if_quoted part kind_of step spelling after_step next tables_of read tables_begin powershell_tables kind_text row_begin list_begin kind_begin text_begin row_end words_text details_text row_text table_text powershell_named powershell_frame named_text head_text script_text
-two_tables = refl
+    ∷ [])
+    -- a script with these tables reads back to them
+    × (powershell_tables (script_text powershell_frame row_text (codes "app") given) ≡ Some read_back)
+unfolding encode_utf8 kind_text row_begin list_begin kind_begin text_begin row_end words_text details_text row_text is_word strip_words after_words sign sign_before powershell_signs cut powershell_tokens if_quoted part kind_of step spelling after_step next tables_of read tables_begin powershell_tables table_text powershell_named powershell_frame named_text head_text script_text
+switch_rows = (refl, refl, refl)
 
 -- tables that are not closed, an unknown kind, a group without `break`, a key between other quotes,
 -- and no tables at all

@@ -1,13 +1,12 @@
 -- The PowerShell script of a plain tree reads to the tree's tables.
-use Rattle.std.proofs.Common.{◌≡◌, ◌≢◌, ◌==◌, ◌||◌, not, ℕ, Bool, true, false, cond, IsTrue, List}
-use Rattle.std.proofs.Common.{[], ◌∷◌, codes, refl, arith}
-use Rattle.std.specs.Char.{is_ascii_alphanumeric, is_ascii_uppercase}
+use Rattle.std.proofs.Common.{◌≢◌, not, ℕ, Bool, true, false, cond, IsTrue, List, [], ◌∷◌, codes, refl, arith}
+use Rattle.std.specs.Char.{is_ascii_uppercase}
 use Rattle.std.proofs.lemmas.Bool.Decides.{nat_tests}
-use Rattle.cc_base.specs.Bytes.{dash, underscore}
 use Rattle.cc_base.proofs.Members.{AllByRecursion-weaker, AllByRecursion-append}
 use Rattle.cc_command.specs.Names.{full_name}
 use Rattle.cc_command.specs.Plain.{is_plain_tree}
-use Rattle.cc_quote.specs.PlainName.{name_byte, foreign, joiner, letter}
+use Rattle.cc_quote.specs.PlainName.{name_byte, foreign}
+use Rattle.cc_quote.proofs.NameBytes.{letter_or_joiner}
 use Rattle.cc_command.specs.Tree.{Tree}
 use Rattle.cc_command.proofs.PlainParts.{plain_full_name}
 use Rattle.cc_quote.specs.PowershellTokens.{is_quote_first, IsUnquoted}
@@ -26,13 +25,8 @@ use Rattle.cc_tables.proofs.PlainTables.{of_plain_name, reads_offers}
 
 -- a byte that may occur in a plain name begins no quote
 unquoted_byte : (byte : ℕ) → name_byte byte ≢ foreign → IsTrue (not (is_quote_first byte))
-unfolding name_byte is_quote_first
-unquoted_byte byte h = by_tests (is_ascii_alphanumeric byte) (byte == dash || byte == underscore) refl refl h
-  where
-    by_tests : (a j : Bool) → is_ascii_alphanumeric byte ≡ a → (byte == dash || byte == underscore) ≡ j → cond a letter (cond j joiner foreign) ≢ foreign → IsTrue (not (is_quote_first byte))
-    by_tests true j e f k = grind (arith, nat_tests)
-    by_tests false true e f k = grind (arith, nat_tests)
-    by_tests false false e f k = absurd (k refl)
+unfolding is_quote_first
+unquoted_byte byte h = let k = letter_or_joiner byte h in grind (arith, nat_tests)
 
 -- nor does a `;`
 unquoted_separator : IsTrue (not (is_quote_first 59))
@@ -42,13 +36,11 @@ unquoted_separator = refl
 -- nor does the space after a capital
 space_unquoted : (kind : Kind) (name : List ℕ) → IsUnquoted (capital_space kind name)
 unfolding is_quote_first
-space_unquoted Short [] = tt
 space_unquoted Short (byte ∷ []) = by_test (is_ascii_uppercase byte)
   where
     by_test : (b : Bool) → IsUnquoted (cond b (codes " ") [])
     by_test true = (refl, tt)
     by_test false = tt
-space_unquoted Short (byte ∷ next ∷ name) = tt
 space_unquoted kind name = tt
 
 -- the row of a plain offer

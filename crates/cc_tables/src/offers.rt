@@ -1,12 +1,11 @@
 //! What a table offers at a node.
 
-ghost use Rattle.std.specs.Prelude.{◌≡◌, ◌++◌, List, ℕ, flat_map, codes};
+ghost use Rattle.std.specs.Prelude.{◌≡◌, List, ℕ, flat_map};
 ghost use Rattle.std.specs.Option.{option_copied};
 ghost use Rattle.cc_base.specs.Writes.{Writes, as_write};
 ghost use Rattle.cc_tables.specs.Offers.{argument_offer, argument_offers, child_offer};
 ghost use Rattle.cc_tables.specs.Offers.{child_offers, children_offers, short_offer};
 ghost use Rattle.cc_command.specs.Iterators.{arguments_left};
-ghost use Rattle.cc_command.specs.Names.{visible_names};
 ghost use Rattle.cc_command.specs.Tree.{forest_of};
 
 use crate::tables::TableRows;

@@ -9,18 +9,13 @@ use Rattle.cc_candidates.specs.Candidate.{new_candidate}
 use Rattle.cc_values.specs.Parts.{front, front_length, part}
 use Rattle.cc_values.specs.Values.{gather, question, nothing, values}
 
-front_of_three : front (Some comma) (codes "a,b,c") ≡ codes "a,b,"
+parts :
+    (front (Some comma) (codes "a,b,c") ≡ codes "a,b,")
+    × (part (Some comma) (codes "a,b,c") ≡ codes "c")
+    -- a delimiter of two bytes, `§`
+    × (part (Some 167) (97 ∷ 194 ∷ 167 ∷ 98 ∷ []) ≡ codes "b")
 unfolding front_length encode_utf8
-front_of_three = refl
-
-part_of_three : part (Some comma) (codes "a,b,c") ≡ codes "c"
-unfolding front_length encode_utf8
-part_of_three = refl
-
--- a delimiter of two bytes, `§`
-part_of_section : part (Some 167) (97 ∷ 194 ∷ 167 ∷ 98 ∷ []) ≡ codes "b"
-unfolding front_length encode_utf8
-part_of_section = refl
+parts = (refl, refl, refl)
 
 abbrev color : Arg
 color = record (new_arg (codes "color")) {
@@ -29,10 +24,8 @@ color = record (new_arg (codes "color")) {
   possible_values = Some (record { name = codes "auto"; help = None; hide = false } ∷ record { name = codes "never"; help = None; hide = true } ∷ []);
 }
 
-color_asks_nothing : question color 0 (codes "a") ≡ nothing
-unfolding question
-color_asks_nothing = refl
-
-values_of_color : values color (codes "a") [] ≡ record (new_candidate (codes "auto")) { tag = Some (codes "--color <color>") } ∷ []
-unfolding values gather front_length printed printed_after_name printed_names printed_values
-values_of_color = refl
+color_values :
+    (question color 0 (codes "a") ≡ nothing)
+    × (values color (codes "a") [] ≡ record (new_candidate (codes "auto")) { tag = Some (codes "--color <color>") } ∷ [])
+unfolding question values gather front_length printed printed_after_name printed_names printed_values
+color_values = (refl, refl)

@@ -12,28 +12,20 @@ app =
     let aliased = record run { node = record run.node { visible_aliases = codes "r" ∷ [] } } in
     with_child (with_child (new_tree (codes "app")) aliased) (new_tree (codes "list"))
 
--- table order: both names of `run`, then what is below it under each
-tables : map (λ visit. visit.key) (table_visits (joined (codes ";")) (codes "app") app)
-    ≡ codes "app" ∷ codes "app;run" ∷ codes "app;r" ∷ codes "app;run;job" ∷ codes "app;r;job" ∷ codes "app;list" ∷ []
-unfolding tables_below
-tables = refl
-
--- path order: one name of `run` with what is below it, then the other
-paths : map (λ visit. visit.key) (path_visits (joined (codes " ")) (codes "app") app)
-    ≡ codes "app" ∷ codes "app run" ∷ codes "app run job" ∷ codes "app r" ∷ codes "app r job" ∷ codes "app list" ∷ []
-unfolding paths_below
-paths = refl
-
--- the nodes that are visited in path order, and the nodes above them
-nodes : map (λ visit. visit.tree.node.name) (path_visits longer_path [] app)
-    ≡ codes "app" ∷ codes "run" ∷ codes "job" ∷ codes "run" ∷ codes "job" ∷ codes "list" ∷ []
-unfolding paths_below
-nodes = refl
-
-parents : map (λ visit. visit.above.name) (path_visits longer_path [] app)
-    ≡ codes "app" ∷ codes "app" ∷ codes "run" ∷ codes "app" ∷ codes "run" ∷ codes "app" ∷ []
-unfolding paths_below
-parents = refl
+visits :
+    -- table order: both names of `run`, then what is below it under each
+    (map (λ visit. visit.key) (table_visits (joined (codes ";")) (codes "app") app)
+    ≡ codes "app" ∷ codes "app;run" ∷ codes "app;r" ∷ codes "app;run;job" ∷ codes "app;r;job" ∷ codes "app;list" ∷ [])
+    -- path order: one name of `run` with what is below it, then the other
+    × (map (λ visit. visit.key) (path_visits (joined (codes " ")) (codes "app") app)
+    ≡ codes "app" ∷ codes "app run" ∷ codes "app run job" ∷ codes "app r" ∷ codes "app r job" ∷ codes "app list" ∷ [])
+    -- the nodes that are visited in path order, and the nodes above them
+    × (map (λ visit. visit.tree.node.name) (path_visits longer_path [] app)
+    ≡ codes "app" ∷ codes "run" ∷ codes "job" ∷ codes "run" ∷ codes "job" ∷ codes "list" ∷ [])
+    × (map (λ visit. visit.above.name) (path_visits longer_path [] app)
+    ≡ codes "app" ∷ codes "app" ∷ codes "run" ∷ codes "app" ∷ codes "run" ∷ codes "app" ∷ [])
+unfolding tables_below paths_below
+visits = (refl, refl, refl, refl)
 
 -- a name and a bracket where a node is entered, a bracket where it is left
 abbrev shown : Step (List ℕ) → List ℕ

@@ -20,31 +20,45 @@ record Cut (arguments : List Arg) (position : ℕ) (escaped : Bool) (words : Lis
   are : AreBlocks arguments position escaped blocks
   spell : join blocks ≡ words
 
-record OtherCut (arguments : List Arg) (position : ℕ) (escaped : Bool) (words : List (List ℕ)) : Type 0 where
-  blocks : List Block
-  are : AreBlocks arguments position escaped blocks
-  spell : join blocks ≡ words
-  none : BeginsWithNoValues arguments blocks
+-- the same, where the first block is none of values
+abbrev OtherCut : List Arg → ℕ → Bool → List (List ℕ) → Type 0
+OtherCut arguments position escaped words = (cut : Cut arguments position escaped words) × BeginsWithNoValues arguments cut.blocks
 
--- the values that the option still takes, and the blocks after them
-record OptionCut (arguments : List Arg) (position : ℕ) (a : Arg) (k : ℕ) (words : List (List ℕ)) : Type 0 where
+-- the values that are still taken, where k are and `most` may be, and the blocks after them
+record Taken (IsTaken : List ℕ → Type 0) (most : ℕ) (Ends : List Block → Type 0) (Are : ℕ → List Block → Type 0) (k : ℕ) (words : List (List ℕ)) : Type 0 where
   values : List (List ℕ)
   blocks : List Block
-  all : All (Follows arguments a) values
-  fits : k + length values ≤ max_values a
-  next : k + length values < max_values a → BeginsWithNoFollower arguments a (join blocks)
-  are : AreBlocks arguments position false blocks
+  all : All IsTaken values
+  fits : k + length values ≤ most
+  next : k + length values < most → Ends blocks
+  are : Are (k + length values) blocks
   spell : values ++ join blocks ≡ words
 
--- the values that still belong to the run, and the blocks after them
-record RunCut (arguments : List Arg) (position : ℕ) (escaped : Bool) (k : ℕ) (words : List (List ℕ)) : Type 0 where
-  more : List (List ℕ)
-  blocks : List Block
-  all : All (IsValueAt arguments position escaped) more
-  fits : k + length more ≤ capacity_at arguments position
-  next : k + length more < capacity_at arguments position → BeginsWithNoValues arguments blocks
-  are : AreBlocks arguments (position_after arguments position (k + length more)) escaped blocks
-  spell : more ++ join blocks ≡ words
+module _ (IsTaken : List ℕ → Type 0) (most : ℕ) (Ends : List Block → Type 0) (Are : ℕ → List Block → Type 0) (k : ℕ) where
+  none_taken : (words : List (List ℕ)) (blocks : List Block) → k ≤ most → (k < most → Ends blocks) → Are k blocks → join blocks ≡ words → Taken IsTaken most Ends Are k words
+  none_taken words blocks fits next are spell =
+      record { values = []; blocks = blocks; all = All-nil IsTaken; fits = rw add-zero fits; next = rw add-zero next; are = rw add-zero are; spell = spell }
+
+  one_taken : (word : List ℕ) (words : List (List ℕ)) → IsTaken word → Taken IsTaken most Ends Are (suc k) words → Taken IsTaken most Ends Are k (word ∷ words)
+  one_taken word words is c = let same : suc k + length c.values ≡ k + suc (length c.values) = omega arith in record {
+    values = word ∷ c.values;
+    blocks = c.blocks;
+    all = All-cons IsTaken word c.values is c.all;
+    fits = rw same at c.fits;
+    next = rw same at c.next;
+    are = rw same at c.are;
+    spell = ap (λ s. word ∷ s) c.spell;
+  }
+
+-- the values that an option still takes
+abbrev OptionCut : List Arg → ℕ → Arg → ℕ → List (List ℕ) → Type 0
+OptionCut arguments position a =
+    Taken (Follows arguments a) (max_values a) (λ bs. BeginsWithNoFollower arguments a (join bs)) (λ n bs. AreBlocks arguments position false bs)
+
+-- the values that still belong to a run
+abbrev RunCut : List Arg → ℕ → Bool → ℕ → List (List ℕ) → Type 0
+RunCut arguments position escaped =
+    Taken (IsValueAt arguments position escaped) (capacity_at arguments position) (BeginsWithNoValues arguments) (λ n bs. AreBlocks arguments (position_after arguments position n) escaped bs)
 
 record Cuts (arguments : List Arg) (words : List (List ℕ)) : Type 0 where
   plain : (position : ℕ) (escaped : Bool) → Cut arguments position escaped words
@@ -54,22 +68,24 @@ record Cuts (arguments : List Arg) (words : List (List ℕ)) : Type 0 where
 cuts_none : (arguments : List Arg) → Cuts arguments []
 cuts_none arguments = record {
   plain = λ position escaped. record { blocks = []; are = tt; spell = refl };
-  option = λ position a k fits. record { values = []; blocks = []; all = All-nil (Follows arguments a); fits = rw add-zero fits; next = λ h. tt; are = tt; spell = refl };
-  run = λ position escaped k fits. record { more = []; blocks = []; all = All-nil (IsValueAt arguments position escaped); fits = rw add-zero fits; next = λ h. tt; are = tt; spell = refl };
+  option = λ position a k fits. none_taken _ _ _ _ k [] [] fits (λ h. tt) tt refl;
+  run = λ position escaped k fits. none_taken _ _ _ _ k [] [] fits (λ h. tt) tt refl;
 }
 
 module _ (arguments : List Arg) (word : List ℕ) (words : List (List ℕ)) (rest : Cuts arguments words) where
   other_class : (position : ℕ) (class : WordClass) → class_of arguments word ≡ class → is_value (allows_hyphens_at arguments position) class ≡ false → OtherCut arguments position false (word ∷ words)
-  other_class position Escape is e = let c = rest.plain position true in record { blocks = Dashes word ∷ c.blocks; are = (refl, is, c.are); spell = ap (λ s. word ∷ s) c.spell; none = tt }
+  other_class position Escape is e = let c = rest.plain position true in (record { blocks = Dashes word ∷ c.blocks; are = (refl, is, c.are); spell = ap (λ s. word ∷ s) c.spell }, tt)
   other_class position Plain is e = cc
-  other_class position Unknown is e = let c = rest.plain position false in record { blocks = Flag word ∷ c.blocks; are = (refl, inr (is, e), c.are); spell = ap (λ s. word ∷ s) c.spell; none = tt }
-  other_class position Closed is e = let c = rest.plain position false in record { blocks = Flag word ∷ c.blocks; are = (refl, inl is, c.are); spell = ap (λ s. word ∷ s) c.spell; none = tt }
-  other_class position (Opens a) is e = let c = rest.option position a 0 (omega arith) in record {
-    blocks = Opened word a c.values ∷ c.blocks;
-    are = (refl, is, c.all, rw zero-add at c.fits, rw zero-add at c.next, c.are);
-    spell = ap (λ s. word ∷ s) c.spell;
-    none = tt;
-  }
+  other_class position Unknown is e = let c = rest.plain position false in (record { blocks = Flag word ∷ c.blocks; are = (refl, inr (is, e), c.are); spell = ap (λ s. word ∷ s) c.spell }, tt)
+  other_class position Closed is e = let c = rest.plain position false in (record { blocks = Flag word ∷ c.blocks; are = (refl, inl is, c.are); spell = ap (λ s. word ∷ s) c.spell }, tt)
+  other_class position (Opens a) is e = let c = rest.option position a 0 (omega arith) in (
+    record {
+      blocks = Opened word a c.values ∷ c.blocks;
+      are = (refl, is, c.all, rw zero-add at c.fits, rw zero-add at c.next, c.are);
+      spell = ap (λ s. word ∷ s) c.spell;
+    },
+    tt,
+  )
 
   other : (position : ℕ) (escaped : Bool) → is_value_at arguments position escaped word ≡ false → OtherCut arguments position escaped (word ∷ words)
   other position true e = cc
@@ -77,7 +93,7 @@ module _ (arguments : List Arg) (word : List ℕ) (words : List (List ℕ)) (res
 
   values : (position : ℕ) (escaped : Bool) → IsValueAt arguments position escaped word → Cut arguments position escaped (word ∷ words)
   values position escaped e = let c = rest.run position escaped 1 (capacity_some arguments position) in record {
-    blocks = Values word c.more ∷ c.blocks;
+    blocks = Values word c.values ∷ c.blocks;
     are = (e, c.all, rw one-add at c.fits, rw one-add at c.next, rw one-add at c.are);
     spell = ap (λ s. word ∷ s) c.spell;
   }
@@ -85,78 +101,36 @@ module _ (arguments : List Arg) (word : List ℕ) (words : List (List ℕ)) (res
   plain : (position : ℕ) (escaped : Bool) → Cut arguments position escaped (word ∷ words)
   plain position escaped = elim (cases_Bool (is_value_at arguments position escaped word)) [
     | inl t ↦ values position escaped t
-    | inr f ↦ let c = other position escaped f in record { blocks = c.blocks; are = c.are; spell = c.spell }
+    | inr f ↦ (other position escaped f).0
   ]
+
+  left : (position : ℕ) (a : Arg) (k : ℕ) → k ≤ max_values a → (k < max_values a → follows a (class_of arguments word) ≡ false) → OptionCut arguments position a k (word ∷ words)
+  left position a k fits leaves = let c = plain position false in
+      none_taken _ _ _ _ k (word ∷ words) c.blocks fits (λ h. subst (λ s. BeginsWithNoFollower arguments a s) (sym c.spell) (leaves h)) c.are c.spell
 
   option : (position : ℕ) (a : Arg) (k : ℕ) → k ≤ max_values a → OptionCut arguments position a k (word ∷ words)
   option position a k fits = elim (cases_lt k (max_values a)) [
     | inl below ↦ elim (cases_Bool (follows a (class_of arguments word))) [
-      | inl t ↦ let c = rest.option position a (suc k) (omega arith) in let same : suc k + length c.values ≡ k + suc (length c.values) = omega arith in record {
-        values = word ∷ c.values;
-        blocks = c.blocks;
-        all = All-cons (Follows arguments a) word c.values t c.all;
-        fits = rw same at c.fits;
-        next = rw same at c.next;
-        are = c.are;
-        spell = ap (λ s. word ∷ s) c.spell;
-      }
-      | inr f ↦ let c = plain position false in record {
-        values = [];
-        blocks = c.blocks;
-        all = All-nil (Follows arguments a);
-        fits = omega arith;
-        next = λ h. subst (λ s. BeginsWithNoFollower arguments a s) (sym c.spell) f;
-        are = c.are;
-        spell = c.spell;
-      }
+      | inl t ↦ one_taken _ _ _ _ k word words t (rest.option position a (suc k) (omega arith))
+      | inr f ↦ left position a k fits (λ h. f)
     ]
-    | inr full ↦ let c = plain position false in record {
-      values = [];
-      blocks = c.blocks;
-      all = All-nil (Follows arguments a);
-      fits = omega arith;
-      next = λ h. absurd (omega arith);
-      are = c.are;
-      spell = c.spell;
-    }
+    | inr full ↦ left position a k fits (λ h. absurd (omega arith))
   ]
 
-  more : (position : ℕ) (escaped : Bool) (k : ℕ) → k ≤ capacity_at arguments position → RunCut arguments position escaped k (word ∷ words)
-  more position escaped k fits = elim (cases_lt k (capacity_at arguments position)) [
+  run : (position : ℕ) (escaped : Bool) (k : ℕ) → k ≤ capacity_at arguments position → RunCut arguments position escaped k (word ∷ words)
+  run position escaped k fits = elim (cases_lt k (capacity_at arguments position)) [
     | inl below ↦ elim (cases_Bool (is_value_at arguments position escaped word)) [
-      | inl t ↦ let c = rest.run position escaped (suc k) (omega arith) in let same : suc k + length c.more ≡ k + suc (length c.more) = omega arith in record {
-        more = word ∷ c.more;
-        blocks = c.blocks;
-        all = All-cons (IsValueAt arguments position escaped) word c.more t c.all;
-        fits = rw same at c.fits;
-        next = rw same at c.next;
-        are = rw same at c.are;
-        spell = ap (λ s. word ∷ s) c.spell;
-      }
-      | inr f ↦ let c = other position escaped f in record {
-        more = [];
-        blocks = c.blocks;
-        all = All-nil (IsValueAt arguments position escaped);
-        fits = omega arith;
-        next = λ h. c.none;
-        are = rw (add-zero, lt-ltb k (capacity_at arguments position) below) c.are;
-        spell = c.spell;
-      }
+      | inl t ↦ one_taken _ _ _ _ k word words t (rest.run position escaped (suc k) (omega arith))
+      | inr f ↦ let c = other position escaped f in
+          none_taken _ _ _ _ k (word ∷ words) c.0.blocks fits (λ h. c.1) (rw (lt-ltb k (capacity_at arguments position) below) c.0.are) c.0.spell
     ]
-    | inr full ↦ let c = plain (position_after arguments position k) escaped in record {
-      more = [];
-      blocks = c.blocks;
-      all = All-nil (IsValueAt arguments position escaped);
-      fits = omega arith;
-      next = λ h. absurd (omega arith);
-      are = rw add-zero c.are;
-      spell = c.spell;
-    }
+    | inr full ↦ let c = plain (position_after arguments position k) escaped in
+        none_taken _ _ _ _ k (word ∷ words) c.blocks fits (λ h. absurd (omega arith)) c.are c.spell
   ]
 
 cuts : (arguments : List Arg) (words : List (List ℕ)) → Cuts arguments words
 cuts arguments [] = cuts_none arguments
-cuts arguments (word ∷ words) = let rest = cuts arguments words in record { plain = plain arguments word words rest; option = option arguments word words rest; run = more arguments word words rest }
+cuts arguments (word ∷ words) = let rest = cuts arguments words in record { plain = plain arguments word words rest; option = option arguments word words rest; run = run arguments word words rest }
 
 -- EVERY TAIL HAS BLOCKS
 pub blocks_exist : (arguments : List Arg) (position : ℕ) (escaped : Bool) (words : List (List ℕ)) → (bs : List Block) × AreBlocks arguments position escaped bs × (join bs ≡ words)

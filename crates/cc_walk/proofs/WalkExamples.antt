@@ -34,24 +34,16 @@ test = let child = new_tree (codes "test") in record child { node = record child
 abbrev app : Tree
 app = with_child (new_tree (codes "app")) test
 
--- no words, and `--` alone
-no_words : walked app [] ≡ node_state app 1 Nothing
-no_words = refl
-
-dashes : walked app (codes "--" ∷ []) ≡ escaped_node_state app 1 Nothing
+to_children :
+    -- no words, and `--` alone
+    (walked app [] ≡ node_state app 1 Nothing)
+    × (walked app (codes "--" ∷ []) ≡ escaped_node_state app 1 Nothing)
+    -- a child is found by each of its names, also after `--`
+    × (walked app (codes "t" ∷ []) ≡ node_state test 1 Nothing)
+    × (walked app (codes "tst" ∷ []) ≡ node_state test 1 Nothing)
+    × (walked app (codes "--" ∷ codes "test" ∷ []) ≡ escaped_node_state test 1 Nothing)
 unfolding class_of
-dashes = refl
-
--- a child is found by each of its names, also after `--`
-by_visible_alias : walked app (codes "t" ∷ []) ≡ node_state test 1 Nothing
-by_visible_alias = refl
-
-by_hidden_alias : walked app (codes "tst" ∷ []) ≡ node_state test 1 Nothing
-by_hidden_alias = refl
-
-child_after_dashes : walked app (codes "--" ∷ codes "test" ∷ []) ≡ escaped_node_state test 1 Nothing
-unfolding class_of
-child_after_dashes = refl
+to_children = (refl, refl, refl, refl, refl)
 
 -- `--opt` with one value, and two positionals, the first of which takes words with hyphens
 abbrev opt : Arg
@@ -60,21 +52,13 @@ opt = option (codes "opt")
 abbrev hyphens : Tree
 hyphens = with (with (with (new_tree (codes "app")) opt) (record (positional 1) { allow_hyphen_values = true })) (positional 2)
 
-opened : walked hyphens (codes "--opt" ∷ []) ≡ node_state hyphens 1 (OptionOpen opt 0)
-unfolding class_of
-opened = refl
-
-left_by_hyphen : walked hyphens (codes "--opt" ∷ codes "-z" ∷ []) ≡ node_state hyphens 2 Nothing
+hyphens_taken :
+    (walked hyphens (codes "--opt" ∷ []) ≡ node_state hyphens 1 (OptionOpen opt 0))
+    × (walked hyphens (codes "--opt" ∷ codes "-z" ∷ []) ≡ node_state hyphens 2 Nothing)
+    × (walked hyphens (codes "--opt" ∷ codes "-" ∷ []) ≡ node_state hyphens 1 Nothing)
+    × (walked hyphens (codes "--other" ∷ []) ≡ node_state hyphens 2 Nothing)
 unfolding class_of chars capacity_at allows_hyphens_at positional_at
-left_by_hyphen = refl
-
-hyphen_is_value : walked hyphens (codes "--opt" ∷ codes "-" ∷ []) ≡ node_state hyphens 1 Nothing
-unfolding class_of
-hyphen_is_value = refl
-
-unknown_long_is_value : walked hyphens (codes "--other" ∷ []) ≡ node_state hyphens 2 Nothing
-unfolding class_of capacity_at allows_hyphens_at positional_at
-unknown_long_is_value = refl
+hyphens_taken = (refl, refl, refl, refl)
 
 -- `-c`, `--color` with one value, and `-v`, `--verbose` (visible alias `loud`, hidden alias `noisy`) without
 abbrev color : Arg
@@ -86,63 +70,36 @@ verbose = record (option (codes "verbose")) { short = Some 118; visible_aliases 
 abbrev colors : Tree
 colors = with (with (new_tree (codes "app")) color) verbose
 
-by_long : walked colors (codes "--color" ∷ []) ≡ node_state colors 1 (OptionOpen color 0)
-unfolding class_of
-by_long = refl
-
-with_equals : walked colors (codes "--color=auto" ∷ []) ≡ node_state colors 1 Nothing
-unfolding class_of
-with_equals = refl
-
-value_in_cluster : walked colors (codes "-c=" ∷ []) ≡ node_state colors 1 Nothing
+option_opened :
+    (walked colors (codes "--color" ∷ []) ≡ node_state colors 1 (OptionOpen color 0))
+    × (walked colors (codes "--color=auto" ∷ []) ≡ node_state colors 1 Nothing)
+    × (walked colors (codes "-c=" ∷ []) ≡ node_state colors 1 Nothing)
+    × (walked colors (codes "-vc" ∷ []) ≡ node_state colors 1 (OptionOpen color 0))
+    -- the second `c` is the value of the first
+    × (walked colors (codes "-cc" ∷ []) ≡ node_state colors 1 Nothing)
+    × (walked colors (codes "-c" ∷ codes "auto" ∷ []) ≡ node_state colors 1 Nothing)
 unfolding class_of chars lib.Utf8.encode
-value_in_cluster = refl
-
-last_in_cluster : walked colors (codes "-vc" ∷ []) ≡ node_state colors 1 (OptionOpen color 0)
-unfolding class_of chars
-last_in_cluster = refl
-
--- the second `c` is the value of the first
-twice_in_cluster : walked colors (codes "-cc" ∷ []) ≡ node_state colors 1 Nothing
-unfolding class_of chars lib.Utf8.encode
-twice_in_cluster = refl
-
-taken : walked colors (codes "-c" ∷ codes "auto" ∷ []) ≡ node_state colors 1 Nothing
-unfolding class_of chars
-taken = refl
+option_opened = (refl, refl, refl, refl, refl, refl)
 
 -- a positional of two values, and one that takes none
 abbrev two : Tree
 two = with (with (new_tree (codes "app")) (record (positional 1) { num_args = Some (exactly 2) })) (record (positional 2) { num_args = Some (exactly 0) })
 
-in_a_run : walked two (codes "a" ∷ []) ≡ node_state two 1 (PositionalRun 1)
+runs :
+    (walked two (codes "a" ∷ []) ≡ node_state two 1 (PositionalRun 1))
+    × (walked two (codes "a" ∷ codes "b" ∷ []) ≡ node_state two 2 Nothing)
+    × (walked two (codes "a" ∷ codes "--" ∷ []) ≡ escaped_node_state two 1 Nothing)
+    × (walked two (codes "--" ∷ codes "a" ∷ codes "b" ∷ []) ≡ escaped_node_state two 2 PositionMoved)
+    × (walked two (codes "a" ∷ codes "b" ∷ codes "c" ∷ []) ≡ node_state two 3 Nothing)
 unfolding class_of capacity_at positional_at
-in_a_run = refl
-
-run_ends : walked two (codes "a" ∷ codes "b" ∷ []) ≡ node_state two 2 Nothing
-unfolding class_of capacity_at positional_at
-run_ends = refl
-
-run_is_left : walked two (codes "a" ∷ codes "--" ∷ []) ≡ escaped_node_state two 1 Nothing
-unfolding class_of capacity_at positional_at
-run_is_left = refl
-
-moved : walked two (codes "--" ∷ codes "a" ∷ codes "b" ∷ []) ≡ escaped_node_state two 2 PositionMoved
-unfolding class_of capacity_at positional_at
-moved = refl
-
-position_without_values : walked two (codes "a" ∷ codes "b" ∷ codes "c" ∷ []) ≡ node_state two 3 Nothing
-unfolding class_of capacity_at positional_at
-position_without_values = refl
+runs = (refl, refl, refl, refl, refl)
 
 -- an option that takes words with hyphens leaves `--` alone
 abbrev greedy : Tree
 greedy = with (new_tree (codes "app")) (record (option (codes "o")) { allow_hyphen_values = true })
 
-greedy_takes : walked greedy (codes "--o" ∷ codes "--o" ∷ []) ≡ node_state greedy 1 Nothing
+greedy_options :
+    (walked greedy (codes "--o" ∷ codes "--o" ∷ []) ≡ node_state greedy 1 Nothing)
+    × (walked greedy (codes "--o" ∷ codes "--" ∷ []) ≡ escaped_node_state greedy 1 Nothing)
 unfolding class_of
-greedy_takes = refl
-
-greedy_leaves : walked greedy (codes "--o" ∷ codes "--" ∷ []) ≡ escaped_node_state greedy 1 Nothing
-unfolding class_of
-greedy_leaves = refl
+greedy_options = (refl, refl)

@@ -2,7 +2,7 @@
 
 ghost use Rattle.std.specs.Prelude.{◌≡◌, ◌<◌, length, map, string_bytes};
 ghost use Rattle.cc_flat.specs.Flat.{IsFlat, tree_at};
-ghost use Rattle.cc_walk.specs.Line.{IsLine, IsOnlyLine};
+ghost use Rattle.cc_walk.specs.Destination.{WordsLeadTo, WordsLeadOnlyTo};
 ghost use Rattle.cc_walk.specs.Machine.{node_state_step};
 ghost use Rattle.cc_walk.specs.NodeStates.{node_state_of};
 ghost use Rattle.cc_walk.specs.Visible.{HasNoHiddenAlias, visible_end};
@@ -28,9 +28,9 @@ pub struct Walked<'a> {
 pub fn walk<'a>(flat: &Flat<'a>, words: &[String]) -> Walked<'a>
     requires { IsFlat flat.now }
     ensures within { result.node < length flat.now }
-    ensures line { IsLine (tree_at flat.now 0) (map string_bytes words.now)
+    ensures leads { WordsLeadTo (tree_at flat.now 0) (map string_bytes words.now)
         (tree_at flat.now result.node) result.state }
-    ensures only { IsOnlyLine (tree_at flat.now 0) (map string_bytes words.now)
+    ensures only { WordsLeadOnlyTo (tree_at flat.now 0) (map string_bytes words.now)
         (tree_at flat.now result.node) result.state }
 
     // Where no word is a hidden alias of a child of the node at which it is read, the visible
@@ -39,18 +39,18 @@ pub fn walk<'a>(flat: &Flat<'a>, words: &[String]) -> Walked<'a>
         tree_at flat.now result.node
         ≡ visible_end (tree_at flat.now 0) (map string_bytes words.now) }
 {
-    let mut line = Walked {
+    let mut walked = Walked {
         node: 0,
         state: State::start(false),
     };
     for word in words {
-        line = line.advance(flat, word);
+        walked = walked.advance(flat, word);
     }
-    line
+    walked
 }
 
 impl<'a> Walked<'a> {
-    /// The line after one more word. A word that names a child leads to it, even where an option is
+    /// Where one more word leads. A word that names a child leads to it, even where an option is
     /// open or `--` has been read.
     fn advance(self, flat: &Flat<'a>, word: &str) -> Walked<'a>
         requires flat { IsFlat flat.now }

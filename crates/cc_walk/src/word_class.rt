@@ -26,7 +26,8 @@ impl<'a> Model for ArgRef<'a> {
 }
 
 impl<'a> ArgRef<'a> {
-    pub(crate) fn new(argument: &'a Arg) -> ArgRef<'a>
+    /// A borrowed argument.
+    pub fn new(argument: &'a Arg) -> ArgRef<'a>
         ensures { result ≡ argument.now }
     {
         ArgRef { argument }

@@ -52,21 +52,12 @@ counted =
     } in
     with_argument (with_argument (new_node (codes "app")) verbose) quiet
 
-conflicts : flags_text counted counted
-    ≡ codes "'(-q)*-v[]' \\\n'(-q)*--verbose[]' \\\n'-q[]' \\\n"
-unfolding flags_text argument_text argument_line conflicts_text help_text line_end zsh_escaped_help encode_utf8 values_text
-conflicts = refl
-
 -- a conflict with a positional has no name, and there are brackets all the same
 abbrev unnamed : Node
 unnamed =
     with_argument (with_argument (new_node (codes "app"))
     (record (flag (codes "yes")) { conflicts = codes "file" ∷ codes "none" ∷ [] }))
     (new_arg (codes "file"))
-
-unnamed_conflicts : flags_text unnamed unnamed ≡ codes "'()--yes[]' \\\n"
-unfolding flags_text argument_text argument_line conflicts_text help_text line_end zsh_escaped_help encode_utf8 values_text
-unnamed_conflicts = refl
 
 -- the conflicts of a global argument are those that the node above finds
 abbrev json : Arg
@@ -84,11 +75,6 @@ with_global =
 abbrev flags_below : Node → Forest → List (List ℕ)
 flags_below above none = []
 flags_below above (more node below rest) = flags_text above node ∷ flags_below above rest
-
-global_conflicts : flags_below with_global.node with_global.children
-    ≡ codes "'(--yaml)--json[]' \\\n'-h[Print help]' \\\n'--help[Print help]' \\\n" ∷ [] ∷ []
-unfolding flags_text argument_text argument_line conflicts_text help_text line_end zsh_escaped_help encode_utf8 help_argument help_name help_help values_text
-global_conflicts = refl
 
 -- a value that may be left out, a positional that must be there, one that takes the rest
 abbrev lines : Tree
@@ -108,15 +94,6 @@ lines =
       node = with_argument (with_argument (with_argument root n) first) others;
     })
 
-block : block_text lines.node lines
-    ≡ codes "_arguments \"${_arguments_options[@]}\" : \\\n"
-    ++ codes "'--n=[]::N:_default' \\\n"
-    ++ codes "':in:_files' \\\n"
-    ++ codes "'*::rest -- a\\:b:_default' \\\n"
-    ++ codes "&& ret=0"
-unfolding zsh_escaped_help zsh_escaped_value block_text block_begins block_ends below_text options_text argument_text argument_line flags_text conflicts_text help_text line_end values_text one_value value_text hint_text positionals_text positional_text count_text positional_escaped
-block = refl
-
 -- possible values
 abbrev value : List ℕ → Bool → PossibleValue
 value name hide = record { name = name; help = None; hide = hide }
@@ -130,15 +107,24 @@ colour = record (new_arg (codes "color")) {
   possible_values = Some (value (codes "auto") false ∷ value (codes "never") true ∷ []);
 }
 
-values : argument_text app_node app_node colour
-    ≡ codes "'-c+[Colour]:WHEN:(auto)' \\\n'--color=[Colour]:WHEN:(auto)' \\\n"
-unfolding zsh_escaped_help zsh_escaped_value encode_utf8 argument_text argument_line conflicts_text help_text line_end values_text one_value value_text list_text item_text
-values = refl
-
-described : list_text (record (value (codes "a b") false) { help = Some (codes "it's") } ∷ value (codes "c") false ∷ [])
-    ≡ codes "((a\\ b\\:\"it'\\''s\"\nc\\:\"\"))"
-unfolding zsh_escaped_help zsh_escaped_value list_text item_text item_help
-described = refl
+single_lines :
+    (flags_text counted counted
+    ≡ codes "'(-q)*-v[]' \\\n'(-q)*--verbose[]' \\\n'-q[]' \\\n")
+    × (flags_text unnamed unnamed ≡ codes "'()--yes[]' \\\n")
+    × (flags_below with_global.node with_global.children
+    ≡ codes "'(--yaml)--json[]' \\\n'-h[Print help]' \\\n'--help[Print help]' \\\n" ∷ [] ∷ [])
+    × (block_text lines.node lines
+    ≡ codes "_arguments \"${_arguments_options[@]}\" : \\\n"
+    ++ codes "'--n=[]::N:_default' \\\n"
+    ++ codes "':in:_files' \\\n"
+    ++ codes "'*::rest -- a\\:b:_default' \\\n"
+    ++ codes "&& ret=0")
+    × (argument_text app_node app_node colour
+    ≡ codes "'-c+[Colour]:WHEN:(auto)' \\\n'--color=[Colour]:WHEN:(auto)' \\\n")
+    × (list_text (record (value (codes "a b") false) { help = Some (codes "it's") } ∷ value (codes "c") false ∷ [])
+    ≡ codes "((a\\ b\\:\"it'\\''s\"\nc\\:\"\"))")
+unfolding flags_text argument_text argument_line conflicts_text help_text line_end zsh_escaped_help encode_utf8 values_text help_argument help_name help_help zsh_escaped_value block_text block_begins block_ends below_text options_text one_value value_text hint_text positionals_text positional_text count_text positional_escaped list_text item_text item_help
+single_lines = (refl, refl, refl, refl, refl, refl)
 
 -- ---- a whole script
 

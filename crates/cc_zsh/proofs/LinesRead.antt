@@ -1,7 +1,8 @@
 -- Lines of a block add options to it.
-use Rattle.std.proofs.Common.{◌≡◌, ℕ, cond, List, [], ◌∷◌, ◌++◌, map, flat_map, Option, Some, None, codes, refl, sym, ◌∙◌, ap, append_assoc, append-nil}
+use Rattle.std.proofs.Common.{◌≡◌, ℕ, cond, List, [], ◌∷◌, ◌++◌, map, flat_map, Option, Some, None, codes, refl, sym, subst, ◌∙◌, ap, append_assoc, append-nil}
 use Rattle.std.specs.List.{AllByRecursion}
 use Rattle.std.specs.Option.{option_to_list}
+use Rattle.std.proofs.lemmas.List.Concat.{flat_map_single}
 use Rattle.cc_base.specs.Bytes.{single_quote}
 use Rattle.cc_quote.specs.PosixSigns.{sign}
 use Rattle.cc_quote.specs.PosixTokens.{CutState, cut, between, in_single}
@@ -50,10 +51,8 @@ adds_flat_map P text options each (x ∷ xs) (h, hs) =
 pub adds_map : {X : Type 0} (P : X → Type 0) (text : X → List ℕ) (option : X → ZshOption) →
     ((x : X) → P x → Adds (text x) (option x ∷ [])) → (xs : List X) → AllByRecursion P xs →
     Adds (flat_map text xs) (map option xs)
-adds_map P text option each [] h = adds_none
-adds_map P text option each (x ∷ xs) (h, hs) =
-    adds_append (text x) (flat_map text xs) (option x ∷ []) (map option xs) (each x h)
-    (adds_map P text option each xs hs)
+adds_map P text option each xs h = subst (Adds (flat_map text xs)) (flat_map_single option xs)
+    (adds_flat_map P text (λ x. option x ∷ []) each xs h)
 
 pub adds_nothing : {X : Type 0} (P : X → Type 0) (text : X → List ℕ) →
     ((x : X) → P x → Adds (text x) []) → (xs : List X) → AllByRecursion P xs →

@@ -130,7 +130,7 @@ pub use Rattle.cc_paths.specs.PathCandidates
 pub use Rattle.cc_paths.specs.PathTexts
 pub use Rattle.cc_paths.specs.declared.entry.Entry as PathEntry
 pub use Rattle.cc_walk.specs.Blocks as WalkBlocks
-pub use Rattle.cc_walk.specs.Line as WalkLine
+pub use Rattle.cc_walk.specs.Destination as WalkDestination
 pub use Rattle.cc_walk.specs.Lookup as WalkLookup
 pub use Rattle.cc_walk.specs.Reach as WalkReach
 pub use Rattle.cc_walk.specs.WordClasses as WalkWordClasses
@@ -145,7 +145,9 @@ pub use Rattle.cc_gather.specs.Finished
 pub use Rattle.cc_gather.specs.Lookup as OptionLookup
 pub use Rattle.cc_gather.specs.Numbers as WordNumbers
 pub use Rattle.cc_gather.specs.Options as OfferedOptions
-pub use Rattle.cc_gather.specs.Rows as OptionRows
+pub use Rattle.cc_gather.specs.OptionMatches
+pub use Rattle.cc_gather.specs.declared.options.OptionMatch
+pub use Rattle.cc_gather.specs.declared.options.ValueQuery
 pub use Rattle.cc_values.specs.Parts as ValueParts
 pub use Rattle.cc_values.specs.Values as ArgumentValues
 pub use Rattle.cc_engine.specs.Completion

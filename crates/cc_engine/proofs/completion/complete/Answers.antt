@@ -1,7 +1,7 @@
 use Rattle.std.proofs.Common.{ap}
 use Rattle.std.specs.Prelude.{map, string_bytes}
 use Rattle.cc_engine.proofs.Laws.{candidates_differ}
-use Rattle.cc_engine.proofs.Lines.{completes_words}
+use Rattle.cc_engine.proofs.Completing.{completes_words}
 use Rattle.cc_engine.proofs.completion.complete.Goals as goal
 
 pub returns-clause-candidates : goal.returns-clause-candidates

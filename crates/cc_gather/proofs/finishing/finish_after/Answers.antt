@@ -7,6 +7,6 @@ use Rattle.cc_gather.proofs.finishing.finish_after.Goals as goal
 pub returns-clause-once : goal.returns-clause-once
 returns-clause-once c =
     IfOk-weaker c.finish-2.result _ _
-    (λ finished e apart. e ∙ ap finish (c.in_ok-append.ensures.items ∙ ap (λ r. c.args.first.items ++ r) c.in_ok-rest.ensures.value)
-    ∙ finish_after c.args.first.items c.args.rest.items apart)
+    (λ finished e apart. e ∙ ap finish (c.in_ok-append.ensures.items ∙ ap (λ r. c.args.candidates.items ++ r) c.in_ok-others.ensures.value)
+    ∙ finish_after c.args.candidates.items c.args.others.items apart)
     c.finish-2.ensures.value

@@ -1,6 +1,6 @@
 use Rattle.std.proofs.Common.{◌≡◌, ◌++◌, map}
 use Rattle.std.specs.Vec.Iter.{into_iter_items}
-use Rattle.cc_gather.specs.Rows.{with_prefix}
+use Rattle.cc_gather.specs.OptionMatches.{with_prefix}
 use Rattle.cc_gather.proofs.options.all_with_prefix.Given as goal
 
 abbrev pub invariant-loop-candidate : goal.invariant-loop-candidate

@@ -7,7 +7,7 @@ use Rattle.cc_walk.proofs.walked.walk.Given as goal
 
 abbrev pub invariant-loop-word : goal.invariant-loop-word
 invariant-loop-word l = record {
-  within : l.line.node < length l.flat;
-  position : l.line.state.position ≤ l.word-index + 1;
-  rest : walk (node_state_of l.flat l.line) (map string_bytes (drop l.word-index l.words)) ≡ walked (tree_at l.flat 0) (map string_bytes l.words);
+  within : l.walked.node < length l.flat;
+  position : l.walked.state.position ≤ l.word-index + 1;
+  rest : walk (node_state_of l.flat l.walked) (map string_bytes (drop l.word-index l.words)) ≡ walked (tree_at l.flat 0) (map string_bytes l.words);
 }

@@ -1,11 +1,11 @@
--- The line that leads to what is offered.
-use Rattle.std.proofs.Common.{◌≡◌, subst, sym, ℕ, List, []}
+-- What is offered where the words lead.
+use Rattle.std.proofs.Common.{◌≡◌, subst, ℕ, List, []}
 use Rattle.std.specs.Prelude.{IsUtf8, get_or}
 use Rattle.cc_candidates.specs.declared.candidate.CompletionCandidate.{CompletionCandidate}
 use Rattle.cc_command.specs.Tree.{Tree}
 use Rattle.cc_values.specs.Values.{MayReturn}
 use Rattle.cc_walk.specs.declared.state.State.{State}
-use Rattle.cc_walk.specs.Line.{IsLine, IsOnlyLine}
+use Rattle.cc_walk.specs.Destination.{WordsLeadTo, WordsLeadOnlyTo}
 use Rattle.cc_walk.specs.Visible.{HasNoHiddenAlias, visible_end}
 use Rattle.cc_engine.specs.Completion.{Completes, Offers, words_before}
 use Rattle.cc_engine.proofs.Begins.{begins_or_is_completed}
@@ -16,16 +16,16 @@ use Rattle.cc_engine.proofs.OneFinishing.{finishes_once}
 abbrev EndsVisibly : Tree → List (List ℕ) → Tree → Type 0
 EndsVisibly top before node = HasNoHiddenAlias top before → node ≡ visible_end top before
 
--- what is offered at the end of the line for a word that is text, with what is so of it
+-- what is offered where the words lead, for a word that is text, with what is so of it
 with_laws : (sources : MayReturn) (root tree : Tree) (state : State) (words : List (List ℕ)) (index : ℕ) (found : List CompletionCandidate)
     → IsUtf8 (get_or words index [])
-    → IsLine root (words_before root.node words index) tree state → IsOnlyLine root (words_before root.node words index) tree state
+    → WordsLeadTo root (words_before root.node words index) tree state → WordsLeadOnlyTo root (words_before root.node words index) tree state
     → EndsVisibly root (words_before root.node words index) tree → Offers sources tree state (get_or words index []) found
     → Completes sources root words index found
-with_laws sources root tree state words index found valid line only visible offers = record {
+with_laws sources root tree state words index found valid leads only visible offers = record {
   tree = tree;
   state = state;
-  line = line;
+  leads = leads;
   only = only;
   visible = visible;
   offers = offers;
@@ -35,16 +35,16 @@ with_laws sources root tree state words index found valid line only visible offe
   begins_or_completed = begins_or_is_completed sources tree state (get_or words index []) offers.0 found valid offers.1 offers.2;
 }
 
--- a line over the words before the index, and what is offered at its end for the word there
+-- where the words before the index lead, and what is offered there for the word at the index
 pub completes : (sources : MayReturn) (root top : Tree) (node position : Tree) (state : State) (words before : List (List ℕ)) (index : ℕ)
     (word : List ℕ) (found : List CompletionCandidate)
     → IsUtf8 (get_or words index [])
     → top ≡ root → node ≡ position → before ≡ words_before root.node words index → word ≡ get_or words index []
-    → IsLine top before position state → IsOnlyLine top before position state
+    → WordsLeadTo top before position state → WordsLeadOnlyTo top before position state
     → (HasNoHiddenAlias top before → position ≡ visible_end top before) → Offers sources node state word found
     → Completes sources root words index found
-completes sources root top node position state words before index word found valid is_root is_position is_before is_word line only visible offered =
-    with_laws sources root position state words index found valid (rw (is_root, is_before) at line) (rw (is_root, is_before) at only)
+completes sources root top node position state words before index word found valid is_root is_position is_before is_word leads only visible offered =
+    with_laws sources root position state words index found valid (rw (is_root, is_before) at leads) (rw (is_root, is_before) at only)
     (rw (is_root, is_before) at visible) (rw (is_position, is_word) at offered)
 
 -- the same of words that are equal
