@@ -154,6 +154,12 @@ pub use Rattle.cc_engine.specs.Completion
 pub use Rattle.cc_engine.specs.OpenLists
 pub use Rattle.cc_engine.specs.Paths as HintPaths
 pub use Rattle.cc_agreement.specs.Agreement as BashAgreement
+pub use Rattle.cc_describe.specs.Described
+-- the parser of a tree
+pub use Rattle.cc_parser.specs.Arguments as ParsedArguments
+pub use Rattle.cc_parser.specs.Parsers
+pub use Rattle.cc_parser.specs.Taken as TakenOffers
+pub use Rattle.cc_parser_agreement.specs.Agreement as ParserAgreement
 -- requests of a shell
 pub use Rattle.cc_registrations.specs.BashRegistration
 pub use Rattle.cc_registrations.specs.ElvishRegistration

@@ -23,8 +23,10 @@
 
 pub mod aot;
 pub mod command;
+pub mod describe;
 pub mod engine;
 pub mod env;
+pub mod parser;
 pub mod quote;
 
 pub use cc_arg::ValueHint;

@@ -1,18 +1,16 @@
 //! The tree of the commands. Each function fails when memory runs out.
-//!
-//! What may have failed is passed on, and looked at in `with_arg`, `with_child` and `with_alias`
-//! alone: a command or an argument that is dropped where a function returns early takes seconds to
-//! prove, at each such call.
 
-use crate::arguments::{flag, option, positional, possible_values};
 use clap_complete::Error;
 use clap_complete::command::{Arg, Command, ValueHint, ValueRange};
+use clap_complete::describe::{
+    command, flag, option, positional, possible_values, with_alias, with_arg, with_child,
+};
 use clap_complete::engine::ArgValueCompleter;
 use std::alloc::Global;
 
 /// The whole tree, where this completer completes the names of installed packages.
 pub(crate) fn larder(alloc: Global, installed: ArgValueCompleter) -> Result<Command, Error> {
-    let larder = command_with_about(alloc, "larder", "Install, update and publish packages");
+    let larder = group(alloc, "larder", "Install, update and publish packages");
     let larder = with_arg(larder, verbose(alloc));
     let larder = with_arg(larder, root(alloc));
     let larder = with_arg(larder, color(alloc));
@@ -46,7 +44,7 @@ fn color(alloc: Global) -> Result<Arg, Error> {
 
 fn install(alloc: Global) -> Result<Command, Error> {
     let from = "Take the packages from this source";
-    let install = command_with_about(alloc, "install", "Install packages");
+    let install = command(alloc, "install", "Install packages");
     let install = with_alias(alloc, install, "i");
     let install = with_arg(install, packages(alloc));
     let install = with_arg(install, option(alloc, "from", "SOURCE", from));
@@ -58,7 +56,7 @@ fn dry_run(alloc: Global) -> Result<Arg, Error> {
 }
 
 fn remove(alloc: Global, installed: ArgValueCompleter) -> Result<Command, Error> {
-    let remove = command_with_about(alloc, "remove", "Remove packages");
+    let remove = command(alloc, "remove", "Remove packages");
     let remove = with_alias(alloc, remove, "rm");
     let remove = with_arg(remove, completed_packages(alloc, installed));
     with_arg(remove, flag(alloc, "purge", "Remove their settings too"))
@@ -76,14 +74,14 @@ fn packages(alloc: Global) -> Result<Arg, Error> {
 }
 
 fn source(alloc: Global) -> Result<Command, Error> {
-    let source = command_with_about(alloc, "source", "Manage the sources of packages");
+    let source = group(alloc, "source", "Manage the sources of packages");
     let source = with_alias(alloc, source, "src");
     let source = with_child(source, add_source(alloc));
     with_child(source, key(alloc))
 }
 
 fn add_source(alloc: Global) -> Result<Command, Error> {
-    let add = command_with_about(alloc, "add", "Add a source");
+    let add = command(alloc, "add", "Add a source");
     let add = with_arg(add, positional(alloc, "name", "NAME", "What to call it"));
     let add = with_arg(add, url(alloc));
     with_arg(add, priority(alloc))
@@ -99,11 +97,11 @@ fn priority(alloc: Global) -> Result<Arg, Error> {
 
 fn key(alloc: Global) -> Result<Command, Error> {
     let about = "Manage the keys that sign a source's packages";
-    with_child(command_with_about(alloc, "key", about), add_key(alloc))
+    with_child(group(alloc, "key", about), add_key(alloc))
 }
 
 fn add_key(alloc: Global) -> Result<Command, Error> {
-    let add = command_with_about(alloc, "add", "Trust a key");
+    let add = command(alloc, "add", "Trust a key");
     let add = with_arg(add, key_file(alloc));
     with_arg(add, expires(alloc))
 }
@@ -124,29 +122,7 @@ fn expires(alloc: Global) -> Result<Arg, Error> {
     Ok(option(alloc, "expires", "AFTER", "Trust it for this time")?.value_parser(times))
 }
 
-// A command with its name and its description alone.
-fn command_with_about(alloc: Global, name: &str, about: &str) -> Result<Command, Error> {
-    let name = String::from_str(alloc, name)?;
-    let about = String::from_str(alloc, about)?;
-    Ok(Command::new(alloc, name).about(about))
-}
-
-fn with_alias(
-    alloc: Global,
-    command: Result<Command, Error>,
-    alias: &str,
-) -> Result<Command, Error> {
-    let command = command?;
-    command.visible_alias(String::from_str(alloc, alias)?)
-}
-
-fn with_arg(command: Result<Command, Error>, arg: Result<Arg, Error>) -> Result<Command, Error> {
-    command?.arg(arg?)
-}
-
-fn with_child(
-    command: Result<Command, Error>,
-    child: Result<Command, Error>,
-) -> Result<Command, Error> {
-    command?.subcommand(child?)
+// A command that does nothing without a subcommand.
+fn group(alloc: Global, name: &str, about: &str) -> Result<Command, Error> {
+    Ok(command(alloc, name, about)?.subcommand_required(true))
 }

@@ -1,47 +1,40 @@
-//! `larder`: the command line of a package manager, which completes itself in the shell that calls
-//! it. It manages no packages: it prints the words that it was called with.
+//! `larder`: the command line of a package manager. One tree of commands completes itself in the
+//! shell that calls it, and parses its words. It keeps a list of packages and installs none.
 #![tactic(auto)]
 
-mod arguments;
 mod command;
 mod completing;
 mod packages;
+mod parsing;
 
+use crate::command::larder;
 use crate::completing::completes;
+use crate::parsing::carry_out;
+use clap_complete::engine::ArgValueCompleter;
 use std::env::{self, Env};
 use std::fmt::Display;
 use std::io;
 use std::process::ExitCode;
 
 fn main(rt: HostRuntime) -> ExitCode {
-    let words = match words(&rt) {
-        Ok(words) => words,
-        Err(error) => return fail(&rt, &error),
-    };
-    match completes(&rt, words) {
-        Ok(true) => return ExitCode::SUCCESS,
-        Ok(false) => {}
-        Err(error) => return fail(&rt, &error),
-    }
-    match print_words(&rt) {
-        Ok(()) => ExitCode::SUCCESS,
+    match run(&rt) {
+        Ok(status) => status,
         Err(error) => fail(&rt, &error),
     }
+}
+
+// The parser takes no notice of the completer, so any number will do there.
+fn run(rt: &HostRuntime) -> Result<ExitCode, anyhow::Error> {
+    if completes(rt, words(rt)?)? {
+        return Ok(ExitCode::SUCCESS);
+    }
+    let tree = larder(rt.alloc(), ArgValueCompleter::new(0))?;
+    carry_out(rt, tree, words(rt)?)
 }
 
 // The words of the command line; the first is the program's name.
 fn words<R: Env + AllocGlobal>(rt: &R) -> io::Result<Vec<String>> {
     Ok(env::args(rt)?.collect(rt.alloc())?)
-}
-
-// Prints what the program would do.
-fn print_words<R: Env + Print + AllocGlobal>(rt: &R) -> io::Result<()> {
-    let mut line = String::from_str(rt.alloc(), "larder would carry out:")?;
-    for word in env::args(rt)?.skip(1) {
-        line.push_str(" ")?;
-        line.push_str(word.as_str())?;
-    }
-    rt.println(line.as_str())
 }
 
 // Prints why the program can't go on.

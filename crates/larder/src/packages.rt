@@ -1,11 +1,13 @@
-//! The packages that are installed.
+//! The packages that are installed: the lines of a file in the current folder.
 
 ghost use Rattle.std.specs.Prelude.{⊤};
 
+use clap::ArgMatches;
 use clap_complete::engine::{CompletionCandidate, ValueCompleter};
 use std::alloc::{AllocError, Global};
+use std::fs;
+use std::io::{self, IsTerminal};
 use std::rt::Files;
-use std::{fs, io};
 
 /// The file in the current folder that names the installed packages, each on a line.
 const LIST: &str = "larder.list";
@@ -52,4 +54,62 @@ fn contents<R: Files>(files: &R, alloc: Global) -> Result<String, AllocError> {
         Err(error) if error.kind() == io::ErrorKind::OutOfMemory => Err(AllocError),
         Err(_) => Ok(String::new(alloc)),
     }
+}
+
+/// Adds to the list those of the packages that it lacks; with `--dry-run` only says so.
+pub(crate) fn install(rt: &HostRuntime, values: &ArgMatches<'_>) -> io::Result<()> {
+    let alloc = rt.alloc();
+    let dry = values.get_flag("dry-run");
+    let mut list = contents(rt, alloc)?;
+    for name in values.get_raw("package").unwrap_or(&[]) {
+        if has_line(&list, name) {
+            continue;
+        }
+        list.push_str(name)?;
+        list.push_str("\n")?;
+        say(
+            rt,
+            if dry { "would install" } else { "installed" },
+            name,
+            values,
+        )?;
+    }
+    if dry {
+        return Ok(());
+    }
+    fs::write(rt, LIST, list.as_str())
+}
+
+/// Takes the packages off the list.
+pub(crate) fn remove(rt: &HostRuntime, values: &ArgMatches<'_>) -> io::Result<()> {
+    let names = values.get_raw("package").unwrap_or(&[]);
+    let mut kept = String::new(rt.alloc());
+    for line in contents(rt, rt.alloc())?.lines() {
+        if names.iter().any(|name| *name == line) {
+            say(rt, "removed", line, values)?;
+            continue;
+        }
+        kept.push_str(line)?;
+        kept.push_str("\n")?;
+    }
+    fs::write(rt, LIST, kept.as_str())
+}
+
+fn has_line(list: &str, name: &str) -> bool {
+    list.lines().any(|line| line == name)
+}
+
+// Prints what was done with a package, its name in green where `--color` says so.
+fn say(rt: &HostRuntime, what: &str, name: &str, values: &ArgMatches<'_>) -> io::Result<()> {
+    let colored = match values.get_str("color") {
+        Some("always") => true,
+        Some("never") => false,
+        _ => rt.stdout().is_terminal(),
+    };
+    let (before, after) = if colored {
+        ("\x1b[32m", "\x1b[0m")
+    } else {
+        ("", "")
+    };
+    println!(rt; "{what} {before}{name}{after}")
 }

@@ -1,0 +1,55 @@
+//! Commands, step by step.
+
+ghost use Rattle.std.specs.Prelude.{◌≡◌, IfErr, IfOk};
+ghost use Rattle.cc_command.specs.Made.{with_argument, with_child};
+ghost use Rattle.cc_describe.specs.Described.{MadeOf, MadeWith, command_of, with_visible_alias};
+
+use cc_arg::Arg;
+use cc_base::Error;
+use cc_command::Command;
+use std::alloc::Global;
+
+/// A command with its name and what it says of itself. Fails with `Memory` alone.
+pub fn command(alloc: Global, name: &str, about: &str) -> Result<Command, Error>
+    ensures ok { IfOk result (λ command. command ≡ command_of name.now about.now) }
+    ensures memory { IfErr result (λ error. error ≡ Error.Memory) }
+{
+    let name = String::from_str(alloc, name)?;
+    let about = String::from_str(alloc, about)?;
+    Ok(Command::new(alloc, name).about(about))
+}
+
+/// The command with a further name that is shown. Fails as the command did, or with `Memory`.
+pub fn with_alias(
+    alloc: Global,
+    command: Result<Command, Error>,
+    alias: &str,
+) -> Result<Command, Error>
+    ensures { MadeWith (with_visible_alias alias.now) command result }
+{
+    let command = command?;
+    command.visible_alias(String::from_str(alloc, alias)?)
+}
+
+/// The command with a further argument, as `Command::arg` adds it. Fails as the command did, or as
+/// the argument did, or with `Memory`.
+pub fn with_arg(
+    command: Result<Command, Error>,
+    argument: Result<Arg, Error>,
+) -> Result<Command, Error>
+    ensures { MadeOf (λ tree arg. record tree { node = with_argument tree.node arg })
+        command argument result }
+{
+    command?.arg(argument?)
+}
+
+/// The command with a further child, as `Command::subcommand` adds it. Fails as the command did, or
+/// as the child did, or with `Memory`.
+pub fn with_child(
+    command: Result<Command, Error>,
+    child: Result<Command, Error>,
+) -> Result<Command, Error>
+    ensures { MadeOf with_child command child result }
+{
+    command?.subcommand(child?)
+}

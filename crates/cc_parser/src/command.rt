@@ -1,0 +1,273 @@
+//! A command of the parser.
+
+ghost use Rattle.std.specs.Prelude.{◌≡◌, ◌++◌, ◌∷◌, ◌&&◌, ◌||◌, [], IfOk, IsTrue, false, true, not, is_some};
+ghost use Rattle.std.specs.Option.{option_copied};
+ghost use Rattle.clap.specs.Walk.{rule_of};
+ghost use Rattle.clap.specs.Words.{app_of};
+ghost use Rattle.clap.specs.declared.builder.command.Command.TheViews.{out-Command};
+ghost use Rattle.clap.specs.Simple.{new_app, on_top};
+ghost use Rattle.cc_command.specs.Tree.{forest_of};
+ghost use Rattle.cc_parser.specs.Taken.{TakesOffered, fits_parser};
+ghost use Rattle.cc_parser.specs.Parsers.{AddsArguments, AddsChildren, IsAppOf, IsLeaf, any_global};
+ghost use Rattle.cc_parser.specs.Parsers.{globals_below, has_generated, has_globals, is_disabled_below};
+ghost use Rattle.cc_parser.specs.Parsers.{is_left_out, named_app};
+
+use crate::argument::argument;
+use bumpalo::Bump;
+use cc_arg::Arg;
+use cc_base::Text;
+use cc_command::Command;
+use std::alloc::{AllocError, Global};
+
+/// The parser of a built command: `clap`'s own command of the same tree, which borrows the tree's
+/// texts and keeps lists in `store`. All arguments of a command are as the tree has them, the flags
+/// `help` and `version` among them. A child `help` that building made is `clap`'s own, which prints
+/// a help text; where a command above has no such child, `clap` disables its own, and `help` is a
+/// child as any other.
+///
+/// Where no argument of the tree is global, a parse reads of the command and its children what the
+/// tree says. Where `fits_parser` is true besides, all that completion offers of the root is taken.
+///
+/// Fails where an allocation fails.
+pub fn parser<'a>(
+    alloc: Global,
+    store: &'a Bump,
+    command: &'a Command,
+) -> Result<clap::Command<'a>, AllocError>
+    requires { IsTrue command.now.node.built }
+    ensures app { IfOk result (λ parser.
+        has_globals command.now ≡ false → IsAppOf command.now (app_of parser)) }
+    ensures globals { IfOk result (λ parser.
+        (out-Command parser).has_globals ≡ has_globals command.now) }
+    ensures taken { IfOk result (λ parser. has_globals command.now ≡ false
+        → fits_parser command.now ≡ true → TakesOffered command.now (app_of parser)) }
+{
+    parser_of(alloc, store, command)
+}
+
+fn parser_of<'a>(
+    alloc: Global,
+    store: &'a Bump,
+    command: &'a Command,
+) -> Result<clap::Command<'a>, AllocError>
+    ensures app { IfOk result (λ parser.
+        has_globals command.now ≡ false → IsAppOf command.now (app_of parser)) }
+    ensures globals { IfOk result (λ parser.
+        (out-Command parser).has_globals ≡ has_globals command.now) }
+{
+    let parser = alone(alloc, store, command)?;
+    let parser = with_children(parser, alloc, store, command.get_subcommands(), false)?;
+    let Some(name) = command.get_bin_name() else {
+        return Ok(parser);
+    };
+    parser.bin_name(name)
+}
+
+// A command with its arguments, without its children.
+fn alone<'a>(
+    alloc: Global,
+    store: &'a Bump,
+    command: &'a Command,
+) -> Result<clap::Command<'a>, AllocError>
+    ensures app { IfOk result (λ parser. any_global command.now.node.arguments ≡ false
+        → AddsArguments command.now.node.arguments
+        (named_app command.now.node command.now.children) (app_of parser)) }
+    ensures globals { IfOk result (λ parser.
+        (out-Command parser).has_globals ≡ any_global command.now.node.arguments) }
+{
+    let parser = named(alloc, command)?;
+    with_arguments(parser, alloc, store, command.get_arguments())
+}
+
+// A command without its arguments and children.
+fn named<'a>(alloc: Global, command: &'a Command) -> Result<clap::Command<'a>, AllocError>
+    ensures app { IfOk result (λ parser.
+        app_of parser ≡ named_app command.now.node command.now.children) }
+    ensures globals { IfOk result (λ parser. (out-Command parser).has_globals ≡ false) }
+{
+    let parser = clap::Command::new(alloc, command.get_name())
+        .hide(command.is_hide_set())
+        .display_order(command.get_display_order())
+        .no_binary_name(command.is_no_binary_name_set())
+        .allow_external_subcommands(command.is_allow_external_subcommands_set())
+        .subcommand_required(command.is_subcommand_required_set())
+        .arg_required_else_help(command.is_arg_required_else_help_set())
+        .disable_help_flag(true)
+        .disable_version_flag(true)
+        .disable_help_subcommand(!has_generated(command.get_subcommands()));
+    let parser = with_texts(parser, command);
+    let parser = with_version(parser, command.get_version());
+    let parser = with_aliases(parser, command.get_visible_aliases(), true)?;
+    with_aliases(parser, command.get_aliases(), false)
+}
+
+// Whether the parser leaves the command out: building made it, and no command above its parent
+// disables `clap`'s own child `help`.
+fn is_left_out(command: &Command, above: bool) -> bool
+    ensures { result ≡ is_left_out above command.now.node }
+{
+    command.is_generated() && !above
+}
+
+// Whether `clap`'s own child `help` is disabled below a command with these children.
+fn is_disabled_below(above: bool, children: &[Command]) -> bool
+    ensures { result ≡ is_disabled_below above (forest_of children.now) }
+{
+    above || !has_generated(children)
+}
+
+/// Whether building made one of the children.
+pub(crate) fn has_generated(children: &[Command]) -> bool
+    ensures { result ≡ has_generated (forest_of children.now) }
+{
+    for child in children {
+        if child.is_generated() {
+            return true;
+        }
+    }
+    false
+}
+
+// With what helps say of it.
+fn with_texts<'a>(parser: clap::Command<'a>, command: &'a Command) -> clap::Command<'a>
+    ensures app { app_of result ≡ app_of parser.entry }
+    ensures globals { (out-Command result).has_globals ≡ (out-Command parser.entry).has_globals }
+{
+    let parser = with_about(parser, command.get_about());
+    let parser = with_long_about(parser, command.get_long_about());
+    let parser = with_after_help(parser, command.get_after_help());
+    with_heading(parser, command.get_subcommand_help_heading())
+}
+
+fn with_about<'a>(parser: clap::Command<'a>, about: Option<&'a str>) -> clap::Command<'a>
+    ensures app { app_of result ≡ app_of parser.entry }
+    ensures globals { (out-Command result).has_globals ≡ (out-Command parser.entry).has_globals }
+{
+    match about {
+        Some(about) => parser.about(about),
+        None => parser,
+    }
+}
+
+fn with_long_about<'a>(parser: clap::Command<'a>, about: Option<&'a str>) -> clap::Command<'a>
+    ensures app { app_of result ≡ app_of parser.entry }
+    ensures globals { (out-Command result).has_globals ≡ (out-Command parser.entry).has_globals }
+{
+    match about {
+        Some(about) => parser.long_about(about),
+        None => parser,
+    }
+}
+
+fn with_after_help<'a>(parser: clap::Command<'a>, text: Option<&'a str>) -> clap::Command<'a>
+    ensures app { app_of result ≡ app_of parser.entry }
+    ensures globals { (out-Command result).has_globals ≡ (out-Command parser.entry).has_globals }
+{
+    match text {
+        Some(text) => parser.after_help(text),
+        None => parser,
+    }
+}
+
+fn with_version<'a>(parser: clap::Command<'a>, version: Option<&'a str>) -> clap::Command<'a>
+    ensures app { app_of result ≡ on_top (λ top.
+        record top { has_version = is_some version.entry || top.has_version }) (app_of parser.entry) }
+    ensures globals { (out-Command result).has_globals ≡ (out-Command parser.entry).has_globals }
+{
+    match version {
+        Some(version) => parser.version(version),
+        None => parser,
+    }
+}
+
+fn with_heading<'a>(parser: clap::Command<'a>, heading: Option<&'a str>) -> clap::Command<'a>
+    ensures app { app_of result ≡ app_of parser.entry }
+    ensures globals { (out-Command result).has_globals ≡ (out-Command parser.entry).has_globals }
+{
+    match heading {
+        Some(heading) => parser.subcommand_help_heading(heading),
+        None => parser,
+    }
+}
+
+fn with_aliases<'a>(
+    parser: clap::Command<'a>,
+    aliases: &'a [Text],
+    shown: bool,
+) -> Result<clap::Command<'a>, AllocError>
+    ensures app { IfOk result (λ made. app_of made ≡ on_top (λ top.
+        record top { aliases = top.aliases ++ aliases.now }) (app_of parser.entry)) }
+    ensures globals { IfOk result (λ made.
+        (out-Command made).has_globals ≡ (out-Command parser.entry).has_globals) }
+{
+    let mut parser = parser;
+    for alias in aliases {
+        parser = with_alias(parser, alias.as_str(), shown)?;
+    }
+    Ok(parser)
+}
+
+fn with_alias<'a>(
+    parser: clap::Command<'a>,
+    alias: &'a str,
+    shown: bool,
+) -> Result<clap::Command<'a>, AllocError>
+    ensures app { IfOk result (λ made. app_of made ≡ on_top (λ top.
+        record top { aliases = top.aliases ++ alias.entry.now ∷ [] }) (app_of parser.entry)) }
+    ensures globals { IfOk result (λ made.
+        (out-Command made).has_globals ≡ (out-Command parser.entry).has_globals) }
+{
+    if shown {
+        parser.visible_alias(alias)
+    } else {
+        parser.alias(alias)
+    }
+}
+
+fn with_arguments<'a>(
+    parser: clap::Command<'a>,
+    alloc: Global,
+    store: &'a Bump,
+    arguments: &'a [Arg],
+) -> Result<clap::Command<'a>, AllocError>
+    requires { ((app_of parser).top.rules ≡ []) × ((out-Command parser).has_globals ≡ false) }
+    ensures app { IfOk result (λ made. any_global arguments.now ≡ false
+        → AddsArguments arguments.now (app_of parser.entry) (app_of made)) }
+    ensures globals { IfOk result (λ made.
+        (out-Command made).has_globals ≡ any_global arguments.now) }
+{
+    let mut parser = parser;
+    for given in arguments {
+        parser = parser.arg(argument(alloc, store, given)?)?;
+    }
+    Ok(parser)
+}
+
+// With its children, but for those that are left out. `above` says that a command above this one
+// disables `clap`'s own child `help`, which holds for all below: one that building made is then
+// a child as any other.
+fn with_children<'a>(
+    parser: clap::Command<'a>,
+    alloc: Global,
+    store: &'a Bump,
+    children: &'a [Command],
+    above: bool,
+) -> Result<clap::Command<'a>, AllocError>
+    ensures app { IfOk result (λ made. globals_below above (forest_of children.now) ≡ false
+        → IsLeaf (app_of parser.entry)
+        → AddsChildren above (forest_of children.now) (app_of parser.entry) (app_of made)) }
+    ensures globals { IfOk result (λ made. (out-Command made).has_globals
+        ≡ ((out-Command parser.entry).has_globals || globals_below above (forest_of children.now))) }
+{
+    let here = is_disabled_below(above, children);
+    let mut parser = parser;
+    for child in children {
+        if is_left_out(child, above) {
+            continue;
+        }
+        let made = alone(alloc, store, child)?;
+        let made = with_children(made, alloc, store, child.get_subcommands(), here)?;
+        parser = parser.subcommand(made)?;
+    }
+    Ok(parser)
+}

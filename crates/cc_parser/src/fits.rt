@@ -1,0 +1,78 @@
+//! Whether a tree fits its parser.
+
+ghost use Rattle.std.specs.Prelude.{◌≡◌, ◌&&◌, ◌||◌, false, not};
+ghost use Rattle.std.specs.List.{list_all};
+ghost use Rattle.cc_command.specs.Tree.{forest_of, has_nodes};
+ghost use Rattle.cc_parser.specs.Parsers.{kept};
+ghost use Rattle.cc_parser.specs.Taken.{are_help_if_generated, fits_parser, has_help_beside_others};
+ghost use Rattle.cc_parser.specs.Taken.{has_index_or_name, is_help_if_generated};
+
+use crate::command::has_generated;
+use cc_arg::Arg;
+use cc_command::Command;
+
+/// Whether each argument of a built command has an index or names, and not both: a positional has
+/// an index and no alias, an option or a flag no index. Where it has, and no argument is global, the
+/// parser takes all that completion offers of the command. Of a tree by `Command`'s builders it is
+/// false only where an index was set on an option or a flag, or an alias on a positional.
+///
+/// It looks at the child `help` that building made too. Allocates nothing.
+pub fn fits_parser(command: &Command) -> bool
+    ensures { result ≡ fits_parser command.now }
+{
+    have_index_or_name(command.get_arguments()) && has_help_beside_others(command.get_subcommands())
+}
+
+fn have_index_or_name(arguments: &[Arg]) -> bool
+    ensures { result ≡ list_all has_index_or_name arguments.now }
+{
+    arguments.iter().all(has_index_or_name)
+}
+
+fn has_index_or_name(argument: &Arg) -> bool
+    ensures { result ≡ has_index_or_name argument.now }
+{
+    if argument.is_positional() {
+        argument.get_index().is_some() && argument.get_aliases().is_empty()
+    } else {
+        argument.get_index().is_none()
+    }
+}
+
+fn has_help_beside_others(children: &[Command]) -> bool
+    ensures { result ≡ has_help_beside_others (forest_of children.now) }
+{
+    are_help_if_generated(children) && (!has_generated(children) || has_others(children))
+}
+
+fn are_help_if_generated(children: &[Command]) -> bool
+    ensures { result ≡ are_help_if_generated (forest_of children.now) }
+{
+    for child in children {
+        if !is_help_if_generated(child) {
+            return false;
+        }
+    }
+    true
+}
+
+fn is_help_if_generated(command: &Command) -> bool
+    ensures { result ≡ is_help_if_generated command.now.node }
+{
+    !command.is_generated()
+        || (command.get_name() == "help"
+            && command.get_visible_aliases().is_empty()
+            && command.get_aliases().is_empty())
+}
+
+// Whether building did not make one of the children.
+fn has_others(children: &[Command]) -> bool
+    ensures { result ≡ has_nodes (kept false (forest_of children.now)) }
+{
+    for child in children {
+        if !child.is_generated() {
+            return true;
+        }
+    }
+    false
+}

@@ -1,0 +1,71 @@
+-- The candidates of a command, and whether its parser takes them.
+use Rattle.std.specs.Prelude.{◌≡◌, ◌⊎◌, ◌++◌, ℕ, List, [], Contains, Some, codes, encode_utf8, get_or}
+use Rattle.std.specs.List.{AllByRecursion}
+use Rattle.cc_arg.specs.declared.parts.ArgParts.{ArgParts as Arg}
+use Rattle.cc_candidates.specs.declared.candidate.CompletionCandidate.{CompletionCandidate}
+use Rattle.cc_command.specs.Tree.{Tree}
+use Rattle.cc_engine.specs.Completion.{Offers, Returned, offered_row, opened_values, positional_values, row_candidates, words_before}
+use Rattle.cc_engine.specs.OpenLists.{open_lists_by}
+use Rattle.cc_gather.specs.Children.{external}
+use Rattle.cc_gather.specs.Rows.{Listed, Row, ValuesOf}
+use Rattle.cc_parser.specs.Taken.{KnowsChild, KnowsLong, KnowsShort}
+use Rattle.cc_values.specs.Values.{MayReturn}
+use Rattle.cc_walk.specs.Line.{IsLine, IsOnlyLine}
+use Rattle.cc_walk.specs.Lookup.{positional_at}
+use Rattle.cc_walk.specs.declared.state.State.{State}
+use Rattle.clap.specs.Simple.{App}
+
+-- the candidate is a long of an argument of the tree, whose id it has, and the parser finds an
+-- argument by that long
+pub record IsLongTaken (tree : Tree) (app : App) (candidate : CompletionCandidate) : Type 0 where
+  pub argument : Arg
+  pub there : Contains tree.node.arguments argument
+  pub id : candidate.id ≡ Some (codes "arg::" ++ argument.id)
+  pub name : List ℕ
+  pub value : candidate.value ≡ codes "--" ++ name
+  pub known : KnowsLong app name
+
+-- likewise a short, behind a dash or behind the word
+pub record IsShortTaken (tree : Tree) (app : App) (candidate : CompletionCandidate) : Type 0 where
+  pub argument : Arg
+  pub there : Contains tree.node.arguments argument
+  pub id : candidate.id ≡ Some (codes "arg::" ++ argument.id)
+  pub before : List ℕ
+  pub short : ℕ
+  pub value : candidate.value ≡ before ++ encode_utf8 short
+  pub known : KnowsShort app short
+
+-- the candidate is a name that the parser takes, or one of the values
+abbrev pub IsTaken : Tree → App → List CompletionCandidate → CompletionCandidate → Type 0
+IsTaken tree app values candidate =
+    (KnowsChild app candidate.value ⊎ IsLongTaken tree app candidate)
+    ⊎ (IsShortTaken tree app candidate ⊎ Contains values candidate)
+
+-- those of a row that are values
+abbrev pub row_values : Row → List CompletionCandidate → List CompletionCandidate
+row_values (Listed found) returned = []
+row_values (ValuesOf wanted) returned = row_candidates (ValuesOf wanted) returned
+
+-- the values among what is gathered: the names of other programs, those of the positional, those
+-- within an option's word, and those of an open option
+abbrev pub values_among : Tree → State → List ℕ → Returned → List CompletionCandidate
+values_among tree state word returned =
+    let lists = open_lists_by tree.node.arguments state.position state.escaped state.pending in
+    external tree.node returned.children
+    ++ (positional_values
+    (positional_at tree.node.arguments state.position) lists.value word returned.positional
+    ++ (row_values (offered_row lists.options tree.node.arguments word) returned.within
+    ++ opened_values state.pending word returned.opened))
+
+-- The words before the index lead to one node and one state, and to no others. The candidates are
+-- some that may be offered there. Where that node is the root, the parser of the root takes each
+-- of them.
+pub record AgreesWithParser (sources : MayReturn) (root : Tree) (app : App) (words : List (List ℕ))
+    (index : ℕ) (found : List CompletionCandidate) : Type 0 where
+  pub tree : Tree
+  pub state : State
+  pub line : IsLine root (words_before root.node words index) tree state
+  pub only : IsOnlyLine root (words_before root.node words index) tree state
+  pub offers : Offers sources tree state (get_or words index []) found
+  pub taken : tree ≡ root → AllByRecursion (IsTaken root app
+      (values_among tree state (get_or words index []) offers.0)) found
