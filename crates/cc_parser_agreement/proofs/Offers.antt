@@ -16,19 +16,21 @@ use Rattle.cc_candidates.specs.declared.candidate.CompletionCandidate.{Completio
 use Rattle.cc_command.specs.Names.{visible_names}
 use Rattle.cc_command.specs.Tree.{Forest, none, more, Tree}
 use Rattle.cc_command.specs.declared.node.Node.{Node}
-use Rattle.cc_engine.specs.Completion.{Completes, Returned, candidates_for, finished_last, offered, offered_children, offered_row, opened_values, positional_values, row_candidates}
+use Rattle.cc_engine.specs.Completion.{Completes, Returned, candidates_for, finished_last, offered, offered_children, offered_match, opened_values, positional_values, match_candidates}
 use Rattle.cc_engine.specs.OpenLists.{least, open_lists_by}
 use Rattle.cc_gather.specs.Children.{child_candidate, child_candidates, children_candidates, external, in_candidates_order, subcommand_candidates}
 use Rattle.cc_gather.specs.Finished.{comes_before, finish, first_of_ids, group, shown_or_all}
 use Rattle.cc_gather.specs.Lookup.{has_own_long}
 use Rattle.cc_gather.specs.Numbers.{is_number}
 use Rattle.cc_gather.specs.Options.{hidden_candidates, long_candidate, long_candidates, longs, short_candidate, short_candidates, shorts}
-use Rattle.cc_gather.specs.Rows.{Listed, Row, ValuesOf, after_equals, after_one_dash, after_two_dashes, cluster_row, flag_row, long_row, row_of, short_row}
+use Rattle.cc_gather.specs.OptionMatches.{after_equals, after_one_dash, after_two_dashes, cluster_match, flag_match, long_match, match_of, short_match}
+use Rattle.cc_gather.specs.declared.options.OptionMatch.{OptionMatch}
+use Rattle.cc_gather.specs.declared.options.OptionMatch.TheVariants.{Listed, ValuesOf}
 use Rattle.cc_gather.proofs.FirstOfIds.{all-first_of_ids}
 use Rattle.cc_gather.proofs.Law.{all-shown}
 use Rattle.cc_parser.specs.Parsers.{has_globals}
 use Rattle.cc_parser.specs.Taken.{fits_parser, KnowsChild, KnowsLong, KnowsShort, TakesNames, TakesOffered, TakesSiblings}
-use Rattle.cc_parser_agreement.specs.Agreement.{AgreesWithParser, IsTaken, row_values, values_among}
+use Rattle.cc_parser_agreement.specs.Agreement.{AgreesWithParser, IsTaken, match_values, values_among}
 use Rattle.cc_values.specs.Values.{MayReturn, values}
 use Rattle.cc_walk.specs.Lookup.{positional_at}
 use Rattle.cc_walk.specs.WordClasses.{value_character}
@@ -86,15 +88,15 @@ all_subcommands P word tree programs children others =
 
 module _ (P : CompletionCandidate → Type 0) (arguments : List Arg) (all_longs : AllByRecursion P (longs arguments))
     (all_shorts : (before : List ℕ) → AllByRecursion P (shorts before arguments)) where
-  abbrev AreListed : Row → Type 0
+  abbrev AreListed : OptionMatch → Type 0
   AreListed (Listed found) = AllByRecursion P found
   AreListed (ValuesOf wanted) = Unit {0}
 
-  long_listed : (long : List ℕ) (text : Option (List ℕ)) → AreListed (long_row arguments long text)
+  long_listed : (long : List ℕ) (text : Option (List ℕ)) → AreListed (long_match arguments long text)
   long_listed long None = AllByRecursion-filter P (begins (codes "--" ++ long)) (longs arguments) all_longs
   long_listed long (Some text) = flag (find (has_own_long (before_equals long)) arguments)
     where
-      flag : (argument : Option Arg) → AreListed (flag_row argument (before_equals long) text)
+      flag : (argument : Option Arg) → AreListed (flag_match argument (before_equals long) text)
       flag None = tt
       flag (Some a) = tt
 
@@ -102,14 +104,14 @@ module _ (P : CompletionCandidate → Type 0) (arguments : List Arg) (all_longs 
   two_listed [] = all_longs
   two_listed (c ∷ s) = long_listed (c ∷ s) (after_equals (c ∷ s))
 
-  short_listed : (after : List ℕ) → AreListed (short_row arguments after)
+  short_listed : (after : List ℕ) → AreListed (short_match arguments after)
   short_listed after = by (is_number after)
     where
-      cluster : (found : Option ValueCharacter) → AreListed (cluster_row arguments (codes "-" ++ after) found)
+      cluster : (found : Option ValueCharacter) → AreListed (cluster_match arguments (codes "-" ++ after) found)
       cluster None = all_shorts (codes "-" ++ after)
       cluster (Some found) = tt
 
-      by : (b : Bool) → AreListed (cond b (Listed []) (cluster_row arguments (codes "-" ++ after) (value_character arguments (chars after))))
+      by : (b : Bool) → AreListed (cond b (Listed []) (cluster_match arguments (codes "-" ++ after) (value_character arguments (chars after))))
       by true = tt
       by false = cluster (value_character arguments (chars after))
 
@@ -117,26 +119,26 @@ module _ (P : CompletionCandidate → Type 0) (arguments : List Arg) (all_longs 
   one_listed [] = AllByRecursion-append P (shorts (codes "-") arguments) (longs arguments) (all_shorts (codes "-")) all_longs
   one_listed (c ∷ s) = by (c == dash)
     where
-      by : (b : Bool) → AreListed (cond b (after_two_dashes arguments s) (short_row arguments (c ∷ s)))
+      by : (b : Bool) → AreListed (cond b (after_two_dashes arguments s) (short_match arguments (c ∷ s)))
       by true = two_listed s
       by false = short_listed (c ∷ s)
 
-  row_listed : (word : List ℕ) → AreListed (row_of arguments word)
-  unfolding row_of
-  row_listed [] = AllByRecursion-append P (longs arguments) (shorts (codes "-") arguments) all_longs (all_shorts (codes "-"))
-  row_listed (c ∷ s) = by (c == dash)
+  match_listed : (word : List ℕ) → AreListed (match_of arguments word)
+  unfolding match_of
+  match_listed [] = AllByRecursion-append P (longs arguments) (shorts (codes "-") arguments) all_longs (all_shorts (codes "-"))
+  match_listed (c ∷ s) = by (c == dash)
     where
       by : (b : Bool) → AreListed (cond b (after_one_dash arguments s) (Listed []))
       by true = one_listed s
       by false = tt
 
-  offered_listed : (offers : Bool) (word : List ℕ) → AreListed (offered_row offers arguments word)
-  offered_listed true word = row_listed word
+  offered_listed : (offers : Bool) (word : List ℕ) → AreListed (offered_match offers arguments word)
+  offered_listed true word = match_listed word
   offered_listed false word = tt
 
-  all_row : (row : Row) (returned : Candidates) → AreListed row → AllByRecursion P (row_values row returned) → AllByRecursion P (row_candidates row returned)
-  all_row (Listed found) returned listed h = listed
-  all_row (ValuesOf wanted) returned listed h = h
+  all_match : (matched : OptionMatch) (returned : Candidates) → AreListed matched → AllByRecursion P (match_values matched returned) → AllByRecursion P (match_candidates matched returned)
+  all_match (Listed found) returned listed h = listed
+  all_match (ValuesOf wanted) returned listed h = h
 
 -- ---- names that the parser takes
 
@@ -216,7 +218,7 @@ all_taken tree app takes state word returned =
     let lists = open_lists_by tree.node.arguments state.position state.escaped state.pending in
     let programs : Candidates = external tree.node returned.children in
     let positional : Candidates = positional_values (positional_at tree.node.arguments state.position) lists.value word returned.positional in
-    let within : Candidates = row_values (offered_row lists.options tree.node.arguments word) returned.within in
+    let within : Candidates = match_values (offered_match lists.options tree.node.arguments word) returned.within in
     let opened : Candidates = opened_values state.pending word returned.opened in
     let others : Candidates = values_among tree state word returned in
     let Q : CompletionCandidate → Type 0 = IsTaken tree app others in
@@ -225,17 +227,17 @@ all_taken tree app takes state word returned =
     (all_subcommands Q word tree returned.children (known_children tree app takes others tree.node tree.children takes.children)
     (there programs (λ c k. IsIn-append_left programs (positional ++ (within ++ opened)) c k))) in
     let listed = offered_listed Q tree.node.arguments (known_longs tree app takes others) (known_shorts tree app takes others) lists.options word in
-    let row = all_row Q tree.node.arguments (known_longs tree app takes others) (known_shorts tree app takes others) (offered_row lists.options tree.node.arguments word)
+    let matched = all_match Q tree.node.arguments (known_longs tree app takes others) (known_shorts tree app takes others) (offered_match lists.options tree.node.arguments word)
     returned.within listed (there within (λ c k. IsIn-append_right programs (positional ++ (within ++ opened)) c
     (IsIn-append_right positional (within ++ opened) c (IsIn-append_left within opened c k)))) in
     all_finished Q (finished_last state.pending word returned.opened (offered tree state.position lists word returned))
     (all_finished_last Q state.pending word returned.opened (offered tree state.position lists word returned)
     (there opened (λ c k. IsIn-append_right programs (positional ++ (within ++ opened)) c
     (IsIn-append_right positional (within ++ opened) c (IsIn-append_right within opened c k))))
-    (AllByRecursion-append Q (offered_children lists.children tree word returned.children ++ positional) (row_candidates (offered_row lists.options tree.node.arguments word) returned.within)
+    (AllByRecursion-append Q (offered_children lists.children tree word returned.children ++ positional) (match_candidates (offered_match lists.options tree.node.arguments word) returned.within)
     (AllByRecursion-append Q (offered_children lists.children tree word returned.children) positional children
     (there positional (λ c k. IsIn-append_right programs (positional ++ (within ++ opened)) c (IsIn-append_left positional (within ++ opened) c k))))
-    row))
+    matched))
   where
     by_children : (others : Candidates) (offers : Bool) → AllByRecursion (IsTaken tree app others) (subcommand_candidates tree returned.children word)
         → AllByRecursion (IsTaken tree app others) (offered_children offers tree word returned.children)
@@ -247,7 +249,7 @@ pub agrees : (sources : MayReturn) (root : Tree) (app : App) (words : List (List
 agrees sources root app words index found takes completes = record {
   tree = completes.tree;
   state = completes.state;
-  line = completes.line;
+  leads = completes.leads;
   only = completes.only;
   offers = completes.offers;
   taken = λ same. subst (AllByRecursion (IsTaken root app (values_among completes.tree completes.state (get_or words index []) completes.offers.0))) (sym completes.offers.2)

@@ -4,13 +4,14 @@ use Rattle.std.specs.List.{AllByRecursion}
 use Rattle.cc_arg.specs.declared.parts.ArgParts.{ArgParts as Arg}
 use Rattle.cc_candidates.specs.declared.candidate.CompletionCandidate.{CompletionCandidate}
 use Rattle.cc_command.specs.Tree.{Tree}
-use Rattle.cc_engine.specs.Completion.{Offers, Returned, offered_row, opened_values, positional_values, row_candidates, words_before}
+use Rattle.cc_engine.specs.Completion.{Offers, Returned, offered_match, opened_values, positional_values, match_candidates, words_before}
 use Rattle.cc_engine.specs.OpenLists.{open_lists_by}
 use Rattle.cc_gather.specs.Children.{external}
-use Rattle.cc_gather.specs.Rows.{Listed, Row, ValuesOf}
+use Rattle.cc_gather.specs.declared.options.OptionMatch.{OptionMatch}
+use Rattle.cc_gather.specs.declared.options.OptionMatch.TheVariants.{Listed, ValuesOf}
 use Rattle.cc_parser.specs.Taken.{KnowsChild, KnowsLong, KnowsShort}
 use Rattle.cc_values.specs.Values.{MayReturn}
-use Rattle.cc_walk.specs.Line.{IsLine, IsOnlyLine}
+use Rattle.cc_walk.specs.Destination.{WordsLeadTo, WordsLeadOnlyTo}
 use Rattle.cc_walk.specs.Lookup.{positional_at}
 use Rattle.cc_walk.specs.declared.state.State.{State}
 use Rattle.clap.specs.Simple.{App}
@@ -41,10 +42,10 @@ IsTaken tree app values candidate =
     (KnowsChild app candidate.value ⊎ IsLongTaken tree app candidate)
     ⊎ (IsShortTaken tree app candidate ⊎ Contains values candidate)
 
--- those of a row that are values
-abbrev pub row_values : Row → List CompletionCandidate → List CompletionCandidate
-row_values (Listed found) returned = []
-row_values (ValuesOf wanted) returned = row_candidates (ValuesOf wanted) returned
+-- what the word matches, where it is values
+abbrev pub match_values : OptionMatch → List CompletionCandidate → List CompletionCandidate
+match_values (Listed found) returned = []
+match_values (ValuesOf wanted) returned = match_candidates (ValuesOf wanted) returned
 
 -- the values among what is gathered: the names of other programs, those of the positional, those
 -- within an option's word, and those of an open option
@@ -54,7 +55,7 @@ values_among tree state word returned =
     external tree.node returned.children
     ++ (positional_values
     (positional_at tree.node.arguments state.position) lists.value word returned.positional
-    ++ (row_values (offered_row lists.options tree.node.arguments word) returned.within
+    ++ (match_values (offered_match lists.options tree.node.arguments word) returned.within
     ++ opened_values state.pending word returned.opened))
 
 -- The words before the index lead to one node and one state, and to no others. The candidates are
@@ -64,8 +65,8 @@ pub record AgreesWithParser (sources : MayReturn) (root : Tree) (app : App) (wor
     (index : ℕ) (found : List CompletionCandidate) : Type 0 where
   pub tree : Tree
   pub state : State
-  pub line : IsLine root (words_before root.node words index) tree state
-  pub only : IsOnlyLine root (words_before root.node words index) tree state
+  pub leads : WordsLeadTo root (words_before root.node words index) tree state
+  pub only : WordsLeadOnlyTo root (words_before root.node words index) tree state
   pub offers : Offers sources tree state (get_or words index []) found
   pub taken : tree ≡ root → AllByRecursion (IsTaken root app
       (values_among tree state (get_or words index []) offers.0)) found
