@@ -12,4 +12,5 @@ mod tree_files;
 
 pub use crate::plans::run;
 pub use crate::refusals::{UNREADABLE, error_refusal, text_refusal};
+pub use crate::scripts::script;
 pub use crate::tree_files::tree;

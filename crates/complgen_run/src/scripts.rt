@@ -15,7 +15,7 @@ use complgen_command_line::Refusal;
 use std::alloc::Global;
 
 /// Writes the script for the shell of this name.
-pub(crate) fn script<W: Sink>(
+pub fn script<W: Sink>(
     alloc: Global,
     shell: &str,
     bin: &str,

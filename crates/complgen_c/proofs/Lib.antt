@@ -1,0 +1,2 @@
+mod Failures
+mod ScriptLemmas

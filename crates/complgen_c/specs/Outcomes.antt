@@ -1,0 +1,42 @@
+-- How a call ends, and what an exported function returns of it.
+use Rattle.std.specs.Prelude.{◌≡◌, ◌≤◌, ◌<◌, ◌++◌, ℕ, List, [], length, drop}
+use Rattle.cc_base.specs.declared.failures.Failures.{Failures}
+use Rattle.complgen_command_line.specs.Refusals as refusals
+use Rattle.complgen_command_line.specs.declared.types.Refusal.{Refusal}
+use Rattle.complgen_c.specs.declared.outcome.Outcome.{Outcome}
+use Rattle.complgen_c.specs.declared.outcome.Outcome.TheVariants.{Failed, Made, NotUtf8}
+
+abbrev pub status_of : Outcome → ℕ
+status_of (Made text) = 0
+status_of (Failed refusal) = 1
+status_of NotUtf8 = 2
+
+abbrev pub text_of : Outcome → List ℕ
+text_of (Made text) = text
+text_of (Failed refusal) = refusals.text_of refusal
+text_of NotUtf8 = []
+
+-- the text stands at the start of the room, if it fits there; else the room is as it was; and the
+-- count is the length of the text
+pub record Copies (text old new : List ℕ) (count : ℕ) : Type 0 where
+  pub counts : count ≡ length text
+  pub fits : length text ≤ length old → new ≡ text ++ drop (length text) old
+  pub too_long : length old < length text → new ≡ old
+
+-- what is returned of an outcome: its status, its text in the room, and the length of the text
+pub record Returns (outcome : Outcome) (old new : List ℕ) (status count : ℕ) : Type 0 where
+  pub status_is : status ≡ status_of outcome
+  pub copies : Copies (text_of outcome) old new count
+
+-- the call ends with an outcome that may be, and that is returned
+pub record EndsAs (MayEnd : Outcome → Type 0) (old new : List ℕ) (status count : ℕ) : Type 0 where
+  pub outcome : Outcome
+  pub may_end : MayEnd outcome
+  pub returns : Returns outcome old new status count
+
+-- A text is made in memory, and that fails: for this reason, where no put failed, else for want of
+-- memory.
+pub record FailsInMemory (failures : Failures) (Reason : Refusal → Type 0) (refusal : Refusal)
+    : Type 0 where
+  pub none_failed : failures.count ≡ 0 → Reason refusal
+  pub some_failed : 0 < failures.count → refusals.IsOutOfMemory refusal

@@ -1,0 +1,58 @@
+//! How a call ends, and what an exported function returns of it.
+
+ghost use Rattle.std.specs.Prelude.{◌≡◌};
+ghost use Rattle.complgen_c.specs.Outcomes.{Copies, Returns, status_of, text_of};
+
+use cc_base::Items;
+use complgen_command_line::Refusal;
+
+/// How a call ends. Each has a status and a text, which an exported function returns.
+#[derive(Drop)]
+pub enum Outcome {
+    /// 0: the text is made.
+    Made(Items<u8>),
+    /// 1: there is none; the text says why, as a line.
+    Failed(Refusal),
+    /// 2: a name is not UTF-8.
+    NotUtf8,
+}
+
+impl Outcome {
+    /// Sets the status, puts the text into the room, where it fits there, and returns its length.
+    pub fn put(&self, room: &mut [u8], status: &mut u8) -> usize
+        ensures { Returns self.now room.old room.new status.new result }
+    {
+        *status = self.status();
+        copy_into(self.text(), room)
+    }
+
+    fn status(&self) -> u8
+        ensures { result ≡ status_of self.now }
+    {
+        match self {
+            Outcome::Made(_) => 0,
+            Outcome::Failed(_) => 1,
+            Outcome::NotUtf8 => 2,
+        }
+    }
+
+    fn text(&self) -> &[u8]
+        ensures { result.now ≡ text_of self.now }
+    {
+        match self {
+            Outcome::Made(text) => text.as_slice(),
+            Outcome::Failed(refusal) => refusal.text.as_str().as_bytes(),
+            Outcome::NotUtf8 => b"",
+        }
+    }
+}
+
+// Copies the text to the start of the room, where it fits there, and returns its length.
+fn copy_into(text: &[u8], room: &mut [u8]) -> usize
+    ensures { Copies text.now room.old room.new result }
+{
+    if text.len() <= room.len() {
+        room[..text.len()].copy_from_slice(text);
+    }
+    text.len()
+}
