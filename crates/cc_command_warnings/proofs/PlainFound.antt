@@ -1,5 +1,5 @@
 -- No name is warned about exactly where the tree is plain.
-use Rattle.std.proofs.Common.{◌≡◌, ◌∙◌, ap, ap₂, refl, sym, ℕ, Bool, true, false, cond, ◌&&◌, List, ◌++◌, Option, Some, None}
+use Rattle.std.proofs.Common.{◌≡◌, ◌∙◌, ap, ap₂, refl, ℕ, Bool, true, false, cond, ◌&&◌, List, ◌++◌, Option, Some, None}
 use Rattle.std.specs.Char.{is_ascii_alphanumeric}
 use Rattle.std.specs.List.{list_all}
 use Rattle.cc_arg.specs.declared.parts.ArgParts.{ArgParts as Arg}
@@ -8,7 +8,7 @@ use Rattle.cc_command.specs.Plain.{has_no_quote, is_plain_argument, is_plain_for
 use Rattle.cc_command.specs.Tree.{Forest, none, more, Tree}
 use Rattle.cc_command_warnings.specs.Notes.{are_notes, is_note}
 use Rattle.cc_command_warnings.specs.Places.{warning}
-use Rattle.cc_command_warnings.specs.PlainWarnings.{begins_with_hyphen, long_kind, long_list, longs_list, name_list, name_lists, plain_argument, plain_command, quote_list, quotes_list, short_list, short_lists, shorts_list, some_long_list, some_short_list, value_name_list}
+use Rattle.cc_command_warnings.specs.PlainWarnings.{begins_with_hyphen, long_kind, longs_list, name_list, name_lists, plain_argument, plain_command, quote_list, quotes_list, short_list, short_lists, shorts_list, some_long_list, some_short_list, value_name_list}
 use Rattle.cc_command_warnings.specs.SiblingNames.{taken_names}
 use Rattle.cc_command_warnings.specs.Walk.{each_from, tree_list}
 use Rattle.cc_command_warnings.specs.declared.place.Key.{Key}

@@ -1,6 +1,5 @@
 -- No possible value is warned about exactly where the tree is quiet.
 use Rattle.std.proofs.Common.{◌≡◌, ◌∙◌, ap, ap₂, refl, ℕ, Bool, true, ◌&&◌, List, [], Option, Some, None}
-use Rattle.std.specs.List.{list_all}
 use Rattle.cc_arg.specs.declared.parts.ArgParts.{ArgParts as Arg}
 use Rattle.cc_arg.specs.declared.possible_value.PossibleValue.{PossibleValue}
 use Rattle.cc_arg.specs.Arguments.{possible_values}
@@ -8,7 +7,7 @@ use Rattle.cc_command.specs.Quiet.{are_quiet_values, is_quiet_argument, is_quiet
 use Rattle.cc_command.specs.Tree.{Forest, none, more, Tree}
 use Rattle.cc_command_warnings.specs.Notes.{are_notes}
 use Rattle.cc_command_warnings.specs.Places.{warning}
-use Rattle.cc_command_warnings.specs.QuietWarnings.{loud_list, quiet_argument, value_list, values_list}
+use Rattle.cc_command_warnings.specs.QuietWarnings.{quiet_argument, value_list, values_list}
 use Rattle.cc_command_warnings.specs.Walk.{tree_list}
 use Rattle.cc_command_warnings.specs.declared.place.Key.{Key}
 use Rattle.cc_command_warnings.specs.declared.warning.Kind.TheVariants.{LoudValue}

@@ -1,6 +1,5 @@
 -- No quote is warned about exactly where the tree has none that a PowerShell script leaves.
 use Rattle.std.proofs.Common.{◌≡◌, ◌∙◌, ap, ap₂, refl, ℕ, Bool, true, false, ◌&&◌, List, Option, Some, None, is_none}
-use Rattle.std.specs.List.{list_all}
 use Rattle.cc_arg.specs.declared.parts.ArgParts.{ArgParts as Arg}
 use Rattle.cc_command.specs.Escaped.{is_escaped_argument, is_escaped_forest, is_escaped_node, is_escaped_text, is_escaped_tree, unescaped_quote}
 use Rattle.cc_command.specs.Plain.{passes_if_some}

@@ -1,5 +1,5 @@
 -- A step of a loop that lists something of each thing, and the nodes below a child.
-use Rattle.std.proofs.Common.{◌≡◌, ◌∙◌, ap, ap₂, sym, subst, refl, ℕ, suc, zero, ◌+◌, ◌*◌, ◌<◌, ◌≤◌, List, [], ◌∷◌, ◌++◌, length, drop, get_or, arith}
+use Rattle.std.proofs.Common.{◌≡◌, ◌∙◌, ap, sym, subst, ℕ, suc, zero, ◌+◌, ◌<◌, ◌≤◌, List, [], ◌∷◌, ◌++◌, length, drop, get_or, arith}
 use Rattle.std.proofs.lemmas.List.{append_assoc, drop_more}
 use Rattle.cc_command.specs.Tree.{Tree, forest_of, forest_size, tree_size}
 use Rattle.cc_command_warnings.specs.Walk.{each_from}

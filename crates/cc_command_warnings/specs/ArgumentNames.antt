@@ -1,11 +1,12 @@
--- The names of arguments that an earlier argument has: their ids, longs and shorts.
-use Rattle.std.specs.Prelude.{ℕ, List, [], ◌∷◌, ◌++◌, encode_utf8, fold, if◌then◌else◌, Option, Some, None}
+-- The names of arguments that an earlier argument has: their ids, longs, shorts and indexes.
+use Rattle.std.specs.Prelude.{ℕ, Bool, true, List, [], ◌∷◌, ◌++◌, decimal, encode_utf8, fold, if◌then◌else◌, Option, Some, None}
 use Rattle.std.specs.Borrow.{Bor}
 use Rattle.std.specs.BTreeMap.{BTreeMap, get_by}
 use Rattle.std.specs.Cmp.Lexicographic.{slice_cmp}
 use Rattle.std.specs.Ordering.{nat_cmp}
 use Rattle.std.specs.Str.{bytes_eq}
 use Rattle.cc_arg.specs.declared.parts.ArgParts.{ArgParts as Arg}
+use Rattle.cc_arg.specs.Arguments.{is_positional}
 use Rattle.cc_command_warnings.specs.Places.{warning}
 use Rattle.cc_command_warnings.specs.Walk.{each_from}
 use Rattle.cc_command_warnings.specs.declared.names.ArgumentName.{ArgumentName}
@@ -14,7 +15,7 @@ use Rattle.cc_command_warnings.specs.declared.names.Named.TheVariants as named
 use Rattle.cc_command_warnings.specs.declared.place.Key.{Key}
 use Rattle.cc_command_warnings.specs.declared.place.Key.TheVariants as key
 use Rattle.cc_command_warnings.specs.declared.warning.Kind.{Kind}
-use Rattle.cc_command_warnings.specs.declared.warning.Kind.TheVariants.{TakenId, TakenLong, TakenShort}
+use Rattle.cc_command_warnings.specs.declared.warning.Kind.TheVariants.{TakenId, TakenIndex, TakenLong, TakenShort}
 use Rattle.cc_command_warnings.specs.declared.warning.Warning.{Warning}
 
 -- a name of an argument, at its place
@@ -57,11 +58,21 @@ shorts_of index argument = (some_short index argument.id argument.short
     ++ short_aliases_of index key.VisibleShortAliases argument.id argument.visible_short_aliases)
     ++ short_aliases_of index key.ShortAliases argument.id argument.short_aliases
 
+-- the index of a positional, where one is given
+abbrev pub index_name : ℕ → ℕ → List ℕ → ArgumentName
+index_name argument index id = argument_name argument key.Index None (decimal index) id
+
+abbrev pub some_index : Bool → ℕ → List ℕ → Option ℕ → List ArgumentName
+some_index true argument id (Some index) = index_name argument index id ∷ []
+some_index _ argument id _ = []
+
 -- the names of this kind that an argument has
 abbrev pub names_of : Named → ℕ → Arg → List ArgumentName
 names_of named.Id index argument = id_of index argument
 names_of named.Long index argument = longs_of index argument
 names_of named.Short index argument = shorts_of index argument
+names_of named.Index index argument =
+    some_index (is_positional argument) index argument.id argument.index
 
 -- those of some arguments
 abbrev pub all_names : Named → List Arg → List ArgumentName
@@ -81,6 +92,7 @@ abbrev pub taken_kind : Named → List ℕ → List ℕ → Kind
 taken_kind named.Id name id = TakenId name
 taken_kind named.Long name id = TakenLong name id
 taken_kind named.Short name id = TakenShort name id
+taken_kind named.Index name id = TakenIndex name id
 
 abbrev pub taken_by : Named → List ℕ → Option (List ℕ) → ArgumentName → List Warning
 taken_by named path None name = []

@@ -1,10 +1,11 @@
 -- All warnings about a tree, that about labels of bash not counted.
-use Rattle.std.specs.Prelude.{ℕ, Bool, true, false, List, [], ◌++◌, Option, Some, None}
+use Rattle.std.specs.Prelude.{ℕ, List, [], ◌++◌, Option, Some, None}
 use Rattle.cc_arg.specs.declared.parts.ArgParts.{ArgParts as Arg}
 use Rattle.cc_command.specs.Tree.{Tree}
 use Rattle.cc_command_warnings.specs.InCommandWarnings.{of_command}
 use Rattle.cc_command_warnings.specs.LoneWarnings.{lone_argument}
 use Rattle.cc_command_warnings.specs.Places.{warning}
+use Rattle.cc_command_warnings.specs.PositionalWarnings.{positional_command}
 use Rattle.cc_command_warnings.specs.Premises.{premise_list}
 use Rattle.cc_command_warnings.specs.Scopes.{scope_list}
 use Rattle.cc_command_warnings.specs.Walk.{tree_list, when}
@@ -12,11 +13,12 @@ use Rattle.cc_command_warnings.specs.declared.place.Key.TheVariants.{Hide}
 use Rattle.cc_command_warnings.specs.declared.warning.Kind.TheVariants.{HiddenCommand, HiddenArgument}
 use Rattle.cc_command_warnings.specs.declared.warning.Warning.{Warning}
 
--- what clap refuses: of one argument, then of an argument in its command, then of the arguments of
--- a command together
+-- what clap refuses: of one argument, then of an argument in its command, then of the positionals
+-- of a command together, and of its arguments
 abbrev pub clap_list : Tree → List Warning
-clap_list tree = (tree_list (λ path tree. []) lone_argument [] tree
-    ++ tree_list of_command (λ path index argument. []) [] tree) ++ scope_list [] [] tree
+clap_list tree = ((tree_list (λ path tree. []) lone_argument [] tree
+    ++ tree_list of_command (λ path index argument. []) [] tree)
+    ++ tree_list positional_command (λ path index argument. []) [] tree) ++ scope_list [] [] tree
 
 -- a hidden command and a hidden argument
 abbrev pub hidden_command : List ℕ → Tree → List Warning

@@ -9,7 +9,6 @@ use Rattle.cc_command.specs.declared.node.Node.{Node}
 use Rattle.cc_command.specs.Tree.{Tree, has_nodes}
 use Rattle.cc_command_warnings.specs.Places.{warning}
 use Rattle.cc_command_warnings.specs.Walk.{each_from, when}
-use Rattle.cc_command_warnings.specs.declared.place.Key.{Key}
 use Rattle.cc_command_warnings.specs.declared.place.Key.TheVariants as key
 use Rattle.cc_command_warnings.specs.declared.warning.Kind.TheVariants.{TakenByHelp, TakenByVersion, NoVersion, LastBesideChildren, RequiredAfterOptional}
 use Rattle.cc_command_warnings.specs.declared.warning.Warning.{Warning}

@@ -5,6 +5,7 @@ pub mod LoneWarnings
 pub mod Notes
 pub mod Places
 pub mod PlainWarnings
+pub mod PositionalWarnings
 pub mod Premises
 pub mod QuietWarnings
 pub mod QuoteWarnings

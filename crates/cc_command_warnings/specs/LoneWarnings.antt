@@ -8,7 +8,7 @@ use Rattle.cc_command_warnings.specs.Places.{warning}
 use Rattle.cc_command_warnings.specs.Walk.{when}
 use Rattle.cc_command_warnings.specs.declared.place.Key.{Key}
 use Rattle.cc_command_warnings.specs.declared.place.Key.TheVariants as key
-use Rattle.cc_command_warnings.specs.declared.warning.Kind.TheVariants.{LastOption, IndexOfOption, GlobalRequired, MoreNamesThanValues, CommandHintWithoutMany, PositionalWithoutValue}
+use Rattle.cc_command_warnings.specs.declared.warning.Kind.TheVariants.{LastOption, IndexOfOption, GlobalRequired, MoreNamesThanValues, CommandHintWithoutMany, PositionalWithoutValue, ValuesOfFlag}
 use Rattle.cc_command_warnings.specs.declared.warning.Warning.{Warning}
 
 -- an option that is last, one that has an index, and an argument that is global and required
@@ -47,7 +47,14 @@ abbrev pub flag_list : List ℕ → ℕ → Arg → List Warning
 flag_list path index argument = when (is_positional argument && not (takes_values argument))
     (warning path (Some index) (count_key argument) None PositionalWithoutValue)
 
+-- possible values of an argument that takes none
+abbrev pub values_list : List ℕ → ℕ → Arg → List Warning
+values_list path index argument =
+    when (not (takes_values argument) && is_some argument.possible_values)
+    (warning path (Some index) key.PossibleValues None ValuesOfFlag)
+
 -- all of it
 abbrev pub lone_argument : List ℕ → ℕ → Arg → List Warning
-lone_argument path index argument = (kinds_list path index argument
-    ++ names_list path index argument) ++ flag_list path index argument
+lone_argument path index argument = ((kinds_list path index argument
+    ++ names_list path index argument) ++ flag_list path index argument)
+    ++ values_list path index argument

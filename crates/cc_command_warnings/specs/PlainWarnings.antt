@@ -1,6 +1,6 @@
 -- The warnings about names that scripts cannot hold as they are: test by test those of a plain
 -- tree.
-use Rattle.std.specs.Prelude.{ℕ, Bool, true, false, ◌==◌, List, [], ◌∷◌, ◌++◌, if◌then◌else◌, Option, Some, None}
+use Rattle.std.specs.Prelude.{ℕ, Bool, false, ◌==◌, List, [], ◌∷◌, ◌++◌, if◌then◌else◌, Option, Some, None}
 use Rattle.std.specs.Char.{is_ascii_alphanumeric}
 use Rattle.cc_base.specs.Bytes.{dash}
 use Rattle.cc_arg.specs.declared.parts.ArgParts.{ArgParts as Arg}

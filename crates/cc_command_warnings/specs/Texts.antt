@@ -1,11 +1,11 @@
 -- What a warning prints.
-use Rattle.std.specs.Prelude.{ℕ, List, [], ◌∷◌, ◌++◌, Option, Some, None, codes, decimal, encode_utf8}
+use Rattle.std.specs.Prelude.{ℕ, List, [], ◌++◌, Option, Some, codes, decimal, encode_utf8}
 use Rattle.cc_command_warnings.specs.declared.place.Key.{Key}
 use Rattle.cc_command_warnings.specs.declared.place.Key.TheVariants.{BinName, Aliases, VisibleAliases, Id, Short, Long, ValueNames}
 use Rattle.cc_command_warnings.specs.declared.warning.Kind.{Kind}
 use Rattle.cc_command_warnings.specs.declared.warning.Kind.TheVariants.{BinNotPlain, NotPlain, LongWithHyphen, ShortNotPlain, Quote, TakenName, LoudValue, SharedLabel, UnescapedQuote}
 use Rattle.cc_command_warnings.specs.declared.warning.Kind.TheVariants.{TakenId, TakenLong, TakenShort, TakenByHelp, TakenByVersion, UnknownConflict, SelfConflict}
-use Rattle.cc_command_warnings.specs.declared.warning.Kind.TheVariants.{RequiredAfterOptional, LastOption, GlobalRequired, MoreNamesThanValues, CommandHintWithoutMany}
+use Rattle.cc_command_warnings.specs.declared.warning.Kind.TheVariants.{IndexOutOfRange, TakenIndex, ManyBeforeLast, SecondLast, ValuesOfFlag, RequiredAfterOptional, LastOption, GlobalRequired, MoreNamesThanValues, CommandHintWithoutMany}
 use Rattle.cc_command_warnings.specs.declared.warning.Kind.TheVariants.{PositionalWithoutValue, NoVersion, IndexOfOption, LastBesideChildren, HiddenCommand, HiddenArgument}
 use Rattle.cc_command_warnings.specs.declared.warning.Level.{Level}
 use Rattle.cc_command_warnings.specs.declared.warning.Level.TheVariants as level
@@ -45,6 +45,10 @@ fixed_text GlobalRequired = codes "global and required"
 fixed_text CommandHintWithoutMany =
     codes "CommandWithArguments needs a positional that takes many"
 fixed_text PositionalWithoutValue = codes "a positional takes a value"
+fixed_text ValuesOfFlag = codes "possible values of a flag mean nothing"
+fixed_text ManyBeforeLast =
+    codes "a positional that takes many, not the last: the last one must be required or last"
+fixed_text SecondLast = codes "only one positional may be last"
 fixed_text NoVersion = codes "Version, and the command has no version"
 fixed_text IndexOfOption = codes "an index of an option means nothing"
 fixed_text LastBesideChildren = codes "last and required, beside subcommands"
@@ -104,6 +108,16 @@ abbrev pub more_names_text : ℕ → ℕ → List ℕ
 more_names_text names greatest = (decimal names ++ codes " value names")
     ++ (codes ", and at most " ++ decimal greatest ++ codes " value")
 
+-- the text of an index that no positional can have
+abbrev pub outside_text : List ℕ → List ℕ
+outside_text index =
+    codes "index " ++ index ++ codes " is not from 1 to the number of positionals"
+
+-- the text of an index that another positional has
+abbrev pub taken_index_text : List ℕ → List ℕ → List ℕ
+taken_index_text index id = (codes "the positional `" ++ id ++ codes "`")
+    ++ (codes " has index " ++ index ++ codes " too")
+
 -- the texts of what clap does not take
 abbrev pub clap_text : Option Key → Kind → List ℕ
 clap_text key (TakenId id) = codes "an earlier argument has the id `" ++ id ++ codes "`"
@@ -116,6 +130,8 @@ clap_text key (UnknownConflict id) = codes "no argument here has the id `" ++ id
 clap_text key (RequiredAfterOptional id) =
     codes "a required positional after the optional one `" ++ id ++ codes "`"
 clap_text key (MoreNamesThanValues names greatest) = more_names_text names greatest
+clap_text key (TakenIndex index id) = taken_index_text index id
+clap_text key (IndexOutOfRange index count) = outside_text index
 clap_text key kind = fixed_text kind
 
 -- the text of a kind, where the key of its place is this one

@@ -8,6 +8,7 @@ mod lone;
 mod names;
 mod place;
 mod plain;
+mod positionals;
 mod premises;
 mod quiet;
 mod quotes;

@@ -1,15 +1,16 @@
 //! What clap refuses of one argument, whatever else its command has.
 
-ghost use Rattle.std.specs.Prelude.{◌≡◌, ◌++◌, None, OnOk, Some};
+ghost use Rattle.std.specs.Prelude.{◌≡◌, ◌++◌, IfOk, None, OnOk, Some, is_some};
+ghost use Rattle.cc_arg.specs.Arguments.{possible_values};
 ghost use Rattle.cc_command_warnings.specs.LoneWarnings.{count_key, flag_list, has_command_hint};
-ghost use Rattle.cc_command_warnings.specs.LoneWarnings.{kinds_list, names_list};
+ghost use Rattle.cc_command_warnings.specs.LoneWarnings.{kinds_list, names_list, values_list};
 ghost use Rattle.cc_command_warnings.specs.Places.{warning};
 ghost use Rattle.cc_command_warnings.specs.Walk.{when};
 
 use crate::place::Key;
 use crate::walk::Check;
 use crate::warning::{Kind, Warning, push_warning};
-use cc_arg::{Arg, ValueHint, counted_range};
+use cc_arg::{Arg, ValueHint, ValueRange, copy_of, counted_range, possible_values};
 use cc_command::Command;
 use std::alloc::{AllocError, Global};
 
@@ -44,7 +45,8 @@ impl Check for Lone {
     ) -> Result<(), AllocError> {
         push_kinds(found, alloc, path, index, argument)?;
         push_value_count(found, alloc, path, index, argument)?;
-        push_flag(found, alloc, path, index, argument)
+        push_flag(found, alloc, path, index, argument)?;
+        push_values_of_flag(found, alloc, path, index, argument)
     }
 }
 
@@ -128,8 +130,45 @@ fn push_flag(
     push_if(flag, found, alloc, path, index, count_key(argument), kind)
 }
 
-// The key that says how many values an argument takes.
-fn count_key(argument: &Arg) -> Key
+// Possible values of an argument that takes none.
+fn push_values_of_flag(
+    found: &mut Vec<Warning>,
+    alloc: Global,
+    path: &[usize],
+    index: usize,
+    argument: &Arg,
+) -> Result<(), AllocError>
+    ensures { OnOk result (found.new.items
+        ≡ found.old.items ++ values_list path.now index argument.now) }
+{
+    if argument.takes_values() {
+        return Ok(());
+    }
+    let listed = has_value_list(alloc, argument)?;
+    let kind = Kind::ValuesOfFlag;
+    push_if(listed, found, alloc, path, index, Key::PossibleValues, kind)
+}
+
+// Whether an argument has a list of possible values. `possible_values` returns that of an argument
+// that takes values, so it is called with a copy that does.
+fn has_value_list(alloc: Global, argument: &Arg) -> Result<bool, AllocError>
+    ensures { IfOk result (λ listed. listed ≡ is_some argument.now.possible_values) }
+{
+    let copy = copy_of(alloc, argument)?;
+    Ok(has_values(copy.num_args(ValueRange::new(1, 1))))
+}
+
+fn has_values(argument: Arg) -> bool
+    ensures { result ≡ is_some (possible_values argument) }
+{
+    match possible_values(&argument) {
+        Some(_) => true,
+        None => false,
+    }
+}
+
+/// The key that says how many values an argument takes.
+pub(crate) fn count_key(argument: &Arg) -> Key
     ensures { result ≡ count_key argument.now }
 {
     if argument.get_num_args().is_some() {

@@ -1,10 +1,13 @@
 //! Names of arguments that an earlier argument has.
 
-ghost use Rattle.std.specs.Prelude.{◌≡◌, ◌++◌, ◌∷◌, [], if◌then◌else◌, IfOk, List, None, OnOk, Some, ℕ, encode_utf8};
+ghost use Rattle.std.specs.Prelude.{◌≡◌, ◌++◌, ◌∷◌, [], if◌then◌else◌};
+ghost use Rattle.std.specs.Prelude.{IfOk, List, None, OnOk, Some, ℕ, encode_utf8};
 ghost use Rattle.std.specs.Option.{option_copied};
 ghost use Rattle.std.specs.Str.{bytes_eq};
+ghost use Rattle.cc_arg.specs.Arguments.{is_positional};
 ghost use Rattle.cc_command_warnings.specs.ArgumentNames.{aliases_of, all_names, argument_name};
-ghost use Rattle.cc_command_warnings.specs.ArgumentNames.{id_in, id_with, longs_of, names_of};
+ghost use Rattle.cc_command_warnings.specs.ArgumentNames.{id_in, id_with, index_name, longs_of};
+ghost use Rattle.cc_command_warnings.specs.ArgumentNames.{names_of, some_index};
 ghost use Rattle.cc_command_warnings.specs.ArgumentNames.{short_aliases_of, short_name};
 ghost use Rattle.cc_command_warnings.specs.ArgumentNames.{shorts_of, some_long, some_short};
 ghost use Rattle.cc_command_warnings.specs.ArgumentNames.{taken_by, taken_from, taken_kind};
@@ -23,6 +26,7 @@ pub(crate) enum Named {
     Id,
     Long,
     Short,
+    Index,
 }
 
 /// A name of an argument.
@@ -57,6 +61,7 @@ pub(crate) fn push_names_of<'a>(
         }
         Named::Long => push_longs_of(names, alloc, index, argument),
         Named::Short => push_shorts_of(names, alloc, index, argument),
+        Named::Index => push_some_index(names, alloc, index, argument),
     }
 }
 
@@ -220,6 +225,40 @@ fn push_short<'a>(
     push_name(names, alloc, argument, key, item, name.as_str(), id)
 }
 
+// The index of a positional, where one is given.
+fn push_some_index<'a>(
+    names: &mut Vec<ArgumentName<'a>>,
+    alloc: Global,
+    index: usize,
+    argument: &'a Arg,
+) -> Result<(), AllocError>
+    ensures { OnOk result (names.new.items ≡ names.old.items
+        ++ some_index (is_positional argument.now) index argument.now.id argument.now.index) }
+{
+    if !argument.is_positional() {
+        return Ok(());
+    }
+    match argument.get_index() {
+        Some(number) => push_index(names, alloc, index, number, argument.get_id()),
+        None => Ok(()),
+    }
+}
+
+/// Adds an index as a name of a positional. Fails where memory runs out.
+pub(crate) fn push_index<'a>(
+    names: &mut Vec<ArgumentName<'a>>,
+    alloc: Global,
+    argument: usize,
+    index: usize,
+    id: &'a str,
+) -> Result<(), AllocError>
+    ensures { OnOk result (names.new.items
+        ≡ names.old.items ++ index_name argument index id.now ∷ []) }
+{
+    let name = format!(in alloc; "{index}")?;
+    push_name(names, alloc, argument, Key::Index, None, name.as_str(), id)
+}
+
 /// Adds a warning for each name that one of those before it is, or one of these others: in time
 /// that grows with the number of names times its logarithm. Fails where memory runs out.
 pub(crate) fn push_taken(
@@ -303,5 +342,6 @@ fn taken_kind(alloc: Global, named: Named, name: &str, id: &str) -> Result<Kind,
         Named::Id => Ok(Kind::TakenId(name)),
         Named::Long => Ok(Kind::TakenLong(name, Text::copy_of(alloc, id)?)),
         Named::Short => Ok(Kind::TakenShort(name, Text::copy_of(alloc, id)?)),
+        Named::Index => Ok(Kind::TakenIndex(name, Text::copy_of(alloc, id)?)),
     }
 }

@@ -3,7 +3,8 @@
 ghost use Rattle.std.specs.Prelude.{◌≡◌, ◌++◌, None, OnOk, Some};
 ghost use Rattle.std.specs.Option.{option_copied};
 ghost use Rattle.cc_command.specs.Plain.{has_no_quote};
-ghost use Rattle.cc_command_warnings.specs.PlainWarnings.{begins_with_hyphen, long_list, longs_list, name_list};
+ghost use Rattle.cc_command_warnings.specs.PlainWarnings.{begins_with_hyphen, long_list};
+ghost use Rattle.cc_command_warnings.specs.PlainWarnings.{longs_list, name_list};
 ghost use Rattle.cc_command_warnings.specs.PlainWarnings.{name_lists, quote_list, quotes_list};
 ghost use Rattle.cc_command_warnings.specs.PlainWarnings.{short_list, short_lists, shorts_list};
 ghost use Rattle.cc_command_warnings.specs.PlainWarnings.{some_long_list, some_short_list};

@@ -12,6 +12,7 @@ use crate::in_command::InCommand;
 use crate::lone::Lone;
 use crate::place::{Key, Place};
 use crate::plain::{Plain, push_name};
+use crate::positionals::Positionals;
 use crate::quiet::Quiet;
 use crate::quotes::Quotes;
 use crate::scopes::push_scope;
@@ -48,11 +49,12 @@ pub fn premise_warnings(
     Ok(found)
 }
 
-/// The warnings and notes about a command that is called by this bin name, where one is passed: those
-/// of `premise_warnings`; then those about what clap refuses, first of each argument alone, then of
-/// each in its command, then of those of a command together; then the notes about what is hidden. A label of the bash
-/// script that two commands share is not among them. Where there are none but notes, what the
-/// promises of scripts take for granted holds.
+/// The warnings and notes about a command that is called by this bin name, where one is passed:
+/// those of `premise_warnings`; then those about what clap refuses, first of each argument alone,
+/// then of each in its command, then of the positionals of a command together, then of all its
+/// arguments; then the notes about what is hidden. A label of the bash script that two commands
+/// share is not among them. Where there are none but notes, what the promises of scripts take for
+/// granted holds.
 ///
 /// Fails where memory runs out.
 #[tactic(auto, using(crate::proofs::PremisesFound::premises_hold))]
@@ -73,8 +75,8 @@ pub fn command_warnings(
     Ok(found)
 }
 
-// What clap refuses: of one argument, then of an argument in its command, then of the arguments of a
-// command together.
+// What clap refuses: of one argument, then of an argument in its command, then of the positionals
+// of a command together, and of its arguments.
 fn push_clap_warnings(
     found: &mut Vec<Warning>,
     alloc: Global,
@@ -84,6 +86,7 @@ fn push_clap_warnings(
 {
     push_tree(&Lone, found, alloc, ROOT, command)?;
     push_tree(&InCommand, found, alloc, ROOT, command)?;
+    push_tree(&Positionals, found, alloc, ROOT, command)?;
     push_scope(found, alloc, &[], ROOT, command)
 }
 

@@ -1,6 +1,7 @@
 //! Names of children that an earlier one has.
 
-ghost use Rattle.std.specs.Prelude.{◌≡◌, ◌++◌, ◌∷◌, [], if◌then◌else◌, IfOk, List, None, OnOk, Some, ℕ};
+ghost use Rattle.std.specs.Prelude.{◌≡◌, ◌++◌, ◌∷◌, [], if◌then◌else◌};
+ghost use Rattle.std.specs.Prelude.{IfOk, List, None, OnOk, Some, ℕ};
 ghost use Rattle.std.specs.Str.{bytes_eq};
 ghost use Rattle.cc_command.specs.Tree.{forest_of};
 ghost use Rattle.cc_command_warnings.specs.SiblingNames.{aliases_of, names_from, names_of};

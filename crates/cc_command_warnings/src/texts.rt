@@ -2,11 +2,14 @@
 
 ghost use Rattle.std.specs.Prelude.{◌≡◌, Some};
 ghost use Rattle.std.specs.Fmt.{DisplaysOnOk};
-ghost use Rattle.cc_command_warnings.specs.Texts.{clap_text, fixed_text, help_name, kind_text};
+ghost use Rattle.cc_command_warnings.specs.Texts.{clap_text, fixed_text, help_name};
+ghost use Rattle.cc_command_warnings.specs.Texts.{kind_text, taken_index_text};
 ghost use Rattle.cc_command_warnings.specs.Texts.{is_not_plain_text, loud_value_text};
-ghost use Rattle.cc_command_warnings.specs.Texts.{more_names_text, named, not_plain_text, plain_rule};
-ghost use Rattle.cc_command_warnings.specs.Texts.{short_text, taken_flag_text, taken_long_text};
-ghost use Rattle.cc_command_warnings.specs.Texts.{taken_name_text, taken_short_text, taken_text, unplain_text};
+ghost use Rattle.cc_command_warnings.specs.Texts.{more_names_text, named, not_plain_text};
+ghost use Rattle.cc_command_warnings.specs.Texts.{outside_text, plain_rule, short_text, taken_flag_text};
+ghost use Rattle.cc_command_warnings.specs.Texts.{taken_long_text};
+ghost use Rattle.cc_command_warnings.specs.Texts.{taken_name_text, taken_short_text, taken_text};
+ghost use Rattle.cc_command_warnings.specs.Texts.{unplain_text};
 ghost use Rattle.cc_command_warnings.specs.Texts.{version_name, warning_text};
 
 use crate::place::Key;
@@ -138,6 +141,8 @@ fn write_clap<W: fmt::Write>(
             write!(f, "a required positional after the optional one `{id}`")
         }
         Kind::MoreNamesThanValues(names, greatest) => write_more_names(*names, *greatest, f),
+        Kind::TakenIndex(index, id) => write_taken_index(index.as_str(), id.as_str(), f),
+        Kind::IndexOutOfRange(index, _) => write_outside(index.as_str(), f),
         kind => f.write_str(fixed_text(kind)),
     }
 }
@@ -201,6 +206,24 @@ fn write_more_names<W: fmt::Write>(
     write!(f, ", and at most {greatest} value")
 }
 
+fn write_outside<W: fmt::Write>(index: &str, f: &mut fmt::Formatter<W>) -> fmt::Result
+    ensures { DisplaysOnOk W.write_str_gives f.old result
+        (Some (outside_text index.now)) f.new }
+{
+    write!(
+        f,
+        "index {index} is not from 1 to the number of positionals"
+    )
+}
+
+fn write_taken_index<W: fmt::Write>(index: &str, id: &str, f: &mut fmt::Formatter<W>) -> fmt::Result
+    ensures { DisplaysOnOk W.write_str_gives f.old result
+        (Some (taken_index_text index.now id.now)) f.new }
+{
+    write!(f, "the positional `{id}`")?;
+    write!(f, " has index {index} too")
+}
+
 // What a name is, by its key.
 fn named(key: Option<Key>) -> &'static str
     ensures { result.now ≡ named key }
@@ -248,6 +271,11 @@ fn fixed_text(kind: &Kind) -> &'static str
             "CommandWithArguments needs a positional that takes many"
         }
         Kind::PositionalWithoutValue => "a positional takes a value",
+        Kind::ValuesOfFlag => "possible values of a flag mean nothing",
+        Kind::ManyBeforeLast => {
+            "a positional that takes many, not the last: the last one must be required or last"
+        }
+        Kind::SecondLast => "only one positional may be last",
         Kind::NoVersion => "Version, and the command has no version",
         Kind::IndexOfOption => "an index of an option means nothing",
         Kind::LastBesideChildren => "last and required, beside subcommands",

@@ -70,6 +70,16 @@ pub enum Kind {
     NoVersion,
     /// The index of an option.
     IndexOfOption,
+    /// An index that is 0, or greater than the number of positionals: the index, and that number.
+    IndexOutOfRange(Text, Text),
+    /// An index that another positional has: the index, and the id of that one.
+    TakenIndex(Text, Text),
+    /// A positional of many values that is not the last one, where nothing says where they end.
+    ManyBeforeLast,
+    /// A positional that is last, after another such one.
+    SecondLast,
+    /// Possible values of an argument that takes none.
+    ValuesOfFlag,
     /// A required positional that is last, in a command with children.
     LastBesideChildren,
     /// A hidden command.

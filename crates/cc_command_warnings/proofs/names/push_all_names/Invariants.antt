@@ -1,4 +1,4 @@
-use Rattle.std.proofs.Common.{◌≡◌, ◌∷◌, [], ◌++◌, Some, drop, map}
+use Rattle.std.proofs.Common.{◌≡◌, ◌++◌, drop}
 use Rattle.cc_command_warnings.specs.ArgumentNames.{names_of}
 use Rattle.cc_command_warnings.specs.Walk.{each_from}
 use Rattle.cc_command_warnings.proofs.names.push_all_names.Given as goal

@@ -1,4 +1,4 @@
-use Rattle.std.proofs.Common.{◌≡◌, ◌∷◌, [], ◌++◌, Some, drop, map}
+use Rattle.std.proofs.Common.{◌≡◌, ◌∷◌, [], ◌++◌, Some, drop}
 use Rattle.cc_command_warnings.specs.ArgumentNames.{short_name}
 use Rattle.cc_command_warnings.specs.Walk.{each_from}
 use Rattle.cc_command_warnings.proofs.names.push_short_aliases.Given as goal

@@ -1,7 +1,7 @@
 use Rattle.std.proofs.Common.{◌≡◌, ◌++◌, ◌∙◌, ap, map, rules}
 use Rattle.std.proofs.lemmas.Result.{on_ok_weaker}
 use Rattle.cc_command_warnings.specs.ArgumentNames.{all_names}
-use Rattle.cc_command_warnings.specs.Scopes.{conflicts_of, is_known, is_known_in}
+use Rattle.cc_command_warnings.specs.Scopes.{conflicts_of, is_known}
 use Rattle.cc_command_warnings.specs.Walk.{each_from}
 use Rattle.cc_command_warnings.specs.declared.names.Named.{Named}
 use Rattle.cc_command_warnings.proofs.Conflicts.{same_conflicts}

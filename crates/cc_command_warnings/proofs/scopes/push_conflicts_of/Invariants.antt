@@ -1,4 +1,4 @@
-use Rattle.std.proofs.Common.{◌≡◌, ◌++◌, Some, drop}
+use Rattle.std.proofs.Common.{◌≡◌, ◌++◌, drop}
 use Rattle.std.specs.Str.{bytes_eq}
 use Rattle.cc_command_warnings.specs.Scopes.{conflict_kind, conflict_list, is_known_in}
 use Rattle.cc_command_warnings.specs.Walk.{each_from}

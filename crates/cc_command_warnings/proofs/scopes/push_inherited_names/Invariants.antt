@@ -1,4 +1,4 @@
-use Rattle.std.proofs.Common.{◌≡◌, ◌∷◌, [], ◌++◌, Some, drop, map}
+use Rattle.std.proofs.Common.{◌≡◌, ◌++◌, drop, map}
 use Rattle.cc_command_warnings.specs.ArgumentNames.{names_of}
 use Rattle.cc_command_warnings.specs.Walk.{each_from}
 use Rattle.cc_command_warnings.proofs.scopes.push_inherited_names.Given as goal
