@@ -26,7 +26,7 @@ pub record IsLongTaken (tree : Tree) (app : App) (candidate : CompletionCandidat
   pub value : candidate.value ≡ codes "--" ++ name
   pub known : KnowsLong app name
 
--- likewise a short, behind a dash or behind the word
+-- likewise a short, after a dash or after the word
 pub record IsShortTaken (tree : Tree) (app : App) (candidate : CompletionCandidate) : Type 0 where
   pub argument : Arg
   pub there : Contains tree.node.arguments argument

@@ -63,7 +63,6 @@ fn write_others<D: Folder, W: Sink>(
     Ok(())
 }
 
-// Writes the registration for a name.
 fn write_one<D: Folder, W: Sink>(
     alloc: Global,
     env: &EnvValues,

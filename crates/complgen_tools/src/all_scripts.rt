@@ -55,7 +55,7 @@ const OTHERS: &[Shell] = &[
     Shell::Nushell,
 ];
 
-// Writes the scripts of some shells for a command that is built under the bin name.
+// The labels were looked at before, so that no file is made where two commands share one.
 fn write_each<R: Files, W: Sink>(
     files: &R,
     alloc: Global,

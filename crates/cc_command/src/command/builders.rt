@@ -40,7 +40,8 @@ impl Command {
         self
     }
 
-    /// Sets what a parser's long help says in place of `about`. Scripts and candidates do not change.
+    /// Sets what a parser's long help says in place of `about`. Scripts and candidates do not
+    /// change.
     pub fn long_about(mut self, about: String) -> Command
         ensures { result
             ≡ with_root (λ node. record node { long_about = Some (string_bytes about) }) self }
