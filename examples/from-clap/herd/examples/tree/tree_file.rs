@@ -45,6 +45,8 @@ fn command_object(out: &mut String, command: &Command, built: &Command) {
     object.text("name", Some(command.get_name()));
     object.text("bin_name", command.get_bin_name());
     object.text("about", command.get_about().map(|about| about.to_string()));
+    object.text("long_about", command.get_long_about().map(|about| about.to_string()));
+    object.text("after_help", command.get_after_help().map(|help| help.to_string()));
     object.text("version", version);
     object.text("subcommand_help_heading", command.get_subcommand_help_heading());
     object.list("visible_aliases", &visible, |out, it| quote(out, it));
@@ -56,6 +58,8 @@ fn command_object(out: &mut String, command: &Command, built: &Command) {
     object.flag("allow_external_subcommands", built.is_allow_external_subcommands_set());
     object.order(command.get_display_order());
     object.flag("no_binary_name", built.is_no_binary_name_set());
+    object.flag("subcommand_required", built.is_subcommand_required_set());
+    object.flag("arg_required_else_help", built.is_arg_required_else_help_set());
     object.list("args", args, |out, (arg, made)| arg_object(out, arg, made, built));
     object.list("subcommands", children, |out, (child, made)| command_object(out, child, made));
     object.end()
@@ -70,6 +74,11 @@ fn arg_object(out: &mut String, arg: &Arg, made: &Arg, built: &Command) {
     let mut hidden_shorts = arg.get_all_short_aliases().unwrap_or_default();
     hidden_shorts.retain(|alias| !visible_shorts.contains(alias));
     let conflicts = built.get_arg_conflicts_with(made);
+    // A tree file has room for one default value. Building adds some that were not declared.
+    let default = match arg.get_default_values() {
+        [value] => value.to_str(),
+        _ => None,
+    };
     let mut object = Object::new(out);
     object.text("id", Some(arg.get_id().as_str()));
     object.text("short", arg.get_short().map(String::from));
@@ -94,6 +103,7 @@ fn arg_object(out: &mut String, arg: &Arg, made: &Arg, built: &Command) {
     let hint = Some(made.get_value_hint()).filter(|hint| *hint != ValueHint::Unknown);
     object.text("value_hint", hint.map(|hint| format!("{hint:?}")));
     object.text("value_terminator", arg.get_value_terminator().map(|it| it.as_str()));
+    object.text("default_value", default);
     object.list("conflicts_with", conflicts, |out, it| quote(out, it.get_id().as_str()));
     if let Some(index) = arg.get_index() {
         object.number("index", index);
