@@ -5,8 +5,7 @@ ghost use Rattle.std.specs.Option.{option_copied};
 ghost use Rattle.cc_command.specs.Names.{contains_name, find_child, visible_names};
 ghost use Rattle.cc_walk.specs.Visible.{has_no_hidden_alias, shows};
 
-use cc_base::Text;
-use cc_command::Command;
+use cc_command::{Command, contains_name};
 
 /// Whether none of the words is a hidden alias at the command where it is read. The words are read
 /// from this command on: each that names a child, by its name or an alias, leads to the child, and
@@ -46,11 +45,5 @@ fn shown_step<'c>(command: &'c Command, word: &str) -> Option<&'c Command>
 fn shows(command: &Command, word: &str) -> bool
     ensures { result ≡ contains_name (visible_names command.now.node) word.now }
 {
-    command.get_name() == word || contains_text(command.get_visible_aliases(), word)
-}
-
-fn contains_text(texts: &[Text], wanted: &str) -> bool
-    ensures { result ≡ contains_name texts.now wanted.now }
-{
-    texts.iter().any(|text| text.as_str() == wanted)
+    command.get_name() == word || contains_name(command.get_visible_aliases(), word)
 }

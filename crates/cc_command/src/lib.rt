@@ -5,7 +5,7 @@ mod command;
 mod node;
 
 pub use crate::command::{
-    Arguments, Command, NameAndVisibleAliases, add_argument, add_child, build_as, first_with_id,
-    from_node, full_name, has_name, is_quiet_value, node_of, unescaped_quote,
+    Arguments, Command, NameAndVisibleAliases, add_argument, add_child, build_as, contains_name,
+    first_with_id, from_node, full_name, has_name, is_quiet_value, node_of, unescaped_quote,
 };
 pub use crate::node::Node;

@@ -1,7 +1,7 @@
 //! The keys of nodes: the part of a condition that tells the path.
 
 use cc_base::Text;
-use cc_visits::{Joined, Keys};
+use cc_visits::{Joined, KeyScheme};
 use std::alloc::{AllocError, Global};
 
 const FIRST: Joined<'static> = Joined {
@@ -16,15 +16,15 @@ const FURTHER: Joined<'static> = Joined {
 #[derive(Drop)]
 pub struct FishKeys;
 
-impl Keys for FishKeys {
+impl KeyScheme for FishKeys {
     ghost use Rattle.cc_fish.specs.Script.{fish_key};
 
-    ghost longer = { λ _. fish_key };
+    ghost child_key = { λ _. fish_key };
 
-    fn longer(&self, alloc: Global, key: &str, name: &str) -> Result<Text, AllocError> {
+    fn child_key(&self, alloc: Global, key: &str, name: &str) -> Result<Text, AllocError> {
         if key.is_empty() {
-            return FIRST.longer(alloc, "", name);
+            return FIRST.child_key(alloc, "", name);
         }
-        FURTHER.longer(alloc, key, name)
+        FURTHER.child_key(alloc, key, name)
     }
 }

@@ -5,7 +5,7 @@ use Rattle.std.specs.Option.{option_and_then}
 use Rattle.cc_flat.specs.Flat.{Entry, HasItsChildren, IsChildAt, IsFlat, children_at, entry_at, numbers_between, tree_at}
 use Rattle.cc_flat.specs.Positions.{BeginsAt, children_end, later_nodes, nodes_after, nodes_from, path_start, preorder_at}
 use Rattle.cc_flat.specs.Preorder.{Levelled, preorder}
-use Rattle.cc_flat.specs.declared.preorder.Position.{Position}
+use Rattle.cc_flat.specs.declared.preorder.Cursor.{Cursor}
 use Rattle.cc_flat.proofs.Numbers.{HasParentOrNone, HasParentOrNone-at, numbers_between_first}
 
 -- a path has at most one name more than the number of its node
@@ -25,7 +25,7 @@ level_low flat is_flat (suc (suc level)) number inside starts =
     below (Some parent) is starts low =
         omega (arith, low parent (omega (arith, is.1.0)) starts, is.1.0)
 
-abbrev position_at : ℕ → ℕ → Position
+abbrev position_at : ℕ → ℕ → Cursor
 position_at level number = record { number = number; level = level }
 
 -- siblings from one of them on, then what comes after their parent

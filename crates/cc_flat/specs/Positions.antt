@@ -4,7 +4,7 @@ use Rattle.std.specs.Option.{option_and_then}
 use Rattle.cc_command.specs.Tree.{forest_of}
 use Rattle.cc_flat.specs.Flat.{Entry, entry_at, tree_at, trees_at, numbers_between}
 use Rattle.cc_flat.specs.Preorder.{Levelled, preorder}
-use Rattle.cc_flat.specs.declared.preorder.Position.{Position}
+use Rattle.cc_flat.specs.declared.preorder.Cursor.{Cursor}
 
 -- the number of a node's parent
 abbrev pub parent_at : List Entry → ℕ → ℕ
@@ -22,7 +22,7 @@ path_start flat (suc (suc level)) number =
     option_and_then (path_start flat (suc level)) (entry_at flat number).parent
 
 -- the number is that of a node, and its path from the root has so many names
-pub record IsAt (flat : List Entry) (position : Position) : Type 0 where
+pub record IsAt (flat : List Entry) (position : Cursor) : Type 0 where
   pub listed : position.number < length flat
   pub level : path_start flat position.level position.number ≡ Some 0
 
@@ -52,7 +52,7 @@ nodes_from flat level number =
     ∷ nodes_after flat level number
 
 -- the nodes are those from a position on; there are none where there is no position
-abbrev pub BeginsAt : List Entry → List Levelled → Option Position → Type 0
+abbrev pub BeginsAt : List Entry → List Levelled → Option Cursor → Type 0
 BeginsAt flat nodes None = nodes ≡ []
 BeginsAt flat nodes (Some position) =
     IsAt flat position × (nodes ≡ nodes_from flat position.level position.number)

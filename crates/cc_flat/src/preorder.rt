@@ -19,7 +19,7 @@ pub struct LevelledNode<'a> {
 
 // The number of a node, with how many names its path has.
 #[derive(Clone, Copy)]
-pub(crate) struct Position {
+pub(crate) struct Cursor {
     pub number: usize,
     pub level: usize,
 }
@@ -30,7 +30,7 @@ pub(crate) struct Position {
 pub struct Preorder<'f, 'a> {
     flat: &'f Flat<'a>,
     // where the last node was, at first the root
-    position: Position,
+    position: Cursor,
     ghost at: { IsAt flat.now position },
 }
 
@@ -44,7 +44,7 @@ impl<'a> Flat<'a> {
     {
         Preorder {
             flat: self,
-            position: Position {
+            position: Cursor {
                 number: 0,
                 level: 1,
             },
@@ -75,13 +75,13 @@ impl<'f, 'a> Iterator for Preorder<'f, 'a> {
 }
 
 // Where the node after this one is.
-fn next_position(flat: &Flat<'_>, position: Position) -> Option<Position>
+fn next_position(flat: &Flat<'_>, position: Cursor) -> Option<Cursor>
     requires { IsAt flat.now position }
     ensures { BeginsAt flat.now (nodes_after flat.now position.level position.number) result }
 {
     let children = flat.children(position.number);
     if children.start < children.end {
-        return Some(Position {
+        return Some(Cursor {
             number: children.start,
             level: position.level + 1,
         });
@@ -91,7 +91,7 @@ fn next_position(flat: &Flat<'_>, position: Position) -> Option<Position>
 
 // Where the node after this one and all below it is: the next sibling, or that of the nearest node
 // above it that has one.
-fn later_position(flat: &Flat<'_>, position: Position) -> Option<Position>
+fn later_position(flat: &Flat<'_>, position: Cursor) -> Option<Cursor>
     requires { IsAt flat.now position }
     ensures { BeginsAt flat.now (later_nodes flat.now position.level position.number) result }
 {
@@ -101,7 +101,7 @@ fn later_position(flat: &Flat<'_>, position: Position) -> Option<Position>
         let siblings = flat.children(parent);
         if number + 1 < siblings.end {
             let number = number + 1;
-            return Some(Position { number, level });
+            return Some(Cursor { number, level });
         }
         number = parent;
         level -= 1;

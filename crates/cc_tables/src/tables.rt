@@ -7,7 +7,7 @@ ghost use Rattle.cc_tables.specs.Script.{head_text, named_text, node_text, tree_
 use cc_base::{Error, Sink, Text, TextRef, put_around, put_piece};
 use cc_command::{Command, full_name};
 use cc_flat::Flat;
-use cc_visits::{Joined, Keys, TableVisits};
+use cc_visits::{Joined, KeyScheme, TableVisits};
 use std::alloc::{AllocError, Global};
 use std::io::ErrorKind;
 
@@ -30,14 +30,14 @@ pub struct Frame<'a> {
     pub tail: TextRef<'a>,
 }
 
-impl<'a> Keys for Frame<'a> {
+impl<'a> KeyScheme for Frame<'a> {
     ghost use Rattle.cc_visits.specs.Visits.{joined};
 
-    ghost longer = { λ frame. joined frame.separator };
+    ghost child_key = { λ frame. joined frame.separator };
 
-    fn longer(&self, alloc: Global, key: &str, name: &str) -> Result<Text, AllocError> {
+    fn child_key(&self, alloc: Global, key: &str, name: &str) -> Result<Text, AllocError> {
         let separator = self.separator.as_str();
-        Joined { separator }.longer(alloc, key, name)
+        Joined { separator }.child_key(alloc, key, name)
     }
 }
 

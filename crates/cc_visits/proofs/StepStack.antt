@@ -43,22 +43,22 @@ module _ (flat : List Entry) (stack rest : List StepItem) (item : StepItem) (is 
       let P : List StepItem → Type 0 = All (IsListed flat) in
       subst P (sym is) (All-push (IsListed flat) rest item listed (number, above))
 
-module _ (flat : List Entry) (longer : List ℕ → List ℕ → List ℕ) where
+module _ (flat : List Entry) (child_key : List ℕ → List ℕ → List ℕ) where
   abbrev node_at : ℕ → Node
   node_at number = (tree_at flat number).node
 
   AreListed-range : (above : ℕ) (key : List ℕ) (first count : ℕ) → above < length flat → first + count ≤ length flat →
-      All (IsListed flat) (step_items flat longer above key (range_with_len first count))
+      All (IsListed flat) (step_items flat child_key above key (range_with_len first count))
   AreListed-range above key first zero is_listed within = All-nil (IsListed flat)
   AreListed-range above key first (suc count) is_listed within =
-      let keys : List (List ℕ) = keys_below longer key (node_at first) in
-      All-append (IsListed flat) (entries_at above first keys) (step_items flat longer above key (range_with_len (first + 1) count))
+      let keys : List (List ℕ) = keys_below child_key key (node_at first) in
+      All-append (IsListed flat) (entries_at above first keys) (step_items flat child_key above key (range_with_len (first + 1) count))
       (All-map (IsListed flat) (step_item false above first) keys (λ i d k. (omega arith, is_listed)))
       (AreListed-range above key (first + 1) count is_listed (omega arith))
 
   -- the items of a node's children
   pub steps_listed : (number : ℕ) (key : List ℕ) (rest items new : List StepItem) → number < length flat → HasItsChildren flat number →
-      items ≡ step_items flat longer number key (children_at flat number) → new ≡ rest ++ reverse items → AreListed flat rest → AreListed flat new
+      items ≡ step_items flat child_key number key (children_at flat number) → new ≡ rest ++ reverse items → AreListed flat rest → AreListed flat new
   unfolding AreListed
   steps_listed number key rest items new is_listed its are pushed listed =
       let P : List StepItem → Type 0 = All (IsListed flat) in
@@ -68,56 +68,56 @@ module _ (flat : List Entry) (longer : List ℕ → List ℕ → List ℕ) where
 
   -- those of the root's children alone
   pub begin_listed : (key : List ℕ) (items stack : List StepItem) → 0 < length flat → HasItsChildren flat 0 →
-      items ≡ step_items flat longer 0 key (children_at flat 0) → stack ≡ reverse items → AreListed flat stack
+      items ≡ step_items flat child_key 0 key (children_at flat 0) → stack ≡ reverse items → AreListed flat stack
   unfolding AreListed
   begin_listed key items stack is_listed its are reversed = steps_listed 0 key [] items stack is_listed its are reversed (All-nil (IsListed flat))
 
   -- ---- the steps that are still to come
 
   steps_of-items : (above : ℕ) (key : List ℕ) (numbers : List ℕ) →
-      flat_map (steps_of flat longer) (step_items flat longer above key numbers) ≡ steps_below longer key (node_at above) (forest_of (trees_at flat numbers))
+      flat_map (steps_of flat child_key) (step_items flat child_key above key numbers) ≡ steps_below child_key key (node_at above) (forest_of (trees_at flat numbers))
   unfolding steps_below
   steps_of-items above key [] = refl
   steps_of-items above key (number ∷ numbers) =
-      let keys : List (List ℕ) = keys_below longer key (node_at number) in
-      flat_map-append (steps_of flat longer) (entries_at above number keys) (step_items flat longer above key numbers) ∙
-      ap (λ t. t ++ flat_map (steps_of flat longer) (step_items flat longer above key numbers))
-      (flat_map-map (steps_of flat longer) (step_item false above number) keys) ∙
-      ap (λ t. flat_map (λ key. steps_from longer key (node_at above) (tree_at flat number)) keys ++ t) (steps_of-items above key numbers)
+      let keys : List (List ℕ) = keys_below child_key key (node_at number) in
+      flat_map-append (steps_of flat child_key) (entries_at above number keys) (step_items flat child_key above key numbers) ∙
+      ap (λ t. t ++ flat_map (steps_of flat child_key) (step_items flat child_key above key numbers))
+      (flat_map-map (steps_of flat child_key) (step_item false above number) keys) ∙
+      ap (λ t. flat_map (λ key. steps_from child_key key (node_at above) (tree_at flat number)) keys ++ t) (steps_of-items above key numbers)
 
   -- a node is left
   pub step_leave : (number above : ℕ) (key : List ℕ) (old rest : List StepItem) → old ≡ rest ++ step_item true above number key ∷ [] →
-      from_stack (steps_of flat longer) old ≡ leave (keyed key (node_at above) (tree_at flat number)) ∷ from_stack (steps_of flat longer) rest
+      from_stack (steps_of flat child_key) old ≡ leave (keyed key (node_at above) (tree_at flat number)) ∷ from_stack (steps_of flat child_key) rest
   step_leave number above key old rest popped =
-      ap (from_stack (steps_of flat longer)) popped ∙ from_stack_popped (steps_of flat longer) rest (step_item true above number key)
+      ap (from_stack (steps_of flat child_key)) popped ∙ from_stack_popped (steps_of flat child_key) rest (step_item true above number key)
 
   -- a node is entered
   pub step_enter : (item : StepItem) (own : List ℕ) (old rest kept items new : List StepItem) → item.leaving ≡ false → HasItsChildren flat item.number →
       old ≡ rest ++ item ∷ [] → own ≡ item.key → kept ≡ rest ++ step_item true item.above item.number own ∷ [] →
-      items ≡ step_items flat longer item.number item.key (children_at flat item.number) → new ≡ kept ++ reverse items →
-      from_stack (steps_of flat longer) old ≡ enter (keyed item.key (node_at item.above) (tree_at flat item.number)) ∷ from_stack (steps_of flat longer) new
+      items ≡ step_items flat child_key item.number item.key (children_at flat item.number) → new ≡ kept ++ reverse items →
+      from_stack (steps_of flat child_key) old ≡ enter (keyed item.key (node_at item.above) (tree_at flat item.number)) ∷ from_stack (steps_of flat child_key) new
   step_enter item own old rest kept items new entering its popped own_is kept_is are pushed =
-      let from_item = steps_of flat longer in
+      let from_item = steps_of flat child_key in
       let tree : Tree = tree_at flat item.number in
       let above : Node = node_at item.above in
       let end : List (Step (List ℕ)) = leave (keyed item.key above tree) ∷ [] in
       ap (from_stack from_item) popped ∙ from_stack_popped from_item rest item ∙
-      ap (λ leaving. cond leaving end (steps_from longer item.key above tree) ++ from_stack from_item rest) entering ∙
+      ap (λ leaving. cond leaving end (steps_from child_key item.key above tree) ++ from_stack from_item rest) entering ∙
       ap (λ t. enter (keyed item.key above tree) ∷ t)
-      (append_assoc (steps_below longer item.key tree.node tree.children) end (from_stack from_item rest) ∙
+      (append_assoc (steps_below child_key item.key tree.node tree.children) end (from_stack from_item rest) ∙
       ap (λ t. t ++ (end ++ from_stack from_item rest))
-      (ap (steps_below longer item.key tree.node) (sym its.forest) ∙ sym (steps_of-items item.number item.key (children_at flat item.number)) ∙ ap (flat_map from_item) (sym are)) ∙
+      (ap (steps_below child_key item.key tree.node) (sym its.forest) ∙ sym (steps_of-items item.number item.key (children_at flat item.number)) ∙ ap (flat_map from_item) (sym are)) ∙
       ap (λ t. flat_map from_item items ++ t)
       (sym (step_leave item.number item.above item.key kept rest (kept_is ∙ ap (λ key. rest ++ step_item true item.above item.number key ∷ []) own_is))) ∙
       sym (ap (from_stack from_item) pushed ∙ from_stack_pushed from_item kept items))
 
   -- all below the root
   pub steps_begin : (key : List ℕ) (items stack : List StepItem) → HasItsChildren flat 0 →
-      items ≡ step_items flat longer 0 key (children_at flat 0) → stack ≡ reverse items →
-      from_stack (steps_of flat longer) stack ≡ steps_below longer key (node_at 0) (tree_at flat 0).children
+      items ≡ step_items flat child_key 0 key (children_at flat 0) → stack ≡ reverse items →
+      from_stack (steps_of flat child_key) stack ≡ steps_below child_key key (node_at 0) (tree_at flat 0).children
   steps_begin key items stack its are reversed =
-      let from_item = steps_of flat longer in
+      let from_item = steps_of flat child_key in
       ap (from_stack from_item) reversed ∙ from_stack_pushed from_item [] items ∙
-      ap₂ (λ a b. a ++ b) (ap (flat_map from_item) are ∙ steps_of-items 0 key (children_at flat 0) ∙ ap (steps_below longer key (node_at 0)) its.forest)
+      ap₂ (λ a b. a ++ b) (ap (flat_map from_item) are ∙ steps_of-items 0 key (children_at flat 0) ∙ ap (steps_below child_key key (node_at 0)) its.forest)
       (from_stack_none from_item [] refl) ∙
-      append-nil (steps_below longer key (node_at 0) (tree_at flat 0).children)
+      append-nil (steps_below child_key key (node_at 0) (tree_at flat 0).children)

@@ -33,9 +33,9 @@ module _ {A B : Type 0} where
       (same (f x ++ ((fs ++ g x) ++ gs)) ((f x ++ fs) ++ (g x ++ gs))
       (ap (λ t. f x ++ t) (append_assoc fs (g x) gs) ∙ sym (append_assoc (f x) fs (g x ++ gs)))))
 
-module _ {Key : Type 0} (longer : Key → List ℕ → Key) where
+module _ {Key : Type 0} (child_key : Key → List ℕ → Key) where
   IsPermutation-below : (forest : Forest) (above : Node) (keys : List Key) →
-      IsPermutation (flat_map (λ key. paths_below longer key above forest) keys) (tables_below longer keys above forest)
+      IsPermutation (flat_map (λ key. paths_below child_key key above forest) keys) (tables_below child_key keys above forest)
   unfolding paths_below tables_below
   IsPermutation-below none above keys = same (flat_map (λ key. []) keys) [] (nothing keys)
     where
@@ -44,28 +44,28 @@ module _ {Key : Type 0} (longer : Key → List ℕ → Key) where
       nothing (key ∷ keys) = nothing keys
   IsPermutation-below (more node below rest) above keys =
       let tree : Tree = record { node = node; children = below } in
-      let one : Key → List (Keyed Key) = λ child. keyed child above tree ∷ paths_below longer child node below in
+      let one : Key → List (Keyed Key) = λ child. keyed child above tree ∷ paths_below child_key child node below in
       let alone : Key → List (Keyed Key) = λ child. keyed child above tree ∷ [] in
-      let under : Key → List (Keyed Key) = λ child. paths_below longer child node below in
-      let later : Key → List (Keyed Key) = λ key. paths_below longer key above rest in
-      let paths : Key → List (Keyed Key) = λ key. flat_map one (keys_below longer key node) in
-      let tables : Key → List (Keyed Key) = λ key. under_each (keys_below longer key node) above tree ++ tables_below longer (keys_below longer key node) node below in
+      let under : Key → List (Keyed Key) = λ child. paths_below child_key child node below in
+      let later : Key → List (Keyed Key) = λ key. paths_below child_key key above rest in
+      let paths : Key → List (Keyed Key) = λ key. flat_map one (keys_below child_key key node) in
+      let tables : Key → List (Keyed Key) = λ key. under_each (keys_below child_key key node) above tree ++ tables_below child_key (keys_below child_key key node) node below in
       let each : (key : Key) → IsPermutation (paths key) (tables key) = λ key.
-      IsPermutation-trans (paths key) (flat_map alone (keys_below longer key node) ++ flat_map under (keys_below longer key node)) (tables key)
-      (flat_map-split alone under (keys_below longer key node))
-      (IsPermutation-append (flat_map alone (keys_below longer key node)) (under_each (keys_below longer key node) above tree)
-      (flat_map under (keys_below longer key node)) (tables_below longer (keys_below longer key node) node below)
-      (same (flat_map alone (keys_below longer key node)) (under_each (keys_below longer key node) above tree) (flat_map_single (λ child. keyed child above tree) (keys_below longer key node)))
-      (IsPermutation-below below node (keys_below longer key node))) in
-      IsPermutation-trans (flat_map (λ key. paths key ++ later key) keys) (flat_map paths keys ++ flat_map later keys) (flat_map tables keys ++ tables_below longer keys above rest)
+      IsPermutation-trans (paths key) (flat_map alone (keys_below child_key key node) ++ flat_map under (keys_below child_key key node)) (tables key)
+      (flat_map-split alone under (keys_below child_key key node))
+      (IsPermutation-append (flat_map alone (keys_below child_key key node)) (under_each (keys_below child_key key node) above tree)
+      (flat_map under (keys_below child_key key node)) (tables_below child_key (keys_below child_key key node) node below)
+      (same (flat_map alone (keys_below child_key key node)) (under_each (keys_below child_key key node) above tree) (flat_map_single (λ child. keyed child above tree) (keys_below child_key key node)))
+      (IsPermutation-below below node (keys_below child_key key node))) in
+      IsPermutation-trans (flat_map (λ key. paths key ++ later key) keys) (flat_map paths keys ++ flat_map later keys) (flat_map tables keys ++ tables_below child_key keys above rest)
       (flat_map-split paths later keys)
-      (IsPermutation-append (flat_map paths keys) (flat_map tables keys) (flat_map later keys) (tables_below longer keys above rest)
+      (IsPermutation-append (flat_map paths keys) (flat_map tables keys) (flat_map later keys) (tables_below child_key keys above rest)
       (flat_map-each paths tables each keys) (IsPermutation-below rest above keys))
 
   -- the visits in path order, in table order
-  pub IsPermutation-visits : (key : Key) (tree : Tree) → IsPermutation (path_visits longer key tree) (table_visits longer key tree)
+  pub IsPermutation-visits : (key : Key) (tree : Tree) → IsPermutation (path_visits child_key key tree) (table_visits child_key key tree)
   IsPermutation-visits key tree =
-      let paths : List (Keyed Key) = paths_below longer key tree.node tree.children in
-      let tables : List (Keyed Key) = tables_below longer (key ∷ []) tree.node tree.children in
+      let paths : List (Keyed Key) = paths_below child_key key tree.node tree.children in
+      let tables : List (Keyed Key) = tables_below child_key (key ∷ []) tree.node tree.children in
       IsPermutation-cons (keyed key tree.node tree) paths tables
       (subst (λ t. IsPermutation t tables) (append-nil paths) (IsPermutation-below tree.children tree.node (key ∷ [])))

@@ -65,58 +65,58 @@ no_items above keys start end numbers none is =
 
 -- ---- the visits that are still to come
 
-module _ (flat : List Entry) (longer : List ℕ → List ℕ → List ℕ) where
+module _ (flat : List Entry) (child_key : List ℕ → List ℕ → List ℕ) where
   abbrev node_at : ℕ → Node
   node_at number = (tree_at flat number).node
 
   tables_of-items : (above : ℕ) (keys : List (List ℕ)) (numbers : List ℕ) →
-      flat_map (tables_of flat longer) (table_items above keys numbers) ≡ tables_below longer keys (node_at above) (forest_of (trees_at flat numbers))
+      flat_map (tables_of flat child_key) (table_items above keys numbers) ≡ tables_below child_key keys (node_at above) (forest_of (trees_at flat numbers))
   unfolding tables_below
   tables_of-items above keys [] = refl
   tables_of-items above keys (number ∷ numbers) =
-      flat_map-append (tables_of flat longer) (items_at above number keys) (table_items above keys numbers) ∙
-      ap (λ t. t ++ flat_map (tables_of flat longer) (table_items above keys numbers)) (flat_map-map (tables_of flat longer) (item_at above number) keys) ∙
-      ap (λ t. flat_map (λ key. tables_from longer key (node_at above) (tree_at flat number)) keys ++ t) (tables_of-items above keys numbers)
+      flat_map-append (tables_of flat child_key) (items_at above number keys) (table_items above keys numbers) ∙
+      ap (λ t. t ++ flat_map (tables_of flat child_key) (table_items above keys numbers)) (flat_map-map (tables_of flat child_key) (item_at above number) keys) ∙
+      ap (λ t. flat_map (λ key. tables_from child_key key (node_at above) (tree_at flat number)) keys ++ t) (tables_of-items above keys numbers)
 
   -- what is below a node is put on the stack
   tables-pushed : (number : ℕ) (keys : List (List ℕ)) (rest items new : List TableItem) → HasItsChildren flat number →
       items ≡ table_items number keys (children_at flat number) → new ≡ rest ++ reverse items →
-      from_stack (tables_of flat longer) new ≡ tables_below longer keys (node_at number) (tree_at flat number).children ++ from_stack (tables_of flat longer) rest
+      from_stack (tables_of flat child_key) new ≡ tables_below child_key keys (node_at number) (tree_at flat number).children ++ from_stack (tables_of flat child_key) rest
   tables-pushed number keys rest items new its are pushed =
-      let from_item = tables_of flat longer in
+      let from_item = tables_of flat child_key in
       ap (from_stack from_item) pushed ∙ from_stack_pushed from_item rest items ∙
       ap (λ t. t ++ from_stack from_item rest)
-      (ap (flat_map from_item) are ∙ tables_of-items number keys (children_at flat number) ∙ ap (tables_below longer keys (node_at number)) its.forest)
+      (ap (flat_map from_item) are ∙ tables_of-items number keys (children_at flat number) ∙ ap (tables_below child_key keys (node_at number)) its.forest)
 
   -- a child is taken from the stack: its visits come first, and what is below it is put on
   table-step : (number above : ℕ) (key : List ℕ) (keys : List (List ℕ)) (old rest items new : List TableItem) → HasItsChildren flat number →
-      old ≡ rest ++ item_at above number key ∷ [] → keys ≡ keys_below longer key (node_at number) →
+      old ≡ rest ++ item_at above number key ∷ [] → keys ≡ keys_below child_key key (node_at number) →
       items ≡ table_items number keys (children_at flat number) → new ≡ rest ++ reverse items →
-      from_stack (tables_of flat longer) old ≡ under_each keys (node_at above) (tree_at flat number) ++ from_stack (tables_of flat longer) new
+      from_stack (tables_of flat child_key) old ≡ under_each keys (node_at above) (tree_at flat number) ++ from_stack (tables_of flat child_key) new
   table-step number above key keys old rest items new its popped keys_are are pushed =
-      let from_item = tables_of flat longer in
+      let from_item = tables_of flat child_key in
       let tree : Tree = tree_at flat number in
       ap (from_stack from_item) popped ∙ from_stack_popped from_item rest (item_at above number key) ∙
-      ap (λ ks. (under_each ks (node_at above) tree ++ tables_below longer ks tree.node tree.children) ++ from_stack from_item rest) (sym keys_are) ∙
-      append_assoc (under_each keys (node_at above) tree) (tables_below longer keys tree.node tree.children) (from_stack from_item rest) ∙
+      ap (λ ks. (under_each ks (node_at above) tree ++ tables_below child_key ks tree.node tree.children) ++ from_stack from_item rest) (sym keys_are) ∙
+      append_assoc (under_each keys (node_at above) tree) (tables_below child_key keys tree.node tree.children) (from_stack from_item rest) ∙
       ap (λ t. under_each keys (node_at above) tree ++ t) (sym (tables-pushed number keys rest items new its are pushed))
 
   -- the root under its key, then what is below it
   pub tables_begin : (key : List ℕ) (keys : List (List ℕ)) (items stack : List TableItem) → HasItsChildren flat 0 → keys ≡ key ∷ [] →
       items ≡ table_items 0 keys (children_at flat 0) → stack ≡ reverse items →
-      under_each (reverse keys) (node_at 0) (tree_at flat 0) ++ from_stack (tables_of flat longer) stack ≡ table_visits longer key (tree_at flat 0)
+      under_each (reverse keys) (node_at 0) (tree_at flat 0) ++ from_stack (tables_of flat child_key) stack ≡ table_visits child_key key (tree_at flat 0)
   tables_begin key keys items stack its keys_are are reversed =
       ap (λ t. under_each (reverse keys) (node_at 0) (tree_at flat 0) ++ t) (tables-pushed 0 keys [] items stack its are reversed ∙
-      ap (λ t. tables_below longer keys (node_at 0) (tree_at flat 0).children ++ t) (from_stack_none (tables_of flat longer) [] refl) ∙
-      append-nil (tables_below longer keys (node_at 0) (tree_at flat 0).children)) ∙
-      ap (λ ks. under_each (reverse ks) (node_at 0) (tree_at flat 0) ++ tables_below longer ks (node_at 0) (tree_at flat 0).children) keys_are
+      ap (λ t. tables_below child_key keys (node_at 0) (tree_at flat 0).children ++ t) (from_stack_none (tables_of flat child_key) [] refl) ∙
+      append-nil (tables_below child_key keys (node_at 0) (tree_at flat 0).children)) ∙
+      ap (λ ks. under_each (reverse ks) (node_at 0) (tree_at flat 0) ++ tables_below child_key ks (node_at 0) (tree_at flat 0).children) keys_are
 
   -- no keys and no nodes are left
   pub tables_end : (number above : ℕ) (ready : List (List ℕ)) (stack : List TableItem) → length ready ≡ 0 → length stack ≡ 0 →
-      under_each (reverse ready) (node_at above) (tree_at flat number) ++ from_stack (tables_of flat longer) stack ≡ []
+      under_each (reverse ready) (node_at above) (tree_at flat number) ++ from_stack (tables_of flat child_key) stack ≡ []
   tables_end number above ready stack no_keys no_items =
-      ap (λ ks. under_each (reverse ks) (node_at above) (tree_at flat number) ++ from_stack (tables_of flat longer) stack) (nil_from_length ready no_keys) ∙
-      from_stack_none (tables_of flat longer) stack no_items
+      ap (λ ks. under_each (reverse ks) (node_at above) (tree_at flat number) ++ from_stack (tables_of flat child_key) stack) (nil_from_length ready no_keys) ∙
+      from_stack_none (tables_of flat child_key) stack no_items
 
   -- the key that is taken from the end is the first one
   taken_first : (first : List ℕ) (ready left : List (List ℕ)) → ready ≡ left ++ first ∷ [] →
@@ -126,29 +126,29 @@ module _ (flat : List Entry) (longer : List ℕ → List ℕ → List ℕ) where
   -- the node that is being visited has a further key
   pub table_later : (number above : ℕ) (first : List ℕ) (ready left : List (List ℕ)) (stack : List TableItem) →
       ready ≡ left ++ first ∷ [] →
-      under_each (reverse ready) (node_at above) (tree_at flat number) ++ from_stack (tables_of flat longer) stack
-      ≡ keyed first (node_at above) (tree_at flat number) ∷ (under_each (reverse left) (node_at above) (tree_at flat number) ++ from_stack (tables_of flat longer) stack)
+      under_each (reverse ready) (node_at above) (tree_at flat number) ++ from_stack (tables_of flat child_key) stack
+      ≡ keyed first (node_at above) (tree_at flat number) ∷ (under_each (reverse left) (node_at above) (tree_at flat number) ++ from_stack (tables_of flat child_key) stack)
   table_later number above first ready left stack taken =
-      ap (λ ks. under_each ks (node_at above) (tree_at flat number) ++ from_stack (tables_of flat longer) stack) (taken_first first ready left taken)
+      ap (λ ks. under_each ks (node_at above) (tree_at flat number) ++ from_stack (tables_of flat child_key) stack) (taken_first first ready left taken)
 
   -- no key is left: the next node's first key comes
   pub table_next : (before above_before number above : ℕ) (key first : List ℕ) (done empty keys left : List (List ℕ))
       (old rest items new : List TableItem) → length done ≡ 0 → length empty ≡ 0 → HasItsChildren flat number →
-      old ≡ rest ++ item_at above number key ∷ [] → keys ≡ empty ++ keys_below longer key (node_at number) →
+      old ≡ rest ++ item_at above number key ∷ [] → keys ≡ empty ++ keys_below child_key key (node_at number) →
       items ≡ table_items number keys (children_at flat number) → new ≡ rest ++ reverse items → reverse keys ≡ left ++ first ∷ [] →
-      under_each (reverse done) (node_at above_before) (tree_at flat before) ++ from_stack (tables_of flat longer) old
-      ≡ keyed first (node_at above) (tree_at flat number) ∷ (under_each (reverse left) (node_at above) (tree_at flat number) ++ from_stack (tables_of flat longer) new)
+      under_each (reverse done) (node_at above_before) (tree_at flat before) ++ from_stack (tables_of flat child_key) old
+      ≡ keyed first (node_at above) (tree_at flat number) ∷ (under_each (reverse left) (node_at above) (tree_at flat number) ++ from_stack (tables_of flat child_key) new)
   table_next before above_before number above key first done empty keys left old rest items new no_keys is_empty its popped keys_are are pushed taken =
-      let from_item = tables_of flat longer in
+      let from_item = tables_of flat child_key in
       let first_is : keys ≡ first ∷ reverse left = sym (reverse-reverse keys) ∙ taken_first first (reverse keys) left taken in
       ap (λ ks. under_each (reverse ks) (node_at above_before) (tree_at flat before) ++ from_stack from_item old) (nil_from_length done no_keys) ∙
-      table-step number above key keys old rest items new its popped (keys_are ∙ ap (λ ks. ks ++ keys_below longer key (node_at number)) (nil_from_length empty is_empty)) are pushed ∙
+      table-step number above key keys old rest items new its popped (keys_are ∙ ap (λ ks. ks ++ keys_below child_key key (node_at number)) (nil_from_length empty is_empty)) are pushed ∙
       ap (λ ks. under_each ks (node_at above) (tree_at flat number) ++ from_stack from_item new) first_is
 
   -- a node has a key
   pub some_key : (number : ℕ) (key : List ℕ) (done keys : List (List ℕ)) →
-      keys ≡ done ++ keys_below longer key (node_at number) → 0 < length (reverse keys)
+      keys ≡ done ++ keys_below child_key key (node_at number) → 0 < length (reverse keys)
   some_key number key done keys keys_are =
-      let names : List (List ℕ) = keys_below longer key (node_at number) in
+      let names : List (List ℕ) = keys_below child_key key (node_at number) in
       let some : 0 < length names = omega arith in
       subst (λ n. 0 < n) (sym (length-reverse keys ∙ ap (λ ks. length ks) keys_are ∙ length-append done names)) (omega arith)

@@ -25,13 +25,13 @@ AreListed flat items = All (IsListed flat) items
 -- nodes, each under its keys below one key of their parent
 abbrev pub step_items : List Entry → (List ℕ → List ℕ → List ℕ) → ℕ → List ℕ → List ℕ
     → List StepItem
-step_items flat longer above key numbers =
+step_items flat child_key above key numbers =
     flat_map (λ number. entries_at above number
-    (keys_below longer key (tree_at flat number).node)) numbers
+    (keys_below child_key key (tree_at flat number).node)) numbers
 
 -- the steps that come from an item
 abbrev pub steps_of : List Entry → (List ℕ → List ℕ → List ℕ) → StepItem → List (Step (List ℕ))
-steps_of flat longer item =
+steps_of flat child_key item =
     if item.leaving then leave
     (keyed item.key (tree_at flat item.above).node (tree_at flat item.number)) ∷ []
-    else steps_from longer item.key (tree_at flat item.above).node (tree_at flat item.number)
+    else steps_from child_key item.key (tree_at flat item.above).node (tree_at flat item.number)

@@ -27,5 +27,5 @@ table_items above keys numbers = flat_map (λ number. items_at above number keys
 
 -- the visits that come from an item, whose key is that of its parent
 abbrev pub tables_of : List Entry → (List ℕ → List ℕ → List ℕ) → TableItem → List (Keyed (List ℕ))
-tables_of flat longer item =
-    tables_from longer item.key (tree_at flat item.above).node (tree_at flat item.number)
+tables_of flat child_key item =
+    tables_from child_key item.key (tree_at flat item.above).node (tree_at flat item.number)

@@ -19,23 +19,23 @@ keyed key above tree = record { key = key; above = above; tree = tree }
 
 -- the keys of a child below one key: one for each of its visible names
 abbrev pub keys_below : {Key : Type 0} → (Key → List ℕ → Key) → Key → Node → List Key
-keys_below longer key node = map (longer key) (visible_names node)
+keys_below child_key key node = map (child_key key) (visible_names node)
 
 -- Path order, below a node with this key: child by child and name by name, the child under the
 -- longer key, then all below it.
 unfoldable pub paths_below : {Key : Type 0} → (Key → List ℕ → Key) → Key → Node → Forest
     → List (Keyed Key)
-paths_below longer key above none = []
-paths_below longer key above (more node below rest) =
+paths_below child_key key above none = []
+paths_below child_key key above (more node below rest) =
     flat_map (λ child.
     keyed child above (record { node = node; children = below })
-    ∷ paths_below longer child node below) (keys_below longer key node) ++
-    paths_below longer key above rest
+    ∷ paths_below child_key child node below) (keys_below child_key key node) ++
+    paths_below child_key key above rest
 
 -- the root under this key, then all below it, in path order
 abbrev pub path_visits : {Key : Type 0} → (Key → List ℕ → Key) → Key → Tree → List (Keyed Key)
-path_visits longer key tree =
-    keyed key tree.node tree ∷ paths_below longer key tree.node tree.children
+path_visits child_key key tree =
+    keyed key tree.node tree ∷ paths_below child_key key tree.node tree.children
 
 -- a tree under each of these keys, with the node above it
 abbrev pub under_each : {Key : Type 0} → List Key → Node → Tree → List (Keyed Key)
@@ -45,25 +45,25 @@ under_each keys above tree = map (λ key. keyed key above tree) keys
 -- child under its longer keys, then all below it.
 unfoldable pub tables_below : {Key : Type 0} → (Key → List ℕ → Key) → List Key → Node → Forest
     → List (Keyed Key)
-tables_below longer keys above none = []
-tables_below longer keys above (more node below rest) =
+tables_below child_key keys above none = []
+tables_below child_key keys above (more node below rest) =
     flat_map (λ key.
-    under_each (keys_below longer key node) above (record { node = node; children = below }) ++
-    tables_below longer (keys_below longer key node) node below) keys ++
-    tables_below longer keys above rest
+    under_each (keys_below child_key key node) above (record { node = node; children = below }) ++
+    tables_below child_key (keys_below child_key key node) node below) keys ++
+    tables_below child_key keys above rest
 
 -- the root under this key, then all below it, in table order
 abbrev pub table_visits : {Key : Type 0} → (Key → List ℕ → Key) → Key → Tree → List (Keyed Key)
-table_visits longer key tree =
-    keyed key tree.node tree ∷ tables_below longer (key ∷ []) tree.node tree.children
+table_visits child_key key tree =
+    keyed key tree.node tree ∷ tables_below child_key (key ∷ []) tree.node tree.children
 
 -- a child below one key of its parent: the child under its longer keys, then all below it, in table
 -- order
 abbrev pub tables_from : {Key : Type 0} → (Key → List ℕ → Key) → Key → Node → Tree
     → List (Keyed Key)
-tables_from longer key above tree =
-    under_each (keys_below longer key tree.node) above tree
-    ++ tables_below longer (keys_below longer key tree.node) tree.node tree.children
+tables_from child_key key above tree =
+    under_each (keys_below child_key key tree.node) above tree
+    ++ tables_below child_key (keys_below child_key key tree.node) tree.node tree.children
 
 -- ---- keys
 
@@ -94,24 +94,24 @@ pub data Step (Key : Type 0) : Type 0 where
 -- left.
 unfoldable pub steps_below : {Key : Type 0} → (Key → List ℕ → Key) → Key → Node → Forest
     → List (Step Key)
-steps_below longer key above none = []
-steps_below longer key above (more node below rest) =
+steps_below child_key key above none = []
+steps_below child_key key above (more node below rest) =
     flat_map (λ child.
     enter (keyed child above (record { node = node; children = below })) ∷
-    (steps_below longer child node below ++ leave
+    (steps_below child_key child node below ++ leave
     (keyed child above (record { node = node; children = below }))
-    ∷ [])) (keys_below longer key node) ++
-    steps_below longer key above rest
+    ∷ [])) (keys_below child_key key node) ++
+    steps_below child_key key above rest
 
 -- a tree under this key is entered and, after all below it, left
 abbrev pub steps_from : {Key : Type 0} → (Key → List ℕ → Key) → Key → Node → Tree → List (Step Key)
-steps_from longer key above tree =
+steps_from child_key key above tree =
     enter (keyed key above tree) ∷
-    (steps_below longer key tree.node tree.children ++ leave (keyed key above tree) ∷ [])
+    (steps_below child_key key tree.node tree.children ++ leave (keyed key above tree) ∷ [])
 
 -- the same of the root
 abbrev pub path_steps : {Key : Type 0} → (Key → List ℕ → Key) → Key → Tree → List (Step Key)
-path_steps longer key tree = steps_from longer key tree.node tree
+path_steps child_key key tree = steps_from child_key key tree.node tree
 
 -- what a visit gives where a node is entered, and nothing where it is left
 abbrev pub where_entered : {Key B : Type 0} → (Keyed Key → List B) → Step Key → List B

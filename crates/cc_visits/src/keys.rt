@@ -11,14 +11,14 @@ use std::marker::Model;
 use std::rc::Rc;
 
 /// How the key of a node is made from its parent's key and one of its own names.
-pub trait Keys {
+pub trait KeyScheme {
     // the key of a child, from its parent's key and its name
-    ghost longer: { Self → List ℕ → List ℕ → List ℕ };
+    ghost child_key: { Self → List ℕ → List ℕ → List ℕ };
 
     /// The key of a child that has this name, below a node with this key. Fails where
     /// memory runs out.
-    fn longer(&self, alloc: Global, key: &str, name: &str) -> Result<Text, AllocError>
-        ensures { IfOk result (λ text. text ≡ longer self.now key.now name.now) };
+    fn child_key(&self, alloc: Global, key: &str, name: &str) -> Result<Text, AllocError>
+        ensures { IfOk result (λ text. text ≡ child_key self.now key.now name.now) };
 }
 
 /// Keys that are names with a separator between them.
@@ -28,12 +28,12 @@ pub struct Joined<'a> {
     pub separator: &'a str,
 }
 
-impl<'a> Keys for Joined<'a> {
+impl<'a> KeyScheme for Joined<'a> {
     ghost use Rattle.cc_visits.specs.Visits.{joined};
 
-    ghost longer = { λ keys. joined keys.separator.now };
+    ghost child_key = { λ keys. joined keys.separator.now };
 
-    fn longer(&self, alloc: Global, key: &str, name: &str) -> Result<Text, AllocError> {
+    fn child_key(&self, alloc: Global, key: &str, name: &str) -> Result<Text, AllocError> {
         let room = key
             .len()
             .saturating_add(self.separator.len())
@@ -48,7 +48,7 @@ impl<'a> Keys for Joined<'a> {
 
 /// Adds the keys of a node below a parent with this key: one for each of its visible names.
 /// Fails where memory runs out.
-pub(crate) fn push_keys_below<K: Keys>(
+pub(crate) fn push_keys_below<K: KeyScheme>(
     made: &mut Vec<Text>,
     alloc: Global,
     keys: &K,
@@ -56,10 +56,10 @@ pub(crate) fn push_keys_below<K: Keys>(
     command: &Command,
 ) -> Result<(), AllocError>
     ensures { OnOk result (made.new.items
-        ≡ made.old.items ++ keys_below (K.longer keys.now) key.now command.now.node) }
+        ≡ made.old.items ++ keys_below (K.child_key keys.now) key.now command.now.node) }
 {
     for name in command.get_name_and_visible_aliases() {
-        made.push(keys.longer(alloc, key, name)?)?;
+        made.push(keys.child_key(alloc, key, name)?)?;
     }
     Ok(())
 }

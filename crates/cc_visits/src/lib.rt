@@ -7,7 +7,7 @@ mod stack;
 mod table_visits;
 mod visit;
 
-pub use crate::keys::{Joined, Keys, SharedKey};
+pub use crate::keys::{Joined, KeyScheme, SharedKey};
 pub use crate::path_steps::{PathStep, PathSteps};
 pub use crate::table_visits::TableVisits;
 pub use crate::visit::Visit;

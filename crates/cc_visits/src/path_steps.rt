@@ -4,7 +4,7 @@ ghost use Rattle.std.specs.Prelude.{◌≡◌, ◌++◌, ◌<◌, length, IfOk, 
 ghost use Rattle.cc_flat.specs.Flat.{HasItsChildren, children_at};
 ghost use Rattle.cc_visits.specs.StepStack.{entries_at, step_items};
 
-use crate::keys::{Keys, push_keys_below};
+use crate::keys::{KeyScheme, push_keys_below};
 use crate::stack::push_reversed;
 use crate::visit::{Visit, visit_at};
 use cc_base::Text;
@@ -36,14 +36,14 @@ pub(crate) struct StepItem {
 ///
 /// A clause sees the list of steps.
 #[derive(Drop)]
-pub struct PathSteps<'f, 'a, K: Keys> {
+pub struct PathSteps<'f, 'a, K: KeyScheme> {
     flat: &'f Flat<'a>,
     keys: &'f K,
     // what is still to come, the next one last
     stack: Vec<StepItem>,
 }
 
-impl<'f, 'a, K: Keys> Model for PathSteps<'f, 'a, K> {
+impl<'f, 'a, K: KeyScheme> Model for PathSteps<'f, 'a, K> {
     ghost use Rattle.std.specs.Prelude.{ℕ, List};
     ghost use Rattle.cc_visits.specs.Visits.{Step};
     ghost use Rattle.cc_visits.specs.VisitCode.{steps_code};
@@ -56,12 +56,12 @@ impl<'f, 'a, K: Keys> Model for PathSteps<'f, 'a, K> {
     ghost use Rattle.cc_visits.specs.StepStack.{AreListed, steps_of};
 
     ghost view = { λ steps.
-        from_stack (steps_of steps.flat.now (K.longer steps.keys.now)) steps.stack.items };
+        from_stack (steps_of steps.flat.now (K.child_key steps.keys.now)) steps.stack.items };
 
     ghost invariant = { λ steps. AreListed steps.flat.now steps.stack.items };
 }
 
-impl<'f, 'a, K: Keys> PathSteps<'f, 'a, K> {
+impl<'f, 'a, K: KeyScheme> PathSteps<'f, 'a, K> {
     ghost use Rattle.std.specs.Prelude.{◌≡◌, ◌++◌, ◌<◌, [], length, IfOk, IfNone};
     ghost use Rattle.std.specs.Option.{option_map, option_to_list};
     ghost use Rattle.cc_flat.specs.Flat.{tree_at};
@@ -78,7 +78,7 @@ impl<'f, 'a, K: Keys> PathSteps<'f, 'a, K> {
     ) -> Result<PathSteps<'f, 'a, K>, AllocError>
         requires { 0 < length flat.now }
         ensures { IfOk result
-            (λ steps. steps ≡ path_steps (K.longer keys.now) key.now (tree_at flat.now 0)) }
+            (λ steps. steps ≡ path_steps (K.child_key keys.now) key.now (tree_at flat.now 0)) }
     {
         let key = Text::copy_of(alloc, key)?;
         let mut stack = Vec::new(alloc);
@@ -101,7 +101,7 @@ impl<'f, 'a, K: Keys> PathSteps<'f, 'a, K> {
         keys: &'f K,
     ) -> Result<PathSteps<'f, 'a, K>, AllocError>
         requires { 0 < length flat.now }
-        ensures { IfOk result (λ steps. steps ≡ steps_below (K.longer keys.now) key.now
+        ensures { IfOk result (λ steps. steps ≡ steps_below (K.child_key keys.now) key.now
             (tree_at flat.now 0).node (tree_at flat.now 0).children) }
     {
         let mut stack = items_below(alloc, flat, keys, 0, key)?;
@@ -144,7 +144,7 @@ impl<'f, 'a, K: Keys> PathSteps<'f, 'a, K> {
 }
 
 // The children of a node, each under its keys below the node's key.
-fn items_below<K: Keys>(
+fn items_below<K: KeyScheme>(
     alloc: Global,
     flat: &Flat<'_>,
     keys: &K,
@@ -153,7 +153,7 @@ fn items_below<K: Keys>(
 ) -> Result<Vec<StepItem>, AllocError>
     requires { number < length flat.now }
     ensures items { IfOk result (λ items. items.items
-        ≡ step_items flat.now (K.longer keys.now) number key.now (children_at flat.now number)) }
+        ≡ step_items flat.now (K.child_key keys.now) number key.now (children_at flat.now number)) }
     ensures children { OnOk result (HasItsChildren flat.now number) }
 {
     let mut items = Vec::new(alloc);

@@ -5,7 +5,7 @@ ghost use Rattle.std.specs.Prelude.{is_ok, if◌then◌else◌};
 ghost use Rattle.cc_flat.specs.Flat.{HasItsChildren, children_at};
 ghost use Rattle.cc_visits.specs.TableStack.{items_at, table_items};
 
-use crate::keys::{Keys, SharedKey, push_keys_below};
+use crate::keys::{KeyScheme, SharedKey, push_keys_below};
 use crate::stack::push_reversed;
 use crate::visit::{Visit, visit_at};
 use cc_base::Text;
@@ -27,7 +27,7 @@ pub(crate) struct TableItem {
 ///
 /// A clause sees the list of visits.
 #[derive(Drop)]
-pub struct TableVisits<'f, 'a, K: Keys> {
+pub struct TableVisits<'f, 'a, K: KeyScheme> {
     flat: &'f Flat<'a>,
     keys: &'f K,
     // the node that is being visited, the node above it, and its keys that are still to come, the
@@ -39,7 +39,7 @@ pub struct TableVisits<'f, 'a, K: Keys> {
     stack: Vec<TableItem>,
 }
 
-impl<'f, 'a, K: Keys> Model for TableVisits<'f, 'a, K> {
+impl<'f, 'a, K: KeyScheme> Model for TableVisits<'f, 'a, K> {
     ghost use Rattle.std.specs.Prelude.{ℕ, List, ◌++◌, ◌<◌, length, reverse};
     ghost use Rattle.cc_flat.specs.Flat.{tree_at};
     ghost use Rattle.cc_visits.specs.Visits.{Keyed, under_each};
@@ -55,14 +55,14 @@ impl<'f, 'a, K: Keys> Model for TableVisits<'f, 'a, K> {
     ghost view = { λ visits.
         under_each (reverse visits.ready.items) (tree_at visits.flat.now visits.above).node
         (tree_at visits.flat.now visits.number)
-        ++ from_stack (tables_of visits.flat.now (K.longer visits.keys.now)) visits.stack.items };
+        ++ from_stack (tables_of visits.flat.now (K.child_key visits.keys.now)) visits.stack.items };
 
     ghost invariant = { λ visits.
         (visits.number < length visits.flat.now) × ((visits.above < length visits.flat.now)
         × AreListed visits.flat.now visits.stack.items) };
 }
 
-impl<'f, 'a, K: Keys> TableVisits<'f, 'a, K> {
+impl<'f, 'a, K: KeyScheme> TableVisits<'f, 'a, K> {
     ghost use Rattle.std.specs.Prelude.{◌≡◌, ◌++◌, ◌<◌, [], length, IfOk, IfNone};
     ghost use Rattle.std.specs.Option.{option_map, option_to_list};
     ghost use Rattle.cc_flat.specs.Flat.{tree_at};
@@ -79,7 +79,7 @@ impl<'f, 'a, K: Keys> TableVisits<'f, 'a, K> {
     ) -> Result<TableVisits<'f, 'a, K>, AllocError>
         requires { 0 < length flat.now }
         ensures { IfOk result
-            (λ visits. visits ≡ table_visits (K.longer keys.now) key.now (tree_at flat.now 0)) }
+            (λ visits. visits ≡ table_visits (K.child_key keys.now) key.now (tree_at flat.now 0)) }
     {
         let mut own = Vec::new(alloc);
         own.push(Text::copy_of(alloc, key)?)?;

@@ -9,13 +9,7 @@ ghost use Rattle.cc_walk.specs.Lookup.{allows_hyphens_at, max_values};
 ghost use Rattle.cc_walk.specs.WordClasses.{value_argument};
 
 use cc_arg::{Arg, counted_range};
-use cc_base::Text;
-
-fn contains_text(texts: &[Text], text: &str) -> bool
-    ensures { result ≡ contains_name texts.now text.now }
-{
-    texts.iter().any(|t| t.as_str() == text)
-}
+use cc_command::contains_name;
 
 fn contains_char(characters: &[char], character: char) -> bool
     ensures { result ≡ list_any (λ c. c == character) characters.now }
@@ -29,7 +23,7 @@ pub fn has_long(argument: &Arg, flag: &str) -> bool
     ensures { result ≡ has_long flag.now argument.now }
 {
     argument.get_long().is_some_and(|long| {
-        long == flag || contains_text(argument.get_visible_aliases(), flag)
+        long == flag || contains_name(argument.get_visible_aliases(), flag)
     })
 }
 

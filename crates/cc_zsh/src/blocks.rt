@@ -20,7 +20,7 @@ use crate::texts::{
 use cc_base::{Error, Sink, Text, put_around, put_piece, put_pieces};
 use cc_command::{Command, full_name};
 use cc_flat::Flat;
-use cc_visits::{Keys, PathStep, PathSteps, Visit};
+use cc_visits::{KeyScheme, PathStep, PathSteps, Visit};
 use std::alloc::{AllocError, Global};
 use std::io::ErrorKind;
 
@@ -28,12 +28,12 @@ use std::io::ErrorKind;
 #[derive(Drop)]
 struct LastNames;
 
-impl Keys for LastNames {
+impl KeyScheme for LastNames {
     ghost use Rattle.cc_zsh.specs.Steps.{last_name};
 
-    ghost longer = { λ _. last_name };
+    ghost child_key = { λ _. last_name };
 
-    fn longer(&self, alloc: Global, _key: &str, name: &str) -> Result<Text, AllocError> {
+    fn child_key(&self, alloc: Global, _key: &str, name: &str) -> Result<Text, AllocError> {
         Text::copy_of(alloc, name)
     }
 }

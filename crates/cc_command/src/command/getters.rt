@@ -208,7 +208,8 @@ pub fn full_name(command: &Command) -> &str
     command.get_bin_name().unwrap_or(command.get_name())
 }
 
-pub(super) fn contains_name(names: &[Text], word: &str) -> bool
+/// Whether one of the names is the word.
+pub fn contains_name(names: &[Text], word: &str) -> bool
     ensures { result ≡ contains_name names.now word.now }
 {
     names.iter().any(|name| name.as_str() == word)

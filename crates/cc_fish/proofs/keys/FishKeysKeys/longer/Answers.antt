@@ -1,5 +1,0 @@
-use Rattle.cc_fish.proofs.LongerKeys.{further_key}
-use Rattle.cc_fish.proofs.keys.FishKeysKeys.longer.Goals as goal
-
-pub returns : goal.returns
-returns c = further_key c.args.key.now c.args.name.now c.longer-2.result (c.is_empty.ensures) c.if-is_empty.false c.longer-2.ensures
