@@ -4,23 +4,23 @@ use Rattle.std.specs.Borrow.{Bor}
 use Rattle.std.specs.BTreeMap.{BTreeMap}
 use Rattle.std.specs.Str.{bytes_eq}
 use Rattle.cc_arg.specs.declared.parts.ArgParts.{ArgParts as Arg}
-use Rattle.cc_command_warnings.specs.ArgumentNames.{id_in, id_with}
+use Rattle.cc_command_warnings.specs.PlacedNames.{owner_in, owner_with}
 use Rattle.cc_command_warnings.specs.Scopes.{conflict_kind, conflict_list, conflicts_of, has_conflicts, have_conflicts, is_known, is_known_in}
 use Rattle.cc_command_warnings.specs.Walk.{each_from}
-use Rattle.cc_command_warnings.specs.declared.names.ArgumentName.{ArgumentName}
+use Rattle.cc_command_warnings.specs.declared.names.PlacedName.{PlacedName}
 
 each_same : {A B : Type 0} (f g : ℕ → A → List B) → ((index : ℕ) (thing : A) → f index thing ≡ g index thing) →
     (index : ℕ) (things : List A) → each_from f index things ≡ each_from g index things
 each_same f g h index [] = refl
 each_same f g h index (thing ∷ things) = ap₂ (λ a b. a ++ b) (h index thing) (each_same f g h (suc index) things)
 
-known_same : (seen : BTreeMap (Bor (List ℕ)) (List ℕ)) (names : List ArgumentName) →
-    ((word : List ℕ) → id_in seen word ≡ id_with names word) → (id : List ℕ) → is_known_in seen id ≡ is_known names id
+known_same : (seen : BTreeMap (Bor (List ℕ)) (List ℕ)) (names : List PlacedName) →
+    ((word : List ℕ) → owner_in seen word ≡ owner_with names word) → (id : List ℕ) → is_known_in seen id ≡ is_known names id
 known_same seen names h id =
     ap (λ found. is_some found || (bytes_eq id (codes "help") || bytes_eq id (codes "version"))) (h id)
 
-pub same_conflicts : (seen : BTreeMap (Bor (List ℕ)) (List ℕ)) (names : List ArgumentName) →
-    ((word : List ℕ) → id_in seen word ≡ id_with names word) → (path : List ℕ) (arguments : List Arg) →
+pub same_conflicts : (seen : BTreeMap (Bor (List ℕ)) (List ℕ)) (names : List PlacedName) →
+    ((word : List ℕ) → owner_in seen word ≡ owner_with names word) → (path : List ℕ) (arguments : List Arg) →
     each_from (conflicts_of (is_known_in seen) path) 0 arguments ≡ each_from (conflicts_of (is_known names) path) 0 arguments
 same_conflicts seen names h path arguments =
     each_same (conflicts_of (is_known_in seen) path) (conflicts_of (is_known names) path)

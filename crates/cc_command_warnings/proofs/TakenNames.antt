@@ -11,14 +11,16 @@ use Rattle.cc_command.specs.Names.{contains_name}
 use Rattle.cc_command.specs.Plain.{all_differ, names_of_all, siblings_differ, names_of as node_names}
 use Rattle.cc_command.specs.Tree.{Forest, none, more}
 use Rattle.cc_command_warnings.specs.Notes.{are_notes}
-use Rattle.cc_command_warnings.specs.SiblingNames.{aliases_of, names_from, names_of, owner, sibling_name, taken_by, taken_from, taken_names}
+use Rattle.cc_command_warnings.specs.PlacedNames.{aliases_of, owner_with, placed_name, taken_by, taken_from}
+use Rattle.cc_command_warnings.specs.SiblingNames.{names_from, names_of, taken_names}
 use Rattle.cc_command_warnings.specs.Walk.{each_from}
+use Rattle.cc_command_warnings.specs.declared.names.Owners.TheVariants.{Children}
 use Rattle.cc_command_warnings.specs.declared.place.Key.{Key}
-use Rattle.cc_command_warnings.specs.declared.siblings.SiblingName.{SiblingName}
+use Rattle.cc_command_warnings.specs.declared.names.PlacedName.{PlacedName}
 use Rattle.cc_command_warnings.proofs.Walked.{notes_append}
 
 -- the texts of some names
-abbrev texts : List SiblingName → List (List ℕ)
+abbrev texts : List PlacedName → List (List ℕ)
 texts names = map (λ name. name.name) names
 
 some_kept : (same : Bool) (found : Option (List ℕ)) (command : List ℕ) →
@@ -28,22 +30,22 @@ some_kept true (Some other) command = refl
 some_kept false None command = refl
 some_kept false (Some other) command = refl
 
-found_some : (found : Option (List ℕ)) (names : List SiblingName) (word : List ℕ) →
-    is_some (fold (λ found name. cond (bytes_eq name.name word) (Some name.command) found) found names)
+found_some : (found : Option (List ℕ)) (names : List PlacedName) (word : List ℕ) →
+    is_some (fold (λ found name. cond (bytes_eq name.name word) (Some name.owner) found) found names)
     ≡ (is_some found || contains_name (texts names) word)
 found_some None [] word = refl
 found_some (Some command) [] word = refl
 found_some found (name ∷ names) word =
     let same = bytes_eq name.name word in
-    found_some (cond same (Some name.command) found) names word
-    ∙ ap (λ b. b || contains_name (texts names) word) (some_kept same found name.command)
+    found_some (cond same (Some name.owner) found) names word
+    ∙ ap (λ b. b || contains_name (texts names) word) (some_kept same found name.owner)
     ∙ or_assoc (is_some found) same (contains_name (texts names) word)
 
 -- a name has an owner where it is among those before it
-owner_some : (before : List SiblingName) (word : List ℕ) → is_some (owner before word) ≡ contains_name (texts before) word
+owner_some : (before : List PlacedName) (word : List ℕ) → is_some (owner_with before word) ≡ contains_name (texts before) word
 owner_some before word = found_some None before word
 
-by_notes : (path : List ℕ) (found : Option (List ℕ)) (name : SiblingName) → are_notes (taken_by path found name) ≡ not (is_some found)
+by_notes : (path : List ℕ) (found : Option (List ℕ)) (name : PlacedName) → are_notes (taken_by Children path found name) ≡ not (is_some found)
 by_notes path None name = refl
 by_notes path (Some command) name = refl
 
@@ -52,12 +54,12 @@ abbrev fresh : List (List ℕ) → List (List ℕ) → Bool
 fresh before [] = true
 fresh before (text ∷ others) = not (contains_name before text) && fresh (before ++ text ∷ []) others
 
-taken_notes : (path : List ℕ) (before names : List SiblingName) →
-    are_notes (taken_from path before names) ≡ fresh (texts before) (texts names)
+taken_notes : (path : List ℕ) (before names : List PlacedName) →
+    are_notes (taken_from Children path before names) ≡ fresh (texts before) (texts names)
 taken_notes path before [] = refl
 taken_notes path before (name ∷ names) =
-    notes_append (taken_by path (owner before name.name) name) (taken_from path (before ++ name ∷ []) names)
-    ∙ ap₂ (λ a b. a && b) (by_notes path (owner before name.name) name ∙ ap not (owner_some before name.name))
+    notes_append (taken_by Children path (owner_with before name.name) name) (taken_from Children path (before ++ name ∷ []) names)
+    ∙ ap₂ (λ a b. a && b) (by_notes path (owner_with before name.name) name ∙ ap not (owner_some before name.name))
     (taken_notes path (before ++ name ∷ []) names
     ∙ ap (λ before. fresh before (texts names)) (map-append (λ name. name.name) before (name ∷ [])))
 
@@ -87,13 +89,13 @@ fresh_differ before (text ∷ others) =
     ∙ ap all_differ (append_assoc before (text ∷ []) others)
 
 alias_texts : (child : ℕ) (key : Key) (command : List ℕ) (index : ℕ) (aliases : List (List ℕ)) →
-    texts (each_from (λ index alias. sibling_name child key (Some index) alias command ∷ []) index aliases) ≡ aliases
+    texts (each_from (λ index alias. placed_name child key (Some index) alias command ∷ []) index aliases) ≡ aliases
 alias_texts child key command index [] = refl
 alias_texts child key command index (alias ∷ aliases) = ap (λ others. alias ∷ others) (alias_texts child key command (suc index) aliases)
 
 node_texts : (child : ℕ) (node : Node) → texts (names_of child node) ≡ node_names node
 node_texts child node =
-    map-append (λ name. name.name) (sibling_name child Key.Name None node.name node.name ∷ aliases_of child Key.VisibleAliases node.name node.visible_aliases)
+    map-append (λ name. name.name) (placed_name child Key.Name None node.name node.name ∷ aliases_of child Key.VisibleAliases node.name node.visible_aliases)
     (aliases_of child Key.Aliases node.name node.aliases)
     ∙ ap₂ (λ visible hidden. node.name ∷ (visible ++ hidden))
     (alias_texts child Key.VisibleAliases node.name 0 node.visible_aliases)

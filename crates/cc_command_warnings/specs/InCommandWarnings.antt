@@ -9,7 +9,10 @@ use Rattle.cc_command.specs.declared.node.Node.{Node}
 use Rattle.cc_command.specs.Tree.{Tree, has_nodes}
 use Rattle.cc_command_warnings.specs.Places.{warning}
 use Rattle.cc_command_warnings.specs.Walk.{each_from, when}
+use Rattle.cc_command_warnings.specs.declared.in_command.AddedFlag.{AddedFlag}
+use Rattle.cc_command_warnings.specs.declared.in_command.AddedFlag.TheVariants as added
 use Rattle.cc_command_warnings.specs.declared.place.Key.TheVariants as key
+use Rattle.cc_command_warnings.specs.declared.warning.Kind.{Kind}
 use Rattle.cc_command_warnings.specs.declared.warning.Kind.TheVariants.{TakenByHelp, TakenByVersion, NoVersion, LastBesideChildren, RequiredAfterOptional}
 use Rattle.cc_command_warnings.specs.declared.warning.Warning.{Warning}
 
@@ -22,29 +25,33 @@ abbrev pub is_short : Option ℕ → ℕ → Bool
 is_short None short = false
 is_short (Some other) short = other == short
 
--- the id, the long and the short of the flag `help`, where building adds it
-abbrev pub help_list : Node → List ℕ → ℕ → Arg → List Warning
-help_list node path index argument =
-    (when (not node.disable_help_flag && bytes_eq argument.id (codes "help"))
-    (warning path (Some index) key.Id None TakenByHelp)
-    ++ when (not node.disable_help_flag && is_text argument.long (codes "help"))
-    (warning path (Some index) key.Long None TakenByHelp))
-    ++ when (not node.disable_help_flag && is_short argument.short 104)
-    (warning path (Some index) key.Short None TakenByHelp)
+-- a flag that building adds to this node
+abbrev pub is_added : AddedFlag → Node → Bool
+is_added added.Help node = not node.disable_help_flag
+is_added added.Version node = is_some node.version && not node.disable_version_flag
 
--- a command has the flag `version`
-abbrev pub adds_version : Node → Bool
-adds_version node = is_some node.version && not node.disable_version_flag
+-- its id, which is its long too, its short, and what is said of an argument that has one of these
+abbrev pub added_name : AddedFlag → List ℕ
+added_name added.Help = codes "help"
+added_name added.Version = codes "version"
 
--- the same of the flag `version`
-abbrev pub version_list : Node → List ℕ → ℕ → Arg → List Warning
-version_list node path index argument =
-    (when (adds_version node && bytes_eq argument.id (codes "version"))
-    (warning path (Some index) key.Id None TakenByVersion)
-    ++ when (adds_version node && is_text argument.long (codes "version"))
-    (warning path (Some index) key.Long None TakenByVersion))
-    ++ when (adds_version node && is_short argument.short 86)
-    (warning path (Some index) key.Short None TakenByVersion)
+abbrev pub added_short : AddedFlag → ℕ
+added_short added.Help = 104
+added_short added.Version = 86
+
+abbrev pub added_kind : AddedFlag → Kind
+added_kind added.Help = TakenByHelp
+added_kind added.Version = TakenByVersion
+
+-- the id, the long and the short of the flag, where building adds it
+abbrev pub added_list : AddedFlag → Node → List ℕ → ℕ → Arg → List Warning
+added_list flag node path index argument =
+    (when (is_added flag node && bytes_eq argument.id (added_name flag))
+    (warning path (Some index) key.Id None (added_kind flag))
+    ++ when (is_added flag node && is_text argument.long (added_name flag))
+    (warning path (Some index) key.Long None (added_kind flag)))
+    ++ when (is_added flag node && is_short argument.short (added_short flag))
+    (warning path (Some index) key.Short None (added_kind flag))
 
 -- the action that shows a version
 abbrev pub is_version : Option ArgAction → Bool
@@ -61,8 +68,9 @@ missing_list tree path index argument =
     (warning path (Some index) key.Required None LastBesideChildren)
 
 abbrev pub in_command : Tree → List ℕ → ℕ → Arg → List Warning
-in_command tree path index argument = (help_list tree.node path index argument
-    ++ version_list tree.node path index argument) ++ missing_list tree path index argument
+in_command tree path index argument = (added_list added.Help tree.node path index argument
+    ++ added_list added.Version tree.node path index argument)
+    ++ missing_list tree path index argument
 
 -- a required positional that is not last
 abbrev pub is_needed : Arg → Bool
@@ -70,7 +78,8 @@ is_needed argument = is_positional argument && (argument.required && not argumen
 
 -- the id of the last optional positional after an argument, where this one was the last before it
 abbrev pub optional_after : Option (List ℕ) → Arg → Option (List ℕ)
-optional_after before argument = if is_positional argument && not (is_needed argument) then Some argument.id else before
+optional_after before argument =
+    if is_positional argument && not (is_needed argument) then Some argument.id else before
 
 -- a required positional, where there is an optional one before it
 abbrev pub needed_list : List ℕ → ℕ → Option (List ℕ) → Bool → List Warning

@@ -3,6 +3,7 @@ pub mod CommandWarnings
 pub mod InCommandWarnings
 pub mod LoneWarnings
 pub mod Notes
+pub mod PlacedNames
 pub mod Places
 pub mod PlainWarnings
 pub mod PositionalWarnings

@@ -41,7 +41,8 @@ quotes_list path index argument = quote_list path index Id None argument.id
 -- a short that is no ASCII letter or digit
 abbrev pub short_list : List ℕ → ℕ → Key → Option ℕ → ℕ → List Warning
 short_list path argument key item short =
-    unless (is_ascii_alphanumeric short) (warning path (Some argument) key item (ShortNotPlain short))
+    unless (is_ascii_alphanumeric short)
+    (warning path (Some argument) key item (ShortNotPlain short))
 
 abbrev pub some_short_list : List ℕ → ℕ → Option ℕ → List Warning
 some_short_list path argument None = []

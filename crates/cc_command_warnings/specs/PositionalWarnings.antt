@@ -6,11 +6,13 @@ use Rattle.cc_arg.specs.declared.parts.ArgParts.{ArgParts as Arg}
 use Rattle.cc_arg.specs.Arguments.{is_positional, range_of}
 use Rattle.cc_command.specs.Built.{lacks_index, next_index}
 use Rattle.cc_command.specs.Tree.{Tree}
-use Rattle.cc_command_warnings.specs.ArgumentNames.{all_names, index_name, taken_from}
+use Rattle.cc_command_warnings.specs.ArgumentNames.{all_names, index_name}
 use Rattle.cc_command_warnings.specs.LoneWarnings.{count_key}
+use Rattle.cc_command_warnings.specs.PlacedNames.{taken_from}
 use Rattle.cc_command_warnings.specs.Places.{warning}
 use Rattle.cc_command_warnings.specs.Walk.{each_from, when}
-use Rattle.cc_command_warnings.specs.declared.names.ArgumentName.{ArgumentName}
+use Rattle.cc_command_warnings.specs.declared.names.Owners.TheVariants.{Arguments}
+use Rattle.cc_command_warnings.specs.declared.names.PlacedName.{PlacedName}
 use Rattle.cc_command_warnings.specs.declared.names.Named.TheVariants as named
 use Rattle.cc_command_warnings.specs.declared.place.Key.TheVariants as key
 use Rattle.cc_command_warnings.specs.declared.warning.Kind.TheVariants.{IndexOutOfRange, ManyBeforeLast, SecondLast}
@@ -46,7 +48,7 @@ each_numbered f number index (argument ∷ arguments) = f number index argument
     ++ each_numbered f (next_index number argument) (suc index) arguments
 
 -- the index of a positional for which none is given, as a name of it
-abbrev pub counted_index : ℕ → ℕ → Arg → List ArgumentName
+abbrev pub counted_index : ℕ → ℕ → Arg → List PlacedName
 counted_index number index argument =
     if lacks_index argument then index_name index number argument.id ∷ [] else []
 
@@ -104,7 +106,7 @@ last_list path before index (argument ∷ arguments) = when (before && is_last a
 abbrev pub indexes_list : List ℕ → ℕ → List Arg → List Warning
 indexes_list path count arguments = each_from (λ index argument. outside_list path count index
     (is_positional argument) argument.index) 0 arguments
-    ++ taken_from named.Index path (each_numbered counted_index 1 0 arguments)
+    ++ taken_from (Arguments named.Index) path (each_numbered counted_index 1 0 arguments)
     (all_names named.Index arguments)
 
 abbrev pub ends_list : List ℕ → ℕ → List Arg → List Warning

@@ -9,10 +9,11 @@ use Rattle.cc_arg.specs.declared.parts.ArgParts.{ArgParts as Arg}
 use Rattle.cc_command.specs.Built.{globals}
 use Rattle.cc_command.specs.Names.{has_id}
 use Rattle.cc_command.specs.Tree.{Forest, none, more, Tree}
-use Rattle.cc_command_warnings.specs.ArgumentNames.{all_names, id_in, id_with, taken_of}
+use Rattle.cc_command_warnings.specs.ArgumentNames.{all_names, taken_of}
+use Rattle.cc_command_warnings.specs.PlacedNames.{owner_in, owner_with}
 use Rattle.cc_command_warnings.specs.Places.{warning}
 use Rattle.cc_command_warnings.specs.Walk.{each_from}
-use Rattle.cc_command_warnings.specs.declared.names.ArgumentName.{ArgumentName}
+use Rattle.cc_command_warnings.specs.declared.names.PlacedName.{PlacedName}
 use Rattle.cc_command_warnings.specs.declared.names.Named.TheVariants as named
 use Rattle.cc_command_warnings.specs.declared.place.Key.TheVariants.{ConflictsWith}
 use Rattle.cc_command_warnings.specs.declared.warning.Kind.{Kind}
@@ -42,17 +43,18 @@ conflict_list path index item (Some kind) =
 -- the conflicts of an argument, where these ids are known
 abbrev pub conflicts_of : (List ℕ → Bool) → List ℕ → ℕ → Arg → List Warning
 conflicts_of known path index argument = each_from (λ item id.
-    conflict_list path index item (conflict_kind (known id) (bytes_eq id argument.id) id)) 0 argument.conflicts
+    conflict_list path index item (conflict_kind (known id) (bytes_eq id argument.id) id))
+    0 argument.conflicts
 
 -- an argument has the id, or it is that of a flag that building may add
-abbrev pub is_known : List ArgumentName → List ℕ → Bool
+abbrev pub is_known : List PlacedName → List ℕ → Bool
 is_known names id =
-    is_some (id_with names id) || (bytes_eq id (codes "help") || bytes_eq id (codes "version"))
+    is_some (owner_with names id) || (bytes_eq id (codes "help") || bytes_eq id (codes "version"))
 
 -- the same of the names that a map holds
 abbrev pub is_known_in : BTreeMap (Bor (List ℕ)) (List ℕ) → List ℕ → Bool
 is_known_in seen id =
-    is_some (id_in seen id) || (bytes_eq id (codes "help") || bytes_eq id (codes "version"))
+    is_some (owner_in seen id) || (bytes_eq id (codes "help") || bytes_eq id (codes "version"))
 
 -- a list of conflicts is there, of one argument and of some
 abbrev pub has_conflicts : List (List ℕ) → Bool
@@ -89,5 +91,5 @@ scopes_list others path index (more node below rest) =
 abbrev pub scope_list : List Arg → List ℕ → Tree → List Warning
 scope_list others path tree =
     together_list path (inherited_with tree.node.arguments others) tree.node.arguments
-    ++ scopes_list (passed_on (inherited_with tree.node.arguments others) tree.node.arguments) path 0
-    tree.children
+    ++ scopes_list (passed_on (inherited_with tree.node.arguments others) tree.node.arguments)
+    path 0 tree.children

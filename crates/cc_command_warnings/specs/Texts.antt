@@ -109,9 +109,20 @@ more_names_text names greatest = (decimal names ++ codes " value names")
     ++ (codes ", and at most " ++ decimal greatest ++ codes " value")
 
 -- the text of an index that no positional can have
-abbrev pub outside_text : List ℕ → List ℕ
-outside_text index =
-    codes "index " ++ index ++ codes " is not from 1 to the number of positionals"
+abbrev pub index_text : List ℕ → List ℕ
+index_text index = codes "index " ++ index ++ codes " of"
+
+abbrev pub positionals_text : List ℕ → List ℕ
+positionals_text count = codes " " ++ count ++ codes " positionals: "
+
+abbrev pub index_of_text : List ℕ → List ℕ → List ℕ
+index_of_text index count = index_text index ++ positionals_text count
+
+abbrev pub range_text : List ℕ → List ℕ
+range_text count = codes "indexes go from 1 to " ++ count
+
+abbrev pub outside_text : List ℕ → List ℕ → List ℕ
+outside_text index count = index_of_text index count ++ range_text count
 
 -- the text of an index that another positional has
 abbrev pub taken_index_text : List ℕ → List ℕ → List ℕ
@@ -131,7 +142,7 @@ clap_text key (RequiredAfterOptional id) =
     codes "a required positional after the optional one `" ++ id ++ codes "`"
 clap_text key (MoreNamesThanValues names greatest) = more_names_text names greatest
 clap_text key (TakenIndex index id) = taken_index_text index id
-clap_text key (IndexOutOfRange index count) = outside_text index
+clap_text key (IndexOutOfRange index count) = outside_text index count
 clap_text key kind = fixed_text kind
 
 -- the text of a kind, where the key of its place is this one

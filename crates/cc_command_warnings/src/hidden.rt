@@ -2,12 +2,12 @@
 
 ghost use Rattle.std.specs.Prelude.{◌≡◌, ◌++◌, None, OnOk, Some};
 
-use crate::place::Key;
+use crate::place::{At, Key};
 use crate::walk::Check;
 use crate::warning::{Kind, Warning, push_warning};
 use cc_arg::Arg;
 use cc_command::Command;
-use std::alloc::{AllocError, Global};
+use std::alloc::AllocError;
 
 /// Hidden commands and arguments, which scripts offer.
 pub(crate) struct Hidden;
@@ -22,29 +22,19 @@ impl Check for Hidden {
     fn push_command(
         &self,
         found: &mut Vec<Warning>,
-        alloc: Global,
-        path: &[usize],
+        at: At<'_>,
         command: &Command,
     ) -> Result<(), AllocError> {
         if !command.is_hide_set() {
             return Ok(());
         }
-        push_warning(
-            found,
-            alloc,
-            path,
-            None,
-            Key::Hide,
-            None,
-            Kind::HiddenCommand,
-        )
+        push_warning(found, at, None, Key::Hide, None, Kind::HiddenCommand)
     }
 
     fn push_argument(
         &self,
         found: &mut Vec<Warning>,
-        alloc: Global,
-        path: &[usize],
+        at: At<'_>,
         index: usize,
         argument: &Arg,
     ) -> Result<(), AllocError> {
@@ -52,6 +42,6 @@ impl Check for Hidden {
             return Ok(());
         }
         let kind = Kind::HiddenArgument;
-        push_warning(found, alloc, path, Some(index), Key::Hide, None, kind)
+        push_warning(found, at, Some(index), Key::Hide, None, kind)
     }
 }

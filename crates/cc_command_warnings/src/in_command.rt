@@ -2,21 +2,21 @@
 
 ghost use Rattle.std.specs.Prelude.{◌≡◌, ◌++◌, None, OnOk};
 ghost use Rattle.std.specs.Option.{option_copied};
-ghost use Rattle.cc_command_warnings.specs.InCommandWarnings.{help_list, in_command, is_needed};
-ghost use Rattle.cc_command_warnings.specs.InCommandWarnings.{is_short, is_text, is_version};
+ghost use Rattle.cc_command_warnings.specs.InCommandWarnings.{added_kind, added_list, added_name};
+ghost use Rattle.cc_command_warnings.specs.InCommandWarnings.{added_short, in_command, is_added};
+ghost use Rattle.cc_command_warnings.specs.InCommandWarnings.{is_needed, is_short, is_text, is_version};
 ghost use Rattle.cc_command_warnings.specs.InCommandWarnings.{missing_list, needed_list};
 ghost use Rattle.cc_command_warnings.specs.InCommandWarnings.{optional_after, order_list};
-ghost use Rattle.cc_command_warnings.specs.InCommandWarnings.{version_list};
 ghost use Rattle.cc_command_warnings.specs.Walk.{each_from};
 
 use crate::lone::push_if;
-use crate::place::Key;
+use crate::place::{At, Key};
 use crate::walk::Check;
 use crate::warning::{Kind, Warning, push_warning};
 use cc_arg::{Arg, ArgAction};
 use cc_base::Text;
 use cc_command::{Command, Node, node_of};
-use std::alloc::{AllocError, Global};
+use std::alloc::AllocError;
 
 /// What clap refuses of an argument in its command.
 pub(crate) struct InCommand;
@@ -32,19 +32,17 @@ impl Check for InCommand {
     fn push_command(
         &self,
         found: &mut Vec<Warning>,
-        alloc: Global,
-        path: &[usize],
+        at: At<'_>,
         command: &Command,
     ) -> Result<(), AllocError> {
-        push_arguments(found, alloc, path, command)?;
-        push_order(found, alloc, path, command.get_arguments())
+        push_arguments(found, at, command)?;
+        push_order(found, at, command.get_arguments())
     }
 
     fn push_argument(
         &self,
         _found: &mut Vec<Warning>,
-        _alloc: Global,
-        _path: &[usize],
+        _at: At<'_>,
         _index: usize,
         _argument: &Arg,
     ) -> Result<(), AllocError> {
@@ -52,111 +50,97 @@ impl Check for InCommand {
     }
 }
 
-fn push_arguments(
-    found: &mut Vec<Warning>,
-    alloc: Global,
-    path: &[usize],
-    command: &Command,
-) -> Result<(), AllocError>
+fn push_arguments(found: &mut Vec<Warning>, at: At<'_>, command: &Command) -> Result<(), AllocError>
     ensures { OnOk result (found.new.items ≡ found.old.items
-        ++ each_from (in_command command.now path.now) 0 command.now.node.arguments) }
+        ++ each_from (in_command command.now at.entry.path.now) 0 command.now.node.arguments) }
 {
     let arguments = command.get_arguments();
     for (index, argument) in arguments.iter().enumerate() {
-        push_argument(found, alloc, path, command, index, argument)?;
+        push_argument(found, at, command, index, argument)?;
     }
     Ok(())
 }
 
 fn push_argument(
     found: &mut Vec<Warning>,
-    alloc: Global,
-    path: &[usize],
+    at: At<'_>,
     command: &Command,
     index: usize,
     argument: &Arg,
 ) -> Result<(), AllocError>
     ensures { OnOk result (found.new.items ≡ found.old.items
-        ++ in_command command.now path.now index argument.now) }
+        ++ in_command command.now at.entry.path.now index argument.now) }
 {
     let node = node_of(command);
-    push_help(found, alloc, path, node, index, argument)?;
-    push_version(found, alloc, path, node, index, argument)?;
-    push_missing(found, alloc, path, command, index, argument)
+    push_added(found, at, AddedFlag::Help, node, index, argument)?;
+    push_added(found, at, AddedFlag::Version, node, index, argument)?;
+    push_missing(found, at, command, index, argument)
 }
 
-// The id, the long and the short of the flag `help`, where building adds it.
-fn push_help(
+// A flag that building adds.
+#[derive(Clone, Copy)]
+enum AddedFlag {
+    Help,
+    Version,
+}
+
+// The id, the long and the short of the flag, where building adds it.
+fn push_added(
     found: &mut Vec<Warning>,
-    alloc: Global,
-    path: &[usize],
+    at: At<'_>,
+    flag: AddedFlag,
     node: &Node,
     index: usize,
     argument: &Arg,
 ) -> Result<(), AllocError>
     ensures { OnOk result (found.new.items ≡ found.old.items
-        ++ help_list node.now path.now index argument.now) }
+        ++ added_list flag node.now at.entry.path.now index argument.now) }
 {
-    let added = !node.disable_help_flag;
-    let id = added && argument.get_id() == "help";
-    push_if(id, found, alloc, path, index, Key::Id, Kind::TakenByHelp)?;
-    let long = added && is_text(argument.get_long(), "help");
-    push_if(
-        long,
-        found,
-        alloc,
-        path,
-        index,
-        Key::Long,
-        Kind::TakenByHelp,
-    )?;
-    let short = added && is_short(argument.get_short(), 'h');
-    push_if(
-        short,
-        found,
-        alloc,
-        path,
-        index,
-        Key::Short,
-        Kind::TakenByHelp,
-    )
+    let added = is_added(flag, node);
+    let id = added && argument.get_id() == added_name(flag);
+    push_if(id, found, at, index, Key::Id, added_kind(flag))?;
+    let long = added && is_text(argument.get_long(), added_name(flag));
+    push_if(long, found, at, index, Key::Long, added_kind(flag))?;
+    let short = added && is_short(argument.get_short(), added_short(flag));
+    push_if(short, found, at, index, Key::Short, added_kind(flag))
 }
 
-// The same of the flag `version`.
-fn push_version(
-    found: &mut Vec<Warning>,
-    alloc: Global,
-    path: &[usize],
-    node: &Node,
-    index: usize,
-    argument: &Arg,
-) -> Result<(), AllocError>
-    ensures { OnOk result (found.new.items ≡ found.old.items
-        ++ version_list node.now path.now index argument.now) }
+fn is_added(flag: AddedFlag, node: &Node) -> bool
+    ensures { result ≡ is_added flag node.now }
 {
-    let added = node.version.is_some() && !node.disable_version_flag;
-    let id = added && argument.get_id() == "version";
-    push_if(id, found, alloc, path, index, Key::Id, Kind::TakenByVersion)?;
-    let long = added && is_text(argument.get_long(), "version");
-    push_if(
-        long,
-        found,
-        alloc,
-        path,
-        index,
-        Key::Long,
-        Kind::TakenByVersion,
-    )?;
-    let short = added && is_short(argument.get_short(), 'V');
-    push_if(
-        short,
-        found,
-        alloc,
-        path,
-        index,
-        Key::Short,
-        Kind::TakenByVersion,
-    )
+    match flag {
+        AddedFlag::Help => !node.disable_help_flag,
+        AddedFlag::Version => node.version.is_some() && !node.disable_version_flag,
+    }
+}
+
+// The id of the flag, which is its long too.
+fn added_name(flag: AddedFlag) -> &'static str
+    ensures { result.now ≡ added_name flag }
+{
+    match flag {
+        AddedFlag::Help => "help",
+        AddedFlag::Version => "version",
+    }
+}
+
+fn added_short(flag: AddedFlag) -> char
+    ensures { result ≡ added_short flag }
+{
+    match flag {
+        AddedFlag::Help => 'h',
+        AddedFlag::Version => 'V',
+    }
+}
+
+// What is said of an argument that has a name of the flag.
+fn added_kind(flag: AddedFlag) -> Kind
+    ensures { result ≡ added_kind flag }
+{
+    match flag {
+        AddedFlag::Help => Kind::TakenByHelp,
+        AddedFlag::Version => Kind::TakenByVersion,
+    }
 }
 
 fn is_text(text: Option<&str>, other: &str) -> bool
@@ -180,32 +164,22 @@ fn is_short(short: Option<char>, other: char) -> bool
 // An action that shows a version that is not there, and what children leave no room for.
 fn push_missing(
     found: &mut Vec<Warning>,
-    alloc: Global,
-    path: &[usize],
+    at: At<'_>,
     command: &Command,
     index: usize,
     argument: &Arg,
 ) -> Result<(), AllocError>
     ensures { OnOk result (found.new.items ≡ found.old.items
-        ++ missing_list command.now path.now index argument.now) }
+        ++ missing_list command.now at.entry.path.now index argument.now) }
 {
     let version = shows_version(argument) && node_of(command).version.is_none();
-    push_if(
-        version,
-        found,
-        alloc,
-        path,
-        index,
-        Key::Action,
-        Kind::NoVersion,
-    )?;
+    push_if(version, found, at, index, Key::Action, Kind::NoVersion)?;
     let needed = argument.is_last_set() && argument.is_required_set();
     let last = needed && command.has_subcommands();
     push_if(
         last,
         found,
-        alloc,
-        path,
+        at,
         index,
         Key::Required,
         Kind::LastBesideChildren,
@@ -219,18 +193,13 @@ fn shows_version(argument: &Arg) -> bool
 }
 
 // Each required positional after an optional one.
-fn push_order(
-    found: &mut Vec<Warning>,
-    alloc: Global,
-    path: &[usize],
-    arguments: &[Arg],
-) -> Result<(), AllocError>
+fn push_order(found: &mut Vec<Warning>, at: At<'_>, arguments: &[Arg]) -> Result<(), AllocError>
     ensures { OnOk result (found.new.items ≡ found.old.items
-        ++ order_list path.now None 0 arguments.now) }
+        ++ order_list at.entry.path.now None 0 arguments.now) }
 {
     let mut before = None;
     for (index, argument) in arguments.iter().enumerate() {
-        push_if_needed(found, alloc, path, index, before, argument)?;
+        push_if_needed(found, at, index, before, argument)?;
         before = optional_after(before, argument);
     }
     Ok(())
@@ -239,14 +208,14 @@ fn push_order(
 // The argument, where it is a required positional and this optional one is before it.
 fn push_if_needed(
     found: &mut Vec<Warning>,
-    alloc: Global,
-    path: &[usize],
+    at: At<'_>,
     index: usize,
     before: Option<&str>,
     argument: &Arg,
 ) -> Result<(), AllocError>
     ensures { OnOk result (found.new.items ≡ found.old.items
-        ++ needed_list path.now index (option_copied before.entry) (is_needed argument.now)) }
+        ++ needed_list at.entry.path.now index (option_copied before.entry)
+        (is_needed argument.now)) }
 {
     let Some(id) = before else {
         return Ok(());
@@ -254,8 +223,8 @@ fn push_if_needed(
     if !is_needed(argument) {
         return Ok(());
     }
-    let kind = Kind::RequiredAfterOptional(Text::copy_of(alloc, id)?);
-    push_warning(found, alloc, path, Some(index), Key::Required, None, kind)
+    let kind = Kind::RequiredAfterOptional(Text::copy_of(at.alloc, id)?);
+    push_warning(found, at, Some(index), Key::Required, None, kind)
 }
 
 // The id of the last optional positional after the argument.

@@ -7,7 +7,7 @@ ghost use Rattle.cc_command_warnings.specs.LoneWarnings.{kinds_list, names_list,
 ghost use Rattle.cc_command_warnings.specs.Places.{warning};
 ghost use Rattle.cc_command_warnings.specs.Walk.{when};
 
-use crate::place::Key;
+use crate::place::{At, Key};
 use crate::walk::Check;
 use crate::warning::{Kind, Warning, push_warning};
 use cc_arg::{Arg, ValueHint, ValueRange, copy_of, counted_range, possible_values};
@@ -28,8 +28,7 @@ impl Check for Lone {
     fn push_command(
         &self,
         _found: &mut Vec<Warning>,
-        _alloc: Global,
-        _path: &[usize],
+        _at: At<'_>,
         _command: &Command,
     ) -> Result<(), AllocError> {
         Ok(())
@@ -38,48 +37,37 @@ impl Check for Lone {
     fn push_argument(
         &self,
         found: &mut Vec<Warning>,
-        alloc: Global,
-        path: &[usize],
+        at: At<'_>,
         index: usize,
         argument: &Arg,
     ) -> Result<(), AllocError> {
-        push_kinds(found, alloc, path, index, argument)?;
-        push_value_count(found, alloc, path, index, argument)?;
-        push_flag(found, alloc, path, index, argument)?;
-        push_values_of_flag(found, alloc, path, index, argument)
+        push_kinds(found, at, index, argument)?;
+        push_value_count(found, at, index, argument)?;
+        push_flag(found, at, index, argument)?;
+        push_values_of_flag(found, at, index, argument)
     }
 }
 
 // What only a positional can be or only an option, and an argument that is global and required.
 fn push_kinds(
     found: &mut Vec<Warning>,
-    alloc: Global,
-    path: &[usize],
+    at: At<'_>,
     index: usize,
     argument: &Arg,
 ) -> Result<(), AllocError>
     ensures { OnOk result (found.new.items
-        ≡ found.old.items ++ kinds_list path.now index argument.now) }
+        ≡ found.old.items ++ kinds_list at.entry.path.now index argument.now) }
 {
     let option = !argument.is_positional();
     let last = argument.is_last_set() && option;
-    push_if(last, found, alloc, path, index, Key::Last, Kind::LastOption)?;
+    push_if(last, found, at, index, Key::Last, Kind::LastOption)?;
     let indexed = option && argument.get_index().is_some();
-    push_if(
-        indexed,
-        found,
-        alloc,
-        path,
-        index,
-        Key::Index,
-        Kind::IndexOfOption,
-    )?;
+    push_if(indexed, found, at, index, Key::Index, Kind::IndexOfOption)?;
     let required = argument.is_global_set() && argument.is_required_set();
     push_if(
         required,
         found,
-        alloc,
-        path,
+        at,
         index,
         Key::Global,
         Kind::GlobalRequired,
@@ -90,22 +78,21 @@ fn push_kinds(
 // one.
 fn push_value_count(
     found: &mut Vec<Warning>,
-    alloc: Global,
-    path: &[usize],
+    at: At<'_>,
     index: usize,
     argument: &Arg,
 ) -> Result<(), AllocError>
     ensures { OnOk result (found.new.items
-        ≡ found.old.items ++ names_list path.now index argument.now) }
+        ≡ found.old.items ++ names_list at.entry.path.now index argument.now) }
 {
     let names = argument.get_value_names().len();
     let greatest = counted_range(argument).max_values();
     let more = argument.takes_values() && greatest < names;
     let kind = Kind::MoreNamesThanValues(names, greatest);
-    push_if(more, found, alloc, path, index, Key::ValueNames, kind)?;
+    push_if(more, found, at, index, Key::ValueNames, kind)?;
     let hint = has_command_hint(argument) && !(argument.is_positional() && greatest > 1);
     let kind = Kind::CommandHintWithoutMany;
-    push_if(hint, found, alloc, path, index, Key::ValueHint, kind)
+    push_if(hint, found, at, index, Key::ValueHint, kind)
 }
 
 fn has_command_hint(argument: &Arg) -> bool
@@ -117,36 +104,34 @@ fn has_command_hint(argument: &Arg) -> bool
 // A positional that takes no value.
 fn push_flag(
     found: &mut Vec<Warning>,
-    alloc: Global,
-    path: &[usize],
+    at: At<'_>,
     index: usize,
     argument: &Arg,
 ) -> Result<(), AllocError>
     ensures { OnOk result (found.new.items
-        ≡ found.old.items ++ flag_list path.now index argument.now) }
+        ≡ found.old.items ++ flag_list at.entry.path.now index argument.now) }
 {
     let flag = argument.is_positional() && !argument.takes_values();
     let kind = Kind::PositionalWithoutValue;
-    push_if(flag, found, alloc, path, index, count_key(argument), kind)
+    push_if(flag, found, at, index, count_key(argument), kind)
 }
 
 // Possible values of an argument that takes none.
 fn push_values_of_flag(
     found: &mut Vec<Warning>,
-    alloc: Global,
-    path: &[usize],
+    at: At<'_>,
     index: usize,
     argument: &Arg,
 ) -> Result<(), AllocError>
     ensures { OnOk result (found.new.items
-        ≡ found.old.items ++ values_list path.now index argument.now) }
+        ≡ found.old.items ++ values_list at.entry.path.now index argument.now) }
 {
     if argument.takes_values() {
         return Ok(());
     }
-    let listed = has_value_list(alloc, argument)?;
+    let listed = has_value_list(at.alloc, argument)?;
     let kind = Kind::ValuesOfFlag;
-    push_if(listed, found, alloc, path, index, Key::PossibleValues, kind)
+    push_if(listed, found, at, index, Key::PossibleValues, kind)
 }
 
 // Whether an argument has a list of possible values. `possible_values` returns that of an argument
@@ -182,17 +167,16 @@ pub(crate) fn count_key(argument: &Arg) -> Key
 pub(crate) fn push_if(
     wrong: bool,
     found: &mut Vec<Warning>,
-    alloc: Global,
-    path: &[usize],
+    at: At<'_>,
     index: usize,
     key: Key,
     kind: Kind,
 ) -> Result<(), AllocError>
     ensures { OnOk result (found.new.items
-        ≡ found.old.items ++ when wrong (warning path.now (Some index) key None kind)) }
+        ≡ found.old.items ++ when wrong (warning at.entry.path.now (Some index) key None kind)) }
 {
     if !wrong {
         return Ok(());
     }
-    push_warning(found, alloc, path, Some(index), key, None, kind)
+    push_warning(found, at, Some(index), key, None, kind)
 }

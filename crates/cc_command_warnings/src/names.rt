@@ -1,19 +1,20 @@
-//! Names of arguments that an earlier argument has.
+//! Names of arguments or of children that an earlier one has.
 
 ghost use Rattle.std.specs.Prelude.{◌≡◌, ◌++◌, ◌∷◌, [], if◌then◌else◌};
 ghost use Rattle.std.specs.Prelude.{IfOk, List, None, OnOk, Some, ℕ, encode_utf8};
 ghost use Rattle.std.specs.Option.{option_copied};
 ghost use Rattle.std.specs.Str.{bytes_eq};
 ghost use Rattle.cc_arg.specs.Arguments.{is_positional};
-ghost use Rattle.cc_command_warnings.specs.ArgumentNames.{aliases_of, all_names, argument_name};
-ghost use Rattle.cc_command_warnings.specs.ArgumentNames.{id_in, id_with, index_name, longs_of};
-ghost use Rattle.cc_command_warnings.specs.ArgumentNames.{names_of, some_index};
-ghost use Rattle.cc_command_warnings.specs.ArgumentNames.{short_aliases_of, short_name};
-ghost use Rattle.cc_command_warnings.specs.ArgumentNames.{shorts_of, some_long, some_short};
-ghost use Rattle.cc_command_warnings.specs.ArgumentNames.{taken_by, taken_from, taken_kind};
+ghost use Rattle.cc_command_warnings.specs.ArgumentNames.{all_names, index_name, longs_of};
+ghost use Rattle.cc_command_warnings.specs.ArgumentNames.{names_of, short_aliases_of, short_name};
+ghost use Rattle.cc_command_warnings.specs.ArgumentNames.{shorts_of, some_index, some_long, some_short};
+ghost use Rattle.cc_command_warnings.specs.PlacedNames.{aliases_of, owner_in, owner_with, placed_name};
+ghost use Rattle.cc_command_warnings.specs.PlacedNames.{taken_by, taken_from, taken_kind, taken_warning};
+ghost use Rattle.cc_command_warnings.specs.declared.names.Owners.TheVariants as owners;
 ghost use Rattle.cc_command_warnings.specs.Walk.{each_from};
 
-use crate::place::Key;
+use crate::place::{At, Key};
+use crate::walk::child_path;
 use crate::warning::{Kind, Warning, push_warning};
 use cc_arg::Arg;
 use cc_base::{Text, TextRef};
@@ -29,23 +30,30 @@ pub(crate) enum Named {
     Index,
 }
 
-/// A name of an argument.
+/// Whose names they are: those of this kind that arguments have, or those of children.
+#[derive(Clone, Copy)]
+pub(crate) enum Owners {
+    Arguments(Named),
+    Children,
+}
+
+/// A name of an argument or of a child.
 #[derive(Drop)]
-pub(crate) struct ArgumentName<'a> {
-    /// The index of the argument.
-    pub(crate) argument: usize,
+pub(crate) struct PlacedName<'a> {
+    /// The index of the argument or child.
+    pub(crate) index: usize,
     /// The key at which the name is.
     pub(crate) key: Key,
     /// Its index there.
     pub(crate) item: Option<usize>,
     pub(crate) name: Text,
-    /// The id of the argument.
-    pub(crate) id: TextRef<'a>,
+    /// The id of the argument, or the name of the child that is no alias.
+    pub(crate) owner: TextRef<'a>,
 }
 
 /// Adds the names of this kind that an argument has.
 pub(crate) fn push_names_of<'a>(
-    names: &mut Vec<ArgumentName<'a>>,
+    names: &mut Vec<PlacedName<'a>>,
     alloc: Global,
     named: Named,
     index: usize,
@@ -67,7 +75,7 @@ pub(crate) fn push_names_of<'a>(
 
 /// Adds the names of this kind that some arguments have.
 pub(crate) fn push_all_names<'a>(
-    names: &mut Vec<ArgumentName<'a>>,
+    names: &mut Vec<PlacedName<'a>>,
     alloc: Global,
     named: Named,
     arguments: &'a [Arg],
@@ -82,7 +90,7 @@ pub(crate) fn push_all_names<'a>(
 }
 
 fn push_longs_of<'a>(
-    names: &mut Vec<ArgumentName<'a>>,
+    names: &mut Vec<PlacedName<'a>>,
     alloc: Global,
     index: usize,
     argument: &'a Arg,
@@ -104,7 +112,7 @@ fn push_longs_of<'a>(
 }
 
 fn push_some_long<'a>(
-    names: &mut Vec<ArgumentName<'a>>,
+    names: &mut Vec<PlacedName<'a>>,
     alloc: Global,
     index: usize,
     id: &'a str,
@@ -119,49 +127,51 @@ fn push_some_long<'a>(
     }
 }
 
-fn push_aliases<'a>(
-    names: &mut Vec<ArgumentName<'a>>,
+/// Adds the aliases of an argument or child at a key. Fails where memory runs out.
+pub(crate) fn push_aliases<'a>(
+    names: &mut Vec<PlacedName<'a>>,
     alloc: Global,
-    argument: usize,
+    index: usize,
     key: Key,
-    id: &'a str,
+    owner: &'a str,
     aliases: &[Text],
 ) -> Result<(), AllocError>
     ensures { OnOk result (names.new.items
-        ≡ names.old.items ++ aliases_of argument key id.now aliases.now) }
+        ≡ names.old.items ++ aliases_of index key owner.now aliases.now) }
 {
-    for (index, alias) in aliases.iter().enumerate() {
-        push_name(names, alloc, argument, key, Some(index), alias.as_str(), id)?;
+    for (item, alias) in aliases.iter().enumerate() {
+        push_name(names, alloc, index, key, Some(item), alias.as_str(), owner)?;
     }
     Ok(())
 }
 
-fn push_name<'a>(
-    names: &mut Vec<ArgumentName<'a>>,
+/// Adds a name of an argument or child. Fails where memory runs out.
+pub(crate) fn push_name<'a>(
+    names: &mut Vec<PlacedName<'a>>,
     alloc: Global,
-    argument: usize,
+    index: usize,
     key: Key,
     item: Option<usize>,
     name: &str,
-    id: &'a str,
+    owner: &'a str,
 ) -> Result<(), AllocError>
     ensures { OnOk result (names.new.items
-        ≡ names.old.items ++ argument_name argument key item name.now id.now ∷ []) }
+        ≡ names.old.items ++ placed_name index key item name.now owner.now ∷ []) }
 {
     let name = Text::copy_of(alloc, name)?;
-    let id = TextRef::new(id);
-    names.push(ArgumentName {
-        argument,
+    let owner = TextRef::new(owner);
+    names.push(PlacedName {
+        index,
         key,
         item,
         name,
-        id,
+        owner,
     })?;
     Ok(())
 }
 
 fn push_shorts_of<'a>(
-    names: &mut Vec<ArgumentName<'a>>,
+    names: &mut Vec<PlacedName<'a>>,
     alloc: Global,
     index: usize,
     argument: &'a Arg,
@@ -177,7 +187,7 @@ fn push_shorts_of<'a>(
 }
 
 fn push_some_short<'a>(
-    names: &mut Vec<ArgumentName<'a>>,
+    names: &mut Vec<PlacedName<'a>>,
     alloc: Global,
     index: usize,
     id: &'a str,
@@ -192,7 +202,7 @@ fn push_some_short<'a>(
 }
 
 fn push_short_aliases<'a>(
-    names: &mut Vec<ArgumentName<'a>>,
+    names: &mut Vec<PlacedName<'a>>,
     alloc: Global,
     argument: usize,
     key: Key,
@@ -209,7 +219,7 @@ fn push_short_aliases<'a>(
 }
 
 fn push_short<'a>(
-    names: &mut Vec<ArgumentName<'a>>,
+    names: &mut Vec<PlacedName<'a>>,
     alloc: Global,
     argument: usize,
     key: Key,
@@ -227,7 +237,7 @@ fn push_short<'a>(
 
 // The index of a positional, where one is given.
 fn push_some_index<'a>(
-    names: &mut Vec<ArgumentName<'a>>,
+    names: &mut Vec<PlacedName<'a>>,
     alloc: Global,
     index: usize,
     argument: &'a Arg,
@@ -246,7 +256,7 @@ fn push_some_index<'a>(
 
 /// Adds an index as a name of a positional. Fails where memory runs out.
 pub(crate) fn push_index<'a>(
-    names: &mut Vec<ArgumentName<'a>>,
+    names: &mut Vec<PlacedName<'a>>,
     alloc: Global,
     argument: usize,
     index: usize,
@@ -263,75 +273,103 @@ pub(crate) fn push_index<'a>(
 /// that grows with the number of names times its logarithm. Fails where memory runs out.
 pub(crate) fn push_taken(
     found: &mut Vec<Warning>,
-    alloc: Global,
-    path: &[usize],
-    named: Named,
-    others: &[ArgumentName<'_>],
-    names: &[ArgumentName<'_>],
+    at: At<'_>,
+    owners: Owners,
+    others: &[PlacedName<'_>],
+    names: &[PlacedName<'_>],
 ) -> Result<(), AllocError>
     ensures { OnOk result (found.new.items
-        ≡ found.old.items ++ taken_from named path.now others.now names.now) }
+        ≡ found.old.items ++ taken_from owners at.entry.path.now others.now names.now) }
 {
-    let mut seen = seen_of(alloc, others)?;
+    let mut seen = seen_of(at.alloc, others)?;
     for name in names {
-        let id = keep(&mut seen, name.name.as_str(), name.id.as_str())?;
-        push_if_taken(found, alloc, path, named, name, id)?;
+        let owner = keep(&mut seen, name.name.as_str(), name.owner.as_str())?;
+        push_if_taken(found, at, owners, name, owner)?;
     }
     Ok(())
 }
 
-/// These names, each with the last id that has it. Fails where memory runs out.
+/// These names, each with the last owner that has it. Fails where memory runs out.
 pub(crate) fn seen_of<'a>(
     alloc: Global,
-    names: &'a [ArgumentName<'_>],
+    names: &'a [PlacedName<'_>],
 ) -> Result<BTreeMap<&'a str, TextRef<'a>>, AllocError>
-    ensures { IfOk result (λ seen. (word : List ℕ) → id_in seen word ≡ id_with names.now word) }
+    ensures { IfOk result (λ seen. (word : List ℕ)
+        → owner_in seen word ≡ owner_with names.now word) }
 {
     let mut seen = BTreeMap::new(alloc);
     for name in names {
-        keep(&mut seen, name.name.as_str(), name.id.as_str())?;
+        keep(&mut seen, name.name.as_str(), name.owner.as_str())?;
     }
     Ok(seen)
 }
 
-// Keeps the name with the id that has it, and returns the last one that had it before.
+// Keeps the name with the owner that has it, and returns the last one that had it before.
 fn keep<'a>(
     seen: &mut BTreeMap<&'a str, TextRef<'a>>,
     name: &'a str,
-    id: &'a str,
+    owner: &'a str,
 ) -> Result<Option<TextRef<'a>>, AllocError>
-    ensures earlier { IfOk result (λ earlier. earlier ≡ id_in seen.old name.now) }
-    ensures kept { OnOk result ((word : List ℕ) → id_in seen.new word
-        ≡ (if bytes_eq name.now word then Some id.now else id_in seen.old word)) }
+    ensures earlier { IfOk result (λ earlier. earlier ≡ owner_in seen.old name.now) }
+    ensures kept { OnOk result ((word : List ℕ) → owner_in seen.new word
+        ≡ (if bytes_eq name.now word then Some owner.now else owner_in seen.old word)) }
 {
-    Ok(seen.insert(name, TextRef::new(id))?)
+    Ok(seen.insert(name, TextRef::new(owner))?)
 }
 
-// A name that the argument with this id has before, where there is one.
+// A name that this owner has before, where there is one.
 fn push_if_taken(
     found: &mut Vec<Warning>,
-    alloc: Global,
-    path: &[usize],
-    named: Named,
-    name: &ArgumentName<'_>,
-    id: Option<TextRef<'_>>,
+    at: At<'_>,
+    owners: Owners,
+    name: &PlacedName<'_>,
+    owner: Option<TextRef<'_>>,
 ) -> Result<(), AllocError>
     ensures { OnOk result (found.new.items
-        ≡ found.old.items ++ taken_by named path.now id.entry name.now) }
+        ≡ found.old.items ++ taken_by owners at.entry.path.now owner.entry name.now) }
 {
-    let Some(id) = id else {
+    let Some(owner) = owner else {
         return Ok(());
     };
-    let kind = taken_kind(alloc, named, name.name.as_str(), id.as_str())?;
-    push_warning(
-        found,
-        alloc,
-        path,
-        Some(name.argument),
-        name.key,
-        name.item,
-        kind,
-    )
+    match owners {
+        Owners::Arguments(named) => push_of_argument(found, at, named, name, owner.as_str()),
+        Owners::Children => push_of_child(found, at, name, owner.as_str()),
+    }
+}
+
+// A name that the argument with this id has before.
+fn push_of_argument(
+    found: &mut Vec<Warning>,
+    at: At<'_>,
+    named: Named,
+    name: &PlacedName<'_>,
+    id: &str,
+) -> Result<(), AllocError>
+    ensures { OnOk result (found.new.items ≡ found.old.items
+        ++ taken_warning (owners.Arguments named) at.entry.path.now id.now name.now ∷ []) }
+{
+    let kind = taken_kind(at.alloc, named, name.name.as_str(), id)?;
+    push_warning(found, at, Some(name.index), name.key, name.item, kind)
+}
+
+// A name that the child of this name has before.
+fn push_of_child(
+    found: &mut Vec<Warning>,
+    at: At<'_>,
+    name: &PlacedName<'_>,
+    command: &str,
+) -> Result<(), AllocError>
+    ensures { OnOk result (found.new.items ≡ found.old.items
+        ++ taken_warning owners.Children at.entry.path.now command.now name.now ∷ []) }
+{
+    let path = child_path(at, name.index)?;
+    let taken = Text::copy_of(at.alloc, name.name.as_str())?;
+    let kind = Kind::TakenName(taken, Text::copy_of(at.alloc, command)?);
+    let child = At {
+        alloc: at.alloc,
+        path: path.as_slice(),
+    };
+    push_warning(found, child, None, name.key, name.item, kind)
 }
 
 fn taken_kind(alloc: Global, named: Named, name: &str, id: &str) -> Result<Kind, AllocError>

@@ -11,7 +11,7 @@ ghost use Rattle.cc_command_warnings.specs.PlainWarnings.{some_long_list, some_s
 ghost use Rattle.cc_command_warnings.specs.PlainWarnings.{value_name_list};
 ghost use Rattle.cc_command_warnings.specs.Walk.{each_from};
 
-use crate::place::Key;
+use crate::place::{At, Key};
 use crate::siblings::push_taken_names;
 use crate::walk::Check;
 use crate::warning::{Kind, Warning, push_warning};
@@ -19,7 +19,7 @@ use cc_arg::Arg;
 use cc_base::Text;
 use cc_command::Command;
 use cc_quote::is_plain_name;
-use std::alloc::{AllocError, Global};
+use std::alloc::AllocError;
 
 /// Names of commands and arguments that are not plain, and names of children that an earlier one
 /// has.
@@ -35,87 +35,60 @@ impl Check for Plain {
     fn push_command(
         &self,
         found: &mut Vec<Warning>,
-        alloc: Global,
-        path: &[usize],
+        at: At<'_>,
         command: &Command,
     ) -> Result<(), AllocError> {
-        push_name(
-            found,
-            alloc,
-            path,
-            None,
-            Key::Name,
-            None,
-            command.get_name(),
-        )?;
+        push_name(found, at, None, Key::Name, None, command.get_name())?;
         let visible = command.get_visible_aliases();
-        push_names(found, alloc, path, None, Key::VisibleAliases, visible)?;
-        push_names(
-            found,
-            alloc,
-            path,
-            None,
-            Key::Aliases,
-            command.get_aliases(),
-        )?;
-        push_taken_names(found, alloc, path, command.get_subcommands())
+        push_names(found, at, None, Key::VisibleAliases, visible)?;
+        push_names(found, at, None, Key::Aliases, command.get_aliases())?;
+        push_taken_names(found, at, command.get_subcommands())
     }
 
     fn push_argument(
         &self,
         found: &mut Vec<Warning>,
-        alloc: Global,
-        path: &[usize],
+        at: At<'_>,
         index: usize,
         argument: &Arg,
     ) -> Result<(), AllocError> {
-        push_quotes(found, alloc, path, index, argument)?;
-        push_shorts(found, alloc, path, index, argument)?;
-        push_longs(found, alloc, path, index, argument)
+        push_quotes(found, at, index, argument)?;
+        push_shorts(found, at, index, argument)?;
+        push_longs(found, at, index, argument)
     }
 }
 
 /// Adds a warning about a name that is not plain. Fails where memory runs out.
 pub(crate) fn push_name(
     found: &mut Vec<Warning>,
-    alloc: Global,
-    path: &[usize],
+    at: At<'_>,
     argument: Option<usize>,
     key: Key,
     item: Option<usize>,
     name: &str,
 ) -> Result<(), AllocError>
     ensures { OnOk result (found.new.items
-        ≡ found.old.items ++ name_list path.now argument key item name.now) }
+        ≡ found.old.items ++ name_list at.entry.path.now argument key item name.now) }
 {
     if is_plain_name(name) {
         return Ok(());
     }
-    let kind = Kind::NotPlain(Text::copy_of(alloc, name)?);
-    push_warning(found, alloc, path, argument, key, item, kind)
+    let kind = Kind::NotPlain(Text::copy_of(at.alloc, name)?);
+    push_warning(found, at, argument, key, item, kind)
 }
 
 fn push_names(
     found: &mut Vec<Warning>,
-    alloc: Global,
-    path: &[usize],
+    at: At<'_>,
     argument: Option<usize>,
     key: Key,
     names: &[Text],
 ) -> Result<(), AllocError>
     ensures { OnOk result (found.new.items
-        ≡ found.old.items ++ name_lists path.now argument key names.now) }
+        ≡ found.old.items ++ name_lists at.entry.path.now argument key names.now) }
 {
     for (index, name) in names.iter().enumerate() {
-        push_name(
-            found,
-            alloc,
-            path,
-            argument,
-            key,
-            Some(index),
-            name.as_str(),
-        )?;
+        push_name(found, at, argument, key, Some(index), name.as_str())?;
     }
     Ok(())
 }
@@ -123,39 +96,29 @@ fn push_names(
 // An id, and the value names.
 fn push_quotes(
     found: &mut Vec<Warning>,
-    alloc: Global,
-    path: &[usize],
+    at: At<'_>,
     index: usize,
     argument: &Arg,
 ) -> Result<(), AllocError>
     ensures { OnOk result (found.new.items
-        ≡ found.old.items ++ quotes_list path.now index argument.now) }
+        ≡ found.old.items ++ quotes_list at.entry.path.now index argument.now) }
 {
-    push_quote(found, alloc, path, index, Key::Id, None, argument.get_id())?;
-    push_value_names(found, alloc, path, index, argument.get_value_names())
+    push_quote(found, at, index, Key::Id, None, argument.get_id())?;
+    push_value_names(found, at, index, argument.get_value_names())
 }
 
 fn push_value_names(
     found: &mut Vec<Warning>,
-    alloc: Global,
-    path: &[usize],
+    at: At<'_>,
     argument: usize,
     names: &[Text],
 ) -> Result<(), AllocError>
     ensures { OnOk result (found.new.items ≡ found.old.items
-        ++ each_from (value_name_list path.now argument) 0 names.now) }
+        ++ each_from (value_name_list at.entry.path.now argument) 0 names.now) }
 {
     for (index, name) in names.iter().enumerate() {
         let item = Some(index);
-        push_quote(
-            found,
-            alloc,
-            path,
-            argument,
-            Key::ValueNames,
-            item,
-            name.as_str(),
-        )?;
+        push_quote(found, at, argument, Key::ValueNames, item, name.as_str())?;
     }
     Ok(())
 }
@@ -163,20 +126,19 @@ fn push_value_names(
 // A text that holds a `'`.
 fn push_quote(
     found: &mut Vec<Warning>,
-    alloc: Global,
-    path: &[usize],
+    at: At<'_>,
     argument: usize,
     key: Key,
     item: Option<usize>,
     text: &str,
 ) -> Result<(), AllocError>
     ensures { OnOk result (found.new.items
-        ≡ found.old.items ++ quote_list path.now argument key item text.now) }
+        ≡ found.old.items ++ quote_list at.entry.path.now argument key item text.now) }
 {
     if has_no_quote(text) {
         return Ok(());
     }
-    push_warning(found, alloc, path, Some(argument), key, item, Kind::Quote)
+    push_warning(found, at, Some(argument), key, item, Kind::Quote)
 }
 
 fn has_no_quote(text: &str) -> bool
@@ -188,50 +150,47 @@ fn has_no_quote(text: &str) -> bool
 // The short and its aliases.
 fn push_shorts(
     found: &mut Vec<Warning>,
-    alloc: Global,
-    path: &[usize],
+    at: At<'_>,
     index: usize,
     argument: &Arg,
 ) -> Result<(), AllocError>
     ensures { OnOk result (found.new.items
-        ≡ found.old.items ++ shorts_list path.now index argument.now) }
+        ≡ found.old.items ++ shorts_list at.entry.path.now index argument.now) }
 {
     let visible = argument.get_visible_short_aliases();
-    push_some_short(found, alloc, path, index, argument.get_short())?;
-    push_short_aliases(found, alloc, path, index, Key::VisibleShortAliases, visible)?;
+    push_some_short(found, at, index, argument.get_short())?;
+    push_short_aliases(found, at, index, Key::VisibleShortAliases, visible)?;
     let hidden = argument.get_short_aliases();
-    push_short_aliases(found, alloc, path, index, Key::ShortAliases, hidden)
+    push_short_aliases(found, at, index, Key::ShortAliases, hidden)
 }
 
 fn push_some_short(
     found: &mut Vec<Warning>,
-    alloc: Global,
-    path: &[usize],
+    at: At<'_>,
     argument: usize,
     short: Option<char>,
 ) -> Result<(), AllocError>
     ensures { OnOk result (found.new.items
-        ≡ found.old.items ++ some_short_list path.now argument short) }
+        ≡ found.old.items ++ some_short_list at.entry.path.now argument short) }
 {
     match short {
-        Some(short) => push_short(found, alloc, path, argument, Key::Short, None, short),
+        Some(short) => push_short(found, at, argument, Key::Short, None, short),
         None => Ok(()),
     }
 }
 
 fn push_short_aliases(
     found: &mut Vec<Warning>,
-    alloc: Global,
-    path: &[usize],
+    at: At<'_>,
     argument: usize,
     key: Key,
     shorts: &[char],
 ) -> Result<(), AllocError>
     ensures { OnOk result (found.new.items
-        ≡ found.old.items ++ short_lists path.now argument key shorts.now) }
+        ≡ found.old.items ++ short_lists at.entry.path.now argument key shorts.now) }
 {
     for (index, short) in shorts.iter().enumerate() {
-        push_short(found, alloc, path, argument, key, Some(index), *short)?;
+        push_short(found, at, argument, key, Some(index), *short)?;
     }
     Ok(())
 }
@@ -239,60 +198,50 @@ fn push_short_aliases(
 // A short that is no ASCII letter or digit.
 fn push_short(
     found: &mut Vec<Warning>,
-    alloc: Global,
-    path: &[usize],
+    at: At<'_>,
     argument: usize,
     key: Key,
     item: Option<usize>,
     short: char,
 ) -> Result<(), AllocError>
     ensures { OnOk result (found.new.items
-        ≡ found.old.items ++ short_list path.now argument key item short) }
+        ≡ found.old.items ++ short_list at.entry.path.now argument key item short) }
 {
     if short.is_ascii_alphanumeric() {
         return Ok(());
     }
     let kind = Kind::ShortNotPlain(short);
-    push_warning(found, alloc, path, Some(argument), key, item, kind)
+    push_warning(found, at, Some(argument), key, item, kind)
 }
 
 // The long and its aliases.
 fn push_longs(
     found: &mut Vec<Warning>,
-    alloc: Global,
-    path: &[usize],
+    at: At<'_>,
     index: usize,
     argument: &Arg,
 ) -> Result<(), AllocError>
     ensures { OnOk result (found.new.items
-        ≡ found.old.items ++ longs_list path.now index argument.now) }
+        ≡ found.old.items ++ longs_list at.entry.path.now index argument.now) }
 {
     let visible = argument.get_visible_aliases();
     let place = Some(index);
-    push_some_long(found, alloc, path, index, argument.get_long())?;
-    push_names(found, alloc, path, place, Key::VisibleAliases, visible)?;
-    push_names(
-        found,
-        alloc,
-        path,
-        place,
-        Key::Aliases,
-        argument.get_aliases(),
-    )
+    push_some_long(found, at, index, argument.get_long())?;
+    push_names(found, at, place, Key::VisibleAliases, visible)?;
+    push_names(found, at, place, Key::Aliases, argument.get_aliases())
 }
 
 fn push_some_long(
     found: &mut Vec<Warning>,
-    alloc: Global,
-    path: &[usize],
+    at: At<'_>,
     argument: usize,
     long: Option<&str>,
 ) -> Result<(), AllocError>
     ensures { OnOk result (found.new.items ≡ found.old.items
-        ++ some_long_list path.now argument (option_copied long.entry)) }
+        ++ some_long_list at.entry.path.now argument (option_copied long.entry)) }
 {
     match long {
-        Some(long) => push_long(found, alloc, path, argument, long),
+        Some(long) => push_long(found, at, argument, long),
         None => Ok(()),
     }
 }
@@ -300,25 +249,24 @@ fn push_some_long(
 // A long that is not plain.
 fn push_long(
     found: &mut Vec<Warning>,
-    alloc: Global,
-    path: &[usize],
+    at: At<'_>,
     argument: usize,
     long: &str,
 ) -> Result<(), AllocError>
     ensures { OnOk result (found.new.items
-        ≡ found.old.items ++ long_list path.now argument long.now) }
+        ≡ found.old.items ++ long_list at.entry.path.now argument long.now) }
 {
     if is_plain_name(long) {
         return Ok(());
     }
     let hyphen = begins_with_hyphen(long);
-    let long = Text::copy_of(alloc, long)?;
+    let long = Text::copy_of(at.alloc, long)?;
     let kind = if hyphen {
         Kind::LongWithHyphen(long)
     } else {
         Kind::NotPlain(long)
     };
-    push_warning(found, alloc, path, Some(argument), Key::Long, None, kind)
+    push_warning(found, at, Some(argument), Key::Long, None, kind)
 }
 
 fn begins_with_hyphen(long: &str) -> bool

@@ -11,13 +11,15 @@ ghost use Rattle.cc_command_warnings.specs.PositionalWarnings.{is_last, is_outsi
 ghost use Rattle.cc_command_warnings.specs.PositionalWarnings.{many_end, many_list, outside_list};
 ghost use Rattle.cc_command_warnings.specs.PositionalWarnings.{positional_list, takes_many};
 ghost use Rattle.cc_command_warnings.specs.PositionalWarnings.{with_index};
-ghost use Rattle.cc_command_warnings.specs.ArgumentNames.{all_names, taken_from};
+ghost use Rattle.cc_command_warnings.specs.ArgumentNames.{all_names};
+ghost use Rattle.cc_command_warnings.specs.PlacedNames.{taken_from};
 ghost use Rattle.cc_command_warnings.specs.Walk.{each_from};
 ghost use Rattle.cc_command_warnings.specs.declared.names.Named.TheVariants as named;
+ghost use Rattle.cc_command_warnings.specs.declared.names.Owners.TheVariants as owners;
 
 use crate::lone::{count_key, push_if};
-use crate::names::{ArgumentName, Named, push_all_names, push_index, push_taken};
-use crate::place::Key;
+use crate::names::{Named, Owners, PlacedName, push_all_names, push_index, push_taken};
+use crate::place::{At, Key};
 use crate::walk::Check;
 use crate::warning::{Kind, Warning, push_warning};
 use cc_arg::{Arg, ArgAction, counted_range};
@@ -39,18 +41,16 @@ impl Check for Positionals {
     fn push_command(
         &self,
         found: &mut Vec<Warning>,
-        alloc: Global,
-        path: &[usize],
+        at: At<'_>,
         command: &Command,
     ) -> Result<(), AllocError> {
-        push_positionals(found, alloc, path, command.get_arguments())
+        push_positionals(found, at, command.get_arguments())
     }
 
     fn push_argument(
         &self,
         _found: &mut Vec<Warning>,
-        _alloc: Global,
-        _path: &[usize],
+        _at: At<'_>,
         _index: usize,
         _argument: &Arg,
     ) -> Result<(), AllocError> {
@@ -60,46 +60,43 @@ impl Check for Positionals {
 
 fn push_positionals(
     found: &mut Vec<Warning>,
-    alloc: Global,
-    path: &[usize],
+    at: At<'_>,
     arguments: &[Arg],
 ) -> Result<(), AllocError>
     ensures { OnOk result (found.new.items
-        ≡ found.old.items ++ positional_list path.now arguments.now) }
+        ≡ found.old.items ++ positional_list at.entry.path.now arguments.now) }
 {
     let count = count_positionals(arguments);
-    push_indexes(found, alloc, path, count, arguments)?;
-    push_ends(found, alloc, path, count, arguments)
+    push_indexes(found, at, count, arguments)?;
+    push_ends(found, at, count, arguments)
 }
 
 // Indexes that no positional can have, or that another one has.
 fn push_indexes(
     found: &mut Vec<Warning>,
-    alloc: Global,
-    path: &[usize],
+    at: At<'_>,
     count: usize,
     arguments: &[Arg],
 ) -> Result<(), AllocError>
     ensures { OnOk result (found.new.items
-        ≡ found.old.items ++ indexes_list path.now count arguments.now) }
+        ≡ found.old.items ++ indexes_list at.entry.path.now count arguments.now) }
 {
-    push_outside(found, alloc, path, count, arguments)?;
-    push_taken_indexes(found, alloc, path, arguments)
+    push_outside(found, at, count, arguments)?;
+    push_taken_indexes(found, at, arguments)
 }
 
 // Positionals of many values, and those that are last.
 fn push_ends(
     found: &mut Vec<Warning>,
-    alloc: Global,
-    path: &[usize],
+    at: At<'_>,
     count: usize,
     arguments: &[Arg],
 ) -> Result<(), AllocError>
     ensures { OnOk result (found.new.items
-        ≡ found.old.items ++ ends_list path.now count arguments.now) }
+        ≡ found.old.items ++ ends_list at.entry.path.now count arguments.now) }
 {
-    push_many(found, alloc, path, count, arguments)?;
-    push_last(found, alloc, path, arguments)
+    push_many(found, at, count, arguments)?;
+    push_last(found, at, arguments)
 }
 
 fn count_positionals(arguments: &[Arg]) -> usize
@@ -127,31 +124,29 @@ fn counted_with(count: usize, argument: &Arg) -> usize
 // Indexes that are 0, or greater than the number of positionals.
 fn push_outside(
     found: &mut Vec<Warning>,
-    alloc: Global,
-    path: &[usize],
+    at: At<'_>,
     count: usize,
     arguments: &[Arg],
 ) -> Result<(), AllocError>
     ensures { OnOk result (found.new.items ≡ found.old.items
-        ++ each_from (λ index argument. outside_list path.now count index (is_positional argument)
-        argument.index) 0 arguments.now) }
+        ++ each_from (λ index argument. outside_list at.entry.path.now count index
+        (is_positional argument) argument.index) 0 arguments.now) }
 {
     for (index, argument) in arguments.iter().enumerate() {
-        push_if_outside(found, alloc, path, count, index, argument)?;
+        push_if_outside(found, at, count, index, argument)?;
     }
     Ok(())
 }
 
 fn push_if_outside(
     found: &mut Vec<Warning>,
-    alloc: Global,
-    path: &[usize],
+    at: At<'_>,
     count: usize,
     argument_index: usize,
     argument: &Arg,
 ) -> Result<(), AllocError>
     ensures { OnOk result (found.new.items ≡ found.old.items
-        ++ outside_list path.now count argument_index (is_positional argument.now)
+        ++ outside_list at.entry.path.now count argument_index (is_positional argument.now)
         argument.now.index) }
 {
     if !argument.is_positional() {
@@ -163,16 +158,8 @@ fn push_if_outside(
     if !is_outside(count, index) {
         return Ok(());
     }
-    let kind = outside_kind(alloc, index, count)?;
-    push_warning(
-        found,
-        alloc,
-        path,
-        Some(argument_index),
-        Key::Index,
-        None,
-        kind,
-    )
+    let kind = outside_kind(at.alloc, index, count)?;
+    push_warning(found, at, Some(argument_index), Key::Index, None, kind)
 }
 
 fn is_outside(count: usize, index: usize) -> bool
@@ -198,24 +185,24 @@ fn number_text(alloc: Global, number: usize) -> Result<Text, AllocError>
 // Indexes that are given, which another positional has.
 fn push_taken_indexes(
     found: &mut Vec<Warning>,
-    alloc: Global,
-    path: &[usize],
+    at: At<'_>,
     arguments: &[Arg],
 ) -> Result<(), AllocError>
     ensures { OnOk result (found.new.items ≡ found.old.items
-        ++ taken_from named.Index path.now (each_numbered counted_index 1 0 arguments.now)
+        ++ taken_from (owners.Arguments named.Index) at.entry.path.now
+        (each_numbered counted_index 1 0 arguments.now)
         (all_names named.Index arguments.now)) }
 {
-    let mut counted = Vec::new(alloc);
-    push_counted(&mut counted, alloc, arguments)?;
-    let mut given = Vec::new(alloc);
-    push_all_names(&mut given, alloc, Named::Index, arguments)?;
-    push_taken(found, alloc, path, Named::Index, &counted, &given)
+    let mut counted = Vec::new(at.alloc);
+    push_counted(&mut counted, at.alloc, arguments)?;
+    let mut given = Vec::new(at.alloc);
+    push_all_names(&mut given, at.alloc, Named::Index, arguments)?;
+    push_taken(found, at, Owners::Arguments(Named::Index), &counted, &given)
 }
 
 // The indexes of the positionals for which none is given.
 fn push_counted<'a>(
-    names: &mut Vec<ArgumentName<'a>>,
+    names: &mut Vec<PlacedName<'a>>,
     alloc: Global,
     arguments: &'a [Arg],
 ) -> Result<(), AllocError>
@@ -231,7 +218,7 @@ fn push_counted<'a>(
 }
 
 fn push_if_counted<'a>(
-    names: &mut Vec<ArgumentName<'a>>,
+    names: &mut Vec<PlacedName<'a>>,
     alloc: Global,
     number: usize,
     index: usize,
@@ -267,18 +254,17 @@ fn next_index(number: usize, argument: &Arg) -> usize
 // Positionals of many values that are not the last one, unless it is known where these end.
 fn push_many(
     found: &mut Vec<Warning>,
-    alloc: Global,
-    path: &[usize],
+    at: At<'_>,
     count: usize,
     arguments: &[Arg],
 ) -> Result<(), AllocError>
     ensures { OnOk result (found.new.items ≡ found.old.items ++ each_numbered
-        (many_list path.now count (many_end count arguments.now)) 1 0 arguments.now) }
+        (many_list at.entry.path.now count (many_end count arguments.now)) 1 0 arguments.now) }
 {
     let end = many_end(count, arguments);
     let mut number = 1;
     for (index, argument) in arguments.iter().enumerate() {
-        push_if_many(found, alloc, path, count, end, number, index, argument)?;
+        push_if_many(found, at, count, end, number, index, argument)?;
         number = next_index(number, argument);
     }
     Ok(())
@@ -286,8 +272,7 @@ fn push_many(
 
 fn push_if_many(
     found: &mut Vec<Warning>,
-    alloc: Global,
-    path: &[usize],
+    at: At<'_>,
     count: usize,
     end: bool,
     number: usize,
@@ -295,12 +280,12 @@ fn push_if_many(
     argument: &Arg,
 ) -> Result<(), AllocError>
     ensures { OnOk result (found.new.items ≡ found.old.items
-        ++ many_list path.now count end number index argument.now) }
+        ++ many_list at.entry.path.now count end number index argument.now) }
 {
     let inside = index_of(number, argument) != count && !end;
     let many = argument.is_positional() && (takes_many(argument) && inside);
     let kind = Kind::ManyBeforeLast;
-    push_if(many, found, alloc, path, index, count_key(argument), kind)
+    push_if(many, found, at, index, count_key(argument), kind)
 }
 
 fn takes_many(argument: &Arg) -> bool
@@ -363,27 +348,14 @@ fn with_index(wanted: usize, arguments: &[Arg]) -> Option<&Arg>
 }
 
 // Positionals that are last, but for the first one.
-fn push_last(
-    found: &mut Vec<Warning>,
-    alloc: Global,
-    path: &[usize],
-    arguments: &[Arg],
-) -> Result<(), AllocError>
+fn push_last(found: &mut Vec<Warning>, at: At<'_>, arguments: &[Arg]) -> Result<(), AllocError>
     ensures { OnOk result (found.new.items
-        ≡ found.old.items ++ last_list path.now false 0 arguments.now) }
+        ≡ found.old.items ++ last_list at.entry.path.now false 0 arguments.now) }
 {
     let mut before = false;
     for (index, argument) in arguments.iter().enumerate() {
         let second = before && is_last(argument);
-        push_if(
-            second,
-            found,
-            alloc,
-            path,
-            index,
-            Key::Last,
-            Kind::SecondLast,
-        )?;
+        push_if(second, found, at, index, Key::Last, Kind::SecondLast)?;
         before = before || is_last(argument);
     }
     Ok(())

@@ -1,6 +1,6 @@
 //! The warnings about what the promises of scripts take for granted.
 
-ghost use Rattle.std.specs.Prelude.{◌≡◌, ◌++◌, IfOk, IsTrue, OnOk};
+ghost use Rattle.std.specs.Prelude.{◌≡◌, [], ◌++◌, IfOk, IsTrue, OnOk};
 ghost use Rattle.std.specs.Option.{option_copied};
 ghost use Rattle.cc_command_warnings.specs.CommandWarnings.{clap_list, command_list};
 ghost use Rattle.cc_command_warnings.specs.Notes.{are_notes};
@@ -10,7 +10,7 @@ ghost use Rattle.cc_command_warnings.specs.Premises.{own_bin_list, premise_list}
 use crate::hidden::Hidden;
 use crate::in_command::InCommand;
 use crate::lone::Lone;
-use crate::place::{Key, Place};
+use crate::place::{At, Key, Place};
 use crate::plain::{Plain, push_name};
 use crate::positionals::Positionals;
 use crate::quiet::Quiet;
@@ -22,9 +22,6 @@ use cc_base::{Items, Text};
 use cc_command::Command;
 use cc_quote::is_plain_name;
 use std::alloc::{AllocError, Global};
-
-// The path of the root.
-const ROOT: &[usize] = &[];
 
 /// The warnings about what the promises of scripts take for granted: that the names are plain, also
 /// this bin name, that possible values are quiet, and that PowerShell's script escapes each quote.
@@ -71,7 +68,7 @@ pub fn command_warnings(
     let mut found = Vec::new(alloc);
     push_premise_warnings(&mut found, alloc, bin, command)?;
     push_clap_warnings(&mut found, alloc, command)?;
-    push_tree(&Hidden, &mut found, alloc, ROOT, command)?;
+    push_tree(&Hidden, &mut found, root(alloc), command)?;
     Ok(found)
 }
 
@@ -84,10 +81,11 @@ fn push_clap_warnings(
 ) -> Result<(), AllocError>
     ensures { OnOk result (found.new.items ≡ found.old.items ++ clap_list command.now) }
 {
-    push_tree(&Lone, found, alloc, ROOT, command)?;
-    push_tree(&InCommand, found, alloc, ROOT, command)?;
-    push_tree(&Positionals, found, alloc, ROOT, command)?;
-    push_scope(found, alloc, &[], ROOT, command)
+    let root = root(alloc);
+    push_tree(&Lone, found, root, command)?;
+    push_tree(&InCommand, found, root, command)?;
+    push_tree(&Positionals, found, root, command)?;
+    push_scope(found, root, &[], command)
 }
 
 fn push_premise_warnings(
@@ -99,11 +97,18 @@ fn push_premise_warnings(
     ensures { OnOk result (found.new.items
         ≡ found.old.items ++ premise_list (option_copied bin.entry) command.now) }
 {
+    let root = root(alloc);
     push_bin(found, alloc, bin)?;
     push_own_bin(found, alloc, command.get_bin_name())?;
-    push_tree(&Plain, found, alloc, ROOT, command)?;
-    push_tree(&Quiet, found, alloc, ROOT, command)?;
-    push_tree(&Quotes, found, alloc, ROOT, command)
+    push_tree(&Plain, found, root, command)?;
+    push_tree(&Quiet, found, root, command)?;
+    push_tree(&Quotes, found, root, command)
+}
+
+fn root(alloc: Global) -> At<'static>
+    ensures { result.path.now ≡ [] }
+{
+    At { alloc, path: &[] }
 }
 
 // The bin name of a call, which has no place in the tree.
@@ -145,7 +150,7 @@ fn push_own_bin(
         ≡ found.old.items ++ own_bin_list (option_copied bin.entry)) }
 {
     match bin {
-        Some(bin) => push_name(found, alloc, ROOT, None, Key::BinName, None, bin),
+        Some(bin) => push_name(found, root(alloc), None, Key::BinName, None, bin),
         None => Ok(()),
     }
 }

@@ -4,13 +4,13 @@ ghost use Rattle.std.specs.Prelude.{◌≡◌, ◌++◌, OnOk};
 ghost use Rattle.cc_command_warnings.specs.QuietWarnings.{loud_list, value_list};
 ghost use Rattle.cc_command_warnings.specs.Walk.{each_from};
 
-use crate::place::Key;
+use crate::place::{At, Key};
 use crate::walk::Check;
 use crate::warning::{Kind, Warning, push_warning};
 use cc_arg::{Arg, PossibleValue, possible_values};
 use cc_base::Text;
 use cc_command::{Command, is_quiet_value};
-use std::alloc::{AllocError, Global};
+use std::alloc::AllocError;
 
 /// Possible values that are not quiet.
 pub(crate) struct Quiet;
@@ -26,8 +26,7 @@ impl Check for Quiet {
     fn push_command(
         &self,
         _found: &mut Vec<Warning>,
-        _alloc: Global,
-        _path: &[usize],
+        _at: At<'_>,
         _command: &Command,
     ) -> Result<(), AllocError> {
         Ok(())
@@ -36,13 +35,12 @@ impl Check for Quiet {
     fn push_argument(
         &self,
         found: &mut Vec<Warning>,
-        alloc: Global,
-        path: &[usize],
+        at: At<'_>,
         index: usize,
         argument: &Arg,
     ) -> Result<(), AllocError> {
         match possible_values(argument) {
-            Some(values) => push_values(found, alloc, path, index, values),
+            Some(values) => push_values(found, at, index, values),
             None => Ok(()),
         }
     }
@@ -50,16 +48,15 @@ impl Check for Quiet {
 
 fn push_values(
     found: &mut Vec<Warning>,
-    alloc: Global,
-    path: &[usize],
+    at: At<'_>,
     argument: usize,
     values: &[PossibleValue],
 ) -> Result<(), AllocError>
     ensures { OnOk result (found.new.items
-        ≡ found.old.items ++ each_from (value_list path.now argument) 0 values.now) }
+        ≡ found.old.items ++ each_from (value_list at.entry.path.now argument) 0 values.now) }
 {
     for (index, value) in values.iter().enumerate() {
-        push_value(found, alloc, path, argument, index, value.get_name())?;
+        push_value(found, at, argument, index, value.get_name())?;
     }
     Ok(())
 }
@@ -67,19 +64,18 @@ fn push_values(
 // A possible value of this name that is not quiet.
 fn push_value(
     found: &mut Vec<Warning>,
-    alloc: Global,
-    path: &[usize],
+    at: At<'_>,
     argument: usize,
     item: usize,
     name: &str,
 ) -> Result<(), AllocError>
     ensures { OnOk result (found.new.items
-        ≡ found.old.items ++ loud_list path.now argument item name.now) }
+        ≡ found.old.items ++ loud_list at.entry.path.now argument item name.now) }
 {
     if is_quiet_value(name) {
         return Ok(());
     }
-    let kind = Kind::LoudValue(Text::copy_of(alloc, name)?);
+    let kind = Kind::LoudValue(Text::copy_of(at.alloc, name)?);
     let key = Key::PossibleValues;
-    push_warning(found, alloc, path, Some(argument), key, Some(item), kind)
+    push_warning(found, at, Some(argument), key, Some(item), kind)
 }

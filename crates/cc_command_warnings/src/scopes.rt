@@ -14,8 +14,8 @@ ghost use Rattle.cc_command_warnings.specs.Scopes.{scope_list};
 ghost use Rattle.cc_command_warnings.specs.Scopes.{scopes_list, together_list};
 ghost use Rattle.cc_command_warnings.specs.Walk.{each_from};
 
-use crate::names::{ArgumentName, Named, push_all_names, push_names_of, push_taken, seen_of};
-use crate::place::Key;
+use crate::names::{Named, Owners, PlacedName, push_all_names, push_names_of, push_taken, seen_of};
+use crate::place::{At, Key};
 use crate::walk::child_path;
 use crate::warning::{Kind, Warning, push_warning};
 use cc_arg::{Arg, conflicting_ids};
@@ -29,35 +29,38 @@ use std::collections::BTreeMap;
 #[cycle(scopes)]
 pub(crate) fn push_scope<'a>(
     found: &mut Vec<Warning>,
-    alloc: Global,
+    at: At<'_>,
     others: &[&'a Arg],
-    path: &[usize],
     command: &'a Command,
 ) -> Result<(), AllocError>
     ensures { OnOk result (found.new.items ≡ found.old.items
-        ++ scope_list (map (λ other. other.now) others.now) path.now command.now) }
+        ++ scope_list (map (λ other. other.now) others.now) at.entry.path.now command.now) }
 {
     let arguments = command.get_arguments();
-    let mut inherited = inherited_with(alloc, arguments, others)?;
-    push_together(found, alloc, path, &inherited, arguments)?;
+    let mut inherited = inherited_with(at.alloc, arguments, others)?;
+    push_together(found, at, &inherited, arguments)?;
     push_globals(&mut inherited, arguments)?;
-    push_scopes(found, alloc, &inherited, path, command.get_subcommands())
+    push_scopes(found, at, &inherited, command.get_subcommands())
 }
 
 #[cycle(scopes)]
 fn push_scopes<'a>(
     found: &mut Vec<Warning>,
-    alloc: Global,
+    at: At<'_>,
     others: &[&'a Arg],
-    path: &[usize],
     children: &'a [Command],
 ) -> Result<(), AllocError>
     ensures { OnOk result (found.new.items ≡ found.old.items
-        ++ scopes_list (map (λ other. other.now) others.now) path.now 0 (forest_of children.now)) }
+        ++ scopes_list (map (λ other. other.now) others.now) at.entry.path.now 0
+        (forest_of children.now)) }
 {
     for (index, child) in children.iter().enumerate() {
-        let below = child_path(alloc, path, index)?;
-        push_scope(found, alloc, others, below.as_slice(), child)?;
+        let path = child_path(at, index)?;
+        let below = At {
+            alloc: at.alloc,
+            path: path.as_slice(),
+        };
+        push_scope(found, below, others, child)?;
     }
     Ok(())
 }
@@ -104,35 +107,33 @@ fn push_globals<'a>(inherited: &mut Vec<&'a Arg>, arguments: &'a [Arg]) -> Resul
 // Ids, then longs, then shorts that an earlier argument has, and conflicts.
 fn push_together(
     found: &mut Vec<Warning>,
-    alloc: Global,
-    path: &[usize],
+    at: At<'_>,
     inherited: &[&Arg],
     arguments: &[Arg],
 ) -> Result<(), AllocError>
     ensures { OnOk result (found.new.items ≡ found.old.items
-        ++ together_list path.now (map (λ other. other.now) inherited.now) arguments.now) }
+        ++ together_list at.entry.path.now (map (λ other. other.now) inherited.now) arguments.now) }
 {
-    push_taken_of(found, alloc, path, Named::Id, &[], arguments)?;
-    push_taken_of(found, alloc, path, Named::Long, inherited, arguments)?;
-    push_taken_of(found, alloc, path, Named::Short, inherited, arguments)?;
-    push_conflicts_if_any(found, alloc, path, inherited, arguments)
+    push_taken_of(found, at, Named::Id, &[], arguments)?;
+    push_taken_of(found, at, Named::Long, inherited, arguments)?;
+    push_taken_of(found, at, Named::Short, inherited, arguments)?;
+    push_conflicts_if_any(found, at, inherited, arguments)
 }
 
 // The ids are looked at only where an argument has a list of conflicts.
 fn push_conflicts_if_any(
     found: &mut Vec<Warning>,
-    alloc: Global,
-    path: &[usize],
+    at: At<'_>,
     inherited: &[&Arg],
     arguments: &[Arg],
 ) -> Result<(), AllocError>
     ensures { OnOk result (found.new.items ≡ found.old.items
-        ++ all_conflicts path.now (map (λ other. other.now) inherited.now) arguments.now) }
+        ++ all_conflicts at.entry.path.now (map (λ other. other.now) inherited.now) arguments.now) }
 {
     if !have_conflicts(arguments) {
         return Ok(());
     }
-    push_all_conflicts(found, alloc, path, inherited, arguments)
+    push_all_conflicts(found, at, inherited, arguments)
 }
 
 fn have_conflicts(arguments: &[Arg]) -> bool
@@ -149,24 +150,24 @@ fn has_conflicts(argument: &Arg) -> bool
 
 fn push_taken_of(
     found: &mut Vec<Warning>,
-    alloc: Global,
-    path: &[usize],
+    at: At<'_>,
     named: Named,
     inherited: &[&Arg],
     arguments: &[Arg],
 ) -> Result<(), AllocError>
     ensures { OnOk result (found.new.items ≡ found.old.items
-        ++ taken_of named path.now (map (λ other. other.now) inherited.now) arguments.now) }
+        ++ taken_of named at.entry.path.now (map (λ other. other.now) inherited.now)
+        arguments.now) }
 {
-    let mut others = Vec::new(alloc);
-    push_inherited_names(&mut others, alloc, named, inherited)?;
-    let mut names = Vec::new(alloc);
-    push_all_names(&mut names, alloc, named, arguments)?;
-    push_taken(found, alloc, path, named, &others, &names)
+    let mut others = Vec::new(at.alloc);
+    push_inherited_names(&mut others, at.alloc, named, inherited)?;
+    let mut names = Vec::new(at.alloc);
+    push_all_names(&mut names, at.alloc, named, arguments)?;
+    push_taken(found, at, Owners::Arguments(named), &others, &names)
 }
 
 fn push_inherited_names<'a>(
-    names: &mut Vec<ArgumentName<'a>>,
+    names: &mut Vec<PlacedName<'a>>,
     alloc: Global,
     named: Named,
     inherited: &[&'a Arg],
@@ -182,52 +183,49 @@ fn push_inherited_names<'a>(
 
 fn push_all_conflicts(
     found: &mut Vec<Warning>,
-    alloc: Global,
-    path: &[usize],
+    at: At<'_>,
     inherited: &[&Arg],
     arguments: &[Arg],
 ) -> Result<(), AllocError>
     ensures { OnOk result (found.new.items ≡ found.old.items
-        ++ all_conflicts path.now (map (λ other. other.now) inherited.now) arguments.now) }
+        ++ all_conflicts at.entry.path.now (map (λ other. other.now) inherited.now) arguments.now) }
 {
-    let mut names = Vec::new(alloc);
-    push_inherited_names(&mut names, alloc, Named::Id, inherited)?;
-    push_all_names(&mut names, alloc, Named::Id, arguments)?;
-    let seen = seen_of(alloc, &names)?;
-    push_conflicts(found, alloc, path, &seen, arguments)
+    let mut names = Vec::new(at.alloc);
+    push_inherited_names(&mut names, at.alloc, Named::Id, inherited)?;
+    push_all_names(&mut names, at.alloc, Named::Id, arguments)?;
+    let seen = seen_of(at.alloc, &names)?;
+    push_conflicts(found, at, &seen, arguments)
 }
 
 fn push_conflicts(
     found: &mut Vec<Warning>,
-    alloc: Global,
-    path: &[usize],
+    at: At<'_>,
     seen: &BTreeMap<&str, TextRef<'_>>,
     arguments: &[Arg],
 ) -> Result<(), AllocError>
     ensures { OnOk result (found.new.items ≡ found.old.items
-        ++ each_from (conflicts_of (is_known_in seen.now) path.now) 0 arguments.now) }
+        ++ each_from (conflicts_of (is_known_in seen.now) at.entry.path.now) 0 arguments.now) }
 {
     for (index, argument) in arguments.iter().enumerate() {
-        push_conflicts_of(found, alloc, path, seen, index, argument)?;
+        push_conflicts_of(found, at, seen, index, argument)?;
     }
     Ok(())
 }
 
 fn push_conflicts_of(
     found: &mut Vec<Warning>,
-    alloc: Global,
-    path: &[usize],
+    at: At<'_>,
     seen: &BTreeMap<&str, TextRef<'_>>,
     argument_index: usize,
     argument: &Arg,
 ) -> Result<(), AllocError>
     ensures { OnOk result (found.new.items ≡ found.old.items
-        ++ conflicts_of (is_known_in seen.now) path.now argument_index argument.now) }
+        ++ conflicts_of (is_known_in seen.now) at.entry.path.now argument_index argument.now) }
 {
     let ids = conflicting_ids(argument);
     for (index, id) in ids.iter().enumerate() {
-        let kind = conflict_kind(alloc, seen, argument, id.as_str())?;
-        push_conflict(found, alloc, path, argument_index, index, kind)?;
+        let kind = conflict_kind(at.alloc, seen, argument, id.as_str())?;
+        push_conflict(found, at, argument_index, index, kind)?;
     }
     Ok(())
 }
@@ -241,19 +239,18 @@ fn is_known(seen: &BTreeMap<&str, TextRef<'_>>, id: &str) -> bool
 
 fn push_conflict(
     found: &mut Vec<Warning>,
-    alloc: Global,
-    path: &[usize],
+    at: At<'_>,
     argument: usize,
     item: usize,
     kind: Option<Kind>,
 ) -> Result<(), AllocError>
     ensures { OnOk result (found.new.items ≡ found.old.items
-        ++ conflict_list path.now argument item kind) }
+        ++ conflict_list at.entry.path.now argument item kind) }
 {
     match kind {
         Some(kind) => {
             let key = Key::ConflictsWith;
-            push_warning(found, alloc, path, Some(argument), key, Some(item), kind)
+            push_warning(found, at, Some(argument), key, Some(item), kind)
         }
         None => Ok(()),
     }

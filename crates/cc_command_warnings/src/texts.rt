@@ -4,9 +4,11 @@ ghost use Rattle.std.specs.Prelude.{◌≡◌, Some};
 ghost use Rattle.std.specs.Fmt.{DisplaysOnOk};
 ghost use Rattle.cc_command_warnings.specs.Texts.{clap_text, fixed_text, help_name};
 ghost use Rattle.cc_command_warnings.specs.Texts.{kind_text, taken_index_text};
-ghost use Rattle.cc_command_warnings.specs.Texts.{is_not_plain_text, loud_value_text};
+ghost use Rattle.cc_command_warnings.specs.Texts.{index_of_text, is_not_plain_text, loud_value_text};
 ghost use Rattle.cc_command_warnings.specs.Texts.{more_names_text, named, not_plain_text};
-ghost use Rattle.cc_command_warnings.specs.Texts.{outside_text, plain_rule, short_text, taken_flag_text};
+ghost use Rattle.cc_command_warnings.specs.Texts.{index_text, outside_text, plain_rule};
+ghost use Rattle.cc_command_warnings.specs.Texts.{positionals_text, range_text, short_text};
+ghost use Rattle.cc_command_warnings.specs.Texts.{taken_flag_text};
 ghost use Rattle.cc_command_warnings.specs.Texts.{taken_long_text};
 ghost use Rattle.cc_command_warnings.specs.Texts.{taken_name_text, taken_short_text, taken_text};
 ghost use Rattle.cc_command_warnings.specs.Texts.{unplain_text};
@@ -142,7 +144,7 @@ fn write_clap<W: fmt::Write>(
         }
         Kind::MoreNamesThanValues(names, greatest) => write_more_names(*names, *greatest, f),
         Kind::TakenIndex(index, id) => write_taken_index(index.as_str(), id.as_str(), f),
-        Kind::IndexOutOfRange(index, _) => write_outside(index.as_str(), f),
+        Kind::IndexOutOfRange(index, count) => write_outside(index.as_str(), count.as_str(), f),
         kind => f.write_str(fixed_text(kind)),
     }
 }
@@ -206,14 +208,39 @@ fn write_more_names<W: fmt::Write>(
     write!(f, ", and at most {greatest} value")
 }
 
-fn write_outside<W: fmt::Write>(index: &str, f: &mut fmt::Formatter<W>) -> fmt::Result
+fn write_outside<W: fmt::Write>(index: &str, count: &str, f: &mut fmt::Formatter<W>) -> fmt::Result
     ensures { DisplaysOnOk W.write_str_gives f.old result
-        (Some (outside_text index.now)) f.new }
+        (Some (outside_text index.now count.now)) f.new }
 {
-    write!(
-        f,
-        "index {index} is not from 1 to the number of positionals"
-    )
+    write_index_of(index, count, f)?;
+    write_range(count, f)
+}
+
+fn write_index_of<W: fmt::Write>(index: &str, count: &str, f: &mut fmt::Formatter<W>) -> fmt::Result
+    ensures { DisplaysOnOk W.write_str_gives f.old result
+        (Some (index_of_text index.now count.now)) f.new }
+{
+    write_index(index, f)?;
+    write_positionals(count, f)
+}
+
+fn write_index<W: fmt::Write>(index: &str, f: &mut fmt::Formatter<W>) -> fmt::Result
+    ensures { DisplaysOnOk W.write_str_gives f.old result (Some (index_text index.now)) f.new }
+{
+    write!(f, "index {index} of")
+}
+
+fn write_positionals<W: fmt::Write>(count: &str, f: &mut fmt::Formatter<W>) -> fmt::Result
+    ensures { DisplaysOnOk W.write_str_gives f.old result
+        (Some (positionals_text count.now)) f.new }
+{
+    write!(f, " {count} positionals: ")
+}
+
+fn write_range<W: fmt::Write>(count: &str, f: &mut fmt::Formatter<W>) -> fmt::Result
+    ensures { DisplaysOnOk W.write_str_gives f.old result (Some (range_text count.now)) f.new }
+{
+    write!(f, "indexes go from 1 to {count}")
 }
 
 fn write_taken_index<W: fmt::Write>(index: &str, id: &str, f: &mut fmt::Formatter<W>) -> fmt::Result

@@ -4,11 +4,11 @@ ghost use Rattle.std.specs.Prelude.{◌≡◌, ◌∷◌, [], ◌++◌, IfOk, On
 ghost use Rattle.cc_command.specs.Tree.{forest_of};
 ghost use Rattle.cc_command_warnings.specs.Walk.{each_from, forest_list, tree_list};
 
-use crate::place::Key;
+use crate::place::{At, Key};
 use crate::warning::{Kind, Warning};
 use cc_arg::Arg;
 use cc_command::Command;
-use std::alloc::{AllocError, Global};
+use std::alloc::AllocError;
 
 /// A check of commands and arguments, one by one.
 pub(crate) trait Check {
@@ -28,24 +28,22 @@ pub(crate) trait Check {
     fn push_command(
         &self,
         found: &mut Vec<Warning>,
-        alloc: Global,
-        path: &[usize],
+        at: At<'_>,
         command: &Command,
     ) -> Result<(), AllocError>
         ensures { OnOk result (found.new.items
-            ≡ found.old.items ++ of_command self.now path.now command.now) };
+            ≡ found.old.items ++ of_command self.now at.entry.path.now command.now) };
 
     /// Adds the warnings about an argument. Fails where memory runs out.
     fn push_argument(
         &self,
         found: &mut Vec<Warning>,
-        alloc: Global,
-        path: &[usize],
+        at: At<'_>,
         index: usize,
         argument: &Arg,
     ) -> Result<(), AllocError>
         ensures { OnOk result (found.new.items
-            ≡ found.old.items ++ of_argument self.now path.now index argument.now) };
+            ≡ found.old.items ++ of_argument self.now at.entry.path.now index argument.now) };
 }
 
 /// Adds the warnings about a command, about its arguments, then about each child and all below it.
@@ -54,33 +52,36 @@ pub(crate) trait Check {
 pub(crate) fn push_tree<C: Check>(
     check: &C,
     found: &mut Vec<Warning>,
-    alloc: Global,
-    path: &[usize],
+    at: At<'_>,
     command: &Command,
 ) -> Result<(), AllocError>
     ensures { OnOk result (found.new.items ≡ found.old.items
-        ++ tree_list (C.of_command check.now) (C.of_argument check.now) path.now command.now) }
+        ++ tree_list (C.of_command check.now) (C.of_argument check.now) at.entry.path.now
+        command.now) }
 {
-    check.push_command(found, alloc, path, command)?;
-    push_arguments(check, found, alloc, path, command.get_arguments())?;
-    push_children(check, found, alloc, path, command.get_subcommands())
+    check.push_command(found, at, command)?;
+    push_arguments(check, found, at, command.get_arguments())?;
+    push_children(check, found, at, command.get_subcommands())
 }
 
 #[cycle(walk)]
 fn push_children<C: Check>(
     check: &C,
     found: &mut Vec<Warning>,
-    alloc: Global,
-    path: &[usize],
+    at: At<'_>,
     children: &[Command],
 ) -> Result<(), AllocError>
     ensures { OnOk result (found.new.items ≡ found.old.items
-        ++ forest_list (C.of_command check.now) (C.of_argument check.now) path.now 0
+        ++ forest_list (C.of_command check.now) (C.of_argument check.now) at.entry.path.now 0
         (forest_of children.now)) }
 {
     for (index, child) in children.iter().enumerate() {
-        let below = child_path(alloc, path, index)?;
-        push_tree(check, found, alloc, below.as_slice(), child)?;
+        let path = child_path(at, index)?;
+        let below = At {
+            alloc: at.alloc,
+            path: path.as_slice(),
+        };
+        push_tree(check, found, below, child)?;
     }
     Ok(())
 }
@@ -88,29 +89,24 @@ fn push_children<C: Check>(
 fn push_arguments<C: Check>(
     check: &C,
     found: &mut Vec<Warning>,
-    alloc: Global,
-    path: &[usize],
+    at: At<'_>,
     arguments: &[Arg],
 ) -> Result<(), AllocError>
     ensures { OnOk result (found.new.items ≡ found.old.items
-        ++ each_from (C.of_argument check.now path.now) 0 arguments.now) }
+        ++ each_from (C.of_argument check.now at.entry.path.now) 0 arguments.now) }
 {
     for (index, argument) in arguments.iter().enumerate() {
-        check.push_argument(found, alloc, path, index, argument)?;
+        check.push_argument(found, at, index, argument)?;
     }
     Ok(())
 }
 
 /// The path of a child. Fails where memory runs out.
-pub(crate) fn child_path(
-    alloc: Global,
-    path: &[usize],
-    index: usize,
-) -> Result<Vec<usize>, AllocError>
-    ensures { IfOk result (λ below. below.items ≡ path.now ++ index ∷ []) }
+pub(crate) fn child_path(at: At<'_>, index: usize) -> Result<Vec<usize>, AllocError>
+    ensures { IfOk result (λ path. path.items ≡ at.entry.path.now ++ index ∷ []) }
 {
-    let mut below = Vec::with_capacity(alloc, path.len().saturating_add(1))?;
-    below.extend_from_slice(path)?;
-    below.push(index)?;
-    Ok(below)
+    let mut path = Vec::with_capacity(at.alloc, at.path.len().saturating_add(1))?;
+    path.extend_from_slice(at.path)?;
+    path.push(index)?;
+    Ok(path)
 }

@@ -5,9 +5,9 @@ ghost use Rattle.cc_command_warnings.specs.Notes.{are_notes, is_note};
 ghost use Rattle.cc_command_warnings.specs.Places.{warning};
 ghost use Rattle.cc_command_warnings.specs.Texts.{level_of};
 
-use crate::place::{Key, Place};
+use crate::place::{At, Key, Place};
 use cc_base::{Items, Text};
-use std::alloc::{AllocError, Global};
+use std::alloc::AllocError;
 
 /// How serious a warning is.
 #[derive(Clone, Copy, PartialEq, Eq, Debug)]
@@ -127,17 +127,16 @@ pub fn are_notes(warnings: &[Warning]) -> bool
 /// an item there. Fails where memory runs out.
 pub(crate) fn push_warning(
     found: &mut Vec<Warning>,
-    alloc: Global,
-    path: &[usize],
+    at: At<'_>,
     argument: Option<usize>,
     key: Key,
     item: Option<usize>,
     kind: Kind,
 ) -> Result<(), AllocError>
     ensures { OnOk result (found.new.items
-        ≡ found.old.items ++ warning path.now argument key item kind ∷ []) }
+        ≡ found.old.items ++ warning at.entry.path.now argument key item kind ∷ []) }
 {
-    let command = Items::copy_of(alloc, path)?;
+    let command = Items::copy_of(at.alloc, at.path)?;
     let place = Place {
         command,
         argument,

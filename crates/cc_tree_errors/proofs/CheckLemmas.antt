@@ -40,7 +40,7 @@ no_command bytes d spelled none command described =
 -- a check of the value that bytes spell is one of the bytes
 pub checks_bytes : (bytes : List ℕ) (d : Data) (checked : Checked) → Spells bytes d
     → ChecksValue d checked → Checks bytes checked
-checks_bytes bytes d (Reads command doubles) spelled is = (d, spelled, is)
+checks_bytes bytes d (Reads command doubles) spelled is = ((d, spelled, is.0), is.1)
 checks_bytes bytes d (Errors errors) spelled is = (is.0, no_command bytes d spelled is.1)
 
 pub finds_errors : {A : Type 0} (bytes : List ℕ) (errors : List A) → is_nil errors ≡ false

@@ -1,2 +1,3 @@
 pub mod CheckLemmas
+pub mod ShownLemmas
 pub mod WalkLemmas

@@ -1,10 +1,11 @@
 //! Checks the bytes of a tree file.
 
-ghost use Rattle.std.specs.Prelude.{◌≡◌, IfOk, is_some};
+ghost use Rattle.std.specs.Prelude.{◌≡◌, All, IfOk, is_some};
 ghost use Rattle.cc_json.specs.Seen.{view};
 ghost use Rattle.cc_tree_file.specs.CommandForm.{command_of};
 ghost use Rattle.cc_tree_file.specs.Faults.{is_nil};
 ghost use Rattle.cc_tree_errors.specs.Checks.{Checks, ChecksValue, FindsErrors};
+ghost use Rattle.cc_tree_errors.specs.Findings.{IsDouble, IsError};
 
 use crate::doubles::double_keys;
 use crate::finding::{Finding, Level, PlacedFinding, place};
@@ -78,7 +79,9 @@ fn placed_doubles(
     alloc: Global,
     text: &str,
     value: &Value<'_>,
-) -> Result<Vec<PlacedFinding>, AllocError> {
+) -> Result<Vec<PlacedFinding>, AllocError>
+    ensures { IfOk result (λ placed. All IsDouble placed.items) }
+{
     let mut placed = Vec::new(alloc);
     for path in double_keys(alloc, value)? {
         placed.push(placed_double(alloc, text, value, path)?)?;
@@ -91,7 +94,9 @@ fn placed_double(
     text: &str,
     value: &Value<'_>,
     path: Vec<Step<'_>>,
-) -> Result<PlacedFinding, AllocError> {
+) -> Result<PlacedFinding, AllocError>
+    ensures { IfOk result IsDouble }
+{
     let said = double_text(alloc, path.as_slice())?;
     let finding = Finding {
         level: Level::Warning,
@@ -102,14 +107,16 @@ fn placed_double(
     place(alloc, text, value, finding)
 }
 
-/// What is wrong with the value that a text spells, in the order of the text.
-pub fn placed_errors(
+/// Returns what is wrong with the value that a text spells, in the order of the text: nothing
+/// exactly where it describes a command. Fails where memory runs out.
+pub(crate) fn placed_errors(
     alloc: Global,
     text: &str,
     value: &Value<'_>,
 ) -> Result<Vec<PlacedFinding>, AllocError>
-    ensures { IfOk result (λ placed. is_nil placed.items
+    ensures none { IfOk result (λ placed. is_nil placed.items
         ≡ is_some (command_of (view value.now))) }
+    ensures errors { IfOk result (λ placed. All IsError placed.items) }
 {
     let faults = tree_errors(alloc, value)?;
     in_order(place_faults(alloc, text, value, faults.as_slice())?)
@@ -117,7 +124,8 @@ pub fn placed_errors(
 
 // The errors in the order of their places.
 fn in_order(mut errors: Vec<PlacedFinding>) -> Result<Vec<PlacedFinding>, AllocError>
-    ensures { IfOk result (λ sorted. is_nil sorted.items ≡ is_nil errors.items) }
+    ensures none { IfOk result (λ sorted. is_nil sorted.items ≡ is_nil errors.items) }
+    ensures errors { IfOk result (λ sorted. All IsError errors.items → All IsError sorted.items) }
 {
     errors.sort_by_key(|error| error.offset)?;
     Ok(errors)
@@ -129,7 +137,8 @@ fn place_faults(
     value: &Value<'_>,
     faults: &[Fault<'_>],
 ) -> Result<Vec<PlacedFinding>, AllocError>
-    ensures { IfOk result (λ placed. is_nil placed.items ≡ is_nil faults.now) }
+    ensures none { IfOk result (λ placed. is_nil placed.items ≡ is_nil faults.now) }
+    ensures errors { IfOk result (λ placed. All IsError placed.items) }
 {
     let mut placed = Vec::new(alloc);
     for fault in faults {
@@ -143,7 +152,9 @@ fn placed_fault(
     text: &str,
     value: &Value<'_>,
     fault: &Fault<'_>,
-) -> Result<PlacedFinding, AllocError> {
+) -> Result<PlacedFinding, AllocError>
+    ensures { IfOk result IsError }
+{
     let said = fault_text(alloc, fault, value)?;
     let at_key = matches!(fault.kind, FaultKind::UnknownKey(_));
     let offset = offset_of(alloc, text, value, fault.path.as_slice(), at_key)?;

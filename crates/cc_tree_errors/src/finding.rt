@@ -1,5 +1,8 @@
 //! What is found in a tree file.
 
+ghost use Rattle.std.specs.Prelude.{◌≡◌, IfOk, map};
+ghost use Rattle.cc_tree_errors.specs.Findings.{shown, shown_placed};
+
 use crate::places::{offset_of, show_path};
 use cc_json::{JsonError, Scratch, Value, read_value};
 use cc_tree_file::Step;
@@ -37,13 +40,17 @@ pub struct PlacedFinding {
     pub text: String,
 }
 
-/// Returns the findings with their places in a tree file, in the same order. The place of all is
-/// the beginning where the file is no JSON. Fails where memory runs out.
+/// Returns the findings with their places in a tree file, in the same order, each with the same
+/// level, path and text. The place of all is the beginning where the file is no JSON. Fails where
+/// memory runs out.
 pub fn place_findings(
     alloc: Global,
     bytes: &[u8],
     findings: Vec<Finding<'_>>,
-) -> Result<Vec<PlacedFinding>, AllocError> {
+) -> Result<Vec<PlacedFinding>, AllocError>
+    ensures { IfOk result (λ placed.
+        map shown_placed placed.items ≡ map shown findings.entry.items) }
+{
     match std::str::from_utf8(bytes) {
         Ok(text) => place_in_text(alloc, text, findings),
         Err(_) => place_each(alloc, "", &Value::Null, findings),
@@ -54,7 +61,10 @@ fn place_in_text(
     alloc: Global,
     text: &str,
     findings: Vec<Finding<'_>>,
-) -> Result<Vec<PlacedFinding>, AllocError> {
+) -> Result<Vec<PlacedFinding>, AllocError>
+    ensures { IfOk result (λ placed.
+        map shown_placed placed.items ≡ map shown findings.entry.items) }
+{
     let mut scratch = Scratch::new(alloc);
     match read_value(alloc, text, &mut scratch) {
         Ok(value) => place_each(alloc, text, &value, findings),
@@ -68,7 +78,10 @@ fn place_each(
     text: &str,
     value: &Value<'_>,
     findings: Vec<Finding<'_>>,
-) -> Result<Vec<PlacedFinding>, AllocError> {
+) -> Result<Vec<PlacedFinding>, AllocError>
+    ensures { IfOk result (λ placed.
+        map shown_placed placed.items ≡ map shown findings.entry.items) }
+{
     let mut placed = Vec::new(alloc);
     for finding in findings {
         placed.push(place(alloc, text, value, finding)?)?;
@@ -76,13 +89,15 @@ fn place_each(
     Ok(placed)
 }
 
-/// A finding with its place in a text, which spells this value.
-pub fn place(
+/// Returns a finding with its place in a text, which spells this value. Fails where memory runs out.
+pub(crate) fn place(
     alloc: Global,
     text: &str,
     value: &Value<'_>,
     finding: Finding<'_>,
-) -> Result<PlacedFinding, AllocError> {
+) -> Result<PlacedFinding, AllocError>
+    ensures { IfOk result (λ placed. shown_placed placed ≡ shown finding.entry) }
+{
     let offset = offset_of(alloc, text, value, finding.path.as_slice(), finding.at_key)?;
     let path = show_path(alloc, finding.path.as_slice())?;
     Ok(PlacedFinding {

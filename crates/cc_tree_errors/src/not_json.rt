@@ -1,7 +1,7 @@
 //! Why a text is no JSON.
 
-ghost use Rattle.std.specs.Prelude.{◌≡◌, IfOk, false};
-ghost use Rattle.cc_tree_file.specs.Faults.{is_nil};
+ghost use Rattle.std.specs.Prelude.{IfOk};
+ghost use Rattle.cc_tree_errors.specs.Findings.{AreErrors};
 
 use crate::checking::placed_errors;
 use crate::finding::{Finding, Level, PlacedFinding, place};
@@ -13,7 +13,7 @@ use std::alloc::{AllocError, Global};
 /// Returns what is wrong with bytes that are no UTF-8 from this offset on, or no JSON: one error at
 /// this place. Fails where memory runs out.
 pub fn one_error(alloc: Global, offset: usize, text: &str) -> Result<Vec<PlacedFinding>, AllocError>
-    ensures { IfOk result (λ found. is_nil found.items ≡ false) }
+    ensures { IfOk result (λ found. AreErrors found.items) }
 {
     let path = String::from_str(alloc, "the file")?;
     let text = String::from_str(alloc, text)?;
@@ -29,7 +29,7 @@ pub fn one_error(alloc: Global, offset: usize, text: &str) -> Result<Vec<PlacedF
 
 /// Returns why a text that no value is read from is no JSON. Fails where memory runs out.
 pub fn json_errors(alloc: Global, text: &str) -> Result<Vec<PlacedFinding>, AllocError>
-    ensures { IfOk result (λ found. is_nil found.items ≡ false) }
+    ensures { IfOk result (λ found. AreErrors found.items) }
 {
     let mut scratch = Scratch::new(alloc);
     let mut reader = Reader::new(text, &mut scratch)?;
@@ -50,10 +50,10 @@ fn after_value(
     value: &Value<'_>,
     reader: &mut Reader<'_>,
 ) -> Result<Vec<PlacedFinding>, AllocError>
-    ensures { IfOk result (λ found. is_nil found.items ≡ false) }
+    ensures { IfOk result (λ found. AreErrors found.items) }
 {
+    let offset = reader.offset().min(text.len());
     if reader.next().is_some() {
-        let offset = reader.offset().min(text.len());
         return one_error(alloc, offset, "not JSON: something follows the value");
     }
     range_error(alloc, text, value)
@@ -66,7 +66,7 @@ fn range_error(
     text: &str,
     value: &Value<'_>,
 ) -> Result<Vec<PlacedFinding>, AllocError>
-    ensures { IfOk result (λ found. is_nil found.items ≡ false) }
+    ensures { IfOk result (λ found. AreErrors found.items) }
 {
     let found = placed_errors(alloc, text, value)?;
     if !found.is_empty() {
@@ -131,22 +131,33 @@ fn why_no_json(bytes: &[u8], offset: usize) -> &'static str {
         Some(239) => "not JSON: the text begins with a byte order mark, which JSON has not",
         Some(b'/') | Some(b'#') => "not JSON: JSON has no comments",
         Some(b'\'') => "not JSON: a text is written in double quotes",
-        Some(b']') | Some(b'}') if follows_comma(&bytes[..offset]) => {
-            "not JSON: a comma before the end of a list or an object"
-        }
-        Some(b'"') => {
-            "not JSON: a comma or a colon is missing before this text, or the text has a bad escape"
-        }
-        Some(b'[') | Some(b'{') => "not JSON: nested deeper than 127, or a comma is missing",
-        Some(_) => "not JSON",
+        Some(byte) => why_not_here(last_sign(&bytes[..offset]), byte),
     }
 }
 
-// Whether the last of some bytes, blanks left out, is a comma.
-fn follows_comma(before: &[u8]) -> bool {
+// Why what begins with a byte stands at no place after another byte.
+fn why_not_here(before: Option<u8>, byte: u8) -> &'static str {
+    match (before, byte) {
+        (Some(b','), b']' | b'}') => "not JSON: a comma before the end of a list or an object",
+        (Some(b',' | b':' | b'[' | b'{'), b'"') => {
+            "not JSON: this text is not closed or has a bad escape, or what is before it is no key"
+        }
+        (Some(b'"'), b'"') => "not JSON: a comma or a colon is missing before this text",
+        (Some(_), b'"') => "not JSON: a comma is missing before this text",
+        (Some(b',' | b':' | b'[' | b'{'), b'[' | b'{') => {
+            "not JSON: nested deeper than 127, or what is before this is no key"
+        }
+        (Some(b'"'), b'[' | b'{') => "not JSON: a comma or a colon is missing before this",
+        (Some(_), b'[' | b'{') => "not JSON: a comma is missing before this",
+        _ => "not JSON",
+    }
+}
+
+// The last of some bytes that is no blank.
+fn last_sign(before: &[u8]) -> Option<u8> {
     let last = before
         .iter()
         .rev()
-        .find(|byte| !matches!(**byte, b' ' | b'\t' | b'\r' | b'\n'));
-    matches!(last, Some(b','))
+        .find(|byte| !matches!(**byte, b' ' | b'\t' | b'\r' | b'\n'))?;
+    Some(*last)
 }

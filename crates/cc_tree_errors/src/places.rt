@@ -1,7 +1,12 @@
 //! Where in a text a value stands: a second pass, made for a finding alone.
 
-ghost use Rattle.std.specs.Prelude.{◌≡◌, ◌+◌, ◌==◌, count_by};
+ghost use Rattle.std.specs.Prelude.{◌≡◌, ◌++◌, IfOk, OnOk, codes, map};
+ghost use Rattle.std.specs.List.{flat_map};
+ghost use Rattle.std.specs.String.{string_bytes};
+ghost use Rattle.cc_tree_errors.specs.Places.{begins_character, column_after, line_after};
+ghost use Rattle.cc_tree_errors.specs.Places.{path_text, shown_step, step_text};
 
+use crate::shown::push_shown;
 use cc_json::{Scratch, Value};
 use cc_tree_file::Step;
 use json::Reader;
@@ -120,46 +125,71 @@ fn pass_members(reader: &mut Reader<'_>, count: usize) {
 
 /// Returns the line and the column after these bytes, both from 1. The column is in characters.
 pub fn line_and_column(before: &[u8]) -> (usize, usize)
-    ensures { result.0 ≡ count_by (λ byte. byte == 10) before.now + 1 }
+    ensures line { result.0 ≡ line_after before.now }
+    ensures column { result.1 ≡ column_after before.now }
 {
     (line_after(before), column_after(before))
 }
 
 fn line_after(before: &[u8]) -> usize
-    ensures { result ≡ count_by (λ byte. byte == 10) before.now + 1 }
+    ensures { result ≡ line_after before.now }
 {
     before.iter().filter(|byte| **byte == b'\n').count() + 1
 }
 
-fn column_after(before: &[u8]) -> usize {
+fn column_after(before: &[u8]) -> usize
+    ensures { result ≡ column_after before.now }
+{
     let on_the_line = before.iter().rev().take_while(|byte| **byte != b'\n');
     on_the_line.filter(|byte| begins_character(**byte)).count() + 1
 }
 
 // Whether a character begins with the byte.
-fn begins_character(byte: u8) -> bool {
+fn begins_character(byte: u8) -> bool
+    ensures { result ≡ begins_character byte }
+{
     byte < 128 || byte >= 192
 }
 
 /// Returns a path as it is shown: `subcommands[0].args[1].num_args`; `the file` where it has no
 /// step. Fails where memory runs out.
-pub fn show_path(alloc: Global, path: &[Step<'_>]) -> Result<String, AllocError> {
-    if path.is_empty() {
+pub fn show_path(alloc: Global, path: &[Step<'_>]) -> Result<String, AllocError>
+    ensures { IfOk result (λ shown. string_bytes shown ≡ path_text (map shown_step path.now)) }
+{
+    let Some((first, rest)) = path.split_first() else {
         return String::from_str(alloc, "the file");
-    }
+    };
     let mut shown = String::new(alloc);
-    for step in path {
-        push_step(alloc, &mut shown, *step)?;
-    }
+    push_step(alloc, &mut shown, "", *first)?;
+    push_steps(alloc, &mut shown, rest)?;
     Ok(shown)
 }
 
-fn push_step(alloc: Global, shown: &mut String, step: Step<'_>) -> Result<(), AllocError> {
+// Appends the steps after the first.
+fn push_steps(alloc: Global, shown: &mut String, steps: &[Step<'_>]) -> Result<(), AllocError>
+    ensures { OnOk result (string_bytes shown.new
+        ≡ string_bytes shown.old
+        ++ flat_map (step_text (codes ".")) (map shown_step steps.now)) }
+{
+    for step in steps {
+        push_step(alloc, shown, ".", *step)?;
+    }
+    Ok(())
+}
+
+// Appends a step: a key after this text, an index in brackets.
+fn push_step(
+    alloc: Global,
+    shown: &mut String,
+    before: &str,
+    step: Step<'_>,
+) -> Result<(), AllocError>
+    ensures { OnOk result (string_bytes shown.new
+        ≡ string_bytes shown.old ++ step_text before.now (shown_step step.entry)) }
+{
     match step {
         Step::Key(key) | Step::Member(key, _) => {
-            if !shown.is_empty() {
-                shown.push_str(".")?;
-            }
+            shown.push_str(before)?;
             push_shown(shown, key)
         }
         Step::Item(index) => {
@@ -168,26 +198,4 @@ fn push_step(alloc: Global, shown: &mut String, step: Step<'_>) -> Result<(), Al
             Ok(())
         }
     }
-}
-
-// The most characters that are shown of a text of the file.
-const MOST_SHOWN: usize = 60;
-
-/// Appends a text of the file as it is shown on one line: without control characters, and cut
-/// where it is long. Fails where memory runs out.
-pub fn push_shown(shown: &mut String, text: &str) -> Result<(), AllocError> {
-    let mut left = MOST_SHOWN;
-    for character in text.chars() {
-        if left == 0 {
-            shown.push_str("..")?;
-            return Ok(());
-        }
-        left -= 1;
-        shown.push(if character.is_control() {
-            '?'
-        } else {
-            character
-        })?;
-    }
-    Ok(())
 }

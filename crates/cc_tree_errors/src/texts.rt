@@ -1,26 +1,26 @@
 //! What a finding says.
 
-ghost use Rattle.std.specs.Prelude.{◌<◌, IfOk, IfSome, length};
+ghost use Rattle.std.specs.Prelude.{◌≡◌, ◌<◌, IfOk, IfSome, length, map};
+ghost use Rattle.std.specs.String.{string_bytes};
+ghost use Rattle.cc_tree_errors.specs.Findings.{double_text, last_key};
+ghost use Rattle.cc_tree_errors.specs.Places.{shown_step};
 
 use crate::nearest::{nearest, same_letters};
-use crate::places::{inside, push_shown};
+use crate::places::inside;
+use crate::shown::push_shown;
 use cc_json::Value;
 use cc_tree_file::{Fault, FaultKind, ObjectKind, Step};
 use std::alloc::{AllocError, Global};
 
 /// What is wrong, in words. The path of the fault leads from `whole`. Fails where memory runs out.
-pub fn fault_text(
+pub(crate) fn fault_text(
     alloc: Global,
     fault: &Fault<'_>,
     whole: &Value<'_>,
 ) -> Result<String, AllocError> {
     let path = fault.path.as_slice();
     match fault.kind {
-        FaultKind::NoObject(kind) => {
-            let (name, found) = (kind.name(), found_text(alloc, whole, path)?);
-            let found = found.as_str();
-            format!(in alloc; "expected {name}, an object, found {found}")
-        }
+        FaultKind::NoObject(kind) => no_object(alloc, kind, whole, path),
         FaultKind::UnknownKey(kind) => unknown_key(alloc, kind, last_key(path)),
         FaultKind::MissingKey(kind, key) => {
             let name = kind.name();
@@ -30,8 +30,11 @@ pub fn fault_text(
     }
 }
 
-/// That a later member hides this one.
-pub fn double_text(alloc: Global, path: &[Step<'_>]) -> Result<String, AllocError> {
+/// Returns the text that a later member hides the one that a path leads to. Fails where memory
+/// runs out.
+pub(crate) fn double_text(alloc: Global, path: &[Step<'_>]) -> Result<String, AllocError>
+    ensures { IfOk result (λ text. string_bytes text ≡ double_text (map shown_step path.now)) }
+{
     let mut text = String::from_str(alloc, "the key `")?;
     push_shown(&mut text, last_key(path))?;
     text.push_str("` stands twice: the last one counts")?;
@@ -39,7 +42,9 @@ pub fn double_text(alloc: Global, path: &[Step<'_>]) -> Result<String, AllocErro
 }
 
 // The key of the last step; empty where that leads to an item.
-fn last_key<'t>(path: &[Step<'t>]) -> &'t str {
+fn last_key<'t>(path: &[Step<'t>]) -> &'t str
+    ensures { result.now ≡ last_key (map shown_step path.now) }
+{
     match path.last() {
         Some(Step::Key(key)) | Some(Step::Member(key, _)) => *key,
         _ => "",
@@ -74,8 +79,28 @@ fn found_text(alloc: Global, whole: &Value<'_>, path: &[Step<'_>]) -> Result<Str
     Ok(found)
 }
 
+// A value that is no object. A text may be meant for the name of a possible value.
+fn no_object(
+    alloc: Global,
+    kind: ObjectKind,
+    whole: &Value<'_>,
+    path: &[Step<'_>],
+) -> Result<String, AllocError> {
+    let (name, found) = (kind.name(), found_text(alloc, whole, path)?);
+    let found = found.as_str();
+    match (kind, value_at(whole, path)) {
+        (ObjectKind::PossibleValue, Some(Value::String(_))) => format!(in alloc;
+            "expected {name}, an object, found {found}; write {{\"name\": {found}}}"
+        ),
+        _ => format!(in alloc; "expected {name}, an object, found {found}"),
+    }
+}
+
 // How a kind begins that lists names.
 const ONE_OF: &str = "one of ";
+
+// The kind of a list whose items are texts.
+const LIST_OF_TEXTS: &str = "a list of texts";
 
 fn other_kind(
     alloc: Global,
@@ -96,6 +121,9 @@ fn other_kind(
                 let names: Vec<&str> = names.split(", ").collect(alloc)?;
                 no_such_name(alloc, kind, names.as_slice(), key, *name, found)
             }
+            None if kind == LIST_OF_TEXTS => format!(in alloc;
+                "expected {kind}, found {found}; write [{found}]"
+            ),
             None => format!(in alloc; "expected {kind}, found {found}"),
         },
         _ => format!(in alloc; "expected {kind}, found {found}"),
@@ -136,6 +164,9 @@ fn meant(alloc: Global, name: &str, names: &[&str]) -> Result<Option<usize>, All
     }
 }
 
+// What a list of possible values holds.
+const OF_VALUES: &str = ", a list of objects such as {\"name\": \"fast\"}";
+
 // Keys of other tools, and what stands for them here.
 const OTHERS: &[(&str, &str, &str)] = &[
     ("long_about", "about", ""),
@@ -144,8 +175,9 @@ const OTHERS: &[(&str, &str, &str)] = &[
     ("visible_alias", "visible_aliases", ", a list"),
     ("alias", "aliases", ", a list"),
     ("short_alias", "short_aliases", ", a list"),
-    ("value_parser", "possible_values", ""),
-    ("choices", "possible_values", ""),
+    ("value_parser", "possible_values", OF_VALUES),
+    ("choices", "possible_values", OF_VALUES),
+    ("value", "name", ""),
     ("hidden", "hide", ""),
     ("commands", "subcommands", ""),
     ("children", "subcommands", ""),

@@ -1,2 +1,3 @@
+pub mod PowershellQuotes
 pub mod Promises
 pub mod TreeWarnings

@@ -1,1 +1,4 @@
+pub mod CheckLemmas
 pub mod FileLemmas
+pub mod LineLemmas
+pub mod SoundLemmas

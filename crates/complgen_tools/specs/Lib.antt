@@ -1,2 +1,3 @@
 pub mod AllScripts
 pub mod Checking
+pub mod Lines

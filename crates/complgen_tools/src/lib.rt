@@ -4,6 +4,8 @@
 mod all_scripts;
 mod checking;
 mod lines;
+mod safe_script;
 
 pub use crate::all_scripts::scripts;
 pub use crate::checking::check;
+pub use crate::safe_script::write_shell_if_no_warnings;

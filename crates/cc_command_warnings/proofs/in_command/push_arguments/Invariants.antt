@@ -6,5 +6,5 @@ use Rattle.cc_command_warnings.proofs.in_command.push_arguments.Given as goal
 -- what was found and what is left make the whole
 abbrev pub invariant-loop-index : goal.invariant-loop-index
 invariant-loop-index l =
-    l.found.items ++ each_from (in_command l.command l.path) l.index (drop l.index l.arguments)
-    ≡ l.initial.found.items ++ each_from (in_command l.command l.path) 0 l.command.node.arguments
+    l.found.items ++ each_from (in_command l.command l.at.path.now) l.index (drop l.index l.arguments)
+    ≡ l.initial.found.items ++ each_from (in_command l.command l.at.path.now) 0 l.command.node.arguments

@@ -6,5 +6,5 @@ use Rattle.cc_command_warnings.proofs.in_command.push_order.Given as goal
 -- what was found and what is left make the whole
 abbrev pub invariant-loop-index : goal.invariant-loop-index
 invariant-loop-index l =
-    l.found.items ++ order_list l.path (option_copied l.before) l.index (drop l.index l.arguments)
-    ≡ l.initial.found.items ++ order_list l.path None 0 l.arguments
+    l.found.items ++ order_list l.at.path.now (option_copied l.before) l.index (drop l.index l.arguments)
+    ≡ l.initial.found.items ++ order_list l.at.path.now None 0 l.arguments

@@ -1,10 +1,10 @@
 use Rattle.std.proofs.Common.{◌≡◌, ◌∷◌, [], ◌++◌, Some, drop}
-use Rattle.cc_command_warnings.specs.ArgumentNames.{argument_name}
+use Rattle.cc_command_warnings.specs.PlacedNames.{placed_name}
 use Rattle.cc_command_warnings.specs.Walk.{each_from}
 use Rattle.cc_command_warnings.proofs.names.push_aliases.Given as goal
 
 -- the names that are there and those that are left make the whole
-abbrev pub invariant-loop-index : goal.invariant-loop-index
-invariant-loop-index l =
-    l.names.items ++ each_from (λ item alias. argument_name l.argument l.key (Some item) alias l.id ∷ []) l.index (drop l.index l.aliases)
-    ≡ l.initial.names.items ++ each_from (λ item alias. argument_name l.argument l.key (Some item) alias l.id ∷ []) 0 (l.aliases)
+abbrev pub invariant-loop-item : goal.invariant-loop-item
+invariant-loop-item l =
+    l.names.items ++ each_from (λ item alias. placed_name l.index l.key (Some item) alias l.owner ∷ []) l.item (drop l.item l.aliases)
+    ≡ l.initial.names.items ++ each_from (λ item alias. placed_name l.index l.key (Some item) alias l.owner ∷ []) 0 (l.aliases)

@@ -7,5 +7,5 @@ use Rattle.cc_command_warnings.proofs.plain.push_names.Given as goal
 -- what was found and what is left make the whole
 abbrev pub invariant-loop-index : goal.invariant-loop-index
 invariant-loop-index l =
-    l.found.items ++ each_from (λ index name. name_list l.path l.argument l.key (Some index) name) l.index (drop l.index l.names)
-    ≡ l.initial.found.items ++ each_from (λ index name. name_list l.path l.argument l.key (Some index) name) 0 l.names
+    l.found.items ++ each_from (λ index name. name_list l.at.path.now l.argument l.key (Some index) name) l.index (drop l.index l.names)
+    ≡ l.initial.found.items ++ each_from (λ index name. name_list l.at.path.now l.argument l.key (Some index) name) 0 l.names

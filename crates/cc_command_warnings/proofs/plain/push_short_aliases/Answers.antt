@@ -5,6 +5,6 @@ use Rattle.cc_command_warnings.proofs.plain.push_short_aliases.Goals as goal
 
 pub loop-index-preserved : goal.loop-index-preserved
 loop-index-preserved c =
-    each_more (λ index short. short_list c.args.path.now c.args.argument c.args.key (Some index) short)
+    each_more (λ index short. short_list c.args.at.path.now c.args.argument c.args.key (Some index) short)
     c.loop-index.found.items c.push_short.new.found.items _ c.args.shorts.now c.loop-index.index c.index-shorts-index.result
     c.loop-index-test.true c.index-shorts-index.is c.loop-index.invariant c.in_ok-push_short.ensures

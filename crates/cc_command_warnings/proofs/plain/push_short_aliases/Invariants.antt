@@ -7,5 +7,5 @@ use Rattle.cc_command_warnings.proofs.plain.push_short_aliases.Given as goal
 -- what was found and what is left make the whole
 abbrev pub invariant-loop-index : goal.invariant-loop-index
 invariant-loop-index l =
-    l.found.items ++ each_from (λ index short. short_list l.path l.argument l.key (Some index) short) l.index (drop l.index l.shorts)
-    ≡ l.initial.found.items ++ each_from (λ index short. short_list l.path l.argument l.key (Some index) short) 0 l.shorts
+    l.found.items ++ each_from (λ index short. short_list l.at.path.now l.argument l.key (Some index) short) l.index (drop l.index l.shorts)
+    ≡ l.initial.found.items ++ each_from (λ index short. short_list l.at.path.now l.argument l.key (Some index) short) 0 l.shorts

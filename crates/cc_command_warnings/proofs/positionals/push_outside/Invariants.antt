@@ -7,5 +7,5 @@ use Rattle.cc_command_warnings.proofs.positionals.push_outside.Given as goal
 -- what was found and what is left make the whole
 abbrev pub invariant-loop-index : goal.invariant-loop-index
 invariant-loop-index l =
-    l.found.items ++ each_from (λ index argument. outside_list l.path l.count index (is_positional argument) argument.index) l.index (drop l.index l.arguments)
-    ≡ l.initial.found.items ++ each_from (λ index argument. outside_list l.path l.count index (is_positional argument) argument.index) 0 l.arguments
+    l.found.items ++ each_from (λ index argument. outside_list l.at.path.now l.count index (is_positional argument) argument.index) l.index (drop l.index l.arguments)
+    ≡ l.initial.found.items ++ each_from (λ index argument. outside_list l.at.path.now l.count index (is_positional argument) argument.index) 0 l.arguments

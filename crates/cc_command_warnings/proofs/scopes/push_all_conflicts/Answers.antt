@@ -9,7 +9,7 @@ use Rattle.cc_command_warnings.proofs.scopes.push_all_conflicts.Goals as goal
 
 pub returns : goal.returns
 returns c =
-    let path = c.args.path.now in
+    let path = c.args.at.path.now in
     let arguments = c.args.arguments.now in
     let names = c.deref.result.now in
     let listed : names ≡ all_names Named.Id (map (λ other. other.now) c.args.inherited.now) ++ all_names Named.Id arguments = search rules in

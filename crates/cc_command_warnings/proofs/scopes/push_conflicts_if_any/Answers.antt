@@ -13,4 +13,4 @@ returns-then-not-have_conflicts c =
     let none : have_conflicts arguments ≡ false = search rules in
     let names = all_names Named.Id (map (λ other. other.now) c.args.inherited.now) ++ all_names Named.Id arguments in
     sym (append-nil found)
-    ∙ ap (λ list. found ++ list) (sym (none_of_none (is_known names) c.args.path.now 0 arguments none))
+    ∙ ap (λ list. found ++ list) (sym (none_of_none (is_known names) c.args.at.path.now 0 arguments none))

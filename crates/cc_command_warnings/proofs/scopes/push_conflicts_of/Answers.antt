@@ -6,7 +6,7 @@ use Rattle.cc_command_warnings.proofs.scopes.push_conflicts_of.Goals as goal
 
 pub loop-index-preserved : goal.loop-index-preserved
 loop-index-preserved c =
-    let path = c.args.path.now in
+    let path = c.args.at.path.now in
     let id = c.index-ids-index.result in
     let known = is_known_in c.args.seen.now id in
     let same = bytes_eq id c.args.argument.now.id in

@@ -6,8 +6,8 @@ use Rattle.cc_command_warnings.proofs.walk.+walk.Given as goal
 -- what was found and what is left make the whole
 abbrev pub invariant-push_children-loop-index : goal.invariant-push_children-loop-index
 invariant-push_children-loop-index g l =
-    l.found.items ++ forest_list (g.C.Check.of_command l.check) (g.C.Check.of_argument l.check) l.path l.index (forest_of (drop l.index l.children))
-    ≡ l.initial.found.items ++ forest_list (g.C.Check.of_command l.check) (g.C.Check.of_argument l.check) l.path 0 (forest_of l.children)
+    l.found.items ++ forest_list (g.C.Check.of_command l.check) (g.C.Check.of_argument l.check) l.at.path.now l.index (forest_of (drop l.index l.children))
+    ≡ l.initial.found.items ++ forest_list (g.C.Check.of_command l.check) (g.C.Check.of_argument l.check) l.at.path.now 0 (forest_of l.children)
 
 -- the nodes below a command, and those of its children
 abbrev pub decreases-push_tree : goal.decreases-push_tree

@@ -1,0 +1,36 @@
+//! The script for a shell, written only where there are no warnings.
+
+ghost use Rattle.std.specs.Prelude.{◌≡◌, IfErr, IfOk, IsTrue, Some};
+ghost use Rattle.std.specs.String.{string_bytes};
+ghost use Rattle.cc_base.specs.Writes.{IsMemoryOrWrite};
+ghost use Rattle.cc_command.specs.Built.{built_under};
+ghost use Rattle.cc_command_warnings.specs.Notes.{are_notes};
+ghost use Rattle.cc_shell.specs.Shells.{shell_spec};
+ghost use Rattle.cc_tree_warnings.specs.TreeWarnings.{warnings_of};
+
+use cc_base::{Error, Sink};
+use cc_command::Command;
+use cc_shell::Shell;
+use cc_tree_warnings::write_if_no_warnings;
+use std::alloc::Global;
+
+/// Writes the script for a shell of a command that is called by this bin name, where
+/// `tree_warnings` finds none but notes, and returns whether it did: `Ok(false)` where it finds
+/// others, and then nothing is written. A script that is written reads back.
+///
+/// Fails with `Memory` and `Write` alone, whatever the shell.
+pub fn write_shell_if_no_warnings<W: Sink>(
+    alloc: Global,
+    shell: Shell,
+    command: &mut Command,
+    bin_name: String,
+    sink: &mut W,
+) -> Result<bool, Error>
+    ensures writes { IfOk result (λ done.
+        done ≡ are_notes (warnings_of (Some (string_bytes bin_name)) command.old)) }
+    ensures reads { IfOk result (λ done. IsTrue done →
+        (shell_spec shell).Reads (built_under (Some (string_bytes bin_name)) command.old)) }
+    ensures errors { IfErr result IsMemoryOrWrite }
+{
+    write_if_no_warnings(alloc, shell, command, bin_name, sink)
+}
