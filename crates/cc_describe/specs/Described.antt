@@ -1,15 +1,21 @@
 -- Arguments and commands with their texts.
-use Rattle.std.specs.Prelude.{◌≡◌, ℕ, List, [], ◌∷◌, ◌++◌, map, Some, Result, Ok, Err, MatchResult}
+use Rattle.std.specs.Prelude.{◌≡◌, ◌-◌, ◌^◌, ℕ, List, [], ◌∷◌, ◌++◌, map, Option, None, Some, false, true, Result, Ok, Err, MatchResult}
 use Rattle.std.specs.Borrow.{Bor}
+use Rattle.std.specs.Option.{option_copied, option_map}
 use Rattle.cc_arg.specs.declared.parts.ArgParts.{ArgParts as Arg}
 use Rattle.cc_arg.specs.declared.action.ArgAction.TheVariants.{SetTrue}
 use Rattle.cc_arg.specs.declared.possible_value.PossibleValue.{PossibleValue}
+use Rattle.cc_arg.specs.declared.range.ValueRange.{ValueRange}
+use Rattle.cc_arg.specs.declared.value_hint.ValueHint.TheVariants.{Unknown}
 use Rattle.cc_arg.specs.Arguments.{new_arg}
 use Rattle.cc_arg.specs.PossibleValues.{new_possible_value}
 use Rattle.cc_base.specs.declared.error.Error.{Error}
 use Rattle.cc_base.specs.declared.error.Error.TheVariants.{Memory}
-use Rattle.cc_command.specs.Made.{new_tree, with_root}
+use Rattle.cc_command.specs.Made.{new_tree, with_argument, with_root}
 use Rattle.cc_command.specs.Tree.{Tree}
+use Rattle.cc_describe.specs.declared.description.ArgDescription.{ArgDescription}
+
+-- ---- ARGUMENTS
 
 -- a long that is its id, a help, and no value
 abbrev pub flag_of : List ℕ → List ℕ → Arg
@@ -26,6 +32,10 @@ abbrev pub option_of : List ℕ → List ℕ → List ℕ → Arg
 option_of name value_name help =
     record (positional_of name value_name help) { long = Some name }
 
+-- one value, and no bound
+abbrev pub one_or_more : ValueRange
+one_or_more = record { least = 1; greatest = 2 ^ 64 - 1 }
+
 abbrev pub value_of : List ℕ → List ℕ → PossibleValue
 value_of name help = record (new_possible_value name) { help = Some help }
 
@@ -33,8 +43,70 @@ value_of name help = record (new_possible_value name) { help = Some help }
 abbrev pub described_values : List (Bor (List ℕ) × Bor (List ℕ)) → List PossibleValue
 described_values pairs = map (λ pair. value_of pair.0.now pair.1.now) pairs
 
-abbrev pub command_of : List ℕ → List ℕ → Tree
-command_of name about = with_root (λ node. record node { about = Some about }) (new_tree name)
+-- ---- WHAT A DESCRIPTION MAKES
+
+-- an id and a help, and nothing else said
+abbrev pub new_described : Bor (List ℕ) → Bor (List ℕ) → ArgDescription
+new_described id help = record {
+  id = id;
+  help = help;
+  long = None;
+  value_name = None;
+  values = None;
+  short = None;
+  action = None;
+  num_args = None;
+  value_hint = Unknown;
+  completer = None;
+  required = false;
+  global = false;
+}
+
+-- a name, where there is one
+abbrev pub names_of : Option (Bor (List ℕ)) → List (List ℕ)
+names_of None = []
+names_of (Some name) = name.now ∷ []
+
+-- without its long, the names of its values and the values
+abbrev pub said_parts : ArgDescription → Arg
+said_parts described = record (new_arg described.id.now) {
+  help = Some described.help.now;
+  short = described.short;
+  action = described.action;
+  num_args = described.num_args;
+  value_hint = described.value_hint;
+  completer = described.completer;
+  required = described.required;
+  global = described.global;
+}
+
+-- the argument that is described
+abbrev pub arg_of : ArgDescription → Arg
+arg_of described = record (said_parts described) {
+  long = option_copied described.long;
+  value_names = names_of described.value_name;
+  possible_values = option_map (λ pairs. described_values pairs.now) described.values;
+}
+
+-- ---- COMMANDS
+
+abbrev pub named_command : List ℕ → List ℕ → Tree
+named_command name about = with_root (λ node. record node { about = Some about }) (new_tree name)
+
+-- the tree with these arguments, one after another
+abbrev pub with_arguments : Tree → List Arg → Tree
+with_arguments tree [] = tree
+with_arguments tree (arg ∷ rest) =
+    with_arguments (record tree { node = with_argument tree.node arg }) rest
+
+abbrev pub command_of : List ℕ → List ℕ → List ArgDescription → Tree
+command_of name about args = with_arguments (named_command name about) (map arg_of args)
+
+-- the same, of which a parser wants a subcommand
+abbrev pub group_of : List ℕ → List ℕ → List ArgDescription → Tree
+group_of name about args = with_arguments
+    (with_root (λ node. record node { subcommand_required = true }) (named_command name about))
+    (map arg_of args)
 
 abbrev pub with_visible_alias : List ℕ → Tree → Tree
 with_visible_alias alias tree =

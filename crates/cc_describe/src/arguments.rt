@@ -1,47 +1,68 @@
-//! Arguments, each with its help.
+//! Arguments, made of what is said of them.
 
 ghost use Rattle.std.specs.Prelude.{◌≡◌, IfErr, IfOk};
-ghost use Rattle.cc_describe.specs.Described.{described_values, flag_of, option_of};
-ghost use Rattle.cc_describe.specs.Described.{positional_of, value_of};
+ghost use Rattle.std.specs.Option.{option_map};
+ghost use Rattle.cc_describe.specs.Described.{arg_of, described_values, names_of, said_parts};
+ghost use Rattle.cc_describe.specs.Described.{value_of};
 
-use cc_arg::{Arg, ArgAction, PossibleValue};
-use cc_base::Error;
+use crate::description::ArgDescription;
+use cc_arg::{Arg, ArgParts, PossibleValue};
+use cc_base::{Error, Items, Text};
 use std::alloc::Global;
 
-/// The flag `--name`, used or not. Its id is the name. Fails with `Memory` alone.
-pub fn flag(alloc: Global, name: &str, help: &str) -> Result<Arg, Error>
-    ensures ok { IfOk result (λ arg. arg ≡ flag_of name.now help.now) }
+/// The argument that is described. Fails with `Memory` alone.
+pub fn arg(alloc: Global, described: &ArgDescription<'_>) -> Result<Arg, Error>
+    ensures ok { IfOk result (λ arg. arg ≡ arg_of described.now) }
     ensures memory { IfErr result (λ error. error ≡ Error.Memory) }
 {
-    let id = String::from_str(alloc, name)?;
-    let long = String::from_str(alloc, name)?;
-    let help = String::from_str(alloc, help)?;
-    Ok(
-        Arg::new(alloc, id)
-            .long(long)
-            .help(help)
-            .action(ArgAction::SetTrue),
-    )
+    let mut parts = said_parts(alloc, described)?;
+    parts.long = Text::copy_of_some(alloc, described.long)?;
+    parts.value_names = value_names(alloc, described.value_name)?;
+    parts.possible_values = some_values(alloc, described.values)?;
+    Ok(Arg::from(parts))
 }
 
-/// The option `--name VALUE`. Its id is the name. Fails with `Memory` alone.
-pub fn option(alloc: Global, name: &str, value_name: &str, help: &str) -> Result<Arg, Error>
-    ensures ok { IfOk result (λ arg. arg ≡ option_of name.now value_name.now help.now) }
+// Without its long, the names of its values and the values.
+fn said_parts(alloc: Global, described: &ArgDescription<'_>) -> Result<ArgParts, Error>
+    ensures ok { IfOk result (λ parts. parts ≡ said_parts described.now) }
     ensures memory { IfErr result (λ error. error ≡ Error.Memory) }
 {
-    let long = String::from_str(alloc, name)?;
-    Ok(positional(alloc, name, value_name, help)?.long(long))
+    let mut parts = ArgParts::new(alloc, Text::copy_of(alloc, described.id)?);
+    parts.help = Some(Text::copy_of(alloc, described.help)?);
+    parts.short = described.short;
+    parts.action = described.action;
+    parts.num_args = described.num_args;
+    parts.value_hint = described.value_hint;
+    parts.completer = described.completer;
+    parts.required = described.required;
+    parts.global = described.global;
+    Ok(parts)
 }
 
-/// The positional `VALUE` with this id. Fails with `Memory` alone.
-pub fn positional(alloc: Global, id: &str, value_name: &str, help: &str) -> Result<Arg, Error>
-    ensures ok { IfOk result (λ arg. arg ≡ positional_of id.now value_name.now help.now) }
+fn value_names(alloc: Global, name: Option<&str>) -> Result<Items<Text>, Error>
+    ensures ok { IfOk result (λ names. names ≡ names_of name.entry) }
     ensures memory { IfErr result (λ error. error ≡ Error.Memory) }
 {
-    let id = String::from_str(alloc, id)?;
-    let value_name = String::from_str(alloc, value_name)?;
-    let help = String::from_str(alloc, help)?;
-    Arg::new(alloc, id).help(help).value_name(value_name)
+    let mut names = Items::new(alloc);
+    let Some(name) = name else {
+        return Ok(names);
+    };
+    names.push(Text::copy_of(alloc, name)?)?;
+    Ok(names)
+}
+
+fn some_values(
+    alloc: Global,
+    with_helps: Option<&[(&str, &str)]>,
+) -> Result<Option<Items<PossibleValue>>, Error>
+    ensures ok { IfOk result (λ values.
+        values ≡ option_map (λ pairs. described_values pairs.now) with_helps.entry) }
+    ensures memory { IfErr result (λ error. error ≡ Error.Memory) }
+{
+    match with_helps {
+        Some(with_helps) => Ok(Some(Items::from(possible_values(alloc, with_helps)?))),
+        None => Ok(None),
+    }
 }
 
 /// Possible values, each a name and its help. Fails with `Memory` alone.

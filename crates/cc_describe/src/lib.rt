@@ -4,6 +4,8 @@
 
 mod arguments;
 mod commands;
+mod description;
 
-pub use crate::arguments::{flag, option, positional, possible_values};
-pub use crate::commands::{command, with_alias, with_arg, with_child};
+pub use crate::arguments::{arg, possible_values};
+pub use crate::commands::{command, group, with_alias, with_arg, with_child};
+pub use crate::description::{ArgDescription, flag, option, positional};

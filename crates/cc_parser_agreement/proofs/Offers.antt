@@ -1,11 +1,13 @@
 -- Each candidate at the root is one that the parser takes.
-use Rattle.std.proofs.Common.{◌≡◌, ◌∙◌, ◌==◌, ℕ, Bool, true, false, cond, List, [], ◌∷◌, ◌++◌, map, Option, Some, None, refl, sym, ap, subst, inl, inr, flat_map}
+use Rattle.std.proofs.Common.{◌≡◌, ◌∙◌, ◌==◌, ℕ, Bool, true, false, cond, List, [], ◌∷◌, ◌++◌, map, Option, Some, None, refl, sym, ap, subst, inl, inr, flat_map, Result, Ok, Err, IfOk}
 use Rattle.std.specs.Prelude.{chars, codes, filter, find, get_or, nat_le}
 use Rattle.std.specs.List.{AllByRecursion, dedup, dedup_from}
 use Rattle.std.specs.Ordering.{eq_by_cmp}
 use Rattle.cc_arg.specs.declared.parts.ArgParts.{ArgParts as Arg}
 use Rattle.cc_arg.specs.ShownNames.{shown_longs, shown_shorts}
 use Rattle.cc_base.specs.Bytes.{dash}
+use Rattle.cc_base.specs.declared.error.Error.{Error}
+use Rattle.cc_base.specs.declared.error.Error.TheVariants as error
 use Rattle.cc_base.specs.Sorting.{in_order}
 use Rattle.cc_base.proofs.Members.{AllByRecursion-IsIn, AllByRecursion-append, AllByRecursion-filter, AllByRecursion-flat_map, AllByRecursion-from_IsIn, AllByRecursion-map, AllByRecursion-weaker, Contains-from_IsIn, IsIn, IsIn-append_left, IsIn-append_right}
 use Rattle.cc_base.proofs.Sorted.{AllByRecursion-in_order}
@@ -13,10 +15,11 @@ use Rattle.cc_candidates.specs.Beginning.{begins}
 use Rattle.cc_candidates.specs.Candidate.{candidate_cmp}
 use Rattle.cc_candidates.specs.Candidate.{comes_before as candidate_before}
 use Rattle.cc_candidates.specs.declared.candidate.CompletionCandidate.{CompletionCandidate}
+use Rattle.cc_command.specs.Built.{built_tree}
 use Rattle.cc_command.specs.Names.{visible_names}
 use Rattle.cc_command.specs.Tree.{Forest, none, more, Tree}
 use Rattle.cc_command.specs.declared.node.Node.{Node}
-use Rattle.cc_engine.specs.Completion.{Completes, Returned, candidates_for, finished_last, offered, offered_children, offered_match, opened_values, positional_values, match_candidates}
+use Rattle.cc_engine.specs.Completion.{Completes, Refuses, Returned, candidates_for, is_in_range, finished_last, offered, offered_children, offered_match, opened_values, positional_values, match_candidates}
 use Rattle.cc_engine.specs.OpenLists.{least, open_lists_by}
 use Rattle.cc_gather.specs.Children.{child_candidate, child_candidates, children_candidates, external, in_candidates_order, subcommand_candidates}
 use Rattle.cc_gather.specs.Finished.{comes_before, finish, first_of_ids, group, shown_or_all}
@@ -28,9 +31,9 @@ use Rattle.cc_gather.specs.declared.options.OptionMatch.{OptionMatch}
 use Rattle.cc_gather.specs.declared.options.OptionMatch.TheVariants.{Listed, ValuesOf}
 use Rattle.cc_gather.proofs.FirstOfIds.{all-first_of_ids}
 use Rattle.cc_gather.proofs.Law.{all-shown}
-use Rattle.cc_parser.specs.Parsers.{has_globals}
+use Rattle.cc_parser.specs.Parsers.{IsAppOf, has_globals}
 use Rattle.cc_parser.specs.Taken.{fits_parser, KnowsChild, KnowsLong, KnowsShort, TakesNames, TakesOffered, TakesSiblings}
-use Rattle.cc_parser_agreement.specs.Agreement.{AgreesWithParser, IsTaken, match_values, values_among}
+use Rattle.cc_parser_agreement.specs.Agreement.{AgreesWithParser, IsParserOf, IsTaken, RefusesBoth, match_values, values_among}
 use Rattle.cc_values.specs.Values.{MayReturn, values}
 use Rattle.cc_walk.specs.Lookup.{positional_at}
 use Rattle.cc_walk.specs.WordClasses.{value_character}
@@ -263,6 +266,23 @@ pub agrees_built : (sources : MayReturn) (root new : Tree) (app : App) (words : 
     → Completes sources new words index found → (has_globals new ≡ false → fits_parser new ≡ true → TakesOffered new app)
     → has_globals root ≡ false → fits_parser root ≡ true → AgreesWithParser sources root app words index found
 agrees_built sources root new app words index found same completes takes local fits =
-    agrees sources root app words index found
-    (subst (λ (t : Tree). TakesOffered t app) same (takes (ap has_globals same ∙ local) (ap fits_parser same ∙ fits)))
-    (subst (λ (t : Tree). Completes sources t words index found) same completes)
+    subst (λ (tree : Tree). AgreesWithParser sources tree app words index found) same
+    (agrees sources new app words index found (takes (ap has_globals same ∙ local) (ap fits_parser same ∙ fits)) completes)
+
+pub completes_built : (sources : MayReturn) (root new : Tree) (words : List (List ℕ)) (index : ℕ) (found : Candidates) → new ≡ root
+    → Completes sources new words index found → Completes sources root words index found
+completes_built sources root new words index found same completes =
+    subst (λ (tree : Tree). Completes sources tree words index found) same completes
+
+pub parser_built : (root new : Tree) (app : App) (globals : Bool) → new ≡ root → (has_globals new ≡ false → IsAppOf new app)
+    → globals ≡ has_globals new → (has_globals new ≡ false → fits_parser new ≡ true → TakesOffered new app)
+    → IsParserOf root app globals
+parser_built root new app globals same is counted taken =
+    subst (λ (tree : Tree). IsParserOf tree app globals) same (record { is = is; same_globals = counted; taken = taken })
+
+-- where building did not end, or the index was out of range
+pub refuses_both : (old new : Tree) (count index : ℕ) (error : Error) → Refuses old new count index error → RefusesBoth (built_tree old) count index error
+refuses_both old new count index error.Memory refuses = tt
+refuses_both old new count index error.NoCompletion refuses =
+    subst (λ (tree : Tree). is_in_range tree.node count index ≡ false) refuses.0 refuses.1
+refuses_both old new count index _ refuses = absurd refuses

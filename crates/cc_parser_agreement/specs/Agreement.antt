@@ -1,15 +1,18 @@
 -- The candidates of a command, and whether its parser takes them.
-use Rattle.std.specs.Prelude.{◌≡◌, ◌⊎◌, ◌++◌, ℕ, List, [], Contains, Some, codes, encode_utf8, get_or}
+use Rattle.std.specs.Prelude.{◌≡◌, ◌⊎◌, ◌++◌, ⊤, ℕ, Bool, List, [], Contains, Some, codes, encode_utf8, false, get_or, true}
 use Rattle.std.specs.List.{AllByRecursion}
 use Rattle.cc_arg.specs.declared.parts.ArgParts.{ArgParts as Arg}
+use Rattle.cc_base.specs.declared.error.Error.{Error}
+use Rattle.cc_base.specs.declared.error.Error.TheVariants.{Memory, NoCompletion}
 use Rattle.cc_candidates.specs.declared.candidate.CompletionCandidate.{CompletionCandidate}
 use Rattle.cc_command.specs.Tree.{Tree}
-use Rattle.cc_engine.specs.Completion.{Offers, Returned, offered_match, opened_values, positional_values, match_candidates, words_before}
+use Rattle.cc_engine.specs.Completion.{Completes, Offers, Returned, is_in_range, offered_match, opened_values, positional_values, match_candidates, words_before}
 use Rattle.cc_engine.specs.OpenLists.{open_lists_by}
 use Rattle.cc_gather.specs.Children.{external}
 use Rattle.cc_gather.specs.declared.options.OptionMatch.{OptionMatch}
 use Rattle.cc_gather.specs.declared.options.OptionMatch.TheVariants.{Listed, ValuesOf}
-use Rattle.cc_parser.specs.Taken.{KnowsChild, KnowsLong, KnowsShort}
+use Rattle.cc_parser.specs.Parsers.{IsAppOf, has_globals}
+use Rattle.cc_parser.specs.Taken.{KnowsChild, KnowsLong, KnowsShort, TakesOffered, fits_parser}
 use Rattle.cc_values.specs.Values.{MayReturn}
 use Rattle.cc_walk.specs.Destination.{WordsLeadTo, WordsLeadOnlyTo}
 use Rattle.cc_walk.specs.Lookup.{positional_at}
@@ -70,3 +73,16 @@ pub record AgreesWithParser (sources : MayReturn) (root : Tree) (app : App) (wor
   pub offers : Offers sources tree state (get_or words index []) found
   pub taken : tree ≡ root → AllByRecursion (IsTaken root app
       (values_among tree state (get_or words index []) offers.0)) found
+
+-- what a parser that reads this is to the tree, and whether it has global arguments
+pub record IsParserOf (tree : Tree) (app : App) (globals : Bool) : Type 0 where
+  pub is : has_globals tree ≡ false → IsAppOf tree app
+  pub same_globals : globals ≡ has_globals tree
+  pub taken : has_globals tree ≡ false → fits_parser tree ≡ true → TakesOffered tree app
+
+-- how a call ends that has built this tree or not, and finds no candidates or makes no parser: out
+-- of memory, or since the index is out of range
+abbrev pub RefusesBoth : Tree → ℕ → ℕ → Error → Type 0
+RefusesBoth built count index Memory = ⊤
+RefusesBoth built count index NoCompletion = is_in_range built.node count index ≡ false
+RefusesBoth built count index _ = ⊥

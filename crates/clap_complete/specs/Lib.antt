@@ -155,6 +155,7 @@ pub use Rattle.cc_engine.specs.OpenLists
 pub use Rattle.cc_engine.specs.Paths as HintPaths
 pub use Rattle.cc_agreement.specs.Agreement as BashAgreement
 pub use Rattle.cc_describe.specs.Described
+pub use Rattle.cc_describe.specs.declared.description.ArgDescription
 -- the parser of a tree
 pub use Rattle.cc_parser.specs.Arguments as ParsedArguments
 pub use Rattle.cc_parser.specs.Parsers
@@ -180,3 +181,8 @@ pub use Rattle.cc_adapters.specs.declared.builtin.Builtin
 pub use Rattle.cc_env.specs.Arguments as RequestArguments
 pub use Rattle.cc_env.specs.Wanted as WantedShell
 pub use Rattle.cc_env.specs.Steps as RequestSteps
+-- the whole program
+pub use Rattle.cc_program.specs.Requests as ProgramRequests
+pub use Rattle.cc_program.specs.Statuses as ProgramStatuses
+pub use Rattle.cc_program.specs.Variables as ProgramVariables
+pub use Rattle.cc_program.specs.declared.failure.Failure as ProgramFailure

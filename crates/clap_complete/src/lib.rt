@@ -27,6 +27,7 @@ pub mod describe;
 pub mod engine;
 pub mod env;
 pub mod parser;
+pub mod program;
 pub mod quote;
 
 pub use cc_arg::ValueHint;

@@ -1,11 +1,12 @@
 //! Requests of shells: registrations of all programs that have a tree file, and the candidates for
 //! a word of one of them.
 
-use crate::{contents, home};
+use crate::contents;
 use clap_complete::Error;
 use clap_complete::aot::{Counted, Sink};
 use clap_complete::engine::{Folder, RealFolder};
 use clap_complete::env::EnvValues;
+use clap_complete::program::{home, variables};
 use complgen_command_line::{Refusal, WRITE_FAILED};
 use complgen_live::{reply, write_registrations};
 use complgen_run::error_refusal;
@@ -14,7 +15,7 @@ use complgen_trees::{
 };
 use std::alloc::AllocError;
 use std::convert::AsStr;
-use std::env::{self, Env, VarError};
+use std::env::{self, Env};
 use std::io::{self, BufWriter};
 use std::rt::Files;
 
@@ -125,20 +126,5 @@ fn tree_file<R: Files + AllocGlobal>(
 
 /// The values of the variables that a request is read from.
 pub(crate) fn environment<R: Env + AllocGlobal>(rt: &R) -> Result<EnvValues, AllocError> {
-    let mut variables = Vec::new(rt.alloc());
-    for name in VARIABLES {
-        if let Some(value) = variable(rt, name)? {
-            variables.push((String::from_str(rt.alloc(), name)?, value))?;
-        }
-    }
-    Ok(EnvValues::new(variables))
-}
-
-// The value of a variable that is set, where it is UTF-8.
-fn variable<R: Env + AllocGlobal>(rt: &R, name: &str) -> Result<Option<String>, AllocError> {
-    match env::var(rt, name) {
-        Ok(value) => Ok(Some(value)),
-        Err(VarError::OutOfMemory) => Err(AllocError),
-        Err(_) => Ok(None),
-    }
+    variables(rt, &VARIABLES)
 }

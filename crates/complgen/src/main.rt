@@ -7,6 +7,7 @@ mod tools;
 
 use clap_complete::aot::Counted;
 use clap_complete::engine::RealFolder;
+use clap_complete::program::home;
 use complgen_command_line::{Refusal, WRITE_FAILED, plan};
 use complgen_run::run;
 use complgen_tool_line::names_tool;
@@ -15,7 +16,6 @@ use std::alloc::AllocError;
 use std::convert::AsStr;
 use std::env::{self, Env};
 use std::io::BufWriter;
-use std::path::PathBuf;
 use std::process::ExitCode;
 use std::rt::Files;
 use std::{fs, io};
@@ -59,15 +59,6 @@ fn words<R: Env + AllocGlobal>(rt: &R) -> Result<Vec<String>, Refusal> {
         Ok(words) => Ok(words.collect(rt.alloc())?),
         Err(error) if error.kind() == io::ErrorKind::OutOfMemory => Err(Refusal::from(AllocError)),
         Err(_) => Err(Refusal::from_static(2, NOT_UTF8)),
-    }
-}
-
-// The home folder of the user, where the environment names one.
-fn home<R: Env + AllocGlobal>(rt: &R) -> Result<Option<String>, Refusal> {
-    match env::home_dir(rt) {
-        Ok(home) => Ok(home.map(PathBuf::into_string)),
-        Err(error) if error.kind() == io::ErrorKind::OutOfMemory => Err(Refusal::from(AllocError)),
-        Err(_) => Ok(None),
     }
 }
 

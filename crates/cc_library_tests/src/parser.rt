@@ -1,0 +1,189 @@
+//! A described command: what is offered of it, and what its parser takes.
+
+use crate::checks::is;
+use bumpalo::Bump;
+use cc_fixtures::words::to_strings;
+use clap::ArgMatches;
+use clap_complete::Error;
+use clap_complete::command::{Arg, Command, ValueHint};
+use clap_complete::describe::{
+    arg, command, flag, group, option, positional, possible_values, with_alias, with_arg,
+    with_child,
+};
+use clap_complete::engine::{
+    ArgValueCompleter, Completers, CompletionCandidate, MemoryFolder, complete,
+};
+use clap_complete::parser::{candidates_and_parser, parser};
+use std::alloc::{AllocError, Global};
+use std::fmt::Write;
+
+// Each call of `describe` stands once in this tree.
+fn app(alloc: Global) -> Result<Command, Error> {
+    let colors = [
+        ("auto", "Where the output is a terminal"),
+        ("never", "Not at all"),
+    ];
+    let args = [
+        flag("verbose", "Say more").short('v'),
+        option("color", "WHEN", "When to use colours").values(&colors),
+        option("root", "DIR", "Where to work").value_hint(ValueHint::DirPath),
+    ];
+    let app = group(alloc, "app", "Runs programs", &args);
+    with_child(app, with_alias(alloc, run(alloc), "exec"))
+}
+
+fn run(alloc: Global) -> Result<Command, Error> {
+    let program = positional("program", "PROGRAM", "What to run").many();
+    let program = program.completer(ArgValueCompleter::new(0)).required();
+    let run = command(alloc, "run", "Runs them", &[program]);
+    let run = with_arg(run, arg(alloc, &flag("dry-run", "Only say so")));
+    with_arg(run, level(alloc))
+}
+
+// An argument that has more than a description says.
+fn level(alloc: Global) -> Result<Arg, Error> {
+    let level = arg(alloc, &option("level", "LEVEL", "How much"))?;
+    let levels = [("low", "A little"), ("high", "A lot")];
+    Ok(
+        level
+            .value_parser(possible_values(alloc, &levels)?)
+            .value_delimiter(','),
+    )
+}
+
+fn values(alloc: Global, found: &[CompletionCandidate]) -> Result<String, AllocError> {
+    let mut values = String::new(alloc);
+    for candidate in found {
+        write!(values, " {}", candidate.get_value())?;
+    }
+    Ok(values)
+}
+
+// What is offered for the last of these words.
+fn offered(alloc: Global, words: &[&str]) -> Result<String, Error> {
+    let mut app = app(alloc)?;
+    let index = words.len().saturating_sub(1);
+    let words = to_strings(alloc, words)?;
+    let folder = MemoryFolder::new(&[], &[]);
+    let completers = Completers::none(alloc);
+    let found = complete(alloc, &mut app, words, index, None, &folder, &completers)?;
+    Ok(values(alloc, found.as_slice())?)
+}
+
+#[test]
+fn what_is_described_is_offered(rt: HostRuntime) {
+    let alloc = rt.alloc();
+    let longs = " --verbose --color --root --help";
+    is(&rt, offered(alloc, &["app", "--"]), longs);
+    is(&rt, offered(alloc, &["app", "--color", ""]), " auto never");
+    is(&rt, offered(alloc, &["app", "e"]), " exec");
+    is(
+        &rt,
+        offered(alloc, &["app", "exec", "--level", "low,h"]),
+        " low,high",
+    );
+}
+
+// The exit status for words that are refused, or what they hold: the root, whether `--verbose` and
+// `--dry-run` are used, and the programs.
+fn taken(
+    alloc: Global,
+    matches: Result<ArgMatches<'_>, clap::Error>,
+) -> Result<String, AllocError> {
+    let mut text = String::new(alloc);
+    let matches = match matches {
+        Ok(matches) => matches,
+        Err(error) => {
+            write!(text, "{}", error.exit_code())?;
+            return Ok(text);
+        }
+    };
+    let root = matches.get_str("root").unwrap_or("none");
+    write!(text, "{root} {}", matches.get_flag("verbose"))?;
+    if let Some((name, values)) = matches.subcommand() {
+        write!(text, " {name} {}", values.get_flag("dry-run"))?;
+        for program in values.get_raw("program").unwrap_or(&[]) {
+            write!(text, " {program}")?;
+        }
+    }
+    Ok(text)
+}
+
+fn parsed(alloc: Global, words: &[&str]) -> Result<String, Error> {
+    let mut app = app(alloc)?;
+    app.build(alloc)?;
+    let store = Bump::new(alloc);
+    let parser = parser(alloc, &store, &app)?;
+    Ok(taken(alloc, parser.try_get_matches_from(words))?)
+}
+
+#[test]
+fn what_is_described_is_parsed(rt: HostRuntime) {
+    let alloc = rt.alloc();
+    let words = [
+        "app",
+        "-v",
+        "--root",
+        "/srv",
+        "exec",
+        "make",
+        "cc",
+        "--dry-run",
+    ];
+    is(&rt, parsed(alloc, &words), "/srv true run true make cc");
+    is(
+        &rt,
+        parsed(alloc, &["app", "run", "make"]),
+        "none false run false make",
+    );
+    // no subcommand, no program, no such value, and no such word
+    is(&rt, parsed(alloc, &["app"]), "2");
+    is(&rt, parsed(alloc, &["app", "run"]), "2");
+    is(
+        &rt,
+        parsed(alloc, &["app", "--color", "red", "run", "make"]),
+        "2",
+    );
+    is(&rt, parsed(alloc, &["app", "rum", "make"]), "2");
+    is(&rt, parsed(alloc, &["app", "--help"]), "0");
+}
+
+// The name of the built command, what is offered for the second word, and what the same words hold
+// with that word in place.
+fn both(alloc: Global, word: &str, line: &[&str]) -> Result<String, Error> {
+    let mut app = app(alloc)?;
+    let words = to_strings(alloc, &["app", word])?;
+    let store = Bump::new(alloc);
+    let folder = MemoryFolder::new(&[], &[]);
+    let completers = Completers::none(alloc);
+    let (found, parser, built) = candidates_and_parser(
+        alloc,
+        &store,
+        &mut app,
+        words,
+        1,
+        None,
+        &folder,
+        &completers,
+    )?;
+    let offered = values(alloc, found.as_slice())?;
+    let taken = taken(alloc, parser.try_get_matches_from(line))?;
+    let name = built.get_name();
+    Ok(format!(in alloc; "{name}:{offered}: {taken}")?)
+}
+
+#[test]
+fn what_is_offered_is_taken(rt: HostRuntime) {
+    let line = ["app", "run", "make"];
+    is(
+        &rt,
+        both(rt.alloc(), "r", &line),
+        "app: run: none false run false make",
+    );
+    let line = ["app", "--verbose", "run", "make"];
+    is(
+        &rt,
+        both(rt.alloc(), "--v", &line),
+        "app: --verbose: none true run false make",
+    );
+}

@@ -1,0 +1,61 @@
+//! Live completion, by what the environment says.
+
+ghost use Rattle.std.specs.Prelude.{map, string_bytes};
+ghost use Rattle.cc_adapters.specs.Builtins.{builtin_spec};
+ghost use Rattle.cc_engine.specs.Completion.{Completes};
+ghost use Rattle.cc_engine.specs.Paths.{PathsOf};
+ghost use Rattle.cc_env.specs.Steps.{MakesText, Tries, names_of};
+ghost use Rattle.cc_env.specs.Wanted.{wanted_name};
+ghost use Rattle.cc_program.specs.Requests.{TriesSome, system_facts};
+ghost use Rattle.cc_replies.specs.Environment.{value_of};
+ghost use Rattle.cc_values.specs.Values.{returned_by};
+
+use crate::system::{home, variables};
+use cc_base::{Error, Sink};
+use cc_candidates::{CandidateSources, Completers};
+use cc_command::Command;
+use cc_env::CompleteEnv;
+use cc_paths::RealFolder;
+use std::alloc::Global;
+use std::env::{self, Env};
+use std::rt::Files;
+
+// The variables by which a shell asks.
+const VARIABLES: [&str; 3] = ["COMPLETE", "_CLAP_COMPLETE_INDEX", "_CLAP_IFS"];
+
+/// Writes what a shell asks for, where the environment says that one asks, and returns whether it
+/// does: the program then has nothing else to do. `words` are those of the command line, the
+/// program's name first; the factory makes the command that is completed.
+///
+/// The environment, the current folder and the user's home folder are those of the system.
+///
+/// Fails as `CompleteEnv::try_complete` does.
+pub fn completes<R, F, W>(
+    rt: &R,
+    words: Vec<String>,
+    factory: F,
+    completers: &Completers,
+    out: &mut W,
+) -> Result<bool, Error>
+where
+    R: Env + Files + AllocGlobal,
+    F: Fn(Global) -> Result<Command, Error> + Drop,
+    W: Sink,
+    requires { F.IsAlwaysCallable factory }
+    ensures { TriesSome out.old out.new result factory (λ alloc env current home made_by variable
+        bin completer shells. Tries W.taken W.failed builtin_spec shells (λ shell. MakesText
+        (λ made. F.post made_by alloc made) (builtin_spec shell)
+        (names_of variable bin completer current) env (Completes (returned_by
+        ⟦<Completers as CandidateSources>⟧.may_complete
+        ⟦<Completers as CandidateSources>⟧.may_list completers.now
+        (PathsOf (system_facts home) current))) (map string_bytes words.items))
+        (wanted_name (value_of variable env)) out.old out.new result) }
+{
+    let alloc = rt.alloc();
+    let variables = variables(rt, &VARIABLES)?;
+    let folder = RealFolder::new(rt, home(rt)?);
+    let current = env::current_dir(rt).ok();
+    let current = current.as_ref().map(|path| path.as_str());
+    let asked = CompleteEnv::with_factory(factory);
+    asked.try_complete(alloc, words, current, &variables, &folder, completers, out)
+}

@@ -1,0 +1,105 @@
+//! The whole program: it completes its words, or parses them by the same tree.
+
+ghost use Rattle.std.specs.Prelude.{IfErr, IsTrue, map, string_bytes};
+ghost use Rattle.std.specs.Fn.{FnOnceReturnsAt};
+ghost use Rattle.cc_program.specs.Statuses.{IsOfWords, MakesBy, ParsesMade, ParsesTree, Runs};
+
+use crate::completing::completes;
+use crate::failure::Failure;
+use crate::parsing::parse;
+use crate::system::words;
+use bumpalo::Bump;
+use cc_base::{Counted, Error};
+use cc_candidates::Completers;
+use cc_command::Command;
+use cc_parser::parser;
+use clap::ArgMatches;
+use std::alloc::Global;
+use std::env::Env;
+use std::io;
+use std::process::ExitCode;
+use std::rt::Files;
+
+/// Completes the words of the command line where a shell asks for it, as `completes` does; else
+/// parses them by the tree that the factory makes, and calls `carry_out` with what they hold. Where
+/// they ask for a help or the version, or are no command line, that is printed in place of the
+/// call: a help and the version to the standard output, a mistake to the standard error.
+///
+/// The status is 0 where the words were completed or carried out, or ask for a help or the version,
+/// and 2 for a mistake.
+///
+/// Fails with `Words` where the words can't be read; with `Library` as `completes` and the factory
+/// do, and where memory runs out; with `Print` where printing fails; and with `Own` as `carry_out`
+/// does.
+pub fn run<R, F, C, E>(
+    rt: &R,
+    factory: F,
+    completers: &Completers,
+    carry_out: C,
+) -> Result<ExitCode, Failure<E>>
+where
+    R: Env + Files + Print + Eprint + AllocGlobal,
+    F: Fn(Global) -> Result<Command, Error> + Drop,
+    C: FnOnce(&ArgMatches<'_>) -> Result<(), E> + Drop,
+    E: Drop,
+    requires factory { F.IsAlwaysCallable factory }
+    requires work { C.IsAlwaysCallable carry_out }
+    ensures { Runs (MakesBy (λ alloc made. F.post factory alloc made))
+        (λ found done. FnOnceReturnsAt C.FnOnce carry_out found done) result }
+{
+    let asked = read_words(rt)?;
+    let mut out = Counted::new(io::writer(rt));
+    if completes(rt, asked, &factory, completers, &mut out)? {
+        return Ok(ExitCode::SUCCESS);
+    }
+    parses(rt, factory, carry_out)
+}
+
+// Parses the words by the tree that the factory makes, and carries them out.
+fn parses<R, F, C, E>(rt: &R, factory: F, carry_out: C) -> Result<ExitCode, Failure<E>>
+where
+    R: Env + Print + Eprint + AllocGlobal,
+    F: Fn(Global) -> Result<Command, Error> + Drop,
+    C: FnOnce(&ArgMatches<'_>) -> Result<(), E> + Drop,
+    E: Drop,
+    requires factory { F.IsAlwaysCallable factory }
+    requires work { C.IsAlwaysCallable carry_out }
+    ensures { ParsesMade (MakesBy (λ alloc made. F.post factory alloc made))
+        (λ found done. FnOnceReturnsAt C.FnOnce carry_out found done) result }
+{
+    let words = read_words(rt)?;
+    let mut tree = factory(rt.alloc())?;
+    tree.build(rt.alloc())?;
+    parse_tree(rt, &tree, words.as_slice(), carry_out)
+}
+
+// Parses the words by a built tree, and carries them out.
+fn parse_tree<R, C, E>(
+    rt: &R,
+    tree: &Command,
+    words: &[String],
+    carry_out: C,
+) -> Result<ExitCode, Failure<E>>
+where
+    R: Print + Eprint + AllocGlobal,
+    C: FnOnce(&ArgMatches<'_>) -> Result<(), E> + Drop,
+    E: Drop,
+    requires tree { IsTrue tree.now.node.built }
+    requires work { C.IsAlwaysCallable carry_out }
+    ensures { ParsesTree (λ found done. FnOnceReturnsAt C.FnOnce carry_out found done) tree.now
+        (map string_bytes words.now) result }
+{
+    let store = Bump::new(rt.alloc());
+    let parser = parser(rt.alloc(), &store, tree)?;
+    parse(rt, parser, words, carry_out)
+}
+
+// The words of the command line.
+fn read_words<R: Env + AllocGlobal, E>(rt: &R) -> Result<Vec<String>, Failure<E>>
+    ensures { IfErr result IsOfWords }
+{
+    match words(rt) {
+        Ok(words) => Ok(words),
+        Err(error) => Err(Failure::Words(error)),
+    }
+}

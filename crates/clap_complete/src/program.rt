@@ -1,0 +1,3 @@
+//! What a program does that completes its words, and parses them by the same tree.
+
+pub use cc_program::{Failure, completes, end, home, run, variables, words};
