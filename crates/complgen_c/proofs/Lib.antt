@@ -1,2 +1,6 @@
 mod Failures
+mod PathSets
+mod ReplyLemmas
+mod RequestLemmas
+mod SameFacts
 mod ScriptLemmas

@@ -1,2 +1,5 @@
+pub mod Listings
+pub mod Live
 pub mod Outcomes
+pub mod Requests
 pub mod Scripts

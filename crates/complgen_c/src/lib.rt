@@ -1,9 +1,15 @@
-//! The library for programs in other languages: a script, by a function over bytes, which takes any
-//! bytes.
+//! The library for programs in other languages: a script, and a live request, by functions over
+//! bytes, which take any bytes.
 #![tactic(auto)]
 
+mod listed;
+mod live;
 mod outcome;
+mod requests;
 mod scripts;
+#[cfg(test)]
+mod tests;
 
+pub use crate::live::lagvtsune_live;
 pub use crate::outcome::Outcome;
 pub use crate::scripts::lagvtsune_script;

@@ -3,7 +3,7 @@
 ghost use Rattle.std.specs.Prelude.{◌≡◌};
 ghost use Rattle.complgen_c.specs.Outcomes.{Copies, Returns, status_of, text_of};
 
-use cc_base::Items;
+use cc_base::{Items, Text};
 use complgen_command_line::Refusal;
 
 /// How a call ends. Each has a status and a text, which an exported function returns.
@@ -13,8 +13,12 @@ pub enum Outcome {
     Made(Items<u8>),
     /// 1: there is none; the text says why, as a line.
     Failed(Refusal),
-    /// 2: a name is not UTF-8.
+    /// 2: a text that was handed in is not UTF-8.
     NotUtf8,
+    /// 3: nothing is requested.
+    NotAsked,
+    /// 4: the names in the folder of this path are wanted; the path is the text.
+    WantsFolder(Text),
 }
 
 impl Outcome {
@@ -33,6 +37,8 @@ impl Outcome {
             Outcome::Made(_) => 0,
             Outcome::Failed(_) => 1,
             Outcome::NotUtf8 => 2,
+            Outcome::NotAsked => 3,
+            Outcome::WantsFolder(_) => 4,
         }
     }
 
@@ -42,7 +48,8 @@ impl Outcome {
         match self {
             Outcome::Made(text) => text.as_slice(),
             Outcome::Failed(refusal) => refusal.text.as_str().as_bytes(),
-            Outcome::NotUtf8 => b"",
+            Outcome::NotUtf8 | Outcome::NotAsked => b"",
+            Outcome::WantsFolder(path) => path.as_str().as_bytes(),
         }
     }
 }

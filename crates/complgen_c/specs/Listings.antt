@@ -1,0 +1,55 @@
+-- What was handed in of a folder, and what is said of paths by it.
+use Rattle.std.specs.Prelude.{◌≡◌, ℕ, Bool, List, Option, Some, map, string_bytes}
+use Rattle.std.specs.Borrow.{Bor}
+use Rattle.std.specs.BTreeSet.{keys}
+use Rattle.std.specs.List.{list_any}
+use Rattle.std.specs.Option.{option_copied}
+use Rattle.std.specs.Str.{bytes_eq}
+use Rattle.cc_paths.specs.Folders.{FolderFacts}
+use Rattle.complgen_c.specs.declared.listed.Listed.{Listed}
+
+-- the path of a folder, the names in it, and the paths of folders and of files
+pub record Listing : Type 0 where
+  pub path : List ℕ
+  pub names : List (List ℕ)
+  pub folders : List (List ℕ)
+  pub files : List (List ℕ)
+
+-- what slices of bytes hold
+abbrev pub handed : List (Bor (List ℕ)) → List (List ℕ)
+handed slices = map (λ slice. slice.now) slices
+
+-- a path is one of these
+abbrev pub is_among : List (List ℕ) → List ℕ → Bool
+is_among paths path = list_any (bytes_eq path) paths
+
+-- What is said of paths: the names are those that were handed in, and are those in that folder
+-- alone; a path is a folder's where it is among the folders, a file's and an executable file's
+-- where it is among the files.
+abbrev pub facts_of : Listing → Option (List ℕ) → FolderFacts
+facts_of listing home = record {
+  names = λ path names. (path ≡ listing.path) × (names ≡ Some listing.names);
+  is_dir = λ path is. is ≡ is_among listing.folders path;
+  is_file = λ path is. is ≡ is_among listing.files path;
+  is_executable = λ path is. is ≡ is_among listing.files path;
+  home = home;
+}
+
+-- the listing that a folder holds
+abbrev pub listing_of : Listed → Listing
+listing_of listed = record {
+  path = listed.path.now;
+  names = map string_bytes listed.names.items;
+  folders = handed (keys listed.folders);
+  files = handed (keys listed.files);
+}
+
+-- a folder holds a listing and a home folder
+pub record HoldsListing (listing : Listing) (home : Option (List ℕ)) (listed : Listed) : Type 0 where
+  pub path_same : listed.path.now ≡ listing.path
+  pub names_same : map string_bytes listed.names.items ≡ listing.names
+  pub folders_same : (path : List ℕ)
+      → is_among (handed (keys listed.folders)) path ≡ is_among listing.folders path
+  pub files_same : (path : List ℕ)
+      → is_among (handed (keys listed.files)) path ≡ is_among listing.files path
+  pub home_same : option_copied listed.home ≡ home

@@ -1,0 +1,107 @@
+//! A folder whose names were handed in.
+
+ghost use Rattle.std.specs.Prelude.{◌≡◌, ℕ, List, IfOk, map, string_bytes};
+ghost use Rattle.std.specs.BTreeSet.{keys};
+ghost use Rattle.std.specs.Option.{option_copied};
+ghost use Rattle.complgen_c.specs.Listings.{HoldsListing, facts_of, handed, is_among};
+ghost use Rattle.complgen_c.specs.Listings.{listing_of};
+
+use cc_base::Text;
+use cc_paths::{Folder, FolderError};
+use std::alloc::{AllocError, Global};
+use std::cell::Cell;
+use std::collections::BTreeSet;
+
+/// The names in the folder of one path, and which paths are those of folders and of files; every
+/// file counts as executable. The names in another folder are not there: its path is noted as
+/// wanted, and the call for them fails.
+#[derive(Drop)]
+pub struct Listed<'l, 'h> {
+    path: &'l [u8],
+    names: Vec<String>,
+    folders: BTreeSet<&'l [u8]>,
+    files: BTreeSet<&'l [u8]>,
+    home: Option<&'h str>,
+    wanted: Cell<Option<Text>>,
+}
+
+impl<'l, 'h> Listed<'l, 'h> {
+    /// The folder of a path, with the names in it, the paths of folders and of files, and the home
+    /// folder of the user. Fails where memory runs out.
+    pub(crate) fn new(
+        alloc: Global,
+        path: &'l [u8],
+        names: Vec<String>,
+        folders: &[&'l [u8]],
+        files: &[&'l [u8]],
+        home: Option<&'h str>,
+    ) -> Result<Listed<'l, 'h>, AllocError>
+        ensures { IfOk result (HoldsListing (record {
+          path = path.now;
+          names = map string_bytes names.items;
+          folders = handed folders.now;
+          files = handed files.now;
+        }) (option_copied home.entry)) }
+    {
+        let folders = path_set(alloc, folders)?;
+        let files = path_set(alloc, files)?;
+        Ok(Listed {
+            path,
+            names,
+            folders,
+            files,
+            home,
+            wanted: Cell::new(None),
+        })
+    }
+
+    /// The path of the folder whose names were asked for and are not there. No clause can say which
+    /// it is, since a cell hides what it holds.
+    pub(crate) fn into_wanted(self) -> Option<Text> {
+        self.wanted.into_inner()
+    }
+}
+
+impl<'l, 'h> Folder for Listed<'l, 'h> {
+    ghost facts = { λ folder. facts_of (listing_of folder) (option_copied folder.home) };
+
+    // The names of another folder are wanted, and then there is no reply: no error says that, so it
+    // is the one that ends the whole call.
+    fn names(&self, alloc: Global, path: &str) -> Result<Vec<String>, FolderError> {
+        if self.path == path.as_bytes() {
+            return Ok(self.names.clone()?);
+        }
+        self.wanted.set(Some(Text::copy_of(alloc, path)?));
+        Err(FolderError::Memory)
+    }
+
+    fn is_dir(&self, path: &str) -> bool {
+        has_path(&self.folders, path)
+    }
+
+    fn is_file(&self, path: &str) -> bool {
+        has_path(&self.files, path)
+    }
+
+    fn is_executable(&self, path: &str) -> bool {
+        self.is_file(path)
+    }
+
+    fn home(&self) -> Option<&str> {
+        self.home
+    }
+}
+
+// The paths, among which one is found by halves.
+fn path_set<'p>(alloc: Global, paths: &[&'p [u8]]) -> Result<BTreeSet<&'p [u8]>, AllocError>
+    ensures { IfOk result (λ set. (path : List ℕ) →
+        is_among (handed (keys set)) path ≡ is_among (handed paths.now) path) }
+{
+    paths.iter().copied().collect(alloc)
+}
+
+fn has_path(paths: &BTreeSet<&[u8]>, path: &str) -> bool
+    ensures { result ≡ is_among (handed (keys paths.now)) path.now }
+{
+    paths.contains(path.as_bytes())
+}

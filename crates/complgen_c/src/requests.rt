@@ -1,0 +1,69 @@
+//! A live request, of which words, variables and names are handed in as bytes.
+
+ghost use Rattle.std.specs.Prelude.{◌≡◌, IfOk, map, string_bytes};
+ghost use Rattle.complgen_c.specs.Listings.{handed};
+ghost use Rattle.complgen_c.specs.Requests.{AreTexts, IsRead, both_bytes, in_pairs};
+
+use cc_replies::EnvValues;
+use std::alloc::{AllocError, Global};
+
+/// A request, as texts.
+#[derive(Drop)]
+pub struct Request {
+    pub(crate) words: Vec<String>,
+    pub(crate) env: EnvValues,
+    pub(crate) names: Vec<String>,
+}
+
+/// The words, the variables, which are names and values in turn, and the names in a folder, as
+/// texts; none where one of them is not UTF-8. Fails where memory runs out.
+pub(crate) fn read_request(
+    alloc: Global,
+    words: &[&[u8]],
+    variables: &[&[u8]],
+    names: &[&[u8]],
+) -> Result<Option<Request>, AllocError>
+    ensures { IfOk result (IsRead (handed words.now) (handed variables.now) (handed names.now)) }
+{
+    let Some(words) = texts(alloc, words)? else {
+        return Ok(None);
+    };
+    let Some(variables) = texts(alloc, variables)? else {
+        return Ok(None);
+    };
+    let Some(names) = texts(alloc, names)? else {
+        return Ok(None);
+    };
+    let env = EnvValues::new(pairs(alloc, variables)?);
+    Ok(Some(Request { words, env, names }))
+}
+
+// The slices as texts; none where one is not UTF-8.
+fn texts(alloc: Global, slices: &[&[u8]]) -> Result<Option<Vec<String>>, AllocError>
+    ensures { IfOk result (AreTexts (handed slices.now)) }
+{
+    let mut texts = Vec::new(alloc);
+    for slice in slices {
+        let Ok(text) = std::str::from_utf8(slice) else {
+            return Ok(None);
+        };
+        texts.push(String::from_str(alloc, text)?)?;
+    }
+    Ok(Some(texts))
+}
+
+// The texts in pairs; a last one without another is left out.
+fn pairs(alloc: Global, texts: Vec<String>) -> Result<Vec<(String, String)>, AllocError>
+    ensures { IfOk result (λ pairs.
+        map both_bytes pairs.items ≡ in_pairs (map string_bytes texts.items)) }
+{
+    let mut pairs = Vec::new(alloc);
+    let mut left = texts.into_iter();
+    while let Some(first) = left.next() {
+        let Some(second) = left.next() else {
+            return Ok(pairs);
+        };
+        pairs.push((first, second))?;
+    }
+    Ok(pairs)
+}

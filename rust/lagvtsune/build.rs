@@ -1,0 +1,38 @@
+//! Links the archive of the proved library, which lies in `native/TARGET`, or in the folder that
+//! the variable `LAGVTSUNE_DIR` names.
+
+use std::path::{Path, PathBuf};
+use std::{env, process};
+
+const ARCHIVE: &str = "libcomplgen_c.a";
+
+fn main() {
+    println!("cargo:rerun-if-env-changed=LAGVTSUNE_DIR");
+    let target = variable("TARGET");
+    let own = Path::new(&variable("CARGO_MANIFEST_DIR")).join("native").join(&target);
+    let folder = env::var_os("LAGVTSUNE_DIR").map_or(own, PathBuf::from);
+    let archive = folder.join(ARCHIVE);
+    println!("cargo:rerun-if-changed={}", archive.display());
+    if !archive.is_file() {
+        refuse(&archive, &target);
+    }
+    println!("cargo:rustc-link-search=native={}", folder.display());
+    println!("cargo:rustc-link-lib=static=complgen_c");
+}
+
+/// A variable that cargo sets.
+fn variable(name: &str) -> String {
+    env::var(name).unwrap_or_else(|error| panic!("{name}: {error}"))
+}
+
+/// Says what to do where there is no archive.
+fn refuse(archive: &Path, target: &str) -> ! {
+    eprintln!(
+        "lagvtsune: there is no {} for {target}.\n\
+         On x86-64 Linux with glibc, `rt lib` in crates/complgen_c of the repository makes it:\n\
+         copy out/{ARCHIVE} there, or let LAGVTSUNE_DIR name the folder that it is in.\n\
+         For other targets there is none: docs/FROM_CLAP.md says how they take clap_complete.",
+        archive.display()
+    );
+    process::exit(1)
+}

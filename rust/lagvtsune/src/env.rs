@@ -1,0 +1,98 @@
+//! Live completion.
+
+use crate::calls::{self, Answer, Asked};
+use crate::folder::Listing;
+use crate::tree_file::tree_file;
+use clap::error::Result;
+use clap::Command;
+use std::ffi::OsString;
+use std::io::{self, Write};
+use std::os::unix::ffi::OsStringExt;
+use std::path::Path;
+use std::{env, process};
+
+/// The variable by which a shell requests a registration or a reply.
+const REQUEST: &str = "COMPLETE";
+
+/// Those that a registration sets besides.
+const INDEX: &str = "_CLAP_COMPLETE_INDEX";
+const SEPARATOR: &str = "_CLAP_IFS";
+
+/// The user's home folder.
+const HOME: &str = "HOME";
+
+/// The name by which the library knows the folder where relative paths begin.
+const CURRENT_DIR: &str = "PWD";
+
+/// What a program does before anything else, so that a shell can have it complete a command line.
+///
+/// A user has the shell load what the program writes where the variable `COMPLETE` is the name of
+/// the shell, as by `source <(COMPLETE=bash app)`.
+pub struct CompleteEnv<F> {
+    factory: F,
+}
+
+impl<F: Fn() -> Command> CompleteEnv<F> {
+    /// Completes the command that the factory makes, which is not to be built yet.
+    pub fn with_factory(factory: F) -> CompleteEnv<F> {
+        CompleteEnv { factory }
+    }
+
+    /// Where a shell requests it, writes the registration or the reply to the standard output and
+    /// ends the process, with status 0, or 2 after a message. Else it does nothing.
+    pub fn complete(self) {
+        let current_dir = env::current_dir().ok();
+        match self.try_complete(env::args_os(), current_dir.as_deref()) {
+            Ok(true) => process::exit(0),
+            Ok(false) => {}
+            Err(error) => error.exit(),
+        }
+    }
+
+    /// Where a shell requests it, writes the registration or the reply for these arguments, the
+    /// program's name first, to the standard output. Returns whether it did. Fails as the standard
+    /// output does, and before anything is written with the library's message, as where the shell
+    /// is unknown, or where an argument is not UTF-8.
+    pub fn try_complete(
+        self,
+        args: impl IntoIterator<Item = impl Into<OsString>>,
+        current_dir: Option<&Path>,
+    ) -> Result<bool> {
+        // The library decides it too, but no tree is to be made where nothing is requested.
+        if env::var_os(REQUEST).is_none_or(|asked| asked.is_empty() || asked == "0") {
+            return Ok(false);
+        }
+        let mut asked = Asked {
+            tree: tree_file(&(self.factory)()),
+            words: args.into_iter().map(|arg| arg.into().into_vec()).collect(),
+            variables: variables(current_dir),
+            listing: Listing::default(),
+        };
+        let mut answer = calls::live(&asked)?;
+        if let Answer::WantsFolder(path) = answer {
+            asked.listing = Listing::of(path);
+            answer = calls::live(&asked)?;
+        }
+        match answer {
+            Answer::Text(text) => io::stdout().write_all(&text)?,
+            Answer::NotRequested => return Ok(false),
+            // No request wants the names of two folders.
+            Answer::WantsFolder(path) => {
+                return Err(io::Error::other(format!("wanted besides: {path}")).into())
+            }
+        }
+        Ok(true)
+    }
+}
+
+/// Names and values in turn, of the variables that are set. A folder whose path is not UTF-8, or
+/// empty, is left out.
+fn variables(current_dir: Option<&Path>) -> Vec<Vec<u8>> {
+    let home = env::var(HOME).ok().filter(|path| !path.is_empty());
+    let current_dir = current_dir.and_then(Path::to_str).map(String::from);
+    let folders = [(HOME, home), (CURRENT_DIR, current_dir)];
+    let folders = folders.map(|(name, path)| (name, path.map(OsString::from)));
+    let asked = [REQUEST, INDEX, SEPARATOR].map(|name| (name, env::var_os(name)));
+    let set = asked.into_iter().chain(folders).filter_map(|(name, value)| Some((name, value?)));
+    set.flat_map(|(name, value)| [name.as_bytes().to_vec(), value.into_vec()]).collect()
+}

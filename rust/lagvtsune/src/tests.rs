@@ -1,0 +1,215 @@
+//! Tests of the library's functions over any bytes, and with allocations that are refused.
+
+use crate::calls::slices;
+use crate::native::refusing::refused;
+use crate::native::{self, Request, Returned};
+use std::collections::hash_map::DefaultHasher;
+use std::hash::{Hash, Hasher};
+
+const SHELLS: [&str; 6] = ["bash", "elvish", "fish", "nushell", "powershell", "zsh"];
+
+const TREE: &str = r#"{"name": "app", "version": "1", "args": [
+    {"id": "color", "long": "color", "short": "c", "help": "The \"colour\"",
+     "possible_values": [{"name": "auto"}, {"name": "never", "help": "None"}]}],
+    "subcommands": [{"name": "run", "visible_aliases": ["r"], "about": "Run it",
+     "args": [{"id": "file", "long": "file", "value_hint": "AnyPath"}]}]}"#;
+
+/// A call with this much room: its status, its length, and what is in the room.
+fn call(shell: &str, bin: &[u8], tree: &[u8], size: usize) -> (u8, usize, Vec<u8>) {
+    let mut room = vec![b'.'; size];
+    let Returned { status, length } = native::script(shell.as_bytes(), bin, tree, &mut room);
+    (status, length, room)
+}
+
+/// The status and the text of a call with room enough.
+fn text_of(shell: &str, bin: &[u8], tree: &[u8]) -> (u8, String) {
+    let (status, length, room) = call(shell, bin, tree, 1 << 16);
+    (status, String::from_utf8(room[..length].to_vec()).unwrap())
+}
+
+#[test]
+fn the_room_holds_the_text_if_it_fits() {
+    let tree = br#"{"name": "app"}"#;
+    let script = b"complete -c app -s h -l help -d 'Print help'\n";
+    let (status, length, room) = call("fish", b"app", tree, 50);
+    assert_eq!((status, length), (0, script.len()));
+    assert_eq!(room, [&script[..], b"....."].concat());
+    assert_eq!(call("fish", b"app", tree, script.len()), (0, script.len(), script.to_vec()));
+    let small = script.len() - 1;
+    assert_eq!(call("fish", b"app", tree, small), (0, script.len(), vec![b'.'; small]));
+}
+
+#[test]
+fn each_status_has_its_text() {
+    assert_eq!(text_of("tcsh", b"app", b"{}"), (1, "invalid variant: tcsh\n".to_owned()));
+    assert_eq!(text_of("fish", b"\xff", b"{}"), (2, String::new()));
+}
+
+/// Makes a call that makes this text once for each of its allocations, which is refused, and again
+/// after each. Returns how many there are.
+fn refuse_each(text: &[u8], call: impl Fn(&mut [u8]) -> Returned) -> usize {
+    let mut room = vec![0; 1 << 16];
+    for number in 1.. {
+        let (Returned { status, length }, left) = refused(number, || call(&mut room));
+        assert_eq!(left, 0, "blocks that were not freed where allocation {number} is refused");
+        if status == 0 {
+            assert_eq!(&room[..length], text);
+            return number - 1;
+        }
+        assert_eq!((status, &room[..length]), (1, &b"out of memory\n"[..]));
+        let Returned { status, length } = call(&mut room);
+        assert_eq!((status, &room[..length]), (0, text));
+    }
+    unreachable!("each call has so many allocations")
+}
+
+#[test]
+fn a_refused_allocation_of_a_script_is_an_error_that_loses_nothing() {
+    for shell in SHELLS {
+        let (status, whole) = text_of(shell, b"app", TREE.as_bytes());
+        assert_eq!(status, 0, "{whole}");
+        let count = refuse_each(whole.as_bytes(), |room| {
+            native::script(shell.as_bytes(), b"app", TREE.as_bytes(), room)
+        });
+        assert!(count > 20, "{shell}: only {count} allocations");
+    }
+}
+
+/// The variables of a request of bash.
+const REQUEST: [&str; 8] =
+    ["COMPLETE", "bash", "_CLAP_COMPLETE_INDEX", "3", "_CLAP_IFS", ",", "PWD", "/w"];
+
+/// The words of a request for a path.
+const WORDS: [&str; 6] = ["app", "--", "app", "run", "--file", ""];
+
+/// A request of bash for the paths in a folder, with the names in it where these are known.
+fn request(names: Option<&'static [&'static str]>) -> Request<'static> {
+    Request {
+        tree: TREE.as_bytes(),
+        words: slices(&WORDS),
+        variables: slices(&REQUEST),
+        listed: if names.is_some() { b"/w/" } else { b"" },
+        names: slices(names.unwrap_or(&[])),
+        folders: slices(&["/w/", "/w/src"]),
+        files: slices(&["/w/a.txt"]),
+    }
+}
+
+#[test]
+fn a_reply_wants_the_names_of_a_folder_and_then_has_its_paths() {
+    let mut room = vec![b'.'; 10];
+    let Returned { status, length } = native::live(&request(None), &mut room);
+    assert_eq!((status, &room[..length]), (4, &b"/w/"[..]));
+    let known = request(Some(&["src", "a.txt"]));
+    let Returned { status, length } = native::live(&known, &mut room);
+    assert_eq!((status, length), (0, ".,a.txt,src/".len()));
+    let mut room = vec![0; length];
+    assert_eq!(native::live(&known, &mut room).status, 0);
+    assert_eq!(room, b".,a.txt,src/");
+}
+
+#[test]
+fn a_refused_allocation_of_a_reply_is_an_error_that_loses_nothing() {
+    let known = request(Some(&["src", "a.txt"]));
+    let count = refuse_each(b".,a.txt,src/", |room| native::live(&known, room));
+    assert!(count > 20, "only {count} allocations");
+}
+
+/// Numbers that follow from a seed.
+struct Numbers(u64);
+
+impl Numbers {
+    fn next(&mut self) -> u64 {
+        let mut hasher = DefaultHasher::new();
+        self.0.hash(&mut hasher);
+        self.0 = hasher.finish();
+        self.0
+    }
+
+    fn below(&mut self, bound: usize) -> usize {
+        (self.next() % bound as u64) as usize
+    }
+
+    fn bytes(&mut self, most: usize) -> Vec<u8> {
+        (0..self.below(most)).map(|_| self.next() as u8).collect()
+    }
+
+    /// A tree file of which some bytes may be others, or left out.
+    fn changed_tree(&mut self) -> Vec<u8> {
+        const OTHERS: &[u8] = b"{}[]\",:\\0 a\xff";
+        let mut tree = TREE.as_bytes().to_vec();
+        for _ in 0..self.below(4) {
+            let at = self.below(tree.len());
+            if self.next() % 2 == 0 {
+                tree[at] = OTHERS[self.below(OTHERS.len())];
+            } else {
+                tree.drain(at..(at + self.below(30)).min(tree.len()));
+            }
+        }
+        tree
+    }
+}
+
+#[test]
+fn any_bytes_end_with_a_status() {
+    let mut numbers = Numbers(1);
+    let mut ends = [0; 3];
+    let mut room = vec![0; 1 << 16];
+    for _ in 0..20_000 {
+        let shell = match numbers.below(7) {
+            6 => numbers.bytes(8),
+            at => SHELLS[at].as_bytes().to_vec(),
+        };
+        let bin = if numbers.below(4) == 0 { numbers.bytes(20) } else { b"app".to_vec() };
+        let tree = match numbers.below(4) {
+            0 => numbers.bytes(200),
+            _ => numbers.changed_tree(),
+        };
+        let size = numbers.below(room.len());
+        ends[native::script(&shell, &bin, &tree, &mut room[..size]).status as usize] += 1;
+    }
+    assert!(ends.iter().all(|count| *count > 500), "{ends:?}");
+}
+
+/// A variable or a word as a request may have it, or any bytes.
+fn word(numbers: &mut Numbers) -> Vec<u8> {
+    const OTHERS: [&str; 8] = ["zsh", "fish", "tcsh", "", "/w/", "a.txt", "--color=", "HOME"];
+    let known: Vec<&str> = REQUEST.into_iter().chain(WORDS).chain(OTHERS).collect();
+    match known.get(numbers.below(known.len() + 2)) {
+        Some(word) => word.as_bytes().to_vec(),
+        None => numbers.bytes(6),
+    }
+}
+
+/// At most seven of them.
+fn words(numbers: &mut Numbers) -> Vec<Vec<u8>> {
+    (0..numbers.below(8)).map(|_| word(numbers)).collect()
+}
+
+#[test]
+fn any_request_ends_with_a_status() {
+    let mut numbers = Numbers(2);
+    let mut ends = [0; 5];
+    let mut room = vec![0; 1 << 16];
+    for _ in 0..20_000 {
+        let tree = match numbers.below(4) {
+            0 => numbers.bytes(200),
+            _ => numbers.changed_tree(),
+        };
+        let [further, variables, names, folders, files] = [(); 5].map(|()| words(&mut numbers));
+        let line = &WORDS[..numbers.below(WORDS.len())];
+        let shell = &REQUEST[..numbers.below(REQUEST.len() + 1)];
+        let asked = Request {
+            tree: &tree,
+            words: slices(line).into_iter().chain(slices(&further)).collect(),
+            variables: slices(shell).into_iter().chain(slices(&variables)).collect(),
+            listed: names.first().map_or(b"", |name| name),
+            names: slices(&names),
+            folders: slices(&folders),
+            files: slices(&files),
+        };
+        let size = numbers.below(room.len());
+        ends[native::live(&asked, &mut room[..size]).status as usize] += 1;
+    }
+    assert!(ends.iter().all(|count| *count > 50), "{ends:?}");
+}

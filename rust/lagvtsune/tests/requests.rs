@@ -1,0 +1,109 @@
+//! Tests of live completion: a program that requests completions of itself, since a request is made
+//! by the environment of a process.
+
+use clap::{Arg, Command, ValueHint};
+use lagvtsune::CompleteEnv;
+use std::path::{Path, PathBuf};
+use std::process::{self, Output};
+use std::{env, fs, str};
+
+fn main() {
+    // The name of the tree that this process completes.
+    match env::var("APP").as_deref() {
+        Ok("paths") => CompleteEnv::with_factory(paths).complete(),
+        _ => CompleteEnv::with_factory(app).complete(),
+    }
+    if env::var_os("APP").is_some() {
+        println!("the program itself");
+        return;
+    }
+    replies();
+    a_registration_runs_the_program();
+    refusals();
+    nothing_is_requested();
+    paths_of_a_folder();
+    println!("requests: passed");
+}
+
+/// With a child and nothing else.
+fn app() -> Command {
+    Command::new("app").subcommand(Command::new("test").visible_alias("t"))
+}
+
+/// With the path of a file, and nothing else.
+fn paths() -> Command {
+    let file = Arg::new("file").value_hint(ValueHint::FilePath);
+    Command::new("app").disable_help_flag(true).arg(file)
+}
+
+/// What this program does with these words, where the variables request a completion of a tree.
+fn run(tree: &str, variables: &[(&str, &str)], words: &[&str]) -> Output {
+    let program = env::current_exe().unwrap();
+    let mut child = process::Command::new(program);
+    child.env("APP", tree).envs(variables.iter().copied()).args(words).output().unwrap()
+}
+
+/// The text of a request that has to end with status 0 and without a message.
+fn text(tree: &str, variables: &[(&str, &str)], words: &[&str]) -> String {
+    let Output { status, stdout, stderr } = run(tree, variables, words);
+    assert!(status.success() && stderr.is_empty(), "{status} {}", String::from_utf8_lossy(&stderr));
+    String::from_utf8(stdout).unwrap()
+}
+
+fn replies() {
+    let help = "Print this message or the help of the given subcommand(s)";
+    let fish = text("app", &[("COMPLETE", "fish")], &["--", "app", ""]);
+    assert_eq!(fish, format!("t\nhelp\t{help}\n--help\tPrint help\n"));
+    let first = ("_CLAP_COMPLETE_INDEX", "1");
+    let separator = ("_CLAP_IFS", "\n");
+    let zsh = text("app", &[("COMPLETE", "zsh"), first, separator], &["--", "app"]);
+    assert_eq!(zsh, format!("t\nhelp:{help}\n--help:Print help"));
+    let elvish = text("app", &[("COMPLETE", "elvish"), first, separator], &["--", "app", ""]);
+    assert_eq!(elvish, "t\nhelp\n--help");
+}
+
+fn a_registration_runs_the_program() {
+    let fish = text("app", &[("COMPLETE", "fish")], &[]);
+    let program = env::current_exe().unwrap();
+    assert!(fish.contains("COMPLETE=fish"), "{fish}");
+    assert!(fish.contains(program.to_str().unwrap()), "{fish}");
+}
+
+fn refusals() {
+    let unknown = run("app", &[("COMPLETE", "tcsh")], &["--", "app", ""]);
+    let message = "error: unknown shell `tcsh`, expected one of `bash`, `elvish`, `fish`, \
+                   `powershell`, `zsh`";
+    assert_eq!(unknown.status.code(), Some(2));
+    assert_eq!(str::from_utf8(&unknown.stderr).unwrap().trim_end(), message);
+    assert!(unknown.stdout.is_empty());
+    let bash = [("COMPLETE", "bash"), ("_CLAP_COMPLETE_INDEX", "1")];
+    let outside = run("app", &bash, &["--", "app"]);
+    assert_eq!(outside.status.code(), Some(2));
+    let message = str::from_utf8(&outside.stderr).unwrap();
+    assert_eq!(message.trim_end(), "error: no completion generated");
+}
+
+fn nothing_is_requested() {
+    for variables in [&[][..], &[("COMPLETE", "")], &[("COMPLETE", "0")]] {
+        assert_eq!(text("app", variables, &["--", "app", ""]), "the program itself\n");
+    }
+}
+
+fn paths_of_a_folder() {
+    let folder = env::temp_dir().join(format!("lagvtsune-requests-{}", process::id()));
+    for name in [".git", "src"] {
+        fs::create_dir_all(folder.join(name)).unwrap();
+    }
+    fs::write(folder.join("a.txt"), "").unwrap();
+    let typed = |word: PathBuf| {
+        let reply = text("paths", &[("COMPLETE", "fish")], &["--", "app", word.to_str().unwrap()]);
+        reply
+            .lines()
+            .map(|line| PathBuf::from(line.split('\t').next().unwrap()))
+            .collect::<Vec<_>>()
+    };
+    assert_eq!(typed(folder.join("")), [folder.join("a.txt"), folder.join("src/")]);
+    assert_eq!(typed(folder.join(".g")), [folder.join(".git/")]);
+    assert_eq!(typed(folder.join("nothing/x")), [] as [&Path; 0]);
+    fs::remove_dir_all(&folder).unwrap();
+}
