@@ -101,7 +101,8 @@ const ARGUMENT: &str = "{\"name\": \"app\", \"args\": [{\"id\": \"o\", \"short\"
     \"visible_aliases\": [\"output\"], \"value_names\": [\"FILE\"], \"value_hint\": \"FilePath\",
     \"possible_values\": [{\"name\": \"a\"}, {\"name\": \"b\", \"help\": \"B\", \"hide\": true}],
     \"conflicts_with\": [\"none\", \"p\"], \"index\": 3, \"value_terminator\": \";\",
-    \"default_value\": \"a\", \"required\": true, \"last\": true, \"global\": true, \"hide\": true}, {\"id\": \"p\"}]}";
+    \"default_value\": \"a\", \"required\": true, \"last\": true, \"global\": true, \"hide\": true},
+    {\"id\": \"p\"}]}";
 
 #[test]
 fn each_key_of_an_argument_sets_its_field(rt: HostRuntime) {

@@ -1,5 +1,5 @@
--- What is offered for the word at an index: from which sources candidates come, and the list that is
--- made of what these return.
+-- What is offered for the word at an index: from which sources candidates come, and the list that
+-- is made of what these return.
 use Rattle.std.specs.Prelude.{ℕ, List, [], ◌++◌, map, take, drop, get_or, ◌≡◌, ◌⊎◌, ◌&&◌, nat_le, nat_lt, Bool, false, true, Contains, Option, Some, None, if◌then◌else◌}
 use Rattle.std.specs.List.{list_any, AllByRecursion}
 use Rattle.cc_arg.specs.declared.parts.ArgParts.{ArgParts as Arg}
@@ -100,7 +100,8 @@ pub record Returned : Type 0 where
   pub opened : List CompletionCandidate
 
 -- each list may be returned for its question
-pub record AreAllowed (sources : MayReturn) (wanted : Questions) (returned : Returned) : Type 0 where
+pub record AreAllowed (sources : MayReturn) (wanted : Questions) (returned : Returned)
+    : Type 0 where
   pub children : Allows sources wanted.children returned.children
   pub positional : Allows sources wanted.positional returned.positional
   pub within : Allows sources wanted.within returned.within
@@ -157,8 +158,8 @@ Offers sources tree state word result =
     × (result ≡ candidates_for tree state word returned)
 
 -- the lists that may be offered for the word, the values of an open option aside
-pub record AreOffered (sources : MayReturn) (tree : Tree) (position : ℕ) (lists : OpenLists) (word : List ℕ)
-    (found : List CompletionCandidate) : Type 0 where
+pub record AreOffered (sources : MayReturn) (tree : Tree) (position : ℕ) (lists : OpenLists)
+    (word : List ℕ) (found : List CompletionCandidate) : Type 0 where
   pub children : List CompletionCandidate
   pub children_returned : Allows sources (children_question lists.children tree.node) children
   pub positional : List CompletionCandidate
@@ -230,7 +231,8 @@ completed_candidates tree state word returned =
 
 -- each candidate of the result begins with the word, or is made of the list of a completer or of
 -- the folder
-abbrev pub BeginsOrIsCompleted : Tree → State → List ℕ → Returned → List CompletionCandidate → Type 0
+abbrev pub BeginsOrIsCompleted : Tree → State → List ℕ → Returned → List CompletionCandidate
+    → Type 0
 BeginsOrIsCompleted tree state word returned result =
     AllByRecursion (λ c. (begins word c ≡ true) ⊎ Contains
     (completed_candidates tree state word returned) c) result

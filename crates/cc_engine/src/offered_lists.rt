@@ -75,7 +75,8 @@ pub(crate) fn options<P: PathSource>(
         ⟦<Completers as CandidateSources>⟧.may_list sources.now.completers.now
         (P.finds sources.now.paths.now))
         (match_question (offered_match offered arguments.now word.now)) returned
-        × (found.items ≡ match_candidates (offered_match offered arguments.now word.now) returned)) }
+        × (found.items
+        ≡ match_candidates (offered_match offered arguments.now word.now) returned)) }
 {
     if !offered {
         return Ok(Vec::new(alloc));

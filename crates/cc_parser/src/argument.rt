@@ -57,7 +57,8 @@ fn with_delimiter<'a>(arg: clap::Arg<'a>, delimiter: Option<char>) -> clap::Arg<
 }
 
 fn with_terminator<'a>(arg: clap::Arg<'a>, terminator: Option<&'a str>) -> clap::Arg<'a>
-    ensures { result ≡ record arg.entry { terminator = given terminator.entry arg.entry.terminator } }
+    ensures { result
+        ≡ record arg.entry { terminator = given terminator.entry arg.entry.terminator } }
 {
     match terminator {
         Some(terminator) => arg.value_terminator(terminator),

@@ -171,7 +171,8 @@ fn with_after_help<'a>(parser: clap::Command<'a>, text: Option<&'a str>) -> clap
 
 fn with_version<'a>(parser: clap::Command<'a>, version: Option<&'a str>) -> clap::Command<'a>
     ensures app { app_of result ≡ on_top (λ top.
-        record top { has_version = is_some version.entry || top.has_version }) (app_of parser.entry) }
+        record top { has_version = is_some version.entry || top.has_version })
+        (app_of parser.entry) }
     ensures globals { (out-Command result).has_globals ≡ (out-Command parser.entry).has_globals }
 {
     match version {
@@ -257,7 +258,8 @@ fn with_children<'a>(
         → IsLeaf (app_of parser.entry)
         → AddsChildren above (forest_of children.now) (app_of parser.entry) (app_of made)) }
     ensures globals { IfOk result (λ made. (out-Command made).has_globals
-        ≡ ((out-Command parser.entry).has_globals || globals_below above (forest_of children.now))) }
+        ≡ ((out-Command parser.entry).has_globals
+        || globals_below above (forest_of children.now))) }
 {
     let here = is_disabled_below(above, children);
     let mut parser = parser;

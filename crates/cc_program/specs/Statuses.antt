@@ -23,7 +23,8 @@ status_of DisplayVersion = 0
 status_of _ = 2
 
 -- the program's own work was done, with status 0, or failed
-abbrev pub Carries : {E : Type 0} → (Result (Unit {0}) E → Type 0) → Result ExitCode (Failure E) → Type 0
+abbrev pub Carries : {E : Type 0} → (Result (Unit {0}) E → Type 0) → Result ExitCode (Failure E)
+    → Type 0
 Carries Done (Ok code) = Done (Ok tt) × (exit_status code ≡ 0)
 Carries Done (Err (Own error)) = Done (Err error)
 Carries Done (Err _) = ⊥
@@ -34,9 +35,9 @@ Explains kind (Ok code) = exit_status code ≡ status_of kind
 Explains kind (Err (Print error)) = ⊤
 Explains kind (Err _) = ⊥
 
--- How parsing words and carrying them out ends: the own work is done over matches that a parser which
--- reads this has of the words; or something is said of words that it does not take, or for which
--- memory ran out.
+-- How parsing words and carrying them out ends: the own work is done over matches that a parser
+-- which reads this has of the words; or something is said of words that it does not take, or for
+-- which memory ran out.
 pub data EndsParse {E : Type 0} (Does : ArgMatches → Result (Unit {0}) E → Type 0) (app : App)
     (words : List (List ℕ)) : Result ExitCode (Failure E) → Type 0 where
   carried : (found : ArgMatches) (result : Result ExitCode (Failure E))

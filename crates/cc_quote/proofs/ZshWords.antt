@@ -1,17 +1,16 @@
 -- What zsh's escapes are read as.
-use Rattle.std.proofs.Common.{◌≡◌, ◌≢◌, ◌==◌, ℕ, ◌<◌, Bool, true, false, cond, suc, get_or, length, List, [], ◌∷◌, ◌++◌, map, Option, Some, None, option_map, codes, refl, sym, ◌∙◌, ap, arith, append_assoc, append-nil}
+use Rattle.std.proofs.Common.{◌≡◌, ◌==◌, ℕ, ◌≤◌, Bool, true, false, not, cond, List, [], ◌∷◌, ◌++◌, map, Option, Some, None, option_map, codes, inr, refl, sym, ◌∙◌, ap, arith, append_assoc, append-nil}
 use Rattle.std.proofs.lemmas.Bool.Decides.{Decides-eqb, nat_tests}
 use Rattle.std.proofs.lemmas.List.Folds.{flat_map-map}
-use Rattle.std.specs.Char.{encode_utf8}
-use Rattle.std.specs.List.{AllByRecursion}
 use Rattle.cc_base.specs.Bytes.{backslash}
 use Rattle.cc_quote.specs.Escapes.{escaped_byte, marked_byte, marked}
 use Rattle.cc_quote.specs.PosixQuote.{posix_escaped, posix_word_of}
 use Rattle.cc_quote.specs.QuotedWord.{space_for_line_feed, line_feeds_as_spaces}
-use Rattle.cc_quote.specs.ZshQuote.{Mark, marks_from, marks, unmarked, zsh_unescaped, is_help_marked, is_value_marked, zsh_escaped_help, zsh_escaped_value, zsh_help_replacement, zsh_replacement, ReadsUnescaped, is_help_escaped, is_value_escaped}
+use Rattle.cc_quote.specs.WordReader.{ReadsBytes, word_from}
+use Rattle.cc_quote.specs.ZshQuote.{escape_next, unescaped_added, is_plain, Mark, marks_from, marks, unmarked, zsh_unescaped, is_help_marked, is_value_marked, zsh_escaped_help, zsh_escaped_value, zsh_help_replacement, zsh_replacement, ReadsUnescaped, is_help_escaped, is_value_escaped}
 use Rattle.cc_quote.specs.ZshQuote.Mark.{kept, escaped}
-use Rattle.cc_quote.proofs.Characters.{AreHigh, IsCharacter, character}
-use Rattle.cc_quote.proofs.Characters.IsCharacter.{low, high}
+use Rattle.cc_quote.specs.declared.zsh.EscapeState.{EscapeState}
+use Rattle.cc_quote.specs.declared.zsh.EscapeState.TheVariants.{Plain, Escaping}
 use Rattle.cc_quote.proofs.ByteEscapes.{composed, same_bytes}
 use Rattle.cc_quote.proofs.PosixWords.{posix_escaped_byte, quoted_reads}
 
@@ -100,80 +99,61 @@ value_reads_unescaped text = record {
   unescaped = marked_unescaped is_value_marked refl text;
 }
 
--- ---- the reader, run by run
+-- ---- the reader, state by state
 
--- no byte is a backslash
-abbrev pub HasNoBackslash : List ℕ → Type 0
-HasNoBackslash text = AllByRecursion (λ byte. byte == backslash ≡ false) text
+-- a byte from 128 on is no backslash
+no_backslash : (byte : ℕ) → 128 ≤ byte → byte == backslash ≡ false
+no_backslash byte h = grind (arith, nat_tests)
 
--- none is, if none is where it is read
-none_escaped : (text : List ℕ) → ((k : ℕ) → k < length text → get_or text k 0 ≢ 92) → HasNoBackslash text
-none_escaped [] h = tt
-none_escaped (byte ∷ text) h =
-    let here : byte ≢ 92 = h 0 (omega arith) in (grind (arith, nat_tests), none_escaped text (λ k l. h (suc k) (omega arith)))
+leads : (state : EscapeState) (byte : ℕ) → 128 ≤ byte → escape_next state byte ≡ Some Plain
+leads Plain byte h = ap (λ is. Some (cond is Escaping Plain)) (no_backslash byte h)
+leads Escaping byte h = refl
 
--- nor is one from 128 on
-high_kept : (text : List ℕ) → AreHigh text → HasNoBackslash text
-high_kept [] h = tt
-high_kept (byte ∷ text) (h, hs) = (grind (arith, nat_tests), high_kept text hs)
+high_added : (state : EscapeState) (byte : ℕ) (word bytes : List ℕ) → 128 ≤ byte → unescaped_added state byte word bytes ≡ word ++ bytes
+high_added Plain byte word bytes h = ap (λ is. cond is word (word ++ bytes)) (no_backslash byte h)
+high_added Escaping byte word bytes h = refl
 
--- a run without a backslash, whatever follows
-run_unescaped : (run rest : List ℕ) → HasNoBackslash run → unmarked (marks_from false (run ++ rest)) ≡ option_map (λ bytes. run ++ bytes) (unmarked (marks_from false rest))
-unfolding unmarked
-run_unescaped [] rest h = same (unmarked (marks_from false rest))
-  where
-    same : (read : Option (List ℕ)) → read ≡ option_map (λ bytes. [] ++ bytes) read
-    same None = refl
-    same (Some bytes) = refl
-run_unescaped (byte ∷ run) rest (h, hs) =
-    ap unmarked (marks-kept byte (run ++ rest) h)
-    ∙ ap (option_map (λ bytes. byte ∷ bytes)) (run_unescaped run rest hs)
-    ∙ both (unmarked (marks_from false rest))
-  where
-    both : (read : Option (List ℕ)) → option_map (λ bytes. byte ∷ bytes) (option_map (λ bytes. run ++ bytes) read) ≡ option_map (λ bytes. (byte ∷ run) ++ bytes) read
-    both None = refl
-    both (Some bytes) = refl
+pub unescaping_reads : ReadsBytes escape_next unescaped_added
+unescaping_reads = record {
+  after = λ _. Plain;
+  leads = λ state. inr (λ byte h. (leads state byte h, leads Plain byte h));
+  grows = λ state first byte word run bytes h k.
+      high_added Plain byte (unescaped_added state first word run) bytes k
+      ∙ ap (λ w. w ++ bytes) (high_added state first word run h)
+      ∙ append_assoc word run bytes
+      ∙ sym (high_added state first word (run ++ bytes) h);
+  same = λ state a b word bytes h k. high_added state a word bytes h ∙ sym (high_added state b word bytes k);
+}
 
--- a character after a backslash
-character_unescaped : (c : ℕ) (bytes rest : List ℕ) → IsCharacter c bytes → unmarked (marks_from false (backslash ∷ (bytes ++ rest))) ≡ option_map (λ more. bytes ++ more) (unmarked (marks_from false rest))
+-- a byte more of the word
+added : (word : List ℕ) (byte : ℕ) (read : Option (List ℕ)) → option_map (λ bytes. (word ++ byte ∷ []) ++ bytes) read ≡ option_map (λ bytes. word ++ bytes) (option_map (λ bytes. byte ∷ bytes) read)
+added word byte None = refl
+added word byte (Some bytes) = ap Some (append_assoc word (byte ∷ []) bytes)
+
+-- from this state and word on, the text is read as a word and these bytes
+abbrev Reads : List ℕ → EscapeState → List ℕ → List ℕ → Option (List ℕ) → Type 0
+Reads word state grown text read =
+    option_map (λ read. read.0) (word_from escape_next unescaped_added is_plain state grown text) ≡ option_map (λ bytes. word ++ bytes) read
+
+-- after a word, the marks that are left
+read_by_marks : (state : EscapeState) (word text : List ℕ) → Reads word state word text (unmarked (marks_from (not (is_plain state)) text))
 unfolding marks_from unmarked
-character_unescaped c bytes rest (low byte below) = refl
-character_unescaped c bytes rest (high character byte run above first h) =
-    ap (option_map (λ more. byte ∷ more)) (run_unescaped run rest (high_kept run h)) ∙ both (unmarked (marks_from false rest))
+read_by_marks Plain word [] = ap Some (sym (append-nil word))
+read_by_marks Escaping word [] = refl
+read_by_marks Escaping word (byte ∷ text) = read_by_marks Plain (word ++ byte ∷ []) text ∙ added word byte (unmarked (marks_from false text))
+read_by_marks Plain word (byte ∷ text) =
+    by_test (byte == backslash) refl (read_by_marks Escaping word text) (read_by_marks Plain (word ++ byte ∷ []) text ∙ added word byte (unmarked (marks_from false text)))
   where
-    both : (read : Option (List ℕ)) → option_map (λ more. byte ∷ more) (option_map (λ more. run ++ more) read) ≡ option_map (λ more. (byte ∷ run) ++ more) read
-    both None = refl
-    both (Some more) = refl
+    by_test : (is : Bool) → byte == backslash ≡ is → Reads word Escaping word text (unmarked (marks_from true text)) → Reads word Plain (word ++ byte ∷ []) text (unmarked (kept byte ∷ marks_from false text))
+        → Reads word Plain word (byte ∷ text) (unmarked (marks_from false (byte ∷ text)))
+    by_test true e escaping plain = rw (marks_from, e) escaping
+    by_test false e escaping plain = rw (marks_from, e) plain
 
--- what is read where this word is there already
-abbrev pub unescaped_after : List ℕ → List ℕ → Option (List ℕ)
-unescaped_after word rest = option_map (λ bytes. word ++ bytes) (zsh_unescaped rest)
-
--- the reading goes on after a run, a backslash and a character
-pub goes_on : (word rest run next after : List ℕ) (c : ℕ) → (rest ≡ run ++ backslash ∷ next) × ((k : ℕ) → k < length run → get_or run k 0 ≢ 92) → next ≡ encode_utf8 c ++ after
-    → unescaped_after ((word ++ run) ++ encode_utf8 c) after ≡ unescaped_after word rest
+-- it reads what is left without the backslashes that escape
+pub states_unescape : (text : List ℕ) → option_map (λ read. read.0) (word_from escape_next unescaped_added is_plain Plain [] text) ≡ zsh_unescaped text
 unfolding zsh_unescaped marks
-goes_on word rest run next after c (whole, none) cut =
-    three (unmarked (marks_from false after))
-    ∙ ap (λ read. option_map (λ bytes. word ++ bytes) (option_map (λ bytes. run ++ bytes) read)) (sym (character_unescaped c (encode_utf8 c) after (character c)))
-    ∙ ap (option_map (λ bytes. word ++ bytes)) (sym (run_unescaped run (backslash ∷ (encode_utf8 c ++ after)) (none_escaped run none)))
-    ∙ ap (λ text. option_map (λ bytes. word ++ bytes) (unmarked (marks_from false text))) (ap (λ text. run ++ backslash ∷ text) (sym cut) ∙ sym whole)
+states_unescape text = read_by_marks Plain [] text ∙ from_none (unmarked (marks_from false text))
   where
-    three : (read : Option (List ℕ)) → option_map (λ bytes. ((word ++ run) ++ encode_utf8 c) ++ bytes) read ≡ option_map (λ bytes. word ++ bytes) (option_map (λ bytes. run ++ bytes) (option_map (λ bytes. encode_utf8 c ++ bytes) read))
-    three None = refl
-    three (Some bytes) = ap Some (append_assoc (word ++ run) (encode_utf8 c) bytes ∙ append_assoc word run (encode_utf8 c ++ bytes))
-
--- a backslash is last
-pub ends_open : (word rest run next : List ℕ) → (rest ≡ run ++ backslash ∷ next) × ((k : ℕ) → k < length run → get_or run k 0 ≢ 92) → next ≡ [] → unescaped_after word rest ≡ None
-unfolding zsh_unescaped marks marks_from unmarked
-ends_open word rest run next (whole, none) ends =
-    ap (λ text. option_map (λ bytes. word ++ bytes) (unmarked (marks_from false text))) (whole ∙ ap (λ text. run ++ backslash ∷ text) ends)
-    ∙ ap (option_map (λ bytes. word ++ bytes)) (run_unescaped run (backslash ∷ []) (none_escaped run none))
-
--- no backslash is left
-pub ends_kept : (word rest : List ℕ) → ((k : ℕ) → k < length rest → get_or rest k 0 ≢ 92) → unescaped_after word rest ≡ Some (word ++ rest)
-unfolding zsh_unescaped marks marks_from unmarked
-ends_kept word rest none =
-    ap (λ text. option_map (λ bytes. word ++ bytes) (unmarked (marks_from false text))) (sym (append-nil rest))
-    ∙ ap (option_map (λ bytes. word ++ bytes)) (run_unescaped rest [] (none_escaped rest none))
-    ∙ ap (λ text. Some (word ++ text)) (append-nil rest)
+    from_none : (read : Option (List ℕ)) → option_map (λ bytes. [] ++ bytes) read ≡ read
+    from_none None = refl
+    from_none (Some bytes) = refl

@@ -6,6 +6,8 @@ use Rattle.cc_base.specs.Bytes.{dollar, line_feed, open_bracket, open_parenthesi
 use Rattle.cc_base.specs.Bytes.{space}
 use Rattle.cc_quote.specs.Escapes.{backslashed, escaped_by}
 use Rattle.cc_quote.specs.PosixQuote.{posix_word_of}
+use Rattle.cc_quote.specs.declared.zsh.EscapeState.{EscapeState}
+use Rattle.cc_quote.specs.declared.zsh.EscapeState.TheVariants.{Plain, Escaping}
 
 -- ---- how backslashes are read
 
@@ -40,6 +42,23 @@ unmarked (escaped byte ∷ rest) = option_map (λ bytes. byte ∷ bytes) (unmark
 -- the text without the backslashes that escape; none where one is last
 unfoldable pub zsh_unescaped : List ℕ → Option (List ℕ)
 zsh_unescaped text = unmarked (marks text)
+
+-- ---- the same by the states of a reader
+
+-- the state after a character: a backslash escapes the next one, whatever that is
+abbrev pub escape_next : EscapeState → ℕ → Option EscapeState
+escape_next Plain character = Some (if character == backslash then Escaping else Plain)
+escape_next Escaping character = Some Plain
+
+-- the word with a character of these bytes, unless that is a backslash which escapes
+abbrev pub unescaped_added : EscapeState → ℕ → List ℕ → List ℕ → List ℕ
+unescaped_added Plain character word bytes = if character == backslash then word else word ++ bytes
+unescaped_added Escaping character word bytes = word ++ bytes
+
+-- whether no backslash escapes what is next
+abbrev pub is_plain : EscapeState → Bool
+is_plain Plain = true
+is_plain Escaping = false
 
 -- ---- how a text is escaped
 

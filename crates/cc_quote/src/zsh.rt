@@ -1,13 +1,13 @@
 //! Texts as zsh's completion reads them between two `'`: backslashes are before what it takes for
 //! syntax.
 
-ghost use Rattle.std.specs.Prelude.{◌≡◌, [], ◌++◌, ◌∷◌, true, option_map, encode_utf8, IfOk, IfErr, MatchOption, Some};
+ghost use Rattle.std.specs.Prelude.{◌≡◌, [], option_map, IfOk, IfErr, OnOk};
 ghost use Rattle.std.specs.String.{string_bytes};
 ghost use Rattle.cc_quote.specs.QuotedWord.{line_feeds_as_spaces};
-ghost use Rattle.cc_quote.specs.ZshQuote.{is_help_escaped, is_value_escaped, zsh_escaped_help, zsh_escaped_value, zsh_help_replacement, zsh_replacement, zsh_unescaped, ReadsUnescaped};
+ghost use Rattle.cc_quote.specs.ZshQuote.{escape_next, is_help_escaped, is_plain, is_value_escaped, unescaped_added, zsh_escaped_help, zsh_escaped_value, zsh_help_replacement, zsh_replacement, zsh_unescaped, ReadsUnescaped};
 
 use crate::escape::{ByteEscape, escape_text};
-use crate::word::split_first;
+use crate::word_state::{WordState, read_word};
 use cc_base::Error;
 use std::alloc::{AllocError, Global};
 
@@ -87,6 +87,13 @@ pub fn zsh_escape_value(alloc: Global, text: &str) -> Result<String, Error>
     Ok(escape_text(alloc, &ZshValueEscape, text)?)
 }
 
+// Where a reader of an escaped text is: after a backslash that escapes, or after none.
+#[derive(Clone, Copy)]
+pub(crate) enum EscapeState {
+    Plain,
+    Escaping,
+}
+
 /// The text without its escaping backslashes: each keeps the next character, a backslash too.
 /// `None` where an escaping backslash is last. Fails with `Memory` alone.
 pub fn zsh_unescape(alloc: Global, text: &str) -> Result<Option<String>, Error>
@@ -94,23 +101,34 @@ pub fn zsh_unescape(alloc: Global, text: &str) -> Result<Option<String>, Error>
         (λ read. option_map string_bytes read ≡ zsh_unescaped text.now) }
     ensures memory { IfErr result (λ error. error ≡ Error.Memory) }
 {
-    Ok(unescape(alloc, text)?)
+    match read_word(alloc, EscapeState::Plain, false, text)? {
+        Some((word, _)) => Ok(Some(word)),
+        None => Ok(None),
+    }
 }
 
-// The text without its backslashes, where memory suffices.
-fn unescape(alloc: Global, text: &str) -> Result<Option<String>, AllocError>
-    ensures { IfOk result (λ read. option_map string_bytes read ≡ zsh_unescaped text.now) }
-{
-    let mut word = String::new(alloc);
-    let mut rest = text;
-    while let Some((piece, next)) = rest.split_once('\\') {
-        word.push_str(piece)?;
-        let Some((character, after)) = split_first(next) else {
-            return Ok(None);
-        };
-        word.push(character)?;
-        rest = after;
+impl WordState for EscapeState {
+    ghost next = { λ _. escape_next };
+
+    ghost added = { unescaped_added };
+
+    ghost may_end = { is_plain };
+
+    fn next_state(self, _is_double: bool, character: char) -> Option<Self> {
+        match (self, character) {
+            (EscapeState::Plain, '\\') => Some(EscapeState::Escaping),
+            _ => Some(EscapeState::Plain),
+        }
     }
-    word.push_str(rest)?;
-    Ok(Some(word))
+
+    fn push_added(self, character: char, word: &mut String) -> Result<(), AllocError> {
+        match (self, character) {
+            (EscapeState::Plain, '\\') => Ok(()),
+            _ => word.push(character),
+        }
+    }
+
+    fn may_end(self) -> bool {
+        matches!(self, EscapeState::Plain)
+    }
 }

@@ -61,7 +61,8 @@ fn find_in_members<'t>(
     members: &Vec<(&'t str, Value<'t>)>,
 ) -> Result<(), AllocError>
     ensures { IfOk result (λ _. is_nil walk.new.found.items
-        ≡ (is_nil walk.old.found.items && members_have_no_double (members_view members.now.items))) }
+        ≡ (is_nil walk.old.found.items
+        && members_have_no_double (members_view members.now.items))) }
 {
     for (index, member) in members.iter().enumerate() {
         walk.path.push(Step::Member(member.0, index))?;

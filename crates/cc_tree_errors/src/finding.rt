@@ -89,7 +89,8 @@ fn place_each(
     Ok(placed)
 }
 
-/// Returns a finding with its place in a text, which spells this value. Fails where memory runs out.
+/// Returns a finding with its place in a text, which spells this value. Fails where memory runs
+/// out.
 pub(crate) fn place(
     alloc: Global,
     text: &str,

@@ -10,6 +10,9 @@ use cc_tree_file::Step;
 use json::Reader;
 use std::alloc::{AllocError, Global};
 
+// How many lists and objects may be open, one in another.
+const MOST_OPEN: usize = 127;
+
 /// Returns what is wrong with bytes that are no UTF-8 from this offset on, or no JSON: one error at
 /// this place. Fails where memory runs out.
 pub fn one_error(alloc: Global, offset: usize, text: &str) -> Result<Vec<PlacedFinding>, AllocError>
@@ -33,14 +36,28 @@ pub fn json_errors(alloc: Global, text: &str) -> Result<Vec<PlacedFinding>, Allo
 {
     let mut scratch = Scratch::new(alloc);
     let mut reader = Reader::new(text, &mut scratch)?;
-    match Value::read(alloc, &mut reader, 127) {
+    match Value::read(alloc, &mut reader, MOST_OPEN) {
         Ok(value) => after_value(alloc, text, &value, &mut reader),
         Err(json::Error::OutOfMemory) => Err(AllocError),
-        Err(_) => {
-            let offset = reader.offset().min(text.len());
-            one_error(alloc, offset, why_no_json(text.as_bytes(), offset))
-        }
+        Err(_) => reading_error(alloc, text.as_bytes(), reader.offset()),
     }
+}
+
+// What is wrong with a text of which the reading ended at an offset.
+fn reading_error(
+    alloc: Global,
+    bytes: &[u8],
+    offset: usize,
+) -> Result<Vec<PlacedFinding>, AllocError>
+    ensures { IfOk result (λ found. AreErrors found.items) }
+{
+    let offset = offset.min(bytes.len());
+    if open_after(&bytes[..offset]) > MOST_OPEN {
+        // The reading ended after the bracket.
+        let bracket = offset.saturating_sub(1);
+        return one_error(alloc, bracket, "not JSON: nested deeper than 127");
+    }
+    one_error(alloc, offset, why_no_json(bytes, offset))
 }
 
 // What is wrong with a text from which a value was read.
@@ -145,11 +162,51 @@ fn why_not_here(before: Option<u8>, byte: u8) -> &'static str {
         (Some(b'"'), b'"') => "not JSON: a comma or a colon is missing before this text",
         (Some(_), b'"') => "not JSON: a comma is missing before this text",
         (Some(b',' | b':' | b'[' | b'{'), b'[' | b'{') => {
-            "not JSON: nested deeper than 127, or what is before this is no key"
+            "not JSON: what is before this is no key"
         }
         (Some(b'"'), b'[' | b'{') => "not JSON: a comma or a colon is missing before this",
         (Some(_), b'[' | b'{') => "not JSON: a comma is missing before this",
         _ => "not JSON",
+    }
+}
+
+// Where a byte of a JSON text stands: in none of its texts, in one, or there after a backslash.
+#[derive(Clone, Copy)]
+enum Part {
+    Structure,
+    Text,
+    Escape,
+}
+
+// How many lists and objects are open after the start of a JSON text.
+fn open_after(start: &[u8]) -> usize {
+    let mut part = Part::Structure;
+    let mut open = 0;
+    for byte in start.iter() {
+        part = part_after(part, *byte);
+        if matches!(part, Part::Structure) {
+            open = open_with(open, *byte);
+        }
+    }
+    open
+}
+
+// Where the byte after this one stands.
+fn part_after(part: Part, byte: u8) -> Part {
+    match (part, byte) {
+        (Part::Structure, b'"') | (Part::Escape, _) => Part::Text,
+        (Part::Text, b'"') => Part::Structure,
+        (Part::Text, b'\\') => Part::Escape,
+        _ => part,
+    }
+}
+
+// How many are open after a byte that stands in no text.
+fn open_with(open: usize, byte: u8) -> usize {
+    match byte {
+        b'[' | b'{' => open.saturating_add(1),
+        b']' | b'}' => open.saturating_sub(1),
+        _ => open,
     }
 }
 

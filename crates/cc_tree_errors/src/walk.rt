@@ -12,7 +12,8 @@ use std::alloc::{AllocError, Global};
 /// Returns what is wrong with a value as a tree of commands, each with the path to it: nothing
 /// exactly where the value describes a command. Fails where memory runs out.
 pub fn tree_errors<'t>(alloc: Global, tree: &Value<'t>) -> Result<Vec<Fault<'t>>, AllocError>
-    ensures { IfOk result (λ found. is_nil found.items ≡ is_some (form.command_of (view tree.now))) }
+    ensures { IfOk result
+        (λ found. is_nil found.items ≡ is_some (form.command_of (view tree.now))) }
 {
     let mut faults = Faults::new(alloc);
     check_command(&mut faults, tree)?;

@@ -51,7 +51,8 @@ pub fn check_needed<'t, T: FromValue>(
     key: &'static str,
     kind: ObjectKind,
 ) -> Result<(), AllocError>
-    ensures { IfOk result (λ _. FindsUnless (is_some (option_and_then T.form (get key.now (view tree.now))))
+    ensures { IfOk result (λ _. FindsUnless
+        (is_some (option_and_then T.form (get key.now (view tree.now))))
         faults.old faults.new) }
 {
     match member(tree, key) {
@@ -89,7 +90,8 @@ pub fn check_keys<'t>(
     keys: &[&str],
     kind: ObjectKind,
 ) -> Result<(), AllocError>
-    ensures { IfOk result (λ _. FindsUnless (has_only (map (λ key. key.now) keys.now) (view tree.now))
+    ensures { IfOk result (λ _. FindsUnless
+        (has_only (map (λ key. key.now) keys.now) (view tree.now))
         faults.old faults.new) }
 {
     match tree {
@@ -120,7 +122,8 @@ fn check_member<'t>(
     keys: &[&str],
     kind: ObjectKind,
 ) -> Result<(), AllocError>
-    ensures { IfOk result (λ _. FindsUnless (list_any (λ known. bytes_eq known.now key.now) keys.now)
+    ensures { IfOk result (λ _. FindsUnless
+        (list_any (λ known. bytes_eq known.now key.now) keys.now)
         faults.old faults.new) }
 {
     if is_among(keys, key) {

@@ -15,8 +15,8 @@ use Rattle.cc_candidates.specs.declared.numbers.ArgValueCandidates.{ArgValueCand
 use Rattle.cc_candidates.specs.declared.numbers.ArgValueCompleter.{ArgValueCompleter}
 use Rattle.cc_values.specs.Parts.{front, part}
 
--- where a list of candidates comes from: nowhere, or from the completer of a number for the number of
--- the value and a text, from the list of a number, or from the paths of a kind for a text
+-- where a list of candidates comes from: nowhere, or from the completer of a number for the number
+-- of the value and a text, from the list of a number, or from the paths of a kind for a text
 pub data Question : Type 0 where
   nothing : Question
   completer : ℕ → ℕ → List ℕ → Question
@@ -60,8 +60,8 @@ abbrev pub question_of_hint : Bool → ValueHint → List ℕ → Question
 question_of_hint true hint text = paths hint text
 question_of_hint false hint text = nothing
 
--- where the values of an argument come from: its completer, else its list; nowhere else where it has
--- possible values, else as its hint says
+-- where the values of an argument come from: its completer, else its list; nowhere else where it
+-- has possible values, else as its hint says
 abbrev pub question_by : Option ArgValueCompleter → Option ArgValueCandidates
     → Option (List PossibleValue) → ValueHint → ℕ → List ℕ → Question
 question_by (Some which) list values hint number text = completer which.number number text
@@ -87,11 +87,13 @@ abbrev pub gathered_by : Option ArgValueCompleter → Option ArgValueCandidates
     → Option (List PossibleValue) → List ℕ → List CompletionCandidate → List CompletionCandidate
 gathered_by (Some which) list values text returned = returned
 gathered_by None (Some which) values text returned = filter (begins text) returned
-gathered_by None None (Some values) text returned = filter (begins text) (map value_candidate values)
+gathered_by None None (Some values) text returned =
+    filter (begins text) (map value_candidate values)
 gathered_by None None None text returned = sorted returned
 
 unfoldable pub gather : Arg → List ℕ → List CompletionCandidate → List CompletionCandidate
-gather arg text returned = gathered_by arg.completer arg.candidates (possible_values arg) text returned
+gather arg text returned =
+    gathered_by arg.completer arg.candidates (possible_values arg) text returned
 
 -- what an argument offers for a text that holds no delimiter
 abbrev pub Gathers : MayReturn → Arg → ℕ → List ℕ → List CompletionCandidate → Type 0

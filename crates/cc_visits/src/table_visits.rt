@@ -55,7 +55,8 @@ impl<'f, 'a, K: KeyScheme> Model for TableVisits<'f, 'a, K> {
     ghost view = { λ visits.
         under_each (reverse visits.ready.items) (tree_at visits.flat.now visits.above).node
         (tree_at visits.flat.now visits.number)
-        ++ from_stack (tables_of visits.flat.now (K.child_key visits.keys.now)) visits.stack.items };
+        ++ from_stack (tables_of visits.flat.now (K.child_key visits.keys.now))
+        visits.stack.items };
 
     ghost invariant = { λ visits.
         (visits.number < length visits.flat.now) × ((visits.above < length visits.flat.now)

@@ -65,7 +65,8 @@ module _ (arguments : List Arg) where
 
   -- the position after k values of a position
   abbrev pub position_after : ℕ → ℕ → ℕ
-  position_after position k = if nat_lt k (capacity_at arguments position) then position else position + 1
+  position_after position k =
+      if nat_lt k (capacity_at arguments position) then position else position + 1
 
   -- the blocks are side by side, from this position on
   abbrev pub AreBlocks : ℕ → Bool → List Block → Type 0

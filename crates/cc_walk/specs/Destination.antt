@@ -7,7 +7,8 @@ use Rattle.cc_walk.specs.Blocks.{Block, AreBlocks, join, start, state_after}
 
 -- the words lead from the root to this tree, and what is after the last descent is the join of
 -- blocks that lead to the state there
-pub record WordsLeadTo (root : Tree) (words : List (List ℕ)) (tree : Tree) (state : State) : Type 0 where
+pub record WordsLeadTo (root : Tree) (words : List (List ℕ)) (tree : Tree) (state : State)
+    : Type 0 where
   pub tail : List (List ℕ)
   pub before : Bool
   pub blocks : List Block

@@ -19,7 +19,8 @@ run_length _ = 0
 
 -- one more value at the position, after a run of so many
 abbrev pub value_state : List Arg → ℕ → Bool → ℕ → State
-value_state arguments position escaped values = if nat_lt (suc values) (capacity_at arguments position)
+value_state arguments position escaped values =
+    if nat_lt (suc values) (capacity_at arguments position)
     then record { position = position; escaped = escaped; pending = PositionalRun (suc values) }
     else record {
       position = position + 1;

@@ -45,7 +45,8 @@ listing_of listed = record {
 }
 
 -- a folder holds a listing and a home folder
-pub record HoldsListing (listing : Listing) (home : Option (List ℕ)) (listed : Listed) : Type 0 where
+pub record HoldsListing (listing : Listing) (home : Option (List ℕ)) (listed : Listed)
+    : Type 0 where
   pub path_same : listed.path.now ≡ listing.path
   pub names_same : map string_bytes listed.names.items ≡ listing.names
   pub folders_same : (path : List ℕ)

@@ -54,8 +54,8 @@ MakesFor env current Finds words shell tree result =
 -- How it ends, by what is requested and what the tree file holds: the command is the very one that
 -- the bytes describe, and a text is begun only where it could be made whole.
 pub data EndsReply {S : Type 0} (taken : S → List ℕ) (failed : S → Failures) (env : EnvValues)
-    (current : Option (List ℕ)) (Finds : Paths) (words : List (List ℕ)) (path : List ℕ) (old new : S)
-    : Option (List ℕ) → Result Bool Error → Type 0 where
+    (current : Option (List ℕ)) (Finds : Paths) (words : List (List ℕ)) (path : List ℕ)
+    (old new : S) : Option (List ℕ) → Result Bool Error → Type 0 where
   -- there is no tree file, and nothing is written
   no_tree : new ≡ old
       → EndsReply taken failed env current Finds words path old new None (Ok false)

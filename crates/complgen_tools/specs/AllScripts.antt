@@ -57,8 +57,8 @@ pub data EndsFiles {S : Type 0} (taken : S → List ℕ) (failed : S → Failure
   file_failed : (refusal : Refusal) → IsMade (folder_line folder) refusal → failed new ≡ failed old
       → EndsFiles taken failed folder lines old new (Err refusal)
   -- a write to the output failed, which is counted with its kind
-  write_failed : (kind : ErrorKind) (refusal : Refusal) → IsRefusal (error_line (Write kind)) refusal
-      → failed new ≡ add_failure kind (failed old)
+  write_failed : (kind : ErrorKind) (refusal : Refusal)
+      → IsRefusal (error_line (Write kind)) refusal → failed new ≡ add_failure kind (failed old)
       → EndsFiles taken failed folder lines old new (Err refusal)
   -- all are written
   written : taken new ≡ taken old ++ lines → failed new ≡ failed old

@@ -25,10 +25,10 @@ use std::alloc::{AllocError, Global};
 /// this bin name, or under its own where there is none.
 ///
 /// A line is `LINE:COLUMN: LEVEL: PATH: TEXT`. An error is printed exactly where the file describes
-/// no command; else a warning for each key that stands twice, then what `tree_warnings` lists. Where
-/// there are none but notes, each premise of what scripts promise holds for the command that the
-/// file describes: for each shell its script under that name is written, but for memory that runs
-/// out and a failed write, and reads back.
+/// no command; else a warning for each key that stands twice, then what `tree_warnings` lists.
+/// Where there are none but notes, each premise of what scripts promise holds for the command that
+/// the file describes: for each shell its script under that name is written, but for memory that
+/// runs out and a failed write, and reads back.
 ///
 /// Fails with status 1: where the file can't be read, where a line can't be printed, and where
 /// memory runs out.
@@ -67,7 +67,8 @@ fn is_note(finding: &PlacedFinding) -> bool
     matches!(finding.level, Level::Note)
 }
 
-// Errors; or, where there are none, keys that stand twice, and warnings and notes about the command.
+// Errors; or, where there are none, keys that stand twice, and warnings and notes about the
+// command.
 fn findings(
     alloc: Global,
     bin: Option<&str>,

@@ -10,8 +10,8 @@ use cc_base::{Error, Sink, put_piece};
 use cc_tree_errors::{Level, PlacedFinding, line_and_column};
 use std::alloc::{AllocError, Global};
 
-/// Puts each finding in a file as a line, `LINE:COLUMN: LEVEL: PATH: TEXT`. Fails with `Write` where
-/// the sink failed, and with `Memory`.
+/// Puts each finding in a file as a line, `LINE:COLUMN: LEVEL: PATH: TEXT`. Fails with `Write`
+/// where the sink failed, and with `Memory`.
 pub(crate) fn put_findings<W: Sink>(
     out: &mut W,
     alloc: Global,
