@@ -2,6 +2,7 @@ pub mod BuiltAgain
 pub mod BuiltArguments
 pub mod BuiltExamples
 pub mod DifferentNames
+pub mod EscapedBuilt
 pub mod Forests
 pub mod PlainBuilt
 pub mod PlainParts

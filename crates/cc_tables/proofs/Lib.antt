@@ -8,6 +8,9 @@ pub mod NushellTexts
 pub mod PlainOffers
 pub mod PlainTables
 pub mod PowershellExamples
+pub mod PowershellFreeOffers
+pub mod PowershellFreeScripts
+pub mod PowershellFreeTexts
 pub mod PowershellPlain
 pub mod PowershellReadsBack
 pub mod ScriptReadsBack

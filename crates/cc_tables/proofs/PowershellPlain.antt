@@ -11,11 +11,12 @@ use Rattle.cc_command.specs.Tree.{Tree}
 use Rattle.cc_command.proofs.PlainParts.{plain_full_name}
 use Rattle.cc_quote.specs.PowershellTokens.{is_quote_first, IsUnquoted}
 use Rattle.cc_tables.specs.Offers.{node_offers, word}
-use Rattle.cc_tables.specs.PowershellReader.{offer_read, powershell_tables, PowershellReads}
-use Rattle.cc_tables.specs.PowershellScript.{capital_space, offer_row, powershell_frame}
+use Rattle.cc_tables.specs.PowershellReader.{offer_read, powershell_tables}
+use Rattle.cc_tables.specs.PowershellScript.{capital_space, offer_row, powershell_frame, powershell_script}
 use Rattle.cc_tables.specs.PowershellScript.{offer_text}
 use Rattle.cc_tables.specs.Script.{script_text}
-use Rattle.cc_tables.specs.Tables.{path_tables}
+use Rattle.cc_tables.specs.TableReader.{ReadsTables}
+use Rattle.cc_tables.specs.Tables.{path_tables, tree_tables}
 use Rattle.cc_tables.specs.declared.offers.Kind.{Kind}
 use Rattle.cc_tables.specs.declared.offers.Kind.TheVariants.{Short}
 use Rattle.cc_tables.specs.declared.offers.Offer.{Offer}
@@ -53,9 +54,9 @@ row_unquoted offer h =
     }
 
 -- the script of a plain tree reads to its tables
-pub powershell_plain_reads : (tree : Tree) → IsTrue (is_plain_tree tree) → PowershellReads tree
+pub tables_read : (tree : Tree) → IsTrue (is_plain_tree tree) → ReadsTables (powershell_tables (powershell_script tree)) (tree_tables offer_read tree) tree
 unfolding powershell_frame
-powershell_plain_reads tree h =
+tables_read tree h =
     let bin_name = full_name tree.node in
     reads_offers offer_read (λ byte. IsTrue (not (is_quote_first byte))) (λ offer. IsPowershellRow (offer_row offer)) unquoted_byte unquoted_separator row_unquoted
     (λ tables. powershell_tables (script_text powershell_frame offer_text bin_name tables)) tree h

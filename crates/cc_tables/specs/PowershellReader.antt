@@ -2,14 +2,19 @@
 -- are groups of a quoted key, `{`, rows, `break` and `}`, up to the bare word `})`. A row is a
 -- call `[CompletionResult]::new(` with four arguments and `)`. Every quote is a `'`. What follows
 -- is not read.
-use Rattle.std.specs.Prelude.{ℕ, List, [], ◌∷◌, ◌++◌, ◌&&◌, if◌then◌else◌, Option, Some, None}
+use Rattle.std.specs.Prelude.{ℕ, Bool, IsTrue, List, [], ◌∷◌, ◌++◌, ◌&&◌, if◌then◌else◌, drop}
+use Rattle.std.specs.Prelude.{encode_utf8, Option, Some, None}
 use Rattle.std.specs.Prelude.{option_map, unwrap_or, bytes_eq, codes}
+use Rattle.cc_command.specs.Escaped.{is_escaped_tree, quote_at}
 use Rattle.cc_command.specs.Tree.{Tree}
 use Rattle.cc_generator.specs.Generators.{ShellSpec}
+use Rattle.cc_quote.specs.PowershellQuote.{begins_right_quote, sign_before}
 use Rattle.cc_quote.specs.PowershellTokens.{powershell_tokens}
 use Rattle.cc_quote.specs.QuotedWord.{line_feeds_as_spaces}
-use Rattle.cc_quote.specs.Tokens.{Token, after_words}
+use Rattle.cc_quote.specs.Signs.{Sign, quote}
+use Rattle.cc_quote.specs.Tokens.{Token, after_words, cut}
 use Rattle.cc_quote.specs.Tokens.Piece.{bare, quoted}
+use Rattle.cc_quote.specs.Tokens.QuoteState.{between}
 use Rattle.cc_tables.specs.PowershellScript.{ResultKind, parameter_name, parameter_value, Row}
 use Rattle.cc_tables.specs.PowershellScript.{offer_row, powershell_script}
 use Rattle.cc_tables.specs.TableReader.{Part, ReadsTables, Spelling, Step, read}
@@ -87,10 +92,43 @@ powershell_tables script =
 abbrev pub offer_read : Offer → Row
 offer_read offer = record (offer_row offer) { text = line_feeds_as_spaces (offer_row offer).text }
 
+-- ---- with all quotes of PowerShell
+
+-- PowerShell takes for quotes, besides `'` and U+2019, also U+2018, U+201A and U+201B. Each closes
+-- what any other opened.
+
+-- the signs of a byte and of what follows it: where the byte begins one of the three further
+-- quotes, the next two bytes belong to it
+abbrev pub sign_with : Option ℕ → Bool → ℕ → List Sign → List Sign
+sign_with (Some character) right byte signs = quote (encode_utf8 character) ∷ drop 2 signs
+sign_with None right byte signs = sign_before right byte signs
+
+-- the signs of a text
+abbrev pub all_signs : List ℕ → List Sign
+all_signs [] = []
+all_signs (byte ∷ rest) =
+    sign_with (quote_at byte rest) (begins_right_quote byte rest) byte (all_signs rest)
+
+-- the tokens of a script
+abbrev pub all_tokens : List ℕ → List Token
+all_tokens script = cut between (all_signs script)
+
+-- the tables of a script; `None` where it spells none
+abbrev pub all_tables : List ℕ → Option (List (Table Row))
+all_tables script =
+    read spelling (between_tables []) (after_words tables_begin (all_tokens script))
+
 -- the script of a tree reads to the tree's tables
-abbrev pub PowershellReads : Tree → Type 0
-PowershellReads tree =
-    ReadsTables (powershell_tables (powershell_script tree)) (tree_tables offer_read tree) tree
+unfoldable pub ReadsByAllQuotes : Tree → Type 0
+ReadsByAllQuotes tree =
+    ReadsTables (all_tables (powershell_script tree)) (tree_tables offer_read tree) tree
+
+-- The script of a tree reads to the tree's tables; where no text has one of the three further
+-- quotes, it does so too by a reader that takes them for quotes.
+pub record PowershellReads (tree : Tree) : Type 0 where
+  pub reads : ReadsTables (powershell_tables (powershell_script tree))
+      (tree_tables offer_read tree) tree
+  pub all_quotes : IsTrue (is_escaped_tree tree) → ReadsByAllQuotes tree
 
 -- what is said of the scripts
 abbrev pub powershell_spec : ShellSpec

@@ -121,7 +121,7 @@ impl Generator for PowerShell {
         Ok(["_", name, ".ps1"].concat(alloc)?)
     }
 
-    #[tactic(auto, using(crate::proofs::PowershellPlain::powershell_plain_reads))]
+    #[tactic(auto, using(crate::proofs::PowershellFreeScripts::powershell_plain_reads))]
     fn generate<W: Sink>(
         &self,
         alloc: Global,

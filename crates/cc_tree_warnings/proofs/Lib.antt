@@ -1,6 +1,2 @@
 pub mod BuiltAgain
-pub mod EscapedBuilt
-pub mod FreeOffers
-pub mod FreeScripts
-pub mod FreeTexts
 pub mod NoWarnings

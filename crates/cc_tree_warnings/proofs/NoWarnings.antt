@@ -8,7 +8,7 @@ use Rattle.cc_command.specs.Plain.{is_plain_argument, is_plain_forest, is_plain_
 use Rattle.cc_command.specs.Quiet.{is_quiet_tree}
 use Rattle.cc_command.specs.Tree.{Tree}
 use Rattle.cc_quote.specs.PlainName.{is_plain_name}
-use Rattle.cc_command.proofs.PlainBuilt.{plain_built_under}
+use Rattle.cc_command.proofs.EscapedBuilt.{escaped_built_under}
 use Rattle.cc_command_warnings.specs.CommandWarnings.{command_list}
 use Rattle.cc_command_warnings.specs.Notes.{are_notes}
 use Rattle.cc_command_warnings.specs.Premises.{holds_premises}
@@ -16,8 +16,6 @@ use Rattle.cc_command_warnings.proofs.PremisesFound.{premises_hold as command_pr
 use Rattle.cc_command_warnings.proofs.Walked.{notes_append}
 use Rattle.cc_tree_warnings.specs.Promises.{HoldPremises}
 use Rattle.cc_tree_warnings.specs.TreeWarnings.{built_as, called, label_list, warnings_of}
-use Rattle.cc_tree_warnings.proofs.EscapedBuilt.{escaped_built_under}
-use Rattle.cc_tree_warnings.proofs.FreeScripts.{escaped_reads}
 
 no_label : (label : Option (List ℕ)) → IsTrue (are_notes (label_list label)) → label ≡ None
 no_label None h = refl
@@ -48,8 +46,6 @@ premises_hold bin tree h =
       plain = plain.0;
       name = name;
       quiet = quiet.0;
-      escaped = quiet.1;
-      quotes = escaped_reads (built_as bin tree) (plain_built_under (Some (called bin tree)) tree name plain.0)
-          (escaped_built_under (Some (called bin tree)) tree quiet.1);
+      escaped = escaped_built_under (Some (called bin tree)) tree quiet.1;
       label = no_label label parts.1;
     }

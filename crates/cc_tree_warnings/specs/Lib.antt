@@ -1,3 +1,2 @@
-pub mod PowershellQuotes
 pub mod Promises
 pub mod TreeWarnings

@@ -8,16 +8,14 @@ use Rattle.cc_command.specs.Plain.{is_plain_tree}
 use Rattle.cc_command.specs.Quiet.{is_quiet_tree}
 use Rattle.cc_command.specs.Tree.{Tree}
 use Rattle.cc_quote.specs.PlainName.{is_plain_name}
-use Rattle.cc_tree_warnings.specs.PowershellQuotes.{ReadsByAllQuotes}
 use Rattle.cc_tree_warnings.specs.TreeWarnings.{built_as, called}
 
 -- Each premise of what scripts promise holds: the tree and the name by which it is called are
--- plain, the possible values are quiet, PowerShell's script escapes each quote, so that it reads
--- back also by a reader that takes all of PowerShell's quotes, and no two commands share a label.
+-- plain, the possible values are quiet, no text of the built tree has a quote that PowerShell's
+-- script leaves as it is, and no two commands share a label.
 pub record HoldPremises (bin : Option (List ℕ)) (tree : Tree) : Type 0 where
   pub plain : IsTrue (is_plain_tree tree)
   pub name : IsTrue (is_plain_name (called bin tree))
   pub quiet : IsTrue (is_quiet_tree tree)
-  pub escaped : IsTrue (is_escaped_tree tree)
-  pub quotes : ReadsByAllQuotes (built_as bin tree)
+  pub escaped : IsTrue (is_escaped_tree (built_as bin tree))
   pub label : shared_label (built_as bin tree) ≡ None

@@ -26,8 +26,8 @@ use Rattle.cc_tables.specs.PowershellScript.{shown_text}
 use Rattle.cc_tables.specs.declared.offers.Offer.{Offer}
 use Rattle.cc_tables.proofs.PlainOffers.{IsPlainOffer, node_plain}
 use Rattle.cc_tables.proofs.PlainTables.{of_plain_name}
-use Rattle.cc_tree_warnings.proofs.EscapedBuilt.{escaped_more, escaped_node}
-use Rattle.cc_tree_warnings.proofs.FreeTexts.{IsAscii, IsFree, ascii_part}
+use Rattle.cc_command.proofs.EscapedBuilt.{escaped_more, escaped_node}
+use Rattle.cc_tables.proofs.PowershellFreeTexts.{IsAscii, IsFree, ascii_part}
 
 -- what describes an offer is free
 abbrev IsFreeText : Offer → Type 0

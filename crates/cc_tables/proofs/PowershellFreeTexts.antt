@@ -6,7 +6,7 @@ use Rattle.std.proofs.lemmas.Bool.Decides.{nat_tests}
 use Rattle.cc_base.specs.Bytes.{line_feed, single_quote}
 use Rattle.cc_command.specs.Escaped.{first_of, quote_at, quote_of_second, quote_of_third, unescaped_quote}
 use Rattle.cc_quote.specs.PowershellQuote.{begins_right_quote, powershell_escaped, powershell_signs, sign_before}
-use Rattle.cc_tree_warnings.specs.PowershellQuotes.{all_signs, sign_with}
+use Rattle.cc_tables.specs.PowershellReader.{all_signs, sign_with}
 
 -- a text has none of these quotes
 abbrev pub IsFree : List ℕ → Type 0

@@ -20,7 +20,7 @@ use Rattle.cc_visits.specs.Visits.{Keyed, joined_path, longer_path, table_visits
 use Rattle.cc_visits.proofs.PlainVisits.{IsPlainVisit, plain_visits}
 use Rattle.cc_visits.proofs.VisitedTables.{tables_cover}
 use Rattle.cc_tables.specs.Offers.{node_offers, word}
-use Rattle.cc_tables.specs.PowershellReader.{powershell_tables, spelling, tables_begin}
+use Rattle.cc_tables.specs.PowershellReader.{PowershellReads, ReadsByAllQuotes, powershell_tables, spelling, tables_begin}
 use Rattle.cc_tables.specs.PowershellScript.{ResultKind, capital_space, details_text, kind_begin, kind_text, list_begin, offer_row, offer_text, parameter_name, parameter_value, powershell_frame, powershell_named, powershell_script, row_begin, row_end, row_text, shown_text, text_begin, words_text}
 use Rattle.cc_tables.specs.Script.{head_text, named_text, script_text, table_text}
 use Rattle.cc_tables.specs.TableReader.{read}
@@ -29,11 +29,10 @@ use Rattle.cc_tables.specs.Tables.{Table, path_tables, table_of}
 use Rattle.cc_tables.specs.declared.offers.Kind.{Kind}
 use Rattle.cc_tables.specs.declared.offers.Kind.TheVariants.{Short}
 use Rattle.cc_tables.specs.declared.offers.Offer.{Offer}
-use Rattle.cc_tables.proofs.PowershellPlain.{powershell_plain_reads}
-use Rattle.cc_tree_warnings.specs.PowershellQuotes.{ReadsByAllQuotes}
-use Rattle.cc_tree_warnings.proofs.EscapedBuilt.{escaped_more}
-use Rattle.cc_tree_warnings.proofs.FreeOffers.{IsFreeOffer, both, offers_free, plain_ascii}
-use Rattle.cc_tree_warnings.proofs.FreeTexts.{IsAscii, IsFree, IsPart, ascii_bytes, ascii_free, ascii_part, escaped_free, free_append, part_append, part_flat_map, signs_same}
+use Rattle.cc_tables.proofs.PowershellPlain.{tables_read}
+use Rattle.cc_command.proofs.EscapedBuilt.{escaped_more}
+use Rattle.cc_tables.proofs.PowershellFreeOffers.{IsFreeOffer, both, offers_free, plain_ascii}
+use Rattle.cc_tables.proofs.PowershellFreeTexts.{IsAscii, IsFree, IsPart, ascii_bytes, ascii_free, ascii_part, escaped_free, free_append, part_append, part_flat_map, signs_same}
 
 -- ---- rows
 
@@ -174,10 +173,10 @@ tables_free tree h k =
     (both IsPlainVisit (λ visit. IsEscaped visit.tree) visits (plain_visits tree visits h covers) (visits_escaped tree visits k covers)))
 
 -- the script of a plain tree whose quotes are escaped
-pub escaped_reads : (tree : Tree) → IsTrue (is_plain_tree tree) → IsTrue (is_escaped_tree tree) → ReadsByAllQuotes tree
+escaped_reads : (tree : Tree) → IsTrue (is_plain_tree tree) → IsTrue (is_escaped_tree tree) → ReadsByAllQuotes tree
 unfolding ReadsByAllQuotes powershell_tables powershell_tokens powershell_frame
 escaped_reads tree h k =
-    let plain = powershell_plain_reads tree h in
+    let plain = tables_read tree h in
     let bin : List ℕ = full_name tree.node in
     let free : IsFree (powershell_script tree) =
     script_free bin (path_tables (codes ";") node_offers tree) (plain_ascii bin (plain_full_name tree h)) (tables_free tree h k) in
@@ -186,3 +185,7 @@ escaped_reads tree h k =
       paths = plain.paths;
       keys = plain.keys;
     }
+
+-- what is said of the script of a plain tree
+pub powershell_plain_reads : (tree : Tree) → IsTrue (is_plain_tree tree) → PowershellReads tree
+powershell_plain_reads tree h = record { reads = tables_read tree h; all_quotes = λ k. escaped_reads tree h k }
