@@ -72,7 +72,7 @@ impl Arg {
         self
     }
 
-    /// Adds a short that works and is not shown. Fails with `Memory` alone.
+    /// Adds a short that a parser takes and that is not shown. Fails with `Memory` alone.
     pub fn short_alias(mut self, alias: char) -> Result<Arg, Error>
         ensures ok { IfOk result (λ arg.
             arg ≡ record self { short_aliases = self.short_aliases ++ alias ∷ [] }) }
@@ -92,7 +92,7 @@ impl Arg {
         Ok(added.map(|()| self)?)
     }
 
-    /// Adds a long that works and is not shown. Fails with `Memory` alone.
+    /// Adds a long that a parser takes and that is not shown. Fails with `Memory` alone.
     pub fn alias(mut self, alias: String) -> Result<Arg, Error>
         ensures ok { IfOk result (λ arg.
             arg ≡ record self { aliases = self.aliases ++ string_bytes alias ∷ [] }) }
@@ -302,7 +302,7 @@ impl Arg {
         self.parts.visible_short_aliases.as_slice()
     }
 
-    /// The shorts that work and are not shown.
+    /// The shorts that a parser takes and that are not shown.
     pub fn get_short_aliases(&self) -> &[char]
         ensures { result.now ≡ self.now.short_aliases }
     {
@@ -333,7 +333,7 @@ impl Arg {
         self.parts.visible_aliases.as_slice()
     }
 
-    /// The longs that work and are not shown.
+    /// The longs that a parser takes and that are not shown.
     pub fn get_aliases(&self) -> &[Text]
         ensures { result.now ≡ self.now.aliases }
     {
@@ -420,7 +420,7 @@ impl Arg {
         self.parts.allow_hyphen_values
     }
 
-    /// The number of the completer that is asked for values.
+    /// The number of the completer that returns values.
     pub fn get_completer(&self) -> Option<ArgValueCompleter>
         ensures { result ≡ self.now.completer }
     {

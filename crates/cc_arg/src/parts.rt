@@ -19,13 +19,13 @@ pub struct ArgParts {
     pub id: Text,
     /// The `c` of `-c`.
     pub short: Option<char>,
-    /// Shorts that work and are not shown.
+    /// Shorts that a parser takes and that are not shown.
     pub short_aliases: Items<char>,
     /// Shorts that work and are shown where there is a short.
     pub visible_short_aliases: Items<char>,
     /// The `name` of `--name`.
     pub long: Option<Text>,
-    /// Longs that work and are not shown.
+    /// Longs that a parser takes and that are not shown.
     pub aliases: Items<Text>,
     /// Longs that work and are shown where there is a long.
     pub visible_aliases: Items<Text>,

@@ -22,7 +22,7 @@ pub enum Error {
     NoCompletion,
     /// The list of arguments is empty.
     NoArguments,
-    /// No shell has the name that was asked for. It holds the whole message.
+    /// No shell has the name that was looked for. It holds the whole message.
     UnknownShell(Text),
     /// A text names no shell. It holds the whole message.
     InvalidVariant(Text),

@@ -11,7 +11,7 @@ use crate::error::Error;
 use crate::sink::Sink;
 use std::io::{self, ErrorKind};
 
-/// A sink over a writer whose contract tells what it holds, as a `Vec`, or a `BufWriter` over one.
+/// A sink over a writer whose contract says what it holds, as a `Vec`, or a `BufWriter` over one.
 /// The bytes taken are the bytes that the writer holds, those that it held before among them.
 #[derive(Drop)]
 pub struct Held<W: io::Write> {

@@ -22,7 +22,7 @@ pub struct Node {
     pub long_about: Option<Text>,
     /// What a parser's help ends with.
     pub after_help: Option<Text>,
-    /// Names that work and are not shown.
+    /// Names that a parser takes and that are not shown.
     pub aliases: Items<Text>,
     /// Names that work and are shown.
     pub visible_aliases: Items<Text>,
@@ -46,7 +46,7 @@ pub struct Node {
     pub allow_external_subcommands: bool,
     /// Whether the words of a call do not begin with the program's name.
     pub no_binary_name: bool,
-    /// Whether a parser wants a subcommand.
+    /// Whether a subcommand has to follow.
     pub subcommand_required: bool,
     /// Whether a parser shows the help where there are no arguments.
     pub arg_required_else_help: bool,

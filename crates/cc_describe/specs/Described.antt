@@ -102,7 +102,7 @@ with_arguments tree (arg ∷ rest) =
 abbrev pub command_of : List ℕ → List ℕ → List ArgDescription → Tree
 command_of name about args = with_arguments (named_command name about) (map arg_of args)
 
--- the same, of which a parser wants a subcommand
+-- the same, which a subcommand has to follow
 abbrev pub group_of : List ℕ → List ℕ → List ArgDescription → Tree
 group_of name about args = with_arguments
     (with_root (λ node. record node { subcommand_required = true }) (named_command name about))

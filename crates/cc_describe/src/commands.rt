@@ -27,7 +27,7 @@ pub fn command(
     with_args(alloc, command, args)
 }
 
-/// A command that a parser wants a subcommand of, with its name, what it says of itself, and these
+/// A command that a subcommand has to follow, with its name, what it says of itself, and these
 /// arguments in order. Fails with `Memory` alone.
 pub fn group(
     alloc: Global,

@@ -52,8 +52,8 @@ pub trait Generator {
 /// the command and the bin name are plain. What a bash script says at each command reads back where
 /// the possible values are quiet too (`Command::has_quiet_values`), which building leaves as it is.
 ///
-/// Fails as `build_as` and `Generator::generate` do. Where the build fails, the command stays as it
-/// was and nothing is written; where a later step fails, the command stays built.
+/// Fails with `Memory`, and as `Generator::generate` does. Where the build fails, the command stays
+/// as it was and nothing is written; where a later step fails, the command stays built.
 pub fn generate<G: Generator + Drop, W: Sink>(
     alloc: Global,
     generator: G,

@@ -12,8 +12,8 @@ use cc_arg::Arg;
 use cc_command::Command;
 
 /// Whether each argument of a built command has an index or names, and not both: a positional has
-/// an index and no alias, an option or a flag no index. Where it has, and no argument is global,
-/// the parser takes all that completion offers of the command. Of a tree by `Command`'s builders it
+/// an index and no alias, an option or a flag no index. If so, and if no argument is global, the
+/// parser takes all that completion offers of the command. Of a tree by `Command`'s builders it
 /// is false only where an index was set on an option or a flag, or an alias on a positional.
 ///
 /// It looks at the child `help` that building made too. Allocates nothing.

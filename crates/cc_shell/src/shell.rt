@@ -55,7 +55,7 @@ impl fmt::Display for InvalidShell {
 impl std::error::Error for InvalidShell {}
 
 /// One line for each shell: its variant, which is named as its generator, its text, and the names
-/// of its programs. `$part!` is given the lines, after what is asked for.
+/// of its programs. `$part!` takes the lines, after what the caller wants of them.
 #[macro_export]
 macro_rules! each_shell {
     ($part:ident! $($asked:tt)*) => {

@@ -169,7 +169,6 @@ const OF_VALUES: &str = ", a list of objects such as {\"name\": \"fast\"}";
 
 // Keys of other tools, and what stands for them here.
 const OTHERS: &[(&str, &str, &str)] = &[
-    ("long_about", "about", ""),
     ("description", "about", ""),
     ("value_name", "value_names", ", a list"),
     ("visible_alias", "visible_aliases", ", a list"),

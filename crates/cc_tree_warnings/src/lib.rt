@@ -22,8 +22,8 @@ use cc_command_warnings::command_warnings;
 pub use cc_command_warnings::{Key, Kind, Level, Place, Warning, are_notes};
 use std::alloc::{AllocError, Global};
 
-/// The warnings and notes about a command that is called by this bin name: the given one, else the
-/// command's own, else its name. First come those of `command_warnings`, last the one about two
+/// The warnings and notes about a command that is called by this bin name: that of the call, else
+/// the command's own, else its name. First come those of `command_warnings`, last the one about two
 /// commands that share a label of the bash script, which stands at the root.
 ///
 /// Where there are none but notes, each premise of what scripts promise holds, and the script of

@@ -17,7 +17,7 @@ use Rattle.complgen_c.specs.Live.{EndsBy, MakesReply, RepliesOver, RepliesWithTe
 use Rattle.complgen_c.specs.Requests.{HasParts}
 use Rattle.complgen_c.specs.declared.listed.Listed.{Listed}
 use Rattle.complgen_c.specs.declared.outcome.Outcome.{Outcome}
-use Rattle.complgen_c.specs.declared.outcome.Outcome.TheVariants.{Failed, Made, NotAsked, NotUtf8, WantsFolder}
+use Rattle.complgen_c.specs.declared.outcome.Outcome.TheVariants.{Failed, Made, NotRequested, NotUtf8, WantsFolder}
 use Rattle.complgen_c.specs.declared.requests.Request.{Request}
 use Rattle.complgen_c.proofs.SameFacts.{same_facts}
 
@@ -28,7 +28,7 @@ memory_ends kind (Failed refusal) ends = ends
 memory_ends kind (WantsFolder path) ends = ends
 memory_ends kind (Made text) ends = ends
 memory_ends kind NotUtf8 ends = ends
-memory_ends kind NotAsked ends = ends
+memory_ends kind NotRequested ends = ends
 
 module _ (tree : List ℕ) (words : List (List ℕ)) (env : EnvValues) (facts : FolderFacts)
     (before after : Collected) (empty : collected_bytes before ≡ []) (outcome : Outcome) where

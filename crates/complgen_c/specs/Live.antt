@@ -14,7 +14,7 @@ use Rattle.complgen_run.specs.Refusals.{Reports}
 use Rattle.complgen_c.specs.Listings.{Listing, facts_of}
 use Rattle.complgen_c.specs.Requests.{HoldsVariables, NotUtf8Texts}
 use Rattle.complgen_c.specs.declared.outcome.Outcome.{Outcome}
-use Rattle.complgen_c.specs.declared.outcome.Outcome.TheVariants.{Failed, Made, NotAsked, NotUtf8, WantsFolder}
+use Rattle.complgen_c.specs.declared.outcome.Outcome.TheVariants.{Failed, Made, NotRequested, NotUtf8, WantsFolder}
 
 -- the variable with the user's home folder
 abbrev pub home_name : List ℕ
@@ -47,7 +47,7 @@ ReportsReply error refusal = Reports error refusal
 -- clause can say which it is.
 abbrev pub EndsBy : Result Bool Error → List ℕ → Outcome → Type 0
 EndsBy (Ok true) text outcome = outcome ≡ Made text
-EndsBy (Ok false) text outcome = outcome ≡ NotAsked
+EndsBy (Ok false) text outcome = outcome ≡ NotRequested
 EndsBy (Err error) text (Failed refusal) = ReportsReply error refusal
 EndsBy (Err error) text (WantsFolder path) = ⊤
 EndsBy (Err error) text _ = ⊥

@@ -4,20 +4,20 @@ use Rattle.cc_base.specs.declared.failures.Failures.{Failures}
 use Rattle.complgen_command_line.specs.Refusals as refusals
 use Rattle.complgen_command_line.specs.declared.types.Refusal.{Refusal}
 use Rattle.complgen_c.specs.declared.outcome.Outcome.{Outcome}
-use Rattle.complgen_c.specs.declared.outcome.Outcome.TheVariants.{Failed, Made, NotAsked, NotUtf8, WantsFolder}
+use Rattle.complgen_c.specs.declared.outcome.Outcome.TheVariants.{Failed, Made, NotRequested, NotUtf8, WantsFolder}
 
 abbrev pub status_of : Outcome → ℕ
 status_of (Made text) = 0
 status_of (Failed refusal) = 1
 status_of NotUtf8 = 2
-status_of NotAsked = 3
+status_of NotRequested = 3
 status_of (WantsFolder path) = 4
 
 abbrev pub text_of : Outcome → List ℕ
 text_of (Made text) = text
 text_of (Failed refusal) = refusals.text_of refusal
 text_of NotUtf8 = []
-text_of NotAsked = []
+text_of NotRequested = []
 text_of (WantsFolder path) = path
 
 -- the text stands at the start of the room, if it fits there; else the room is as it was; and the

@@ -153,7 +153,7 @@ fn outcome(
 {
     match replied {
         Ok(true) => Outcome::Made(Items::from(sink.into_vec())),
-        Ok(false) => Outcome::NotAsked,
+        Ok(false) => Outcome::NotRequested,
         Err(error) => without_reply(alloc, &error, wanted),
     }
 }

@@ -16,7 +16,7 @@ pub enum Outcome {
     /// 2: a text that was handed in is not UTF-8.
     NotUtf8,
     /// 3: nothing is requested.
-    NotAsked,
+    NotRequested,
     /// 4: the names in the folder of this path are wanted; the path is the text.
     WantsFolder(Text),
 }
@@ -37,7 +37,7 @@ impl Outcome {
             Outcome::Made(_) => 0,
             Outcome::Failed(_) => 1,
             Outcome::NotUtf8 => 2,
-            Outcome::NotAsked => 3,
+            Outcome::NotRequested => 3,
             Outcome::WantsFolder(_) => 4,
         }
     }
@@ -48,7 +48,7 @@ impl Outcome {
         match self {
             Outcome::Made(text) => text.as_slice(),
             Outcome::Failed(refusal) => refusal.text.as_str().as_bytes(),
-            Outcome::NotUtf8 | Outcome::NotAsked => b"",
+            Outcome::NotUtf8 | Outcome::NotRequested => b"",
             Outcome::WantsFolder(path) => path.as_str().as_bytes(),
         }
     }

@@ -71,7 +71,7 @@ impl Command {
         self
     }
 
-    /// Adds a name that works and is not shown. Fails with `Memory` alone.
+    /// Adds a name that a parser takes and that is not shown. Fails with `Memory` alone.
     pub fn alias(mut self, alias: String) -> Result<Command, Error>
         ensures ok { IfOk result (λ command. command ≡ with_root
             (λ node. record node { aliases = node.aliases ++ string_bytes alias ∷ [] }) self) }
@@ -193,7 +193,7 @@ impl Command {
         self
     }
 
-    /// Says whether a parser wants a subcommand. Scripts and candidates do not change.
+    /// Says whether a subcommand has to follow. Scripts and candidates do not change.
     pub fn subcommand_required(mut self, required: bool) -> Command
         ensures { result
             ≡ with_root (λ node. record node { subcommand_required = required }) self }

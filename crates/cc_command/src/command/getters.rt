@@ -63,7 +63,7 @@ impl Command {
         self.node.visible_aliases.as_slice()
     }
 
-    /// The names that work and are not shown.
+    /// The names that a parser takes and that are not shown.
     pub fn get_aliases(&self) -> &[Text]
         ensures { result.now ≡ self.now.node.aliases }
     {
@@ -115,7 +115,7 @@ impl Command {
         self.node.no_binary_name
     }
 
-    /// Whether a parser wants a subcommand.
+    /// Whether a subcommand has to follow.
     pub fn is_subcommand_required_set(&self) -> bool
         ensures { result ≡ self.now.node.subcommand_required }
     {
