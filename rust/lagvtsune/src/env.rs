@@ -2,7 +2,7 @@
 
 use crate::calls::{self, Answer, Asked};
 use crate::folder::Listing;
-use crate::tree_file::tree_file;
+use crate::tree_file::tree_file_of;
 use clap::error::Result;
 use clap::Command;
 use std::ffi::OsString;
@@ -63,7 +63,7 @@ impl<F: Fn() -> Command> CompleteEnv<F> {
             return Ok(false);
         }
         let mut asked = Asked {
-            tree: tree_file(&(self.factory)()),
+            tree: tree_file_of((self.factory)()),
             words: args.into_iter().map(|arg| arg.into().into_vec()).collect(),
             variables: variables(current_dir),
             listing: Listing::default(),
