@@ -5,6 +5,8 @@ use crate::native::refusing::refused;
 use crate::native::{self, Request, Returned};
 use std::collections::hash_map::DefaultHasher;
 use std::hash::{Hash, Hasher};
+use std::sync::Barrier;
+use std::thread;
 
 const SHELLS: [&str; 6] = ["bash", "elvish", "fish", "nushell", "powershell", "zsh"];
 
@@ -113,6 +115,66 @@ fn a_refused_allocation_of_a_reply_is_an_error_that_loses_nothing() {
     let known = request(Some(&["src", "a.txt"]));
     let count = refuse_each(b".,a.txt,src/", |room| native::live(&known, room));
     assert!(count > 20, "only {count} allocations");
+}
+
+/// Requests for a registration, for words that begin with these and for a path.
+const LINES: [&[&str]; 5] = [
+    &["app"],
+    &["app", "--", "app", ""],
+    &["app", "--", "app", "--c"],
+    &["app", "--", "app", "--color", ""],
+    &WORDS,
+];
+
+/// The shells that request.
+const LIVE_SHELLS: [&str; 5] = ["bash", "elvish", "fish", "powershell", "zsh"];
+
+/// The status and the text of the answer to a request of a shell with these words.
+fn answer(shell: &str, words: &[&str]) -> (u8, Vec<u8>) {
+    let index = words.len().saturating_sub(3).to_string();
+    let variables =
+        ["COMPLETE", shell, "_CLAP_COMPLETE_INDEX", &index, "_CLAP_IFS", "\n", "PWD", "/w"];
+    let asked = Request {
+        words: slices(words),
+        variables: slices(&variables),
+        ..request(Some(&["src", "a.txt"]))
+    };
+    let mut room = vec![0; 1 << 16];
+    let Returned { status, length } = native::live(&asked, &mut room);
+    (status, room[..length].to_vec())
+}
+
+/// The answers to all requests, of which the one with this number is made first.
+fn answers(first: usize) -> Vec<(u8, Vec<u8>)> {
+    let requests = LIVE_SHELLS.iter().flat_map(|shell| LINES.iter().map(move |line| (shell, line)));
+    let mut requests: Vec<_> = requests.collect();
+    requests.rotate_left(first);
+    requests.into_iter().map(|(shell, line)| answer(shell, line)).collect()
+}
+
+#[test]
+fn requests_at_once_are_answered_as_one_by_one() {
+    const THREADS: usize = 8;
+    const ROUNDS: usize = 4;
+    let alone = answers(0);
+    assert!(alone.iter().all(|(status, text)| *status == 0 && !text.is_empty()), "{alone:?}");
+    let ready = Barrier::new(THREADS);
+    // Each thread begins with another request, and does not wait for the others again.
+    let rounds = |first: usize| {
+        ready.wait();
+        [(); ROUNDS].map(|()| answers(first))
+    };
+    thread::scope(|scope| {
+        let rounds = &rounds;
+        let starts: [usize; THREADS] = std::array::from_fn(|thread| 3 * thread);
+        let calls = starts.map(|first| (first, scope.spawn(move || rounds(first))));
+        for (first, call) in calls {
+            let mut expected = alone.clone();
+            expected.rotate_left(first);
+            let made = call.join().unwrap();
+            assert!(made.iter().all(|answers| *answers == expected), "from request {first}");
+        }
+    });
 }
 
 /// Numbers that follow from a seed.
