@@ -3,8 +3,11 @@
 use crate::calls::slices;
 use crate::native::refusing::refused;
 use crate::native::{self, Request, Returned};
+use crate::tree_file::tree_file;
+use clap::{value_parser, Arg, ArgAction, ArgGroup, Command};
 use std::collections::hash_map::DefaultHasher;
 use std::hash::{Hash, Hasher};
+use std::path::PathBuf;
 use std::sync::Barrier;
 use std::thread;
 
@@ -15,6 +18,35 @@ const TREE: &str = r#"{"name": "app", "version": "1", "args": [
      "possible_values": [{"name": "auto"}, {"name": "never", "help": "None"}]}],
     "subcommands": [{"name": "run", "visible_aliases": ["r"], "about": "Run it",
      "args": [{"id": "file", "long": "file", "value_hint": "AnyPath"}]}]}"#;
+
+#[test]
+fn a_tree_file_has_what_a_built_command_tells() {
+    let flag = |name| Arg::new(name).long(name).action(ArgAction::SetTrue);
+    let files = Arg::new("files").num_args(0..).conflicts_with("out");
+    let command = Command::new("app")
+        .version("1")
+        .propagate_version(true)
+        .disable_help_flag(true)
+        .arg(Arg::new("out").long("out").value_parser(value_parser!(PathBuf)).global(true))
+        .args([flag("plain"), flag("color").group("style")])
+        .arg(flag("quiet").conflicts_with("style").conflicts_with("version"))
+        .group(ArgGroup::new("style").arg("plain"))
+        .subcommand(Command::new("run").arg(files));
+    let text = tree_file(&command);
+    for part in [
+        r#"{"name": "app", "version": "1", "disable_help_flag": true,"#,
+        r#""long": "out", "action": "Set", "value_hint": "AnyPath", "global": true"#,
+        "\"conflicts_with\": [\"plain\",\n\"color\",\n\"version\"]",
+        r#"{"name": "run", "version": "1", "disable_help_flag": true,"#,
+        r#""action": "Append", "num_args": [0, null], "conflicts_with": ["out"]"#,
+    ] {
+        assert!(text.contains(part), "{part} is not in {text}");
+    }
+    for added in [r#""id": "version""#, r#""name": "help""#] {
+        assert!(!text.contains(added), "{added} is in {text}");
+    }
+    assert_eq!(text, tree_file(&command));
+}
 
 /// A call with this much room: its status, its length, and what is in the room.
 fn call(shell: &str, bin: &[u8], tree: &[u8], size: usize) -> (u8, usize, Vec<u8>) {

@@ -8,7 +8,7 @@ use std::mem;
 const NO_ORDER: usize = 999;
 
 /// The bytes of the first room for a tree file.
-const LEAST_ROOM: usize = 4096;
+const LEAST_ROOM: usize = 8 << 10;
 
 /// Getters that early releases of clap 4 keep private: there these stand in for them, and later
 /// the getters of the same names in clap take precedence.
@@ -48,8 +48,9 @@ fn declared_children(command: &Command) -> Vec<usize> {
 
 /// Builds this command alone, which hands on to its children what they inherit.
 ///
-/// Of clap's public calls only those do it that render something; a usage that is given is the least
-/// of these. `Command::build` renders one for each command, and copies all trees for the child `help`.
+/// Of clap's public calls only those do it that render something; a usage that is given is the
+/// least of these. `Command::build` renders one for each command, and copies all below a command
+/// for its child `help`.
 fn build_alone(command: &mut Command) {
     *command = mem::take(command).override_usage("");
     command.render_usage();
