@@ -1,6 +1,7 @@
 //! Tests of the library's functions over any bytes, and with allocations that are refused.
 
 use crate::calls::slices;
+use crate::folder::likely_folder;
 use crate::native::refusing::refused;
 use crate::native::{self, Request, Returned};
 use crate::tree_file::tree_file;
@@ -9,7 +10,7 @@ use std::collections::hash_map::DefaultHasher;
 use std::hash::{Hash, Hasher};
 use std::path::PathBuf;
 use std::sync::Barrier;
-use std::thread;
+use std::{str, thread};
 
 const SHELLS: [&str; 6] = ["bash", "elvish", "fish", "nushell", "powershell", "zsh"];
 
@@ -140,6 +141,33 @@ fn a_reply_wants_the_names_of_a_folder_and_then_has_its_paths() {
     let mut room = vec![0; length];
     assert_eq!(native::live(&known, &mut room).status, 0);
     assert_eq!(room, b".,a.txt,src/");
+}
+
+#[test]
+fn the_likely_folder_is_the_wanted_one() {
+    let variables = ["COMPLETE", "fish", "HOME", "/home/me", "PWD", "/w"];
+    for word in ["src/", "src/m", "/", "/x", "/x/y", "~/", "~/s/t", "./", "../", "a b/../c", "s//t"]
+    {
+        let words = ["app", "--", "app", "run", "--file", word];
+        let asked =
+            Request { words: slices(&words), variables: slices(&variables), ..request(None) };
+        let mut room = vec![0; 100];
+        let Returned { status, length } = native::live(&asked, &mut room);
+        let wanted = str::from_utf8(&room[..length]).unwrap();
+        assert_eq!(status, 4, "{word}");
+        let likely = |word: &str| likely_folder(word, Some("/home/me"), Some("/w"));
+        assert_eq!(likely(word).as_deref(), Some(wanted), "{word}");
+        assert_eq!(likely(&format!("--file={word}")).as_deref(), Some(wanted), "{word}");
+    }
+}
+
+#[test]
+fn a_word_without_a_slash_has_no_likely_folder() {
+    for word in ["", "src", "~", "..", "--file=a"] {
+        assert_eq!(likely_folder(word, Some("/home/me"), Some("/w")), None);
+    }
+    assert_eq!(likely_folder("~/", None, Some("/w")), None);
+    assert_eq!(likely_folder("src/", Some("/home/me"), None), None);
 }
 
 #[test]
