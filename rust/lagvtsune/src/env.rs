@@ -1,15 +1,15 @@
 //! Live completion.
 
 use crate::calls::{self, Answer, Asked};
-use crate::folder::Listing;
-use crate::tree_file::tree_file;
+use crate::folder::{self, Listing};
+use crate::tree_file::tree_file_of;
 use clap::error::Result;
 use clap::Command;
 use std::ffi::OsString;
 use std::io::{self, Write};
 use std::os::unix::ffi::OsStringExt;
 use std::path::Path;
-use std::{env, process};
+use std::{env, process, str};
 
 /// The variable by which a shell requests a registration or a reply.
 const REQUEST: &str = "COMPLETE";
@@ -62,11 +62,16 @@ impl<F: Fn() -> Command> CompleteEnv<F> {
         if env::var_os(REQUEST).is_none_or(|asked| asked.is_empty() || asked == "0") {
             return Ok(false);
         }
+        let home = env::var(HOME).ok().filter(|path| !path.is_empty());
+        let current_dir = current_dir.and_then(Path::to_str);
+        let words: Vec<_> = args.into_iter().map(|arg| arg.into().into_vec()).collect();
+        let likely = typed_word(&words)
+            .and_then(|word| folder::likely_folder(word, home.as_deref(), current_dir));
         let mut asked = Asked {
-            tree: tree_file(&(self.factory)()),
-            words: args.into_iter().map(|arg| arg.into().into_vec()).collect(),
-            variables: variables(current_dir),
-            listing: Listing::default(),
+            tree: tree_file_of((self.factory)()),
+            variables: variables(home.as_deref(), current_dir),
+            words,
+            listing: likely.map(Listing::of).unwrap_or_default(),
         };
         let mut answer = calls::live(&asked)?;
         if let Answer::WantsFolder(path) = answer {
@@ -85,11 +90,17 @@ impl<F: Fn() -> Command> CompleteEnv<F> {
     }
 }
 
+/// The word that is completed where the shell passes none behind it; none for a registration, which
+/// has no words behind `--`.
+fn typed_word(words: &[Vec<u8>]) -> Option<&str> {
+    let (last, before) = words.split_last()?;
+    let is_reply = before.iter().skip(1).any(|word| word == b"--");
+    is_reply.then(|| str::from_utf8(last).ok())?
+}
+
 /// Names and values in turn, of the variables that are set. A folder whose path is not UTF-8, or
 /// empty, is left out.
-fn variables(current_dir: Option<&Path>) -> Vec<Vec<u8>> {
-    let home = env::var(HOME).ok().filter(|path| !path.is_empty());
-    let current_dir = current_dir.and_then(Path::to_str).map(String::from);
+fn variables(home: Option<&str>, current_dir: Option<&str>) -> Vec<Vec<u8>> {
     let folders = [(HOME, home), (CURRENT_DIR, current_dir)];
     let folders = folders.map(|(name, path)| (name, path.map(OsString::from)));
     let asked = [REQUEST, INDEX, SEPARATOR].map(|name| (name, env::var_os(name)));

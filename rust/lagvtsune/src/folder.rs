@@ -3,6 +3,32 @@
 use std::fs::{self, Metadata};
 use std::path::Path;
 
+/// The folder whose names a reply for this word wants, if it is a path, or an option with one: so
+/// the library need not be called once only to learn it. None for a word without a slash, which
+/// mostly is no path. Where this is not the folder that is wanted, the library says so.
+pub(crate) fn likely_folder(
+    word: &str,
+    home: Option<&str>,
+    current_dir: Option<&str>,
+) -> Option<String> {
+    let value = match word.split_once('=') {
+        Some((option, value)) if option.starts_with("--") => value,
+        _ => word,
+    };
+    let path = Path::new(value);
+    let prefix = match path.file_name() {
+        Some(_) if !value.ends_with('/') => path.parent()?.to_str()?,
+        _ => value,
+    };
+    let (base, rest) = match prefix.split_once('/') {
+        Some(("~", rest)) => (home?, rest.trim_start_matches('/')),
+        None if prefix == "~" => (home?, ""),
+        _ => (current_dir?, prefix),
+    };
+    let folder = Path::new(base).join(rest);
+    value.contains('/').then(|| folder.into_os_string().into_string().ok())?
+}
+
 /// The path of a folder, the names in it, and which of their paths are folders and files.
 #[derive(Default)]
 pub(crate) struct Listing {

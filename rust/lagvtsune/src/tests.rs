@@ -1,10 +1,16 @@
 //! Tests of the library's functions over any bytes, and with allocations that are refused.
 
 use crate::calls::slices;
+use crate::folder::likely_folder;
 use crate::native::refusing::refused;
 use crate::native::{self, Request, Returned};
+use crate::tree_file::tree_file;
+use clap::{value_parser, Arg, ArgAction, ArgGroup, Command};
 use std::collections::hash_map::DefaultHasher;
 use std::hash::{Hash, Hasher};
+use std::path::PathBuf;
+use std::sync::Barrier;
+use std::{str, thread};
 
 const SHELLS: [&str; 6] = ["bash", "elvish", "fish", "nushell", "powershell", "zsh"];
 
@@ -13,6 +19,35 @@ const TREE: &str = r#"{"name": "app", "version": "1", "args": [
      "possible_values": [{"name": "auto"}, {"name": "never", "help": "None"}]}],
     "subcommands": [{"name": "run", "visible_aliases": ["r"], "about": "Run it",
      "args": [{"id": "file", "long": "file", "value_hint": "AnyPath"}]}]}"#;
+
+#[test]
+fn a_tree_file_has_what_a_built_command_tells() {
+    let flag = |name| Arg::new(name).long(name).action(ArgAction::SetTrue);
+    let files = Arg::new("files").num_args(0..).conflicts_with("out");
+    let command = Command::new("app")
+        .version("1")
+        .propagate_version(true)
+        .disable_help_flag(true)
+        .arg(Arg::new("out").long("out").value_parser(value_parser!(PathBuf)).global(true))
+        .args([flag("plain"), flag("color").group("style")])
+        .arg(flag("quiet").conflicts_with("style").conflicts_with("version"))
+        .group(ArgGroup::new("style").arg("plain"))
+        .subcommand(Command::new("run").arg(files));
+    let text = tree_file(&command);
+    for part in [
+        r#"{"name": "app", "version": "1", "disable_help_flag": true,"#,
+        r#""long": "out", "action": "Set", "value_hint": "AnyPath", "global": true"#,
+        "\"conflicts_with\": [\"plain\",\n\"color\",\n\"version\"]",
+        r#"{"name": "run", "version": "1", "disable_help_flag": true,"#,
+        r#""action": "Append", "num_args": [0, null], "conflicts_with": ["out"]"#,
+    ] {
+        assert!(text.contains(part), "{part} is not in {text}");
+    }
+    for added in [r#""id": "version""#, r#""name": "help""#] {
+        assert!(!text.contains(added), "{added} is in {text}");
+    }
+    assert_eq!(text, tree_file(&command));
+}
 
 /// A call with this much room: its status, its length, and what is in the room.
 fn call(shell: &str, bin: &[u8], tree: &[u8], size: usize) -> (u8, usize, Vec<u8>) {
@@ -109,10 +144,97 @@ fn a_reply_wants_the_names_of_a_folder_and_then_has_its_paths() {
 }
 
 #[test]
+fn the_likely_folder_is_the_wanted_one() {
+    let variables = ["COMPLETE", "fish", "HOME", "/home/me", "PWD", "/w"];
+    for word in ["src/", "src/m", "/", "/x", "/x/y", "~/", "~/s/t", "./", "../", "a b/../c", "s//t"]
+    {
+        let words = ["app", "--", "app", "run", "--file", word];
+        let asked =
+            Request { words: slices(&words), variables: slices(&variables), ..request(None) };
+        let mut room = vec![0; 100];
+        let Returned { status, length } = native::live(&asked, &mut room);
+        let wanted = str::from_utf8(&room[..length]).unwrap();
+        assert_eq!(status, 4, "{word}");
+        let likely = |word: &str| likely_folder(word, Some("/home/me"), Some("/w"));
+        assert_eq!(likely(word).as_deref(), Some(wanted), "{word}");
+        assert_eq!(likely(&format!("--file={word}")).as_deref(), Some(wanted), "{word}");
+    }
+}
+
+#[test]
+fn a_word_without_a_slash_has_no_likely_folder() {
+    for word in ["", "src", "~", "..", "--file=a"] {
+        assert_eq!(likely_folder(word, Some("/home/me"), Some("/w")), None);
+    }
+    assert_eq!(likely_folder("~/", None, Some("/w")), None);
+    assert_eq!(likely_folder("src/", Some("/home/me"), None), None);
+}
+
+#[test]
 fn a_refused_allocation_of_a_reply_is_an_error_that_loses_nothing() {
     let known = request(Some(&["src", "a.txt"]));
     let count = refuse_each(b".,a.txt,src/", |room| native::live(&known, room));
     assert!(count > 20, "only {count} allocations");
+}
+
+/// Requests for a registration, for words that begin with these and for a path.
+const LINES: [&[&str]; 5] = [
+    &["app"],
+    &["app", "--", "app", ""],
+    &["app", "--", "app", "--c"],
+    &["app", "--", "app", "--color", ""],
+    &WORDS,
+];
+
+/// The shells that request.
+const LIVE_SHELLS: [&str; 5] = ["bash", "elvish", "fish", "powershell", "zsh"];
+
+/// The status and the text of the answer to a request of a shell with these words.
+fn answer(shell: &str, words: &[&str]) -> (u8, Vec<u8>) {
+    let index = words.len().saturating_sub(3).to_string();
+    let variables =
+        ["COMPLETE", shell, "_CLAP_COMPLETE_INDEX", &index, "_CLAP_IFS", "\n", "PWD", "/w"];
+    let asked = Request {
+        words: slices(words),
+        variables: slices(&variables),
+        ..request(Some(&["src", "a.txt"]))
+    };
+    let mut room = vec![0; 1 << 16];
+    let Returned { status, length } = native::live(&asked, &mut room);
+    (status, room[..length].to_vec())
+}
+
+/// The answers to all requests, of which the one with this number is made first.
+fn answers(first: usize) -> Vec<(u8, Vec<u8>)> {
+    let requests = LIVE_SHELLS.iter().flat_map(|shell| LINES.iter().map(move |line| (shell, line)));
+    let mut requests: Vec<_> = requests.collect();
+    requests.rotate_left(first);
+    requests.into_iter().map(|(shell, line)| answer(shell, line)).collect()
+}
+
+#[test]
+fn requests_at_once_are_answered_as_one_by_one() {
+    const THREADS: usize = 8;
+    const ROUNDS: usize = 4;
+    let alone = answers(0);
+    assert!(alone.iter().all(|(status, text)| *status == 0 && !text.is_empty()), "{alone:?}");
+    let ready = Barrier::new(THREADS);
+    // Each thread begins with another request, and does not wait for the others again.
+    let rounds = |first: usize| {
+        ready.wait();
+        [(); ROUNDS].map(|()| answers(first))
+    };
+    thread::scope(|scope| {
+        let rounds = &rounds;
+        let starts: [usize; THREADS] = std::array::from_fn(|thread| 3 * thread);
+        let calls = starts.map(|first| (first, scope.spawn(move || rounds(first))));
+        for (first, call) in calls {
+            let mut expected = alone.clone();
+            expected.rotate_left(first);
+            let made = call.join().unwrap();
+            assert!(made.iter().all(|answers| *answers == expected), "from request {first}");
+        }
+    });
 }
 
 /// Numbers that follow from a seed.

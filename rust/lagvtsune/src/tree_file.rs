@@ -1,10 +1,14 @@
 //! Writes a `clap::Command` as a tree file of `complgen`, with clap and the standard library alone.
 
-use clap::builder::{PossibleValue, Str};
+use clap::builder::{PossibleValue, Str, ValueRange};
 use clap::{Arg, Command, ValueHint};
-use std::fmt::Write;
+use std::fmt::{self, Debug, Display, Write};
+use std::mem;
 
 const NO_ORDER: usize = 999;
+
+/// The bytes of the first room for a tree file.
+const LEAST_ROOM: usize = 8 << 10;
 
 /// Getters that early releases of clap 4 keep private: there these stand in for them, and later
 /// the getters of the same names in clap take precedence.
@@ -23,89 +27,123 @@ impl LaterGetters for Command {}
 
 /// The tree file of a command that was not built yet.
 pub fn tree_file(command: &Command) -> String {
-    // What is inherited, and whom an argument conflicts with, is only told by a built command.
-    let mut built = command.clone();
-    built.build();
-    let mut out = String::with_capacity(4096);
-    command_object(&mut out, command, &built);
+    tree_file_of(command.clone())
+}
+
+/// As [`tree_file`], of a command that is not needed after.
+pub fn tree_file_of(mut command: Command) -> String {
+    let declared = command.get_arguments().count();
+    let mut out = String::with_capacity(LEAST_ROOM);
+    command_object(&mut out, &mut command, declared);
     out.push('\n');
     out
 }
 
-/// A command as it was declared, with the settings and the version that it has once it is built.
-fn command_object(out: &mut String, command: &Command, built: &Command) {
-    let version = built.get_version().or(built.get_long_version());
-    let visible: Vec<&str> = command.get_visible_aliases().collect();
-    let hidden = command.get_all_aliases().filter(|alias| !visible.contains(alias));
-    // What building added stands after what was declared, so pairs end with the declared ones.
-    let args = command.get_arguments().zip(built.get_arguments());
-    let children = command.get_subcommands().zip(built.get_subcommands());
-    let no_help_child = command.has_subcommands() && built.is_disable_help_subcommand_set();
+/// The numbers of children that are declared, and of the arguments of each.
+///
+/// What building adds stands after them.
+fn declared_children(command: &Command) -> Vec<usize> {
+    command.get_subcommands().map(|child| child.get_arguments().count()).collect()
+}
+
+/// Builds this command alone, which hands on to its children what they inherit.
+///
+/// Of clap's public calls only those do it that render something; a usage that is given is the
+/// least of these. `Command::build` renders one for each command, and copies all below a command
+/// for its child `help`.
+fn build_alone(command: &mut Command) {
+    *command = mem::take(command).override_usage("");
+    command.render_usage();
+}
+
+/// A command with so many arguments of its own, and with what it inherits.
+fn command_object(out: &mut String, command: &mut Command, arg_count: usize) {
+    // What is inherited, and whom an argument conflicts with, is only told by a built command.
+    let args: Vec<Declared> = command.get_arguments().take(arg_count).map(Declared::of).collect();
+    let children = declared_children(command);
+    build_alone(command);
     let mut object = Object::new(out);
-    object.text("name", Some(command.get_name()));
-    object.text("bin_name", command.get_bin_name());
-    object.text("about", command.get_about().map(|about| about.to_string()));
-    object.text("long_about", command.get_long_about().map(|about| about.to_string()));
-    object.text("after_help", command.get_after_help().map(|help| help.to_string()));
-    object.text("version", version);
-    object.text("subcommand_help_heading", command.get_subcommand_help_heading());
-    object.list("visible_aliases", &visible, |out, it| quote(out, it));
-    object.list("aliases", hidden, quote);
-    object.flag("hide", command.is_hide_set());
-    object.flag("disable_help_flag", built.is_disable_help_flag_set());
-    object.flag("disable_version_flag", version.is_some() && built.is_disable_version_flag_set());
-    object.flag("disable_help_subcommand", no_help_child);
-    object.flag("allow_external_subcommands", built.is_allow_external_subcommands_set());
-    object.order(command.get_display_order());
-    object.flag("no_binary_name", built.is_no_binary_name_set());
-    object.flag("subcommand_required", built.is_subcommand_required_set());
-    object.flag("arg_required_else_help", built.is_arg_required_else_help_set());
-    object.list("args", args, |out, (arg, made)| arg_object(out, arg, made, built));
-    object.list("subcommands", children, |out, (child, made)| command_object(out, child, made));
+    command_texts(&mut object, command);
+    command_flags(&mut object, command, !children.is_empty());
+    let args = command.get_arguments().zip(&args);
+    object.list("args", args, |out, (arg, declared)| arg_object(out, arg, declared, command));
+    let children = command.get_subcommands_mut().zip(children);
+    object.list("subcommands", children, |out, (child, count)| command_object(out, child, count));
     object.end()
 }
 
-/// An argument as it was declared, and as it is in the built command.
-fn arg_object(out: &mut String, arg: &Arg, made: &Arg, built: &Command) {
-    let visible = arg.get_visible_aliases().unwrap_or_default();
-    let mut hidden = arg.get_all_aliases().unwrap_or_default();
-    hidden.retain(|alias| !visible.contains(alias));
-    let visible_shorts = arg.get_visible_short_aliases().unwrap_or_default();
-    let mut hidden_shorts = arg.get_all_short_aliases().unwrap_or_default();
-    hidden_shorts.retain(|alias| !visible_shorts.contains(alias));
-    let conflicts = built.get_arg_conflicts_with(made);
-    // A tree file has room for one default value. Building adds some that were not declared.
-    let default = match arg.get_default_values() {
-        [value] => value.to_str(),
-        _ => None,
-    };
+fn command_texts(object: &mut Object<'_>, command: &Command) {
+    let visible: Vec<&str> = command.get_visible_aliases().collect();
+    let hidden = command.get_all_aliases().filter(|alias| !visible.contains(alias));
+    object.text("name", Some(command.get_name()));
+    object.text("bin_name", command.get_bin_name());
+    object.shown("about", command.get_about());
+    object.shown("long_about", command.get_long_about());
+    object.shown("after_help", command.get_after_help());
+    object.text("version", version(command));
+    object.text("subcommand_help_heading", command.get_subcommand_help_heading());
+    object.list("visible_aliases", &visible, |out, it| quote(out, it));
+    object.list("aliases", hidden, quote);
+}
+
+fn version(command: &Command) -> Option<&str> {
+    command.get_version().or(command.get_long_version())
+}
+
+fn command_flags(object: &mut Object<'_>, command: &Command, has_children: bool) {
+    let no_version_flag = version(command).is_some() && command.is_disable_version_flag_set();
+    let no_help_child = has_children && command.is_disable_help_subcommand_set();
+    object.flag("hide", command.is_hide_set());
+    object.flag("disable_help_flag", command.is_disable_help_flag_set());
+    object.flag("disable_version_flag", no_version_flag);
+    object.flag("disable_help_subcommand", no_help_child);
+    object.flag("allow_external_subcommands", command.is_allow_external_subcommands_set());
+    object.order(command.get_display_order());
+    object.flag("no_binary_name", command.is_no_binary_name_set());
+    object.flag("subcommand_required", command.is_subcommand_required_set());
+    object.flag("arg_required_else_help", command.is_arg_required_else_help_set());
+}
+
+/// What of an argument building fills in where it was not declared.
+struct Declared {
+    num_args: Option<ValueRange>,
+    index: Option<usize>,
+    /// Whether there is one default value, for which a tree file has room.
+    default: bool,
+}
+
+impl Declared {
+    fn of(arg: &Arg) -> Declared {
+        Declared {
+            num_args: arg.get_num_args(),
+            index: arg.get_index(),
+            default: arg.get_default_values().len() == 1,
+        }
+    }
+}
+
+/// An argument as it was declared, of a command that is built.
+fn arg_object(out: &mut String, arg: &Arg, declared: &Declared, command: &Command) {
     let mut object = Object::new(out);
     object.text("id", Some(arg.get_id().as_str()));
-    object.text("short", arg.get_short().map(String::from));
-    object.text("long", arg.get_long());
-    object.list("visible_short_aliases", visible_shorts, quote_char);
-    object.list("short_aliases", hidden_shorts, quote_char);
-    object.list("visible_aliases", visible, quote);
-    object.list("aliases", hidden, quote);
-    object.text("help", arg.get_help().map(|help| help.to_string()));
-    object.text("action", Some(format!("{:?}", made.get_action())));
-    if let Some(range) = arg.get_num_args() {
-        let out = object.key("num_args");
-        let _ = match range.max_values() {
-            usize::MAX => write!(out, "[{}, null]", range.min_values()),
-            most => write!(out, "[{}, {most}]", range.min_values()),
-        };
+    arg_names(&mut object, arg);
+    object.shown("help", arg.get_help());
+    object.word("action", arg.get_action());
+    if let Some(range) = declared.num_args {
+        value_range(object.key("num_args"), range);
     }
-    object.list("value_names", arg.get_value_names().unwrap_or(&[]), |out, it| {
-        quote(out, it.as_str())
-    });
-    object.list("possible_values", &made.get_possible_values(), value_object);
-    let hint = Some(made.get_value_hint()).filter(|hint| *hint != ValueHint::Unknown);
-    object.text("value_hint", hint.map(|hint| format!("{hint:?}")));
+    object.list("value_names", arg.get_value_names().unwrap_or(&[]), |out, it| quote(out, it));
+    object.list("possible_values", &arg.get_possible_values(), value_object);
+    let hint = arg.get_value_hint();
+    if hint != ValueHint::Unknown {
+        object.word("value_hint", hint);
+    }
     object.text("value_terminator", arg.get_value_terminator().map(|it| it.as_str()));
-    object.text("default_value", default);
+    let default = arg.get_default_values().first().filter(|_| declared.default);
+    object.text("default_value", default.and_then(|value| value.to_str()));
+    let conflicts = command.get_arg_conflicts_with(arg);
     object.list("conflicts_with", conflicts, |out, it| quote(out, it.get_id().as_str()));
-    if let Some(index) = arg.get_index() {
+    if let Some(index) = declared.index {
         object.number("index", index);
     }
     object.flag("required", arg.is_required_set());
@@ -113,16 +151,43 @@ fn arg_object(out: &mut String, arg: &Arg, made: &Arg, built: &Command) {
     object.flag("global", arg.is_global_set());
     object.flag("hide", arg.is_hide_set());
     object.text("help_heading", arg.get_help_heading());
-    object.text("value_delimiter", arg.get_value_delimiter().map(String::from));
+    if let Some(delimiter) = arg.get_value_delimiter() {
+        quote_char(object.key("value_delimiter"), delimiter);
+    }
     object.order(arg.get_display_order());
-    object.flag("allow_hyphen_values", made.is_allow_hyphen_values_set());
+    object.flag("allow_hyphen_values", arg.is_allow_hyphen_values_set());
     object.end()
+}
+
+/// The names of an option, the hidden ones apart.
+fn arg_names(object: &mut Object<'_>, arg: &Arg) {
+    let visible = arg.get_visible_aliases().unwrap_or_default();
+    let hidden = arg.get_all_aliases().unwrap_or_default();
+    let hidden = hidden.into_iter().filter(|alias| !visible.contains(alias));
+    let visible_shorts = arg.get_visible_short_aliases().unwrap_or_default();
+    let hidden_shorts = arg.get_all_short_aliases().unwrap_or_default();
+    let hidden_shorts = hidden_shorts.into_iter().filter(|alias| !visible_shorts.contains(alias));
+    if let Some(short) = arg.get_short() {
+        quote_char(object.key("short"), short);
+    }
+    object.text("long", arg.get_long());
+    object.list("visible_short_aliases", visible_shorts.iter().copied(), quote_char);
+    object.list("short_aliases", hidden_shorts, quote_char);
+    object.list("visible_aliases", &visible, |out, it| quote(out, it));
+    object.list("aliases", hidden, quote);
+}
+
+fn value_range(out: &mut String, range: ValueRange) {
+    let _ = match range.max_values() {
+        usize::MAX => write!(out, "[{}, null]", range.min_values()),
+        most => write!(out, "[{}, {most}]", range.min_values()),
+    };
 }
 
 fn value_object(out: &mut String, value: &PossibleValue) {
     let mut object = Object::new(out);
     object.text("name", Some(value.get_name()));
-    object.text("help", value.get_help().map(|help| help.to_string()));
+    object.shown("help", value.get_help());
     object.flag("hide", value.is_hide_set());
     object.end()
 }
@@ -130,22 +195,21 @@ fn value_object(out: &mut String, value: &PossibleValue) {
 /// A JSON object that is being written. What is not given, empty or `false` is left out.
 struct Object<'o> {
     out: &'o mut String,
-    any: bool,
+    /// What stands before the next key.
+    between: &'static str,
 }
 
 impl<'o> Object<'o> {
     fn new(out: &'o mut String) -> Object<'o> {
-        out.push('{');
-        Object { out, any: false }
+        Object { out, between: "{\"" }
     }
 
+    /// Begins a member, whose key is plain.
     fn key(&mut self, key: &str) -> &mut String {
-        if self.any {
-            self.out.push_str(", ");
-        }
-        self.any = true;
-        quote(self.out, key);
-        self.out.push_str(": ");
+        self.out.push_str(self.between);
+        self.between = ", \"";
+        self.out.push_str(key);
+        self.out.push_str("\": ");
         self.out
     }
 
@@ -153,10 +217,25 @@ impl<'o> Object<'o> {
         let _ = write!(self.key(key), "{value}");
     }
 
-    fn text(&mut self, key: &str, value: Option<impl AsRef<str>>) {
+    fn text(&mut self, key: &str, value: Option<&str>) {
         if let Some(value) = value {
-            quote(self.key(key), value.as_ref());
+            quote(self.key(key), value);
         }
+    }
+
+    /// As `text`, of what is shown.
+    fn shown(&mut self, key: &str, value: Option<impl Display>) {
+        if let Some(value) = value {
+            let out = self.key(key);
+            out.push('"');
+            let _ = write!(Escaped(out), "{value}");
+            out.push('"');
+        }
+    }
+
+    /// As `text`, of a name in clap.
+    fn word(&mut self, key: &str, value: impl Debug) {
+        let _ = write!(self.key(key), "\"{value:?}\"");
     }
 
     fn flag(&mut self, key: &str, value: bool) {
@@ -177,16 +256,16 @@ impl<'o> Object<'o> {
         items: impl IntoIterator<Item = T>,
         put: impl Fn(&mut String, T),
     ) {
-        let mut items = items.into_iter().peekable();
-        if items.peek().is_none() {
+        let mut items = items.into_iter();
+        let Some(first) = items.next() else {
             return;
-        }
+        };
         let out = self.key(key);
-        let mut between = "[";
+        out.push('[');
+        put(out, first);
         for item in items {
-            out.push_str(between);
+            out.push_str(",\n");
             put(out, item);
-            between = ",\n";
         }
         out.push(']');
     }
@@ -199,18 +278,38 @@ impl<'o> Object<'o> {
 /// Adds a text as a JSON string.
 fn quote(json: &mut String, text: &str) {
     json.push('"');
-    for c in text.chars() {
-        match c {
-            '"' | '\\' => json.extend(['\\', c]),
-            '\u{0}'..='\u{1f}' => {
-                let _ = write!(json, "\\u{:04x}", c as u32);
-            }
-            c => json.push(c),
-        }
-    }
+    escape(json, text);
     json.push('"');
 }
 
 fn quote_char(json: &mut String, c: char) {
     quote(json, c.encode_utf8(&mut [0; 4]));
+}
+
+/// What is written to it stands inside a JSON string.
+struct Escaped<'o>(&'o mut String);
+
+impl Write for Escaped<'_> {
+    fn write_str(&mut self, text: &str) -> fmt::Result {
+        escape(self.0, text);
+        Ok(())
+    }
+}
+
+/// Adds a text as it stands inside a JSON string.
+fn escape(json: &mut String, text: &str) {
+    let mut plain = 0;
+    for (at, byte) in text.bytes().enumerate() {
+        if byte >= b' ' && byte != b'"' && byte != b'\\' {
+            continue;
+        }
+        json.push_str(&text[plain..at]);
+        let _ = match byte {
+            b'"' => json.write_str("\\\""),
+            b'\\' => json.write_str("\\\\"),
+            _ => write!(json, "\\u{byte:04x}"),
+        };
+        plain = at + 1;
+    }
+    json.push_str(&text[plain..]);
 }

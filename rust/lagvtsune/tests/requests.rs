@@ -105,5 +105,12 @@ fn paths_of_a_folder() {
     assert_eq!(typed(folder.join("")), [folder.join("a.txt"), folder.join("src/")]);
     assert_eq!(typed(folder.join(".g")), [folder.join(".git/")]);
     assert_eq!(typed(folder.join("nothing/x")), [] as [&Path; 0]);
+    let inside = process::Command::new(env::current_exe().unwrap())
+        .current_dir(&folder)
+        .envs([("APP", "paths"), ("COMPLETE", "fish")])
+        .args(["--", "app", "a"])
+        .output()
+        .unwrap();
+    assert_eq!(str::from_utf8(&inside.stdout).unwrap().trim_end(), "a.txt");
     fs::remove_dir_all(&folder).unwrap();
 }
