@@ -2,7 +2,7 @@
 
 use crate::calls::{self, Answer, Asked};
 use crate::folder::{self, Listing};
-use crate::tree_file::tree_file_of;
+use crate::tree_file::{names_file, tree_file_of};
 use clap::error::Result;
 use clap::Command;
 use std::ffi::OsString;
@@ -65,10 +65,17 @@ impl<F: Fn() -> Command> CompleteEnv<F> {
         let home = env::var(HOME).ok().filter(|path| !path.is_empty());
         let current_dir = current_dir.and_then(Path::to_str);
         let words: Vec<_> = args.into_iter().map(|arg| arg.into().into_vec()).collect();
-        let likely = typed_word(&words)
+        let command = (self.factory)();
+        let typed = typed_word(&words);
+        let likely = typed
+            .and_then(|word| str::from_utf8(word).ok())
             .and_then(|word| folder::likely_folder(word, home.as_deref(), current_dir));
+        let tree = match typed {
+            Some(_) => tree_file_of(command),
+            None => names_file(&command),
+        };
         let mut asked = Asked {
-            tree: tree_file_of((self.factory)()),
+            tree,
             variables: variables(home.as_deref(), current_dir),
             words,
             listing: likely.map(Listing::of).unwrap_or_default(),
@@ -90,12 +97,12 @@ impl<F: Fn() -> Command> CompleteEnv<F> {
     }
 }
 
-/// The word that is completed where the shell passes none behind it; none for a registration, which
-/// has no words behind `--`.
-fn typed_word(words: &[Vec<u8>]) -> Option<&str> {
+/// The last of the words after the first `--`, which is completed where no other is; none for a
+/// registration, where no word follows.
+fn typed_word(words: &[Vec<u8>]) -> Option<&[u8]> {
     let (last, before) = words.split_last()?;
     let is_reply = before.iter().skip(1).any(|word| word == b"--");
-    is_reply.then(|| str::from_utf8(last).ok())?
+    is_reply.then_some(last)
 }
 
 /// Names and values in turn, of the variables that are set. A folder whose path is not UTF-8, or

@@ -4,7 +4,7 @@ use crate::calls::slices;
 use crate::folder::likely_folder;
 use crate::native::refusing::refused;
 use crate::native::{self, Request, Returned};
-use crate::tree_file::tree_file;
+use crate::tree_file::{names_file, tree_file};
 use clap::{value_parser, Arg, ArgAction, ArgGroup, Command};
 use std::collections::hash_map::DefaultHasher;
 use std::hash::{Hash, Hasher};
@@ -191,12 +191,18 @@ const LIVE_SHELLS: [&str; 5] = ["bash", "elvish", "fish", "powershell", "zsh"];
 
 /// The status and the text of the answer to a request of a shell with these words.
 fn answer(shell: &str, words: &[&str]) -> (u8, Vec<u8>) {
+    answer_of(TREE, shell, words)
+}
+
+/// The same by this tree file.
+fn answer_of(tree: &str, shell: &str, words: &[&str]) -> (u8, Vec<u8>) {
     let index = words.len().saturating_sub(3).to_string();
     let variables =
         ["COMPLETE", shell, "_CLAP_COMPLETE_INDEX", &index, "_CLAP_IFS", "\n", "PWD", "/w"];
     let asked = Request {
         words: slices(words),
         variables: slices(&variables),
+        tree: tree.as_bytes(),
         ..request(Some(&["src", "a.txt"]))
     };
     let mut room = vec![0; 1 << 16];
@@ -235,6 +241,23 @@ fn requests_at_once_are_answered_as_one_by_one() {
             assert!(made.iter().all(|answers| *answers == expected), "from request {first}");
         }
     });
+}
+
+#[test]
+fn a_registration_takes_the_names_alone() {
+    let flag = Arg::new("out").long("out").global(true);
+    let command = Command::new("app").version("1").arg(flag).subcommand(Command::new("run"));
+    for command in [command.clone(), command.bin_name("my-app")] {
+        let (names, whole) = (names_file(&command), tree_file(&command));
+        assert!(names.len() < whole.len());
+        for shell in LIVE_SHELLS {
+            for words in [&["app"][..], &["/bin/app", "--"]] {
+                let of = |tree: &str| answer_of(tree, shell, words);
+                assert_eq!(of(&names), of(&whole), "{shell} {words:?}");
+                assert_eq!(of(&names).0, 0);
+            }
+        }
+    }
 }
 
 /// Numbers that follow from a seed.

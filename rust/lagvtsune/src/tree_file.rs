@@ -39,6 +39,18 @@ pub fn tree_file_of(mut command: Command) -> String {
     out
 }
 
+/// A tree file with the names of the command alone, all that a registration takes from it.
+#[allow(dead_code)] // a program that only writes tree files includes this file
+pub fn names_file(command: &Command) -> String {
+    let mut out = String::new();
+    let mut object = Object::new(&mut out);
+    object.text("name", Some(command.get_name()));
+    object.text("bin_name", command.get_bin_name());
+    object.end();
+    out.push('\n');
+    out
+}
+
 /// The numbers of children that are declared, and of the arguments of each.
 ///
 /// What building adds stands after them.
