@@ -22,8 +22,8 @@ pub(crate) fn script(shell: &str, bin: &str, tree: &str) -> io::Result<Vec<u8>> 
     }
 }
 
-/// What is asked in a live request.
-pub(crate) struct Asked {
+/// A live request.
+pub(crate) struct LiveRequest {
     pub(crate) tree: String,
     /// The program's arguments, its name first.
     pub(crate) words: Vec<Vec<u8>>,
@@ -45,15 +45,15 @@ pub(crate) enum Answer {
 
 /// The answer to a live request. Fails with the library's message, where a word or a variable is
 /// not UTF-8.
-pub(crate) fn live(asked: &Asked) -> io::Result<Answer> {
+pub(crate) fn live(request: &LiveRequest) -> io::Result<Answer> {
     let request = Request {
-        tree: asked.tree.as_bytes(),
-        words: slices(&asked.words),
-        variables: slices(&asked.variables),
-        listed: asked.listing.path.as_bytes(),
-        names: slices(&asked.listing.names),
-        folders: slices(&asked.listing.folders),
-        files: slices(&asked.listing.files),
+        tree: request.tree.as_bytes(),
+        words: slices(&request.words),
+        variables: slices(&request.variables),
+        listed: request.listing.path.as_bytes(),
+        names: slices(&request.listing.names),
+        folders: slices(&request.listing.folders),
+        files: slices(&request.listing.files),
     };
     let (status, text) = with_room(LEAST_ROOM, |room| native::live(&request, room));
     match status {

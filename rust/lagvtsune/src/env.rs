@@ -1,6 +1,6 @@
 //! Live completion.
 
-use crate::calls::{self, Answer, Asked};
+use crate::calls::{self, Answer, LiveRequest};
 use crate::folder::{self, Listing};
 use crate::tree_file::{names_file, tree_file_of};
 use clap::error::Result;
@@ -59,7 +59,7 @@ impl<F: Fn() -> Command> CompleteEnv<F> {
         current_dir: Option<&Path>,
     ) -> Result<bool> {
         // The library decides it too, but no tree is to be made where nothing is requested.
-        if env::var_os(REQUEST).is_none_or(|asked| asked.is_empty() || asked == "0") {
+        if env::var_os(REQUEST).is_none_or(|value| value.is_empty() || value == "0") {
             return Ok(false);
         }
         let home = env::var(HOME).ok().filter(|path| !path.is_empty());
@@ -74,16 +74,16 @@ impl<F: Fn() -> Command> CompleteEnv<F> {
             Some(_) => tree_file_of(command),
             None => names_file(&command),
         };
-        let mut asked = Asked {
+        let mut request = LiveRequest {
             tree,
             variables: variables(home.as_deref(), current_dir),
             words,
             listing: likely.map(Listing::of).unwrap_or_default(),
         };
-        let mut answer = calls::live(&asked)?;
+        let mut answer = calls::live(&request)?;
         if let Answer::WantsFolder(path) = answer {
-            asked.listing = Listing::of(path);
-            answer = calls::live(&asked)?;
+            request.listing = Listing::of(path);
+            answer = calls::live(&request)?;
         }
         match answer {
             Answer::Text(text) => io::stdout().write_all(&text)?,
@@ -110,7 +110,7 @@ fn typed_word(words: &[Vec<u8>]) -> Option<&[u8]> {
 fn variables(home: Option<&str>, current_dir: Option<&str>) -> Vec<Vec<u8>> {
     let folders = [(HOME, home), (CURRENT_DIR, current_dir)];
     let folders = folders.map(|(name, path)| (name, path.map(OsString::from)));
-    let asked = [REQUEST, INDEX, SEPARATOR].map(|name| (name, env::var_os(name)));
-    let set = asked.into_iter().chain(folders).filter_map(|(name, value)| Some((name, value?)));
+    let requested = [REQUEST, INDEX, SEPARATOR].map(|name| (name, env::var_os(name)));
+    let set = requested.into_iter().chain(folders).filter_map(|(name, value)| Some((name, value?)));
     set.flat_map(|(name, value)| [name.as_bytes().to_vec(), value.into_vec()]).collect()
 }

@@ -139,7 +139,7 @@ pub(crate) fn live(request: &Request<'_>, room: &mut [u8]) -> Returned {
 /// library asks for.
 const HEADER: usize = 16;
 
-/// What the library is told where it asks for memory.
+/// What the library gets where it wants memory.
 #[repr(C)]
 struct Tried {
     ok: bool,
@@ -147,7 +147,7 @@ struct Tried {
     block: *mut u8,
 }
 
-/// Memory for a block of this size. Where there is none, the library is told so, and fails with
+/// Memory for a block of this size. Where there is none, the library learns so, and fails with
 /// "out of memory".
 #[unsafe(no_mangle)]
 extern "C" fn rattle_alloc(size: usize, align: usize) -> Tried {
@@ -244,7 +244,7 @@ fn refusal() -> Tried {
     Tried { ok: false, block: (&raw const UNREAD).cast_mut() }
 }
 
-/// The allocator of the tests, which refuses one allocation where it is told to.
+/// The allocator of the tests, which refuses one allocation where a test wants it.
 #[cfg(test)]
 pub(crate) mod refusing {
     use std::alloc::{GlobalAlloc, Layout, System};

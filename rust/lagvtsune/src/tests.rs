@@ -21,7 +21,7 @@ const TREE: &str = r#"{"name": "app", "version": "1", "args": [
      "args": [{"id": "file", "long": "file", "value_hint": "AnyPath"}]}]}"#;
 
 #[test]
-fn a_tree_file_has_what_a_built_command_tells() {
+fn a_tree_file_has_what_only_a_built_command_says() {
     let flag = |name| Arg::new(name).long(name).action(ArgAction::SetTrue);
     let files = Arg::new("files").num_args(0..).conflicts_with("out");
     let command = Command::new("app")
@@ -149,10 +149,10 @@ fn the_likely_folder_is_the_wanted_one() {
     for word in ["src/", "src/m", "/", "/x", "/x/y", "~/", "~/s/t", "./", "../", "a b/../c", "s//t"]
     {
         let words = ["app", "--", "app", "run", "--file", word];
-        let asked =
+        let made =
             Request { words: slices(&words), variables: slices(&variables), ..request(None) };
         let mut room = vec![0; 100];
-        let Returned { status, length } = native::live(&asked, &mut room);
+        let Returned { status, length } = native::live(&made, &mut room);
         let wanted = str::from_utf8(&room[..length]).unwrap();
         assert_eq!(status, 4, "{word}");
         let likely = |word: &str| likely_folder(word, Some("/home/me"), Some("/w"));
@@ -199,14 +199,14 @@ fn answer_of(tree: &str, shell: &str, words: &[&str]) -> (u8, Vec<u8>) {
     let index = words.len().saturating_sub(3).to_string();
     let variables =
         ["COMPLETE", shell, "_CLAP_COMPLETE_INDEX", &index, "_CLAP_IFS", "\n", "PWD", "/w"];
-    let asked = Request {
+    let made = Request {
         words: slices(words),
         variables: slices(&variables),
         tree: tree.as_bytes(),
         ..request(Some(&["src", "a.txt"]))
     };
     let mut room = vec![0; 1 << 16];
-    let Returned { status, length } = native::live(&asked, &mut room);
+    let Returned { status, length } = native::live(&made, &mut room);
     (status, room[..length].to_vec())
 }
 
@@ -344,7 +344,7 @@ fn any_request_ends_with_a_status() {
         let [further, variables, names, folders, files] = [(); 5].map(|()| words(&mut numbers));
         let line = &WORDS[..numbers.below(WORDS.len())];
         let shell = &REQUEST[..numbers.below(REQUEST.len() + 1)];
-        let asked = Request {
+        let made = Request {
             tree: &tree,
             words: slices(line).into_iter().chain(slices(&further)).collect(),
             variables: slices(shell).into_iter().chain(slices(&variables)).collect(),
@@ -354,7 +354,7 @@ fn any_request_ends_with_a_status() {
             files: slices(&files),
         };
         let size = numbers.below(room.len());
-        ends[native::live(&asked, &mut room[..size]).status as usize] += 1;
+        ends[native::live(&made, &mut room[..size]).status as usize] += 1;
     }
     assert!(ends.iter().all(|count| *count > 50), "{ends:?}");
 }

@@ -60,8 +60,8 @@ fn declared_children(command: &Command) -> Vec<usize> {
 
 /// Builds this command alone, which hands on to its children what they inherit.
 ///
-/// Of clap's public calls only those do it that render something; a usage that is given is the
-/// least of these. `Command::build` renders one for each command, and copies all below a command
+/// Of clap's public calls only those do it that render something; a usage of its own makes that
+/// cheap. `Command::build` renders one for each command, and copies all below a command
 /// for its child `help`.
 fn build_alone(command: &mut Command) {
     *command = mem::take(command).override_usage("");
@@ -70,7 +70,7 @@ fn build_alone(command: &mut Command) {
 
 /// A command with so many arguments of its own, and with what it inherits.
 fn command_object(out: &mut String, command: &mut Command, arg_count: usize) {
-    // What is inherited, and whom an argument conflicts with, is only told by a built command.
+    // What is inherited, and whom an argument conflicts with, only a built command says.
     let args: Vec<Declared> = command.get_arguments().take(arg_count).map(Declared::of).collect();
     let children = declared_children(command);
     build_alone(command);
@@ -204,7 +204,7 @@ fn value_object(out: &mut String, value: &PossibleValue) {
     object.end()
 }
 
-/// A JSON object that is being written. What is not given, empty or `false` is left out.
+/// A JSON object that is being written. What is missing, empty or `false` is left out.
 struct Object<'o> {
     out: &'o mut String,
     /// What stands before the next key.
