@@ -21,7 +21,7 @@ use Rattle.cc_shell.specs.declared.shell.Shell.{Shell}
 use Rattle.cc_shell.specs.declared.shell.Shell.TheVariants.{Bash, Elvish, Fish, Nushell, PowerShell, Zsh}
 use Rattle.cc_tables.proofs.ElvishPlain.{elvish_plain_reads}
 use Rattle.cc_tables.proofs.NushellPlain.{nushell_plain_reads}
-use Rattle.cc_tables.proofs.PowershellPlain.{powershell_plain_reads}
+use Rattle.cc_tables.proofs.PowershellFreeScripts.{powershell_plain_reads}
 use Rattle.cc_tree_errors.specs.Findings.{AreErrors, IsError, Shown, shown_placed}
 use Rattle.cc_tree_errors.specs.declared.finding.Level.{Level}
 use Rattle.cc_tree_errors.specs.declared.finding.Level.TheVariants.{Error}
