@@ -60,7 +60,7 @@ fi
 
 /// Writes the registration for bash: of the variable that requests completions, the name,
 /// the binary and the completer that is run. Fails with `Write` alone, where the sink fails.
-#[tactic(auto, using(crate::proofs::BashReadings::bash_reads), unfolding(crate::specs::BashRegistration::bash_registration))]
+#[tactic(auto, using(crate::proofs::BashReadings::bash_reads))]
 pub fn write_bash<W: Sink>(
     sink: &mut W,
     variable: &str,
@@ -72,6 +72,22 @@ pub fn write_bash<W: Sink>(
         (bash_registration variable.now name.now bin.now completer.now) }
     ensures write_only { IfErr result IsWrite }
     ensures read_back { BashReads variable.now name.now bin.now completer.now }
+{
+    write_text(sink, variable, name, bin, completer)
+}
+
+// The text of the registration.
+#[tactic(auto, unfolding(crate::specs::BashRegistration::bash_registration))]
+fn write_text<W: Sink>(
+    sink: &mut W,
+    variable: &str,
+    name: &str,
+    bin: &str,
+    completer: &str,
+) -> Result<(), Error>
+    ensures written { Writes W.taken W.failed result sink.old sink.new
+        (bash_registration variable.now name.now bin.now completer.now) }
+    ensures write_only { IfErr result IsWrite }
 {
     write_front(sink, variable, name)?;
     put_escaped(sink, &BashDouble, completer)?;

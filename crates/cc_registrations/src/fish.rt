@@ -32,6 +32,20 @@ pub fn write_fish<W: Sink>(
         (fish_registration variable.now bin.now completer.now) }
     ensures read_back { FishReads variable.now bin.now completer.now }
 {
+    write_text(alloc, sink, variable, bin, completer)
+}
+
+// The text of the registration.
+fn write_text<W: Sink>(
+    alloc: Global,
+    sink: &mut W,
+    variable: &str,
+    bin: &str,
+    completer: &str,
+) -> Result<(), Error>
+    ensures { Writes W.taken W.failed result sink.old sink.new
+        (fish_registration variable.now bin.now completer.now) }
+{
     put_piece(sink, REGISTRATION_BEGINS)?;
     put_fish_quoted(alloc, sink, bin)?;
     put_piece(sink, ARGUMENTS_BEGIN)?;

@@ -64,7 +64,7 @@ const REGISTRATION_ENDS: &str = " = $prev;
 
 /// Writes the registration for PowerShell: of the variable that requests completions, the binary
 /// and the completer that is run. Fails with `Write` where the sink fails, and with `Memory`.
-#[tactic(auto, using(crate::proofs::PowershellReadings::powershell_reads), unfolding(crate::specs::PowershellRegistration::powershell_registration))]
+#[tactic(auto, using(crate::proofs::PowershellReadings::powershell_reads))]
 pub fn write_powershell<W: Sink>(
     alloc: Global,
     sink: &mut W,
@@ -75,6 +75,21 @@ pub fn write_powershell<W: Sink>(
     ensures written { Writes W.taken W.failed result sink.old sink.new
         (powershell_registration variable.now bin.now completer.now) }
     ensures read_back { PowershellReads variable.now bin.now completer.now }
+{
+    write_text(alloc, sink, variable, bin, completer)
+}
+
+// The text of the registration.
+#[tactic(auto, unfolding(crate::specs::PowershellRegistration::powershell_registration))]
+fn write_text<W: Sink>(
+    alloc: Global,
+    sink: &mut W,
+    variable: &str,
+    bin: &str,
+    completer: &str,
+) -> Result<(), Error>
+    ensures { Writes W.taken W.failed result sink.old sink.new
+        (powershell_registration variable.now bin.now completer.now) }
 {
     write_head(alloc, sink, bin)?;
     write_call(sink, variable)?;
