@@ -7,7 +7,7 @@ use Rattle.cc_bash.specs.Arms.{tree_arms}
 use Rattle.cc_bash.specs.Reads.{BashReads, arm_at}
 use Rattle.cc_bash.specs.Walk.{PathNode, next_path_node, root_path_node, walk}
 use Rattle.cc_walk.specs.Visible.{visible_end}
-use Rattle.cc_agreement.specs.Agreement.{BashLeadsTo}
+use Rattle.cc_agreement.specs.BashAgreement.{BashLeadsTo}
 
 next_tree : (here : PathNode) (o : Option Tree) →
     (let next : PathNode = elim o [

@@ -1,4 +1,5 @@
 mod BashEnd
 mod Examples
 mod HiddenBuilt
+mod Offers
 mod Together

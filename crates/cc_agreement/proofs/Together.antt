@@ -5,7 +5,7 @@ use Rattle.cc_base.specs.declared.error.Error.{Error}
 use Rattle.cc_base.specs.declared.error.Error.TheVariants as error
 use Rattle.cc_base.specs.declared.failures.Failures.{Failures}
 use Rattle.cc_base.specs.Writes.{CountsWrite}
-use Rattle.cc_agreement.specs.Agreement.{AgreesWithBash, ArePlain, FailsBefore}
+use Rattle.cc_agreement.specs.BashAgreement.{AgreesWithBash, ArePlain, FailsBefore}
 use Rattle.cc_agreement.proofs.BashEnd.{leads}
 use Rattle.cc_agreement.proofs.HiddenBuilt.{none_when_built}
 use Rattle.cc_bash.specs.Reads.{BashReads}

@@ -153,21 +153,25 @@ impl Document {
     }
 
     fn push_case(&mut self, command: &str) -> Result<(), AllocError> {
-        let title = self.title.clone()?;
-        let command = String::from_str(self.alloc, command)?;
-        let mut wanted = Vec::new(self.alloc);
-        wanted.push(String::new(self.alloc))?;
-        self.cases.push(Case {
-            title,
-            command,
-            status: 0,
-            wanted,
-        })?;
+        let case = Case::new(self.alloc, self.title.as_str(), command)?;
+        self.cases.push(case)?;
         Ok(())
     }
 }
 
 impl Case {
+    // A case that wants nothing printed.
+    fn new(alloc: Global, title: &str, command: &str) -> Result<Case, AllocError> {
+        let mut wanted = Vec::new(alloc);
+        wanted.push(String::new(alloc))?;
+        Ok(Case {
+            title: String::from_str(alloc, title)?,
+            command: String::from_str(alloc, command)?,
+            status: 0,
+            wanted,
+        })
+    }
+
     // Adds a line after the command.
     fn push(&mut self, alloc: Global, line: &str) -> Result<(), AllocError> {
         if let Some(status) = line.strip_prefix("? ") {

@@ -12,7 +12,7 @@ mod programs;
 use crate::document::{Case, Document};
 use crate::matching::holds;
 use crate::programs::run_line;
-use clap_complete::Error;
+use cc_base::Error;
 use std::env::{self, Env};
 use std::process::ExitCode;
 use std::rt::Files;
@@ -29,14 +29,20 @@ fn main(rt: HostRuntime) -> ExitCode {
 fn failures<R: Env + Files + Print + AllocGlobal>(rt: &R) -> io::Result<usize> {
     let mut all = 0;
     for name in env::args(rt)?.skip(1) {
-        let text = fs::read_to_string(rt, name.as_str())?;
-        let document = Document::read(rt.alloc(), text.as_str())?;
-        let failed = failures_in(rt, &document)?;
-        let count = document.cases.len();
-        println!(rt; "{name}: {count} cases, {failed} failed")?;
-        all = usize::saturating_add(all, failed);
+        all = usize::saturating_add(all, failures_of(rt, name.as_str())?);
     }
     Ok(all)
+}
+
+// Runs the cases of the document of this name, prints how many there are and how many failed, and
+// returns the latter.
+fn failures_of<R: Files + Print + AllocGlobal>(rt: &R, name: &str) -> io::Result<usize> {
+    let text = fs::read_to_string(rt, name)?;
+    let document = Document::read(rt.alloc(), text.as_str())?;
+    let failed = failures_in(rt, &document)?;
+    let count = document.cases.len();
+    println!(rt; "{name}: {count} cases, {failed} failed")?;
+    Ok(failed)
 }
 
 // Runs the cases of a document, and returns how many failed, with the lines that are not read.

@@ -1,16 +1,16 @@
 //! The programs that command lines call: `complgen`, and a program that completes itself.
 
 use crate::document::Document;
+use cc_base::{Collected, Error};
+use cc_candidates::Completers;
+use cc_command::Command;
+use cc_env::CompleteEnv;
+use cc_paths::MemoryFolder;
+use cc_quote::posix_word;
+use cc_replies::EnvValues;
 use cc_tree_file::read_tree;
-use clap_complete::aot::Collected;
-use clap_complete::command::Command;
-use clap_complete::engine::{Completers, MemoryFolder};
-use clap_complete::env::EnvValues;
-use clap_complete::quote::posix_word;
-use clap_complete::{CompleteEnv, Error};
-use complgen_command_line::{Refusal, plan};
+use complgen_command_line::{Refusal, ToolPlan, names_tool, plan, plan_tool};
 use complgen_run::run;
-use complgen_tool_line::{ToolPlan, names_tool, plan_tool};
 use complgen_tools::check;
 use std::alloc::{AllocError, Global};
 use std::convert::AsStr;

@@ -1,6 +1,5 @@
-//! Tests of the crates below `clap_complete` that know no shell: sinks, texts, arguments, trees,
-//! tree files, lists, visits and quoted words. They need few crates, so that they can be proved
-//! early.
+//! Tests of scripts and what they are made of: sinks, texts, arguments, trees, tree files, lists,
+//! visits and quoted words.
 #![tactic(auto)]
 
 #[cfg(test)]
@@ -23,6 +22,8 @@ mod lookup;
 mod pieces;
 #[cfg(test)]
 mod quoting;
+#[cfg(test)]
+mod scripts;
 #[cfg(test)]
 mod sinks;
 #[cfg(test)]

@@ -151,15 +151,24 @@ fn what_is_described_is_parsed(rt: HostRuntime) {
 // The name of the built command, what is offered for the second word, and what the same words hold
 // with that word in place.
 fn both(alloc: Global, word: &str, line: &[&str]) -> Result<String, Error> {
-    let mut app = app(alloc)?;
     let words = to_strings(alloc, &["app", word])?;
+    let mut app = app(alloc)?;
+    both_of(alloc, &mut app, words, line)
+}
+
+fn both_of(
+    alloc: Global,
+    app: &mut Command,
+    words: Vec<String>,
+    line: &[&str],
+) -> Result<String, Error> {
     let store = Bump::new(alloc);
     let folder = MemoryFolder::new(&[], &[]);
     let completers = Completers::none(alloc);
     let (found, parser, built) = candidates_and_parser(
         alloc,
         &store,
-        &mut app,
+        app,
         words,
         1,
         None,

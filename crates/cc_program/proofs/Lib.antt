@@ -1,3 +1,2 @@
 mod Made
-mod Named
 mod Requested

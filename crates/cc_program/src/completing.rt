@@ -10,12 +10,12 @@ ghost use Rattle.cc_program.specs.Requests.{TriesSome, system_facts};
 ghost use Rattle.cc_replies.specs.Environment.{value_of};
 ghost use Rattle.cc_values.specs.Values.{returned_by};
 
-use crate::system::{home, variables};
 use cc_base::{Error, Sink};
 use cc_candidates::{CandidateSources, Completers};
 use cc_command::Command;
 use cc_env::CompleteEnv;
 use cc_paths::RealFolder;
+use cc_replies::{home, variables};
 use std::alloc::Global;
 use std::env::{self, Env};
 use std::rt::Files;

@@ -6,10 +6,8 @@ mod ending;
 mod failure;
 mod parsing;
 mod running;
-mod system;
 
 pub use crate::completing::completes;
 pub use crate::ending::end;
 pub use crate::failure::Failure;
 pub use crate::running::run;
-pub use crate::system::{home, variables, words};

@@ -7,12 +7,12 @@ ghost use Rattle.cc_program.specs.Statuses.{IsOfWords, MakesBy, ParsesMade, Pars
 use crate::completing::completes;
 use crate::failure::Failure;
 use crate::parsing::parse;
-use crate::system::words;
 use bumpalo::Bump;
 use cc_base::{Counted, Error};
 use cc_candidates::Completers;
 use cc_command::Command;
 use cc_parser::parser;
+use cc_replies::words;
 use clap::ArgMatches;
 use std::alloc::Global;
 use std::env::Env;

@@ -1,3 +1,4 @@
 mod Examples
 pub mod FirstLines
+mod Named
 pub mod ReplyReadings

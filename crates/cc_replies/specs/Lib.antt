@@ -1,2 +1,3 @@
 pub mod Environment
 pub mod Reply
+pub mod Variables

@@ -153,14 +153,14 @@ pub use Rattle.cc_values.specs.Values as ArgumentValues
 pub use Rattle.cc_engine.specs.Completion
 pub use Rattle.cc_engine.specs.OpenLists
 pub use Rattle.cc_engine.specs.Paths as HintPaths
-pub use Rattle.cc_agreement.specs.Agreement as BashAgreement
+pub use Rattle.cc_agreement.specs.BashAgreement
 pub use Rattle.cc_describe.specs.Described
 pub use Rattle.cc_describe.specs.declared.description.ArgDescription
 -- the parser of a tree
 pub use Rattle.cc_parser.specs.Arguments as ParsedArguments
 pub use Rattle.cc_parser.specs.Parsers
 pub use Rattle.cc_parser.specs.Taken as TakenOffers
-pub use Rattle.cc_parser_agreement.specs.Agreement as ParserAgreement
+pub use Rattle.cc_agreement.specs.ParserAgreement
 -- requests of a shell
 pub use Rattle.cc_registrations.specs.BashRegistration
 pub use Rattle.cc_registrations.specs.ElvishRegistration
@@ -184,5 +184,5 @@ pub use Rattle.cc_env.specs.Steps as RequestSteps
 -- the whole program
 pub use Rattle.cc_program.specs.Requests as ProgramRequests
 pub use Rattle.cc_program.specs.Statuses as ProgramStatuses
-pub use Rattle.cc_program.specs.Variables as ProgramVariables
+pub use Rattle.cc_replies.specs.Variables as ProgramVariables
 pub use Rattle.cc_program.specs.declared.failure.Failure as ProgramFailure

@@ -1,3 +1,4 @@
 //! What a program does that completes its words, and parses them by the same tree.
 
-pub use cc_program::{Failure, completes, end, home, run, variables, words};
+pub use cc_program::{Failure, completes, end, run};
+pub use cc_replies::{home, variables, words};

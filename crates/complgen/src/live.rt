@@ -2,21 +2,19 @@
 //! a word of one of them.
 
 use crate::contents;
-use clap_complete::Error;
-use clap_complete::aot::{Counted, Sink};
-use clap_complete::engine::{Folder, RealFolder};
-use clap_complete::env::EnvValues;
-use clap_complete::program::{home, variables};
-use complgen_command_line::{Refusal, WRITE_FAILED};
-use complgen_live::{reply, write_registrations};
-use complgen_run::error_refusal;
-use complgen_trees::{
-    OWN_TREE, command_name, known_names, request_words, tree_folders, tree_paths,
+use crate::output::{buffered, flush};
+use cc_base::{Error, Sink};
+use cc_paths::{Folder, RealFolder};
+use cc_replies::{EnvValues, home, variables};
+use complgen_command_line::Refusal;
+use complgen_live::{
+    OWN_TREE, command_name, known_names, reply, request_words, tree_folders, tree_paths,
+    write_registrations,
 };
-use std::alloc::AllocError;
+use complgen_run::error_refusal;
+use std::alloc::{AllocError, Global};
 use std::convert::AsStr;
 use std::env::{self, Env};
-use std::io::{self, BufWriter};
 use std::rt::Files;
 
 // The variables that shells set, and those that say where tree files lie.
@@ -49,12 +47,20 @@ pub(crate) fn complete<R: Env + Files + Print + Eprint + AllocGlobal>(
 ) -> Result<(), Refusal> {
     let folders = tree_folders(rt.alloc(), env)?;
     let folder = RealFolder::new(rt, home(rt)?);
-    let out = BufWriter::new(rt.alloc(), io::writer(rt)).map_err(|_| AllocError)?;
-    let mut out = Counted::new(out);
-    match write_requested(rt, env, words, folders.as_slice(), &folder, &mut out) {
-        Ok(true) => out
-            .flush()
-            .map_err(|_| Refusal::from_static(1, WRITE_FAILED)),
+    print(rt, env, words, folders.as_slice(), &folder)
+}
+
+// The same over these folders.
+fn print<R: Env + Files + Print + Eprint + AllocGlobal, D: Folder>(
+    rt: &R,
+    env: &EnvValues,
+    words: Vec<String>,
+    folders: &[String],
+    folder: &D,
+) -> Result<(), Refusal> {
+    let mut out = buffered(rt)?;
+    match write_requested(rt, env, words, folders, folder, &mut out) {
+        Ok(true) => flush(&mut out),
         Ok(false) => Err(Refusal::from_static(1, "")),
         Err(error) => Err(error_refusal(rt.alloc(), &error)),
     }
@@ -76,16 +82,31 @@ fn write_requested<R: Env + Files + Eprint + AllocGlobal, D: Folder, W: Sink>(
     let called = request_words(words.as_slice()).and_then(|words| words.first());
     let Some(word) = called else {
         let program = words.first().map_or("complgen", |program| program.as_str());
-        let known = known_names(alloc, folder, folders)?;
-        let names = known.names.as_slice();
-        write_registrations(alloc, env, program, current_dir, folder, names, out)?;
-        report_passed_over(rt, known.passed_over);
+        write_known(rt, env, program, current_dir, folder, folders, out)?;
         return Ok(true);
     };
     let file = tree_file(rt, folders, word.as_str())?;
     let bytes = file.bytes.as_ref().map(Vec::as_slice);
     let path = file.path.as_str();
     reply(alloc, env, words, path, bytes, current_dir, folder, out)
+}
+
+// Writes the registrations of the programs that have a tree file.
+fn write_known<R: Eprint + AllocGlobal, D: Folder, W: Sink>(
+    rt: &R,
+    env: &EnvValues,
+    program: &str,
+    current_dir: Option<&str>,
+    folder: &D,
+    folders: &[String],
+    out: &mut W,
+) -> Result<(), Error> {
+    let alloc = rt.alloc();
+    let known = known_names(alloc, folder, folders)?;
+    let names = known.names.as_slice();
+    write_registrations(alloc, env, program, current_dir, folder, names, out)?;
+    report_passed_over(rt, known.passed_over);
+    Ok(())
 }
 
 // Says how many tree files are passed over, as their names are not plain. The names are not
@@ -114,14 +135,17 @@ fn tree_file<R: Files + AllocGlobal>(
             });
         }
     }
+    built_in(alloc, word)
+}
+
+// The built-in tree, where a word calls this program.
+fn built_in(alloc: Global, word: &str) -> Result<TreeFile, AllocError> {
+    let path = String::from_str(alloc, OWN_PATH)?;
     let mut bytes = None;
     if command_name(word) == Some("complgen") {
         bytes = Some(String::from_str(alloc, OWN_TREE)?.into_bytes());
     }
-    Ok(TreeFile {
-        path: String::from_str(alloc, OWN_PATH)?,
-        bytes,
-    })
+    Ok(TreeFile { path, bytes })
 }
 
 /// The values of the variables that a request is read from.

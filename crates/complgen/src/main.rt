@@ -3,19 +3,18 @@
 #![tactic(auto)]
 
 mod live;
+mod output;
 mod tools;
 
-use clap_complete::aot::Counted;
-use clap_complete::engine::RealFolder;
-use clap_complete::program::home;
-use complgen_command_line::{Refusal, WRITE_FAILED, plan};
+use crate::output::{buffered, flush};
+use cc_paths::{Folder, RealFolder};
+use cc_replies::home;
+use complgen_command_line::{Plan, Refusal, WRITE_FAILED, names_tool, plan};
+use complgen_live::is_request;
 use complgen_run::run;
-use complgen_tool_line::names_tool;
-use complgen_trees::is_request;
 use std::alloc::AllocError;
 use std::convert::AsStr;
 use std::env::{self, Env};
-use std::io::BufWriter;
 use std::process::ExitCode;
 use std::rt::Files;
 use std::{fs, io};
@@ -41,16 +40,31 @@ fn carry_out<R: Env + Files + Print + Eprint + AllocGlobal>(rt: &R) -> Result<u8
     if names_tool(words.as_slice()) {
         return tools::use_tool(rt, words.as_slice());
     }
-    let plan = plan(rt.alloc(), words.as_slice())?;
-    let file = contents(rt, plan.tree())?;
-    let out = BufWriter::new(rt.alloc(), io::writer(rt)).map_err(|_| AllocError)?;
-    let mut out = Counted::new(out);
-    let file = file.as_ref().map(Vec::as_slice);
-    let folder = RealFolder::new(rt, home(rt)?);
-    run(rt.alloc(), &plan, file, &folder, &mut out)?;
-    out.flush()
-        .map_err(|_| Refusal::from_static(1, WRITE_FAILED))?;
+    carry_out_plan(rt, words.as_slice())?;
     Ok(0)
+}
+
+// Does what the words want of the program.
+fn carry_out_plan<R: Env + Files + Print + AllocGlobal>(
+    rt: &R,
+    words: &[String],
+) -> Result<(), Refusal> {
+    let plan = plan(rt.alloc(), words)?;
+    let file = contents(rt, plan.tree())?;
+    let folder = RealFolder::new(rt, home(rt)?);
+    print(rt, &plan, file.as_ref().map(Vec::as_slice), &folder)
+}
+
+// Carries out a plan over the bytes of the tree file, and prints what it writes.
+fn print<R: Print + AllocGlobal, D: Folder>(
+    rt: &R,
+    plan: &Plan,
+    file: Option<&[u8]>,
+    folder: &D,
+) -> Result<(), Refusal> {
+    let mut out = buffered(rt)?;
+    run(rt.alloc(), plan, file, folder, &mut out)?;
+    flush(&mut out)
 }
 
 // The words of the command line; the first is the program's name.

@@ -3,7 +3,7 @@ use Rattle.std.proofs.Common.{◌≡◌, ◌∙◌, ◌++◌, ap, refl, sym, sub
 use Rattle.cc_base.specs.Collected.{collected_bytes, collected_failures}
 use Rattle.cc_base.specs.Sink.{none_failed}
 use Rattle.cc_base.specs.declared.collected.Collected.{Collected}
-use Rattle.clap_complete.specs.Shell.{Shell}
+use Rattle.cc_shell.specs.declared.shell.Shell.{Shell}
 use Rattle.complgen_command_line.specs.declared.types.Refusal.{Refusal}
 use Rattle.complgen_run.specs.Ends.{EndsScript, NamedScriptReads, known_shell, unknown_shell}
 use Rattle.complgen_run.specs.Scripts.{IsScript, SharesLabel}

@@ -1,10 +1,16 @@
 //! A request of each status, from its bytes to the room.
 
 use crate::lagvtsune_live;
+use std::process::Abort;
 use std::test::Fail;
 
 const TREE: &[u8] = b"{\"name\": \"app\", \"args\": [
     {\"id\": \"f\", \"long\": \"file\", \"value_hint\": \"AnyPath\"}]}";
+
+// Fails unless these are the length and the status that were returned.
+fn same(rt: &impl Abort, shown: (usize, u8), wanted: (usize, u8)) {
+    assert_eq!(rt; shown, wanted);
+}
 
 // What is returned of a request for the value of `--file`, in the folder `/x`: the length, the
 // status, and the room.
@@ -46,7 +52,7 @@ fn asked(
 #[test]
 fn other_names_are_wanted(rt: HostRuntime) -> Result<(), Fail> {
     let (length, status, room) = asked(&rt, b"bash", b"/y", &[b"a"], &[]);
-    assert_eq!(rt; (length, status), (3, 4));
+    same(&rt, (length, status), (3, 4));
     assert!(rt; room.starts_with(b"/x/"));
     Ok(())
 }
@@ -54,7 +60,7 @@ fn other_names_are_wanted(rt: HostRuntime) -> Result<(), Fail> {
 #[test]
 fn names_that_were_handed_in_are_offered(rt: HostRuntime) -> Result<(), Fail> {
     let (length, status, room) = asked(&rt, b"bash", b"/x/", &[b"b", b"a"], &[b"/x/b"]);
-    assert_eq!(rt; (length, status), (6, 0));
+    same(&rt, (length, status), (6, 0));
     assert!(rt; room.starts_with(b".,a,b/"));
     Ok(())
 }
@@ -62,7 +68,7 @@ fn names_that_were_handed_in_are_offered(rt: HostRuntime) -> Result<(), Fail> {
 #[test]
 fn an_unknown_shell_is_named(rt: HostRuntime) -> Result<(), Fail> {
     let (_, status, room) = asked(&rt, b"tcsh", b"", &[], &[]);
-    assert_eq!(rt; status, 1);
+    assert!(rt; status == 1);
     assert!(rt; room.starts_with(b"unknown shell `tcsh`, expected one of `bash`"));
     Ok(())
 }
@@ -70,13 +76,13 @@ fn an_unknown_shell_is_named(rt: HostRuntime) -> Result<(), Fail> {
 #[test]
 fn what_is_not_utf8_is_refused(rt: HostRuntime) -> Result<(), Fail> {
     let (length, status, _) = asked(&rt, b"\xff", b"", &[], &[]);
-    assert_eq!(rt; (length, status), (0, 2));
+    same(&rt, (length, status), (0, 2));
     Ok(())
 }
 
 #[test]
 fn nothing_is_requested(rt: HostRuntime) -> Result<(), Fail> {
     let (length, status, _) = asked(&rt, b"", b"", &[], &[]);
-    assert_eq!(rt; (length, status), (0, 3));
+    same(&rt, (length, status), (0, 3));
     Ok(())
 }

@@ -1,3 +1,5 @@
-pub mod CommandLineLemmas
+mod CommandLineLemmas
+mod Entered
 mod Examples
-pub mod GivenValues
+mod GivenValues
+mod ToolExamples

@@ -1,3 +1,5 @@
 pub mod CommandLine
 pub mod Plans
 pub mod Refusals
+pub mod ToolLine
+pub mod ToolPlans

@@ -1,3 +1,7 @@
-pub mod Alone
-pub mod RegisterLemmas
-pub mod ReplyLemmas
+mod Alone
+mod Examples
+mod Names
+mod RegisterLemmas
+mod ReplyLemmas
+mod Stems
+mod Untaken

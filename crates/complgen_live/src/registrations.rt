@@ -6,7 +6,7 @@ ghost use Rattle.cc_command.specs.Made.{new_tree};
 ghost use Rattle.cc_env.specs.Arguments.{program_path};
 ghost use Rattle.complgen_live.specs.Registrations.{RegistersAll};
 ghost use Rattle.complgen_live.specs.Replies.{requested};
-ghost use Rattle.complgen_trees.specs.KnownNames.{own_name};
+ghost use Rattle.complgen_live.specs.KnownNames.{own_name};
 
 use cc_base::{Error, Sink};
 use cc_candidates::Completers;

@@ -4,12 +4,12 @@ use Rattle.std.proofs.Common.{true, Result, Ok, Err}
 use Rattle.std.specs.Prelude.{option_map}
 use Rattle.complgen_command_line.specs.Refusals.{IsRefusal}
 use Rattle.complgen_command_line.specs.declared.types.Refusal.{Refusal}
-use Rattle.clap_complete.specs.Builtin.{Builtin}
-use Rattle.clap_complete.specs.Error.{Error}
-use Rattle.clap_complete.specs.Error.TheVariants as error
-use Rattle.clap_complete.specs.Failures.{Failures}
-use Rattle.clap_complete.specs.Tree.{Tree}
-use Rattle.clap_complete.specs.Writes.{Writes}
+use Rattle.cc_adapters.specs.declared.builtin.Builtin.{Builtin}
+use Rattle.cc_base.specs.declared.error.Error.{Error}
+use Rattle.cc_base.specs.declared.error.Error.TheVariants as error
+use Rattle.cc_base.specs.declared.failures.Failures.{Failures}
+use Rattle.cc_command.specs.Tree.{Tree}
+use Rattle.cc_base.specs.Writes.{Writes}
 use Rattle.complgen_run.specs.Refusals.{Reports, error_line}
 use Rattle.complgen_run.specs.Registrations.{IsRegistration, Registers, AdapterReads, RegistrationReadsBy}
 use Rattle.complgen_run.specs.Registrations.{no_registration, registration_by, some_registration}

@@ -6,17 +6,17 @@ use Rattle.std.specs.String.{string_bytes}
 use Rattle.complgen_command_line.specs.declared.types.Plan.{Plan}
 use Rattle.complgen_command_line.specs.declared.types.Plan.TheVariants.{Candidates}
 use Rattle.complgen_command_line.specs.declared.types.Refusal.{Refusal}
-use Rattle.clap_complete.specs.ArgumentValues.{MayReturn}
-use Rattle.clap_complete.specs.Built.{built_tree}
-use Rattle.clap_complete.specs.CandidateSources.{ReturnsAt}
-use Rattle.clap_complete.specs.CandidateSource.{Source}
-use Rattle.clap_complete.specs.Completion.{Completes, Refuses, is_in_range}
-use Rattle.clap_complete.specs.CompletionCandidate.{CompletionCandidate}
-use Rattle.clap_complete.specs.Error.{Error}
-use Rattle.clap_complete.specs.Error.TheVariants as error
-use Rattle.clap_complete.specs.Failures.{Failures}
-use Rattle.clap_complete.specs.Tree.{Tree}
-use Rattle.clap_complete.specs.Writes.{IsWrite, Writes}
+use Rattle.cc_values.specs.Values.{MayReturn}
+use Rattle.cc_command.specs.Built.{built_tree}
+use Rattle.cc_candidates.specs.Sources.{ReturnsAt}
+use Rattle.cc_candidates.specs.declared.sources.Source.{Source}
+use Rattle.cc_engine.specs.Completion.{Completes, Refuses, is_in_range}
+use Rattle.cc_candidates.specs.declared.candidate.CompletionCandidate.{CompletionCandidate}
+use Rattle.cc_base.specs.declared.error.Error.{Error}
+use Rattle.cc_base.specs.declared.error.Error.TheVariants as error
+use Rattle.cc_base.specs.declared.failures.Failures.{Failures}
+use Rattle.cc_command.specs.Tree.{Tree}
+use Rattle.cc_base.specs.Writes.{IsWrite, Writes}
 use Rattle.cc_replies.specs.Reply.{LinesRead, lines_reply}
 use Rattle.complgen_run.specs.Ends.{Ends, EndsReply}
 use Rattle.complgen_run.specs.Refusals.{Reports}

@@ -2,14 +2,14 @@
 use Rattle.std.proofs.Common.{◌≡◌, inl, inr, refl, subst, ℕ, List, Option, None, Some, Result}
 use Rattle.std.proofs.Common.{true, Ok, Err, OnOk}
 use Rattle.complgen_command_line.specs.declared.types.Refusal.{Refusal}
-use Rattle.clap_complete.specs.Built.{built_under}
-use Rattle.clap_complete.specs.Error.{Error}
-use Rattle.clap_complete.specs.Failures.{Failures}
-use Rattle.clap_complete.specs.Generators.{Generates, ReportsClash}
-use Rattle.clap_complete.specs.Shell.{Shell}
-use Rattle.clap_complete.specs.Shells.{shell_spec, shell_text}
-use Rattle.clap_complete.specs.Tree.{Tree}
-use Rattle.clap_complete.specs.Writes.{CountsWrite}
+use Rattle.cc_command.specs.Built.{built_under}
+use Rattle.cc_base.specs.declared.error.Error.{Error}
+use Rattle.cc_base.specs.declared.failures.Failures.{Failures}
+use Rattle.cc_generator.specs.Generators.{Generates, ReportsClash}
+use Rattle.cc_shell.specs.declared.shell.Shell.{Shell}
+use Rattle.cc_shell.specs.Shells.{shell_spec, shell_text}
+use Rattle.cc_command.specs.Tree.{Tree}
+use Rattle.cc_base.specs.Writes.{CountsWrite}
 use Rattle.complgen_run.specs.Refusals.{Reports}
 use Rattle.complgen_run.specs.Ends.{NamedScriptReads}
 use Rattle.complgen_run.specs.Scripts.{IsScript, ScriptReads, SharesLabel}

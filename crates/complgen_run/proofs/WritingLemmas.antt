@@ -3,11 +3,11 @@ use Rattle.std.proofs.Common.{◌≡◌, ◌++◌, refl, ℕ, Bool, List, Option
 use Rattle.std.specs.Prelude.{IsTrue}
 use Rattle.complgen_command_line.specs.Refusals.{IsOutOfMemory}
 use Rattle.complgen_command_line.specs.declared.types.Refusal.{Refusal}
-use Rattle.clap_complete.specs.Error.{Error}
-use Rattle.clap_complete.specs.Error.TheVariants as error
-use Rattle.clap_complete.specs.Failures.{Failures}
-use Rattle.clap_complete.specs.Tree.{Tree}
-use Rattle.clap_complete.specs.Writes.{CountsWrite, IsMemoryOrWrite, IsWrite}
+use Rattle.cc_base.specs.declared.error.Error.{Error}
+use Rattle.cc_base.specs.declared.error.Error.TheVariants as error
+use Rattle.cc_base.specs.declared.failures.Failures.{Failures}
+use Rattle.cc_command.specs.Tree.{Tree}
+use Rattle.cc_base.specs.Writes.{CountsWrite, IsMemoryOrWrite, IsWrite}
 use Rattle.complgen_run.specs.Refusals.{Reports}
 use Rattle.complgen_run.specs.TreeFiles.{ReportsFile, bad_form, not_json, unreadable}
 use Rattle.complgen_run.specs.Writing.{Finishes, Untouched, no_tree, no_text, out_of_memory}

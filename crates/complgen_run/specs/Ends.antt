@@ -1,8 +1,8 @@
 -- How carrying out a plan ends.
 use Rattle.std.specs.Prelude.{◌≡◌, ⊤, ℕ, true, false, List, Option, Result, Ok, Err, length, map, string_bytes}
-use Rattle.clap_complete.specs.Failures.{Failures}
-use Rattle.clap_complete.specs.Shell.{Shell}
-use Rattle.clap_complete.specs.Shells.{shell_text}
+use Rattle.cc_base.specs.declared.failures.Failures.{Failures}
+use Rattle.cc_shell.specs.declared.shell.Shell.{Shell}
+use Rattle.cc_shell.specs.Shells.{shell_text}
 use Rattle.complgen_command_line.specs.declared.types.Plan.{Plan}
 use Rattle.complgen_command_line.specs.declared.types.Plan.TheVariants.{Candidates, Register, Script}
 use Rattle.complgen_command_line.specs.declared.types.Refusal.{Refusal}

@@ -3,11 +3,11 @@ use Rattle.std.specs.Prelude.{◌≡◌, ◌⊎◌, ◌++◌, ℕ, List, Result,
 use Rattle.std.specs.Prelude.{String, codes, string_bytes}
 use Rattle.std.specs.declared.alloc.AllocError.{AllocError}
 use Rattle.std.specs.declared.alloc.Global.{Global}
-use Rattle.clap_complete.specs.Error.{Error}
-use Rattle.clap_complete.specs.Error.TheVariants as error
-use Rattle.clap_complete.specs.ErrorText.{error_text}
-use Rattle.clap_complete.specs.Shell.{Shell}
-use Rattle.clap_complete.specs.Shells.{invalid_variant, shell_text}
+use Rattle.cc_base.specs.declared.error.Error.{Error}
+use Rattle.cc_base.specs.declared.error.Error.TheVariants as error
+use Rattle.cc_base.specs.ErrorText.{error_text}
+use Rattle.cc_shell.specs.declared.shell.Shell.{Shell}
+use Rattle.cc_shell.specs.Shells.{invalid_variant, shell_text}
 use Rattle.complgen_command_line.specs.Refusals.{IsOutOfMemory, IsRefusal}
 use Rattle.complgen_command_line.specs.declared.types.Refusal.{Refusal}
 use Rattle.cc_tree_file.specs.declared.error.TreeError.{TreeError}

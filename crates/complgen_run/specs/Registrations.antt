@@ -1,13 +1,13 @@
 -- The registration for the command of a tree file, by which a shell asks a program for candidates.
 use Rattle.std.specs.Prelude.{◌≡◌, ℕ, true, List, Option, Some, None, Result, Err, codes, find, map, option_map}
-use Rattle.clap_complete.specs.Builtin.{Builtin}
-use Rattle.clap_complete.specs.BuiltinShells.{all_builtins, builtin_spec}
-use Rattle.clap_complete.specs.Error.TheVariants.{UnknownShell}
-use Rattle.clap_complete.specs.Failures.{Failures}
-use Rattle.clap_complete.specs.WantedShell.{unknown_shell}
-use Rattle.clap_complete.specs.Shell.{Shell}
-use Rattle.clap_complete.specs.Shells.{shell_text}
-use Rattle.clap_complete.specs.Tree.{Tree}
+use Rattle.cc_adapters.specs.declared.builtin.Builtin.{Builtin}
+use Rattle.cc_adapters.specs.Builtins.{all_builtins, builtin_spec}
+use Rattle.cc_base.specs.declared.error.Error.TheVariants.{UnknownShell}
+use Rattle.cc_base.specs.declared.failures.Failures.{Failures}
+use Rattle.cc_env.specs.Wanted.{unknown_shell}
+use Rattle.cc_shell.specs.declared.shell.Shell.{Shell}
+use Rattle.cc_shell.specs.Shells.{shell_text}
+use Rattle.cc_command.specs.Tree.{Tree}
 use Rattle.complgen_command_line.specs.Refusals.{IsRefusal}
 use Rattle.complgen_command_line.specs.declared.types.Refusal.{Refusal}
 use Rattle.complgen_run.specs.Refusals.{error_line}

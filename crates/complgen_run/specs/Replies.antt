@@ -1,13 +1,13 @@
 -- The candidates for a word of a command line, where there are no completers, and their reply.
 use Rattle.std.specs.Prelude.{⊤, ◌≡◌, ℕ, List, [], true, false, length}
-use Rattle.clap_complete.specs.ArgumentValues.{MayReturn}
-use Rattle.clap_complete.specs.Built.{built_tree}
-use Rattle.clap_complete.specs.Completion.{Completes, is_in_range}
-use Rattle.clap_complete.specs.CompletionCandidate.{CompletionCandidate}
-use Rattle.clap_complete.specs.Error.{Error}
-use Rattle.clap_complete.specs.Error.TheVariants.{Memory, NoCompletion}
-use Rattle.clap_complete.specs.Tree.{Tree}
-use Rattle.clap_complete.specs.ValueHint.{ValueHint}
+use Rattle.cc_values.specs.Values.{MayReturn}
+use Rattle.cc_command.specs.Built.{built_tree}
+use Rattle.cc_engine.specs.Completion.{Completes, is_in_range}
+use Rattle.cc_candidates.specs.declared.candidate.CompletionCandidate.{CompletionCandidate}
+use Rattle.cc_base.specs.declared.error.Error.{Error}
+use Rattle.cc_base.specs.declared.error.Error.TheVariants.{Memory, NoCompletion}
+use Rattle.cc_command.specs.Tree.{Tree}
+use Rattle.cc_arg.specs.declared.value_hint.ValueHint.{ValueHint}
 use Rattle.complgen_command_line.specs.Refusals.{IsRefusal}
 use Rattle.complgen_command_line.specs.declared.types.Refusal.{Refusal}
 use Rattle.cc_replies.specs.Reply.{LinesRead, lines_reply}

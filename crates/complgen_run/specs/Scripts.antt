@@ -1,12 +1,12 @@
 -- The script for the command of a tree file, and when there is none.
 use Rattle.std.specs.Prelude.{◌≡◌, ℕ, List, Option, Some, None, IsTrue}
-use Rattle.clap_complete.specs.Built.{built_under}
-use Rattle.clap_complete.specs.Error.TheVariants.{LabelClash}
-use Rattle.clap_complete.specs.Plain.{is_plain_tree}
-use Rattle.clap_complete.specs.PlainName.{is_plain_name}
-use Rattle.clap_complete.specs.Shell.{Shell}
-use Rattle.clap_complete.specs.Shells.{shell_spec}
-use Rattle.clap_complete.specs.Tree.{Tree}
+use Rattle.cc_command.specs.Built.{built_under}
+use Rattle.cc_base.specs.declared.error.Error.TheVariants.{LabelClash}
+use Rattle.cc_command.specs.Plain.{is_plain_tree}
+use Rattle.cc_quote.specs.PlainName.{is_plain_name}
+use Rattle.cc_shell.specs.declared.shell.Shell.{Shell}
+use Rattle.cc_shell.specs.Shells.{shell_spec}
+use Rattle.cc_command.specs.Tree.{Tree}
 use Rattle.complgen_command_line.specs.declared.types.Refusal.{Refusal}
 use Rattle.complgen_run.specs.Refusals.{IsMade, error_line}
 use Rattle.cc_tree_file.specs.TreeFile.{HoldsTree}

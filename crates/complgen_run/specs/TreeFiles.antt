@@ -1,6 +1,6 @@
 -- What reading a tree file gives, and how one that gives no command is reported.
 use Rattle.std.specs.Prelude.{ℕ, List, Option, None, Some, Result, Ok, Err}
-use Rattle.clap_complete.specs.Tree.{Tree}
+use Rattle.cc_command.specs.Tree.{Tree}
 use Rattle.complgen_command_line.specs.Refusals.{IsRefusal}
 use Rattle.complgen_command_line.specs.declared.types.Refusal.{Refusal}
 use Rattle.complgen_run.specs.Refusals.{ReportsTree, bad_form_line, not_json_line, unreadable_line}

@@ -1,10 +1,10 @@
 -- How a call ends that writes a text for the command of a tree file: one case for each outcome.
 use Rattle.std.specs.Prelude.{◌≡◌, ◌++◌, ℕ, Bool, IsTrue, List, Option, Some, Result, Ok, Err}
 use Rattle.std.specs.declared.io.ErrorKind.{ErrorKind}
-use Rattle.clap_complete.specs.Error.TheVariants.{Write}
-use Rattle.clap_complete.specs.Failures.{Failures}
-use Rattle.clap_complete.specs.Sink.{add_failure}
-use Rattle.clap_complete.specs.Tree.{Tree}
+use Rattle.cc_base.specs.declared.error.Error.TheVariants.{Write}
+use Rattle.cc_base.specs.declared.failures.Failures.{Failures}
+use Rattle.cc_base.specs.Sink.{add_failure}
+use Rattle.cc_command.specs.Tree.{Tree}
 use Rattle.complgen_command_line.specs.Refusals.{IsOutOfMemory, IsRefusal}
 use Rattle.complgen_command_line.specs.declared.types.Refusal.{Refusal}
 use Rattle.complgen_run.specs.Refusals.{error_line}

@@ -2,14 +2,14 @@
 
 ghost use Rattle.std.specs.Prelude.{OnOk, Some, codes};
 ghost use Rattle.std.specs.Option.{option_copied};
-ghost use Rattle.clap_complete.specs.HintPaths.{PathsOf};
+ghost use Rattle.cc_engine.specs.Paths.{PathsOf};
 ghost use Rattle.complgen_run.specs.Ends.{Ends, ReadsBack};
 
 use crate::registrations::register;
 use crate::replies::reply;
 use crate::scripts::script;
-use clap_complete::aot::Sink;
-use clap_complete::engine::Folder;
+use cc_base::Sink;
+use cc_paths::Folder;
 use complgen_command_line::{Plan, Refusal};
 use std::alloc::Global;
 

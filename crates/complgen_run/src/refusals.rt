@@ -1,13 +1,13 @@
 //! What is printed of an error.
 
 ghost use Rattle.std.specs.Prelude.{◌≡◌};
-ghost use Rattle.clap_complete.specs.Error.TheVariants.{UnknownShell};
+ghost use Rattle.cc_base.specs.declared.error.Error.TheVariants.{UnknownShell};
 ghost use Rattle.complgen_run.specs.Refusals.{HasText, Reports, ReportsTree, error_line};
 ghost use Rattle.complgen_run.specs.Registrations.{no_registration_text};
 
-use cc_shell::each_shell;
+use cc_base::Error;
+use cc_shell::{Shell, each_shell};
 use cc_tree_file::TreeError;
-use clap_complete::{Error, Shell};
 use complgen_command_line::{Refusal, WRITE_FAILED};
 use std::alloc::{AllocError, Global};
 use std::borrow::CowStr;

@@ -2,8 +2,8 @@
 
 ghost use Rattle.std.specs.Prelude.{◌≡◌, find, true};
 ghost use Rattle.std.specs.Option.{option_copied};
-ghost use Rattle.clap_complete.specs.BuiltinShells.{all_builtins, builtin_spec};
-ghost use Rattle.clap_complete.specs.Shells.{shell_text};
+ghost use Rattle.cc_adapters.specs.Builtins.{all_builtins, builtin_spec};
+ghost use Rattle.cc_shell.specs.Shells.{shell_text};
 ghost use Rattle.complgen_run.specs.Ends.{EndsRegistration};
 ghost use Rattle.complgen_run.specs.Registrations.{IsRegistration, Registers, RegistrationReads};
 ghost use Rattle.complgen_run.specs.Registrations.{RegistrationReadsBy, no_registration_text, registration_by};
@@ -13,9 +13,9 @@ ghost use Rattle.complgen_run.specs.Writing.{Finishes};
 use crate::refusals::{error_refusal, no_registration};
 use crate::shells::shell_of;
 use crate::tree_files::tree;
-use clap_complete::Shell;
-use clap_complete::aot::Sink;
-use clap_complete::env::{Builtin, EnvCompleter, Shells};
+use cc_adapters::{Builtin, EnvCompleter, Shells};
+use cc_base::Sink;
+use cc_shell::Shell;
 use complgen_command_line::Refusal;
 use std::alloc::Global;
 

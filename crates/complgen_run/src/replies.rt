@@ -2,17 +2,18 @@
 
 ghost use Rattle.std.specs.Prelude.{◌≡◌, IfErr, IfOk, Some, codes, length, map, string_bytes};
 ghost use Rattle.std.specs.Option.{option_copied};
-ghost use Rattle.clap_complete.specs.HintPaths.{PathsOf};
+ghost use Rattle.cc_engine.specs.Paths.{PathsOf};
 ghost use Rattle.complgen_run.specs.Ends.{EndsReply};
 ghost use Rattle.complgen_run.specs.Replies.{AreFound, FindsNone};
 
 use crate::refusals::error_refusal;
 use crate::tree_files::tree;
+use cc_base::{Error, Sink};
+use cc_candidates::{Completers, CompletionCandidate};
+use cc_command::Command;
+use cc_engine::complete;
+use cc_paths::Folder;
 use cc_replies::write_lines;
-use clap_complete::Error;
-use clap_complete::aot::Sink;
-use clap_complete::command::Command;
-use clap_complete::engine::{Completers, CompletionCandidate, Folder, complete};
 use complgen_command_line::Refusal;
 use std::alloc::{AllocError, Global};
 

@@ -9,8 +9,9 @@ ghost use Rattle.complgen_run.specs.Writing.{Finishes};
 use crate::refusals::error_refusal;
 use crate::shells::shell_of;
 use crate::tree_files::tree;
-use clap_complete::aot::Sink;
-use clap_complete::{Shell, generate};
+use cc_base::Sink;
+use cc_generator::generate;
+use cc_shell::Shell;
 use complgen_command_line::Refusal;
 use std::alloc::Global;
 

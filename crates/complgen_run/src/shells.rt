@@ -3,7 +3,7 @@
 ghost use Rattle.complgen_run.specs.Refusals.{FindsShell};
 
 use crate::refusals::error_refusal;
-use clap_complete::Shell;
+use cc_shell::Shell;
 use complgen_command_line::Refusal;
 use std::alloc::Global;
 

@@ -4,8 +4,8 @@ ghost use Rattle.std.specs.Option.{option_copied};
 ghost use Rattle.complgen_run.specs.TreeFiles.{ReadsFile};
 
 use crate::refusals::{UNREADABLE, tree_refusal};
+use cc_command::Command;
 use cc_tree_file::read_tree;
-use clap_complete::command::Command;
 use complgen_command_line::Refusal;
 use std::alloc::Global;
 

@@ -12,7 +12,7 @@ pub(crate) fn same<T: PartialEq + Debug + Drop>(rt: &impl Abort, shown: T, wante
 /// Fails unless this text was made.
 pub(crate) fn is<E: Debug + Drop>(rt: &impl Abort, text: Result<String, E>, wanted: &str) {
     let text = text.expect(rt, "no text");
-    assert_eq!(rt; text.as_str(), wanted);
+    same(rt, text.as_str(), wanted);
 }
 
 /// Fails unless a text was made that holds this part.

@@ -1,12 +1,12 @@
 //! The built-in tree has the subcommands and the arguments of the command line, and no others.
 
 use crate::words::refusal_of;
+use cc_arg::Arg;
+use cc_command::Command;
 use cc_fixtures::words::to_strings;
 use cc_tree_file::read_tree;
-use clap_complete::command::{Arg, Command};
-use complgen_command_line::Refusal;
-use complgen_tool_line::{names_tool, plan_tool};
-use complgen_trees::OWN_TREE;
+use complgen_command_line::{Refusal, names_tool, plan_tool};
+use complgen_live::OWN_TREE;
 use std::alloc::Global;
 use std::convert::AsStr;
 use std::process::Abort;

@@ -1,9 +1,9 @@
 //! Carrying out a plan over a tree file and a folder in memory.
 
 use crate::checks::same;
+use cc_base::Collected;
 use cc_fixtures::words::to_strings;
 use cc_paths::MemoryFolder;
-use clap_complete::aot::Collected;
 use complgen_command_line::{Plan, Refusal};
 use complgen_run::run;
 use std::alloc::{AllocError, Global};

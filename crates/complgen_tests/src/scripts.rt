@@ -2,8 +2,8 @@
 
 use crate::checks::{has, same};
 use crate::runs::{fails, output_of, script};
+use cc_base::Collected;
 use cc_paths::MemoryFolder;
-use clap_complete::aot::Collected;
 use complgen_command_line::Refusal;
 use complgen_run::run;
 use std::alloc::{AllocError, Global};

@@ -2,7 +2,7 @@
 
 use crate::checks::{is, same};
 use cc_fixtures::words::to_strings;
-use clap_complete::Shell;
+use cc_shell::Shell;
 use complgen_command_line::{Plan, Refusal, plan};
 use std::alloc::{AllocError, Global};
 use std::convert::AsStr;

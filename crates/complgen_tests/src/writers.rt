@@ -2,9 +2,9 @@
 
 use crate::checks::same;
 use crate::runs::{candidates, output_of, registration, script};
+use cc_base::Counted;
 use cc_fixtures::writers::Narrow;
 use cc_paths::MemoryFolder;
-use clap_complete::aot::Counted;
 use complgen_command_line::{Plan, Refusal};
 use complgen_run::run;
 use std::alloc::{AllocError, Global};

@@ -1,4 +1,6 @@
-pub mod CheckLemmas
-pub mod FileLemmas
-pub mod LineLemmas
-pub mod SoundLemmas
+mod BuiltAgain
+mod CheckLemmas
+mod FileLemmas
+mod LineLemmas
+mod NoWarnings
+mod SoundLemmas

@@ -27,9 +27,9 @@ use Rattle.cc_tree_errors.specs.declared.finding.Level.{Level}
 use Rattle.cc_tree_errors.specs.declared.finding.Level.TheVariants.{Error}
 use Rattle.cc_tree_errors.specs.declared.finding.PlacedFinding.{PlacedFinding}
 use Rattle.cc_tree_file.specs.Faults.{is_nil}
-use Rattle.cc_tree_warnings.proofs.NoWarnings.{premises_hold}
-use Rattle.cc_tree_warnings.specs.Promises.{HoldPremises}
-use Rattle.cc_tree_warnings.specs.TreeWarnings.{built_as, called, warnings_of}
+use Rattle.complgen_tools.proofs.NoWarnings.{premises_hold}
+use Rattle.complgen_tools.specs.Promises.{HoldPremises}
+use Rattle.complgen_tools.specs.TreeWarnings.{built_as, called, warnings_of}
 use Rattle.cc_zsh.proofs.ReadsBack as zsh
 use Rattle.complgen_tools.specs.Checking.{AreSound, Finds, IsSafeFor, Warns, described, errors}
 use Rattle.complgen_tools.specs.Checking.{finding_level, is_note, only_notes, shown_warning}

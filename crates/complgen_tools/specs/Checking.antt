@@ -23,8 +23,8 @@ use Rattle.cc_tree_errors.specs.declared.finding.Level.{Level}
 use Rattle.cc_tree_errors.specs.declared.finding.Level.TheVariants as level
 use Rattle.cc_tree_errors.specs.declared.finding.PlacedFinding.{PlacedFinding}
 use Rattle.cc_tree_file.specs.TreeFile.{Describes}
-use Rattle.cc_tree_warnings.specs.Promises.{HoldPremises}
-use Rattle.cc_tree_warnings.specs.TreeWarnings.{built_as, warnings_of}
+use Rattle.complgen_tools.specs.Promises.{HoldPremises}
+use Rattle.complgen_tools.specs.TreeWarnings.{built_as, warnings_of}
 use Rattle.complgen_command_line.specs.Refusals.{IsOutOfMemory, IsRefusal}
 use Rattle.complgen_command_line.specs.declared.types.Refusal.{Refusal}
 use Rattle.complgen_run.specs.Refusals.{error_line, unreadable_line}

@@ -1,3 +1,5 @@
 pub mod AllScripts
 pub mod Checking
 pub mod Lines
+pub mod Promises
+pub mod TreeWarnings

@@ -10,12 +10,13 @@ ghost use Rattle.complgen_tools.specs.Checking.{is_note, item_steps, key_steps, 
 ghost use Rattle.complgen_tools.specs.Checking.{place_steps, shown_warning};
 
 use crate::lines::put_findings;
+use crate::tree_warnings::tree_warnings;
 use cc_base::Sink;
 use cc_command::Command;
+use cc_command_warnings::{self as warnings, Key, Place, Warning};
 use cc_tree_errors::{
     Checked, Finding, Level, PlacedFinding, Step, check_file, on_one_line, place_findings,
 };
-use cc_tree_warnings::{self as warnings, Key, Place, Warning, tree_warnings};
 use complgen_command_line::Refusal;
 use complgen_run::{UNREADABLE, error_refusal};
 use std::alloc::{AllocError, Global};

@@ -5,7 +5,9 @@ mod all_scripts;
 mod checking;
 mod lines;
 mod safe_script;
+mod tree_warnings;
 
 pub use crate::all_scripts::scripts;
 pub use crate::checking::check;
 pub use crate::safe_script::write_shell_if_no_warnings;
+pub use crate::tree_warnings::tree_warnings;

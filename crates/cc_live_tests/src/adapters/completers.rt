@@ -1,6 +1,7 @@
 //! Completers that hold any character, or any of a plain path, as the shells read them in their
 //! registrations.
 
+use crate::checks::same;
 use cc_adapters::{Builtin, EnvCompleter};
 use cc_base::{Collected, Error};
 use cc_fixtures::words::{after, word};
@@ -75,7 +76,7 @@ fn reads<R: Abort + AllocGlobal>(rt: &R, shell: Builtin, completer: &str) {
     let text = registration(rt.alloc(), shell, completer).expect(rt, "no registration");
     let read = read_completer(rt.alloc(), shell, text.as_str()).expect(rt, "out of memory");
     let read = read.expect(rt, "no completer");
-    assert_eq!(rt; read.as_str(), completer);
+    same(rt, read.as_str(), completer);
 }
 
 fn registration(alloc: Global, shell: Builtin, completer: &str) -> Result<String, Error> {

@@ -1,5 +1,6 @@
 //! Whole registrations.
 
+use crate::checks::same;
 use cc_adapters::{Builtin, EnvCompleter, Fish, Powershell, Zsh};
 use cc_base::Collected;
 use std::process::Abort;
@@ -115,5 +116,5 @@ fn registers<R: Abort + AllocGlobal, E: EnvCompleter>(rt: &R, shell: &E, name: &
         &mut sink,
     );
     assert!(rt; done.is_ok());
-    assert_eq!(rt; sink.as_slice(), wanted.as_bytes());
+    same(rt, sink.as_slice(), wanted.as_bytes());
 }

@@ -1,5 +1,6 @@
 //! Replies of adapters.
 
+use crate::checks::same;
 use cc_adapters::EnvCompleter;
 use cc_base::{Collected, Error, Sink};
 use cc_candidates::Completers;
@@ -22,7 +23,7 @@ pub(crate) fn replies<R: Abort + AllocGlobal, E: EnvCompleter>(
     let mut sink = Collected::new(rt.alloc());
     let done = reply(rt.alloc(), shell, tree, index, words, &mut sink);
     assert!(rt; done.is_ok());
-    assert_eq!(rt; sink.as_slice(), wanted.as_bytes());
+    same(rt, sink.as_slice(), wanted.as_bytes());
 }
 
 /// Fails unless there is nothing to complete, and nothing is written.

@@ -1,6 +1,7 @@
 //! Writers that fail, at the adapter of each shell.
 
 use crate::adapters::replied::reply;
+use crate::checks::same;
 use cc_adapters::{EnvCompleter, Shells};
 use cc_base::{Collected, Counted, Error, Sink};
 use cc_fixtures::writers::Narrow;
@@ -58,7 +59,7 @@ fn fails<R: Abort + AllocGlobal, E: EnvCompleter>(
     let done = write(rt.alloc(), shell, asks, &mut sink);
     let wanted = kind.unwrap_or(ErrorKind::WriteZero);
     assert!(rt; matches!(done, Err(Error::Write(failed)) if failed == wanted));
-    assert_eq!(rt; sink.failures(), 1);
+    same(rt, sink.failures(), 1);
     let held = sink.get_ref().held.as_slice();
     assert!(rt; held.len() == room && whole.starts_with(held));
     drop(sink);

@@ -1,6 +1,7 @@
 //! Requests that fail, with nothing written.
 
-use crate::requests::tried::{end, is, test_command};
+use crate::checks::is;
+use crate::requests::tried::{end, test_command};
 use cc_adapters::{Builtin, Shells};
 use cc_base::Error;
 use cc_command::Command;

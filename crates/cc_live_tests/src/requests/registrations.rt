@@ -1,6 +1,7 @@
 //! Registrations for a variable of the program's own, and for completers with line feeds.
 
-use crate::requests::tried::{end, has, is, named_command, test_command};
+use crate::checks::{has, is};
+use crate::requests::tried::{end, named_command, test_command};
 use cc_env::CompleteEnv;
 use std::alloc::{AllocError, Global};
 use std::process::Abort;

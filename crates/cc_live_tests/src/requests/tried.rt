@@ -1,5 +1,6 @@
 //! What a program does whose environment may ask for a completion, as one text.
 
+use crate::checks::is;
 use cc_adapters::Builtin;
 use cc_base::{Collected, Error, Sink};
 use cc_candidates::Completers;
@@ -40,18 +41,6 @@ pub(crate) fn ends<R: Abort + AllocGlobal>(
         end(rt.alloc(), program, variables, arguments, current_dir),
         wanted,
     );
-}
-
-/// Fails unless this text was made.
-pub(crate) fn is<R: Abort>(rt: &R, text: Result<String, AllocError>, wanted: &str) {
-    let text = text.expect(rt, "no text");
-    assert_eq!(rt; text.as_str(), wanted);
-}
-
-/// Fails unless a text was made that holds this part.
-pub(crate) fn has<R: Abort>(rt: &R, text: Result<String, AllocError>, part: &str) {
-    let text = text.expect(rt, "no text");
-    assert!(rt; text.as_str().contains(part), "{part:?} is not in {text}");
 }
 
 /// What the program writes, after what it returns where that isn't `true`.

@@ -1,6 +1,6 @@
 use Rattle.std.proofs.Common.{◌∙◌, ap, sym}
 use Rattle.std.specs.Prelude.{find}
-use Rattle.clap_complete.specs.BuiltinShells.{all_builtins, builtin_spec}
+use Rattle.cc_adapters.specs.Builtins.{all_builtins, builtin_spec}
 use Rattle.complgen_run.proofs.RegisterLemmas.{with_registration, without_registration}
 use Rattle.complgen_run.proofs.registrations.register_named.Goals as goal
 

@@ -1,0 +1,288 @@
+-- Each candidate at the root is one that the parser takes.
+use Rattle.std.proofs.Common.{◌≡◌, ◌∙◌, ◌==◌, ℕ, Bool, true, false, cond, List, [], ◌∷◌, ◌++◌, map, Option, Some, None, refl, sym, ap, subst, inl, inr, flat_map, Result, Ok, Err, IfOk}
+use Rattle.std.specs.Prelude.{chars, codes, filter, find, get_or, nat_le}
+use Rattle.std.specs.List.{AllByRecursion, dedup, dedup_from}
+use Rattle.std.specs.Ordering.{eq_by_cmp}
+use Rattle.cc_arg.specs.declared.parts.ArgParts.{ArgParts as Arg}
+use Rattle.cc_arg.specs.ShownNames.{shown_longs, shown_shorts}
+use Rattle.cc_base.specs.Bytes.{dash}
+use Rattle.cc_base.specs.declared.error.Error.{Error}
+use Rattle.cc_base.specs.declared.error.Error.TheVariants as error
+use Rattle.cc_base.specs.Sorting.{in_order}
+use Rattle.cc_base.proofs.Members.{AllByRecursion-IsIn, AllByRecursion-append, AllByRecursion-filter, AllByRecursion-flat_map, AllByRecursion-from_IsIn, AllByRecursion-map, AllByRecursion-weaker, Contains-from_IsIn, IsIn, IsIn-append_left, IsIn-append_right}
+use Rattle.cc_base.proofs.Sorted.{AllByRecursion-in_order}
+use Rattle.cc_candidates.specs.Beginning.{begins}
+use Rattle.cc_candidates.specs.Candidate.{candidate_cmp}
+use Rattle.cc_candidates.specs.Candidate.{comes_before as candidate_before}
+use Rattle.cc_candidates.specs.declared.candidate.CompletionCandidate.{CompletionCandidate}
+use Rattle.cc_command.specs.Built.{built_tree}
+use Rattle.cc_command.specs.Names.{visible_names}
+use Rattle.cc_command.specs.Tree.{Forest, none, more, Tree}
+use Rattle.cc_command.specs.declared.node.Node.{Node}
+use Rattle.cc_engine.specs.Completion.{Completes, Refuses, Returned, candidates_for, is_in_range, finished_last, offered, offered_children, offered_match, opened_values, positional_values, match_candidates}
+use Rattle.cc_engine.specs.OpenLists.{least, open_lists_by}
+use Rattle.cc_gather.specs.Children.{child_candidate, child_candidates, children_candidates, external, in_candidates_order, subcommand_candidates}
+use Rattle.cc_gather.specs.Finished.{comes_before, finish, first_of_ids, group, shown_or_all}
+use Rattle.cc_gather.specs.Lookup.{has_own_long}
+use Rattle.cc_gather.specs.Numbers.{is_number}
+use Rattle.cc_gather.specs.Options.{hidden_candidates, long_candidate, long_candidates, longs, short_candidate, short_candidates, shorts}
+use Rattle.cc_gather.specs.OptionMatches.{after_equals, after_one_dash, after_two_dashes, cluster_match, flag_match, long_match, match_of, short_match}
+use Rattle.cc_gather.specs.declared.options.OptionMatch.{OptionMatch}
+use Rattle.cc_gather.specs.declared.options.OptionMatch.TheVariants.{Listed, ValuesOf}
+use Rattle.cc_gather.proofs.FirstOfIds.{all-first_of_ids}
+use Rattle.cc_gather.proofs.Law.{all-shown}
+use Rattle.cc_parser.specs.Parsers.{IsAppOf, has_globals}
+use Rattle.cc_parser.specs.Taken.{fits_parser, KnowsChild, KnowsLong, KnowsShort, TakesNames, TakesOffered, TakesSiblings}
+use Rattle.cc_agreement.specs.ParserAgreement.{AgreesWithParser, IsParserOf, IsTaken, RefusesBoth, match_values, values_among}
+use Rattle.cc_values.specs.Values.{MayReturn, values}
+use Rattle.cc_walk.specs.Lookup.{positional_at}
+use Rattle.cc_walk.specs.WordClasses.{value_character}
+use Rattle.cc_walk.specs.Words.{before_equals}
+use Rattle.cc_walk.specs.declared.state.Pending.{Pending}
+use Rattle.cc_walk.specs.declared.state.Pending.TheVariants.{OptionOpen}
+use Rattle.cc_walk.specs.declared.state.State.{State}
+use Rattle.cc_walk.specs.declared.word_class.ValueCharacter.{ValueCharacter}
+use Rattle.clap.specs.Simple.{App}
+
+abbrev Candidates : Type 0
+Candidates = List CompletionCandidate
+
+-- ---- what is so of all stays so
+
+all_dedup_from : {X : Type 0} (P : X → Type 0) (same : X → X → Bool) (k : X) (xs : List X) → P k → AllByRecursion P xs → AllByRecursion P (dedup_from same k xs)
+all_dedup_from P same k [] pk h = (pk, tt)
+all_dedup_from P same k (x ∷ xs) pk h = by (same x k) (all_dedup_from P same k xs pk h.1) (all_dedup_from P same x xs h.0 h.1)
+  where
+    by : (b : Bool) → AllByRecursion P (dedup_from same k xs) → AllByRecursion P (dedup_from same x xs)
+        → AllByRecursion P (cond b (dedup_from same k xs) (k ∷ dedup_from same x xs))
+    by true dropped last = dropped
+    by false dropped last = (pk, last)
+
+all_dedup : {X : Type 0} (P : X → Type 0) (same : X → X → Bool) (xs : List X) → AllByRecursion P xs → AllByRecursion P (dedup same xs)
+all_dedup P same [] h = tt
+all_dedup P same (x ∷ xs) h = all_dedup_from P same x xs h.0 h.1
+
+all_finished : (P : CompletionCandidate → Type 0) (cs : Candidates) → AllByRecursion P cs → AllByRecursion P (finish cs)
+unfolding finish group
+all_finished P cs h =
+    AllByRecursion-in_order (comes_before (first_of_ids (shown_or_all cs))) P (first_of_ids (shown_or_all cs)) (all-first_of_ids P (shown_or_all cs) (all-shown P cs h))
+
+all_finished_last : (P : CompletionCandidate → Type 0) (pending : Pending) (word : List ℕ) (returned besides : Candidates)
+    → AllByRecursion P (opened_values pending word returned) → AllByRecursion P besides → AllByRecursion P (finished_last pending word returned besides)
+all_finished_last P (OptionOpen option count) word returned besides h k = by (nat_le (least option) count)
+  where
+    by : (enough : Bool) → AllByRecursion P (cond enough (values option word returned ++ finish besides) (values option word returned))
+    by true = AllByRecursion-append P (values option word returned) (finish besides) h (all_finished P besides k)
+    by false = h
+all_finished_last P _ word returned besides h k = k
+
+all_subcommands : (P : CompletionCandidate → Type 0) (word : List ℕ) (tree : Tree) (programs : Candidates)
+    → AllByRecursion P (children_candidates tree.node tree.children) → AllByRecursion P (external tree.node programs)
+    → AllByRecursion P (subcommand_candidates tree programs word)
+unfolding subcommand_candidates in_candidates_order
+all_subcommands P word tree programs children others =
+    let kept = filter (begins word) (children_candidates tree.node tree.children ++ external tree.node programs) in
+    all_dedup P (eq_by_cmp candidate_cmp) (in_order candidate_before kept)
+    (AllByRecursion-in_order candidate_before P kept
+    (AllByRecursion-filter P (begins word) (children_candidates tree.node tree.children ++ external tree.node programs)
+    (AllByRecursion-append P (children_candidates tree.node tree.children) (external tree.node programs) children others)))
+
+-- ---- the options of a word
+
+module _ (P : CompletionCandidate → Type 0) (arguments : List Arg) (all_longs : AllByRecursion P (longs arguments))
+    (all_shorts : (before : List ℕ) → AllByRecursion P (shorts before arguments)) where
+  abbrev AreListed : OptionMatch → Type 0
+  AreListed (Listed found) = AllByRecursion P found
+  AreListed (ValuesOf wanted) = Unit {0}
+
+  long_listed : (long : List ℕ) (text : Option (List ℕ)) → AreListed (long_match arguments long text)
+  long_listed long None = AllByRecursion-filter P (begins (codes "--" ++ long)) (longs arguments) all_longs
+  long_listed long (Some text) = flag (find (has_own_long (before_equals long)) arguments)
+    where
+      flag : (argument : Option Arg) → AreListed (flag_match argument (before_equals long) text)
+      flag None = tt
+      flag (Some a) = tt
+
+  two_listed : (s : List ℕ) → AreListed (after_two_dashes arguments s)
+  two_listed [] = all_longs
+  two_listed (c ∷ s) = long_listed (c ∷ s) (after_equals (c ∷ s))
+
+  short_listed : (after : List ℕ) → AreListed (short_match arguments after)
+  short_listed after = by (is_number after)
+    where
+      cluster : (found : Option ValueCharacter) → AreListed (cluster_match arguments (codes "-" ++ after) found)
+      cluster None = all_shorts (codes "-" ++ after)
+      cluster (Some found) = tt
+
+      by : (b : Bool) → AreListed (cond b (Listed []) (cluster_match arguments (codes "-" ++ after) (value_character arguments (chars after))))
+      by true = tt
+      by false = cluster (value_character arguments (chars after))
+
+  one_listed : (s : List ℕ) → AreListed (after_one_dash arguments s)
+  one_listed [] = AllByRecursion-append P (shorts (codes "-") arguments) (longs arguments) (all_shorts (codes "-")) all_longs
+  one_listed (c ∷ s) = by (c == dash)
+    where
+      by : (b : Bool) → AreListed (cond b (after_two_dashes arguments s) (short_match arguments (c ∷ s)))
+      by true = two_listed s
+      by false = short_listed (c ∷ s)
+
+  match_listed : (word : List ℕ) → AreListed (match_of arguments word)
+  unfolding match_of
+  match_listed [] = AllByRecursion-append P (longs arguments) (shorts (codes "-") arguments) all_longs (all_shorts (codes "-"))
+  match_listed (c ∷ s) = by (c == dash)
+    where
+      by : (b : Bool) → AreListed (cond b (after_one_dash arguments s) (Listed []))
+      by true = one_listed s
+      by false = tt
+
+  offered_listed : (offers : Bool) (word : List ℕ) → AreListed (offered_match offers arguments word)
+  offered_listed true word = match_listed word
+  offered_listed false word = tt
+
+  all_match : (matched : OptionMatch) (returned : Candidates) → AreListed matched → AllByRecursion P (match_values matched returned) → AllByRecursion P (match_candidates matched returned)
+  all_match (Listed found) returned listed h = listed
+  all_match (ValuesOf wanted) returned listed h = h
+
+-- ---- names that the parser takes
+
+module _ (tree : Tree) (app : App) (takes : TakesOffered tree app) (others : Candidates) where
+  abbrev P : CompletionCandidate → Type 0
+  P = IsTaken tree app others
+
+  known_long : (a : Arg) → IsIn tree.node.arguments a → (hidden : Bool) (names : List (List ℕ)) → AllByRecursion (KnowsLong app) names
+      → AllByRecursion P (map (long_candidate a hidden) names)
+  known_long a there hidden names known = AllByRecursion-map P (long_candidate a hidden) names
+      (AllByRecursion-weaker (KnowsLong app) (λ name. P (long_candidate a hidden name)) (λ name k. inl (inr (record {
+        argument = a;
+        there = Contains-from_IsIn tree.node.arguments a there;
+        id = refl;
+        name = name;
+        value = refl;
+        known = k;
+      }))) names known)
+
+  known_short : (a : Arg) → IsIn tree.node.arguments a → (before : List ℕ) → AllByRecursion P (short_candidates before a)
+  known_short a there before = AllByRecursion-map P (short_candidate before a) (shown_shorts a)
+      (AllByRecursion-weaker (KnowsShort app) (λ short. P (short_candidate before a short)) (λ short k. inr (inl (record {
+        argument = a;
+        there = Contains-from_IsIn tree.node.arguments a there;
+        id = refl;
+        before = before;
+        short = short;
+        value = refl;
+        known = k;
+      }))) (shown_shorts a) (AllByRecursion-IsIn (TakesNames app) tree.node.arguments a takes.names there).1)
+
+  known_longs : AllByRecursion P (longs tree.node.arguments)
+  unfolding longs
+  known_longs =
+      let args = tree.node.arguments in
+      AllByRecursion-append P (flat_map long_candidates args) (flat_map hidden_candidates args)
+      (AllByRecursion-flat_map P long_candidates args (AllByRecursion-from_IsIn (λ a. AllByRecursion P (long_candidates a)) args (λ a there.
+      known_long a there a.hide (shown_longs a) (front (shown_longs a) a.aliases (AllByRecursion-IsIn (TakesNames app) args a takes.names there).0))))
+      (AllByRecursion-flat_map P hidden_candidates args (AllByRecursion-from_IsIn (λ a. AllByRecursion P (hidden_candidates a)) args (λ a there.
+      known_long a there true a.aliases (back (shown_longs a) a.aliases (AllByRecursion-IsIn (TakesNames app) args a takes.names there).0))))
+    where
+      front : (xs ys : List (List ℕ)) → AllByRecursion (KnowsLong app) (xs ++ ys) → AllByRecursion (KnowsLong app) xs
+      front xs ys h = AllByRecursion-from_IsIn (KnowsLong app) xs (λ x k. AllByRecursion-IsIn (KnowsLong app) (xs ++ ys) x h (IsIn-append_left xs ys x k))
+
+      back : (xs ys : List (List ℕ)) → AllByRecursion (KnowsLong app) (xs ++ ys) → AllByRecursion (KnowsLong app) ys
+      back xs ys h = AllByRecursion-from_IsIn (KnowsLong app) ys (λ x k. AllByRecursion-IsIn (KnowsLong app) (xs ++ ys) x h (IsIn-append_right xs ys x k))
+
+  known_shorts : (before : List ℕ) → AllByRecursion P (shorts before tree.node.arguments)
+  unfolding shorts
+  known_shorts before = AllByRecursion-flat_map P (short_candidates before) tree.node.arguments
+      (AllByRecursion-from_IsIn (λ a. AllByRecursion P (short_candidates before a)) tree.node.arguments (λ a there. known_short a there before))
+
+  known_children : (parent : Node) (forest : Forest) → TakesSiblings app forest → AllByRecursion P (children_candidates parent forest)
+  known_children parent none h = tt
+  known_children parent (more node below rest) h =
+      AllByRecursion-append P (child_candidates parent node) (children_candidates parent rest)
+      (AllByRecursion-append P (map (child_candidate parent node node.hide) (visible_names node)) (map (child_candidate parent node true) node.aliases)
+      (names node.hide (visible_names node) (λ word k. IsIn-append_left (visible_names node) node.aliases word k))
+      (names true node.aliases (λ word k. IsIn-append_right (visible_names node) node.aliases word k)))
+      (known_children parent rest h.1)
+    where
+      names : (hidden : Bool) (words : List (List ℕ)) → ((word : List ℕ) → IsIn words word → IsIn (visible_names node ++ node.aliases) word)
+          → AllByRecursion P (map (child_candidate parent node hidden) words)
+      names hidden words inside = AllByRecursion-map P (child_candidate parent node hidden) words
+          (AllByRecursion-from_IsIn (λ word. P (child_candidate parent node hidden word)) words (λ word k.
+          inl (inl (AllByRecursion-IsIn (KnowsChild app) (visible_names node ++ node.aliases) word h.0 (inside word k)))))
+
+  -- each of the values is one of the others
+  values_there : (cs : Candidates) → ((c : CompletionCandidate) → IsIn cs c → IsIn others c) → AllByRecursion P cs
+  values_there cs inside = AllByRecursion-from_IsIn P cs (λ c k. inr (inr (Contains-from_IsIn others c (inside c k))))
+
+-- ---- WHAT IS OFFERED AT THE ROOT IS TAKEN
+
+all_taken : (tree : Tree) (app : App) → TakesOffered tree app → (state : State) (word : List ℕ) (returned : Returned)
+    → AllByRecursion (IsTaken tree app (values_among tree state word returned)) (candidates_for tree state word returned)
+all_taken tree app takes state word returned =
+    let lists = open_lists_by tree.node.arguments state.position state.escaped state.pending in
+    let programs : Candidates = external tree.node returned.children in
+    let positional : Candidates = positional_values (positional_at tree.node.arguments state.position) lists.value word returned.positional in
+    let within : Candidates = match_values (offered_match lists.options tree.node.arguments word) returned.within in
+    let opened : Candidates = opened_values state.pending word returned.opened in
+    let others : Candidates = values_among tree state word returned in
+    let Q : CompletionCandidate → Type 0 = IsTaken tree app others in
+    let there : (cs : Candidates) → ((c : CompletionCandidate) → IsIn cs c → IsIn others c) → AllByRecursion Q cs = values_there tree app takes others in
+    let children : AllByRecursion Q (offered_children lists.children tree word returned.children) = by_children others lists.children
+    (all_subcommands Q word tree returned.children (known_children tree app takes others tree.node tree.children takes.children)
+    (there programs (λ c k. IsIn-append_left programs (positional ++ (within ++ opened)) c k))) in
+    let listed = offered_listed Q tree.node.arguments (known_longs tree app takes others) (known_shorts tree app takes others) lists.options word in
+    let matched = all_match Q tree.node.arguments (known_longs tree app takes others) (known_shorts tree app takes others) (offered_match lists.options tree.node.arguments word)
+    returned.within listed (there within (λ c k. IsIn-append_right programs (positional ++ (within ++ opened)) c
+    (IsIn-append_right positional (within ++ opened) c (IsIn-append_left within opened c k)))) in
+    all_finished Q (finished_last state.pending word returned.opened (offered tree state.position lists word returned))
+    (all_finished_last Q state.pending word returned.opened (offered tree state.position lists word returned)
+    (there opened (λ c k. IsIn-append_right programs (positional ++ (within ++ opened)) c
+    (IsIn-append_right positional (within ++ opened) c (IsIn-append_right within opened c k))))
+    (AllByRecursion-append Q (offered_children lists.children tree word returned.children ++ positional) (match_candidates (offered_match lists.options tree.node.arguments word) returned.within)
+    (AllByRecursion-append Q (offered_children lists.children tree word returned.children) positional children
+    (there positional (λ c k. IsIn-append_right programs (positional ++ (within ++ opened)) c (IsIn-append_left positional (within ++ opened) c k))))
+    matched))
+  where
+    by_children : (others : Candidates) (offers : Bool) → AllByRecursion (IsTaken tree app others) (subcommand_candidates tree returned.children word)
+        → AllByRecursion (IsTaken tree app others) (offered_children offers tree word returned.children)
+    by_children others true h = h
+    by_children others false h = tt
+
+pub agrees : (sources : MayReturn) (root : Tree) (app : App) (words : List (List ℕ)) (index : ℕ) (found : Candidates)
+    → TakesOffered root app → Completes sources root words index found → AgreesWithParser sources root app words index found
+agrees sources root app words index found takes completes = record {
+  tree = completes.tree;
+  state = completes.state;
+  leads = completes.leads;
+  only = completes.only;
+  offers = completes.offers;
+  taken = λ same. subst (AllByRecursion (IsTaken root app (values_among completes.tree completes.state (get_or words index []) completes.offers.0))) (sym completes.offers.2)
+      (subst (λ (t : Tree). AllByRecursion (IsTaken root app (values_among t completes.state (get_or words index []) completes.offers.0))
+      (candidates_for t completes.state (get_or words index []) completes.offers.0)) (sym same)
+      (all_taken root app takes completes.state (get_or words index []) completes.offers.0));
+}
+
+-- the same of a tree that is the one after building
+pub agrees_built : (sources : MayReturn) (root new : Tree) (app : App) (words : List (List ℕ)) (index : ℕ) (found : Candidates) → new ≡ root
+    → Completes sources new words index found → (has_globals new ≡ false → fits_parser new ≡ true → TakesOffered new app)
+    → has_globals root ≡ false → fits_parser root ≡ true → AgreesWithParser sources root app words index found
+agrees_built sources root new app words index found same completes takes local fits =
+    subst (λ (tree : Tree). AgreesWithParser sources tree app words index found) same
+    (agrees sources new app words index found (takes (ap has_globals same ∙ local) (ap fits_parser same ∙ fits)) completes)
+
+pub completes_built : (sources : MayReturn) (root new : Tree) (words : List (List ℕ)) (index : ℕ) (found : Candidates) → new ≡ root
+    → Completes sources new words index found → Completes sources root words index found
+completes_built sources root new words index found same completes =
+    subst (λ (tree : Tree). Completes sources tree words index found) same completes
+
+pub parser_built : (root new : Tree) (app : App) (globals : Bool) → new ≡ root → (has_globals new ≡ false → IsAppOf new app)
+    → globals ≡ has_globals new → (has_globals new ≡ false → fits_parser new ≡ true → TakesOffered new app)
+    → IsParserOf root app globals
+parser_built root new app globals same is counted taken =
+    subst (λ (tree : Tree). IsParserOf tree app globals) same (record { is = is; same_globals = counted; taken = taken })
+
+-- where building did not end, or the index was out of range
+pub refuses_both : (old new : Tree) (count index : ℕ) (error : Error) → Refuses old new count index error → RefusesBoth (built_tree old) count index error
+refuses_both old new count index error.Memory refuses = tt
+refuses_both old new count index error.NoCompletion refuses =
+    subst (λ (tree : Tree). is_in_range tree.node count index ≡ false) refuses.0 refuses.1
+refuses_both old new count index _ refuses = absurd refuses

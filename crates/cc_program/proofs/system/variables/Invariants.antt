@@ -1,6 +1,0 @@
-use Rattle.std.specs.List.{AllByRecursion}
-use Rattle.cc_program.proofs.Named.{Named}
-use Rattle.cc_program.proofs.system.variables.Given as goal
-
-abbrev pub invariant-loop-name : goal.invariant-loop-name
-invariant-loop-name g l = AllByRecursion (Named l.names) l.found.items

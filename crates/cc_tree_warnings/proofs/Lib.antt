@@ -1,2 +1,0 @@
-pub mod BuiltAgain
-pub mod NoWarnings

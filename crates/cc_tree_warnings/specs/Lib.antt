@@ -1,2 +1,0 @@
-pub mod Promises
-pub mod TreeWarnings

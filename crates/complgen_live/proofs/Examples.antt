@@ -1,0 +1,96 @@
+-- Requests, folders and names of tree files, for some values.
+use Rattle.std.proofs.Common.{◌≡◌, true, false, [], ◌∷◌, Some, None, codes, filter, refl}
+use Rattle.std.specs.Path.{path_file_name, path_join, rsplit_once, split_last_component, trim_trailing}
+use Rattle.cc_base.specs.Sorting.{in_order, insert}
+use Rattle.cc_quote.specs.PlainName.{is_joined, is_plain_name, name_byte}
+use Rattle.complgen_live.specs.Folders.{tree_folders}
+use Rattle.complgen_live.specs.KnownNames.{each_once, is_other_name}
+use Rattle.complgen_live.specs.Requests.{is_request, request_words}
+use Rattle.complgen_live.specs.TreeFiles.{stems, tree_paths, tree_stem}
+
+-- ---- requests
+
+alone_row : is_request (Some (codes "bash")) (codes "complgen" ∷ []) ≡ true
+alone_row = refl
+
+words_row : is_request (Some (codes "fish")) (codes "complgen" ∷ codes "--" ∷ codes "git" ∷ []) ≡ true
+words_row = refl
+
+script_row : is_request (Some (codes "fish")) (codes "complgen" ∷ codes "script" ∷ []) ≡ false
+script_row = refl
+
+zero_row : is_request (Some (codes "0")) (codes "complgen" ∷ []) ≡ false
+zero_row = refl
+
+empty_row : is_request (Some []) (codes "complgen" ∷ []) ≡ false
+empty_row = refl
+
+unset_row : is_request None (codes "complgen" ∷ []) ≡ false
+unset_row = refl
+
+after_row : request_words (codes "complgen" ∷ codes "--" ∷ codes "git" ∷ codes "--" ∷ [])
+    ≡ Some (codes "git" ∷ codes "--" ∷ [])
+after_row = refl
+
+no_dashes_row : request_words (codes "complgen" ∷ []) ≡ None
+no_dashes_row = refl
+
+-- ---- folders
+
+named_row : tree_folders (Some (codes "/a::b:")) (Some (codes "/x")) (Some (codes "/h")) None
+    ≡ codes "/a" ∷ codes "b" ∷ []
+named_row = refl
+
+none_named_row : tree_folders (Some []) None (Some (codes "/h")) None ≡ []
+none_named_row = refl
+
+home_row : tree_folders None (Some []) (Some (codes "/h")) None
+    ≡ codes "/h/.local/share/complgen" ∷ codes "/usr/local/share/complgen"
+    ∷ codes "/usr/share/complgen" ∷ []
+unfolding path_join
+home_row = refl
+
+data_row : tree_folders None (Some (codes "/x")) (Some (codes "/h")) (Some (codes "y:/z/"))
+    ≡ codes "/x/complgen" ∷ codes "/z/complgen" ∷ []
+unfolding path_join
+data_row = refl
+
+nothing_row : tree_folders None None None (Some (codes "y")) ≡ []
+unfolding path_join
+nothing_row = refl
+
+-- ---- names
+
+stem_row : tree_stem (codes "git.json") ≡ Some (codes "git")
+stem_row = refl
+
+other_file_row : tree_stem (codes "json") ≡ None
+other_file_row = refl
+
+stems_row : stems (codes "a.json" ∷ codes "b" ∷ codes ".json" ∷ []) ≡ codes "a" ∷ [] ∷ []
+stems_row = refl
+
+-- a word leads to no other folder
+outside_row : tree_paths (codes "../../x") (codes "/f" ∷ codes "g" ∷ [])
+    ≡ codes "/f/x.json" ∷ codes "g/x.json" ∷ []
+unfolding path_file_name rsplit_once split_last_component trim_trailing path_join
+outside_row = refl
+
+dots_row : tree_paths (codes "..") (codes "/f" ∷ []) ≡ []
+unfolding path_file_name rsplit_once split_last_component trim_trailing path_join
+dots_row = refl
+
+-- the whole base name counts
+version_row : tree_paths (codes "/usr/bin/python3.11") (codes "/f" ∷ []) ≡ codes "/f/python3.11.json" ∷ []
+unfolding path_file_name rsplit_once split_last_component trim_trailing path_join
+version_row = refl
+
+order_row : each_once (filter is_other_name (codes "b" ∷ codes "complgen" ∷ codes "a" ∷ codes "b" ∷ []))
+    ≡ codes "a" ∷ codes "b" ∷ []
+unfolding in_order insert
+order_row = refl
+
+plain_row : filter is_plain_name (codes "a" ∷ codes "-a" ∷ codes "a b" ∷ codes "a.b" ∷ codes "a-b" ∷ [])
+    ≡ codes "a" ∷ codes "a-b" ∷ []
+unfolding is_plain_name is_joined name_byte
+plain_row = refl

@@ -1,0 +1,78 @@
+//! The names and the paths of tree files.
+
+ghost use Rattle.std.specs.Prelude.{◌≡◌, IfOk, filter, map, string_bytes};
+ghost use Rattle.std.specs.Option.{option_copied};
+ghost use Rattle.std.specs.Path.{path_file_name};
+ghost use Rattle.cc_quote.specs.PlainName.{is_plain_name};
+ghost use Rattle.complgen_live.specs.TreeFiles.{tree_path, tree_paths, tree_stem};
+
+use cc_paths::join;
+use cc_quote::is_plain_name;
+use std::alloc::{AllocError, Global};
+use std::path::Path;
+
+// The end of a tree file's name.
+const ENDING: &str = ".json";
+
+/// The name under which the tree file of a program is looked up: the last piece of the word that
+/// calls it, which holds no slash. `None` where the word has no such piece, as `..`.
+pub fn command_name(word: &str) -> Option<&str>
+    ensures { option_copied result ≡ path_file_name word.now }
+{
+    Path::new(word).file_name()
+}
+
+/// The path of the tree file of a program in a folder. Fails where memory runs out.
+pub fn tree_path(alloc: Global, folder: &str, name: &str) -> Result<String, AllocError>
+    ensures { IfOk result (λ path. string_bytes path ≡ tree_path folder.now name.now) }
+{
+    let mut path = join(alloc, folder, name)?;
+    path.push_str(ENDING)?;
+    Ok(path)
+}
+
+/// The paths of the tree files of the program that a word calls, one for each folder, in their
+/// order; none where the word calls no program. Fails where memory runs out.
+pub fn tree_paths(alloc: Global, folders: &[String], word: &str) -> Result<Vec<String>, AllocError>
+    ensures { IfOk result (λ paths. map string_bytes paths.items
+        ≡ tree_paths word.now (map string_bytes folders.now)) }
+{
+    match command_name(word) {
+        Some(name) => paths_of(alloc, folders, name),
+        None => Ok(Vec::new(alloc)),
+    }
+}
+
+fn paths_of(alloc: Global, folders: &[String], name: &str) -> Result<Vec<String>, AllocError>
+    ensures { IfOk result (λ paths. map string_bytes paths.items
+        ≡ map (λ folder. tree_path folder name.now) (map string_bytes folders.now)) }
+{
+    let mut paths = Vec::new(alloc);
+    for folder in folders {
+        paths.push(tree_path(alloc, folder.as_str(), name)?)?;
+    }
+    Ok(paths)
+}
+
+/// The name of the program whose tree file has this name; `None` where it is no name of a tree
+/// file.
+pub fn tree_stem(name: &str) -> Option<&str>
+    ensures { option_copied result ≡ tree_stem name.now }
+{
+    name.strip_suffix(ENDING)
+}
+
+/// Those of the names that are plain, which alone are registered. Fails where memory runs out.
+pub fn plain_names(alloc: Global, names: Vec<String>) -> Result<Vec<String>, AllocError>
+    ensures { IfOk result (λ kept.
+        map string_bytes kept.items ≡ filter is_plain_name (map string_bytes names.items)) }
+{
+    let mut kept = Vec::new(alloc);
+    for name in names {
+        if !is_plain_name(name.as_str()) {
+            continue;
+        }
+        kept.push(name)?;
+    }
+    Ok(kept)
+}

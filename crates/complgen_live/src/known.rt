@@ -1,0 +1,120 @@
+//! The programs whose tree files lie in folders.
+
+ghost use Rattle.std.specs.Prelude.{◌≡◌, ◌++◌, IfOk, OnOk, filter, map, string_bytes};
+ghost use Rattle.cc_paths.specs.PathCandidates.{MayList};
+ghost use Rattle.complgen_live.specs.KnownNames.{AreKnown, AreListed, each_once, is_other_name};
+ghost use Rattle.complgen_live.specs.TreeFiles.{found_stem, stems, tree_stem};
+
+use crate::files::{plain_names, tree_stem};
+use cc_paths::{Folder, FolderError};
+use std::alloc::{AllocError, Global};
+
+// The name of this program.
+const OWN_NAME: &str = "complgen";
+
+/// The programs whose tree files lie in some folders.
+#[derive(Drop)]
+pub struct KnownNames {
+    /// Their plain names, in order, each once, without that of this program.
+    pub names: Vec<String>,
+    /// How many tree files have a name that is not plain.
+    pub passed_over: usize,
+}
+
+/// The names of the programs whose tree files the folder lists at these paths. A path at which
+/// nothing can be listed has none. Fails where memory runs out.
+pub fn known_names<D: Folder>(
+    alloc: Global,
+    folder: &D,
+    folders: &[String],
+) -> Result<KnownNames, AllocError>
+    ensures { IfOk result (λ known. AreKnown (D.facts folder.now).names
+        (map string_bytes folders.now) (map string_bytes known.names.items) known.passed_over) }
+{
+    let names = listed_names(alloc, folder, folders)?;
+    let stems = stems_of(alloc, names.as_slice())?;
+    let count = stems.len();
+    let plain = plain_names(alloc, stems)?;
+    let passed_over = count - plain.len();
+    let mut names = other_names(alloc, plain)?;
+    each_once(&mut names)?;
+    Ok(KnownNames { names, passed_over })
+}
+
+// The names that are listed in the folders, one folder after another.
+fn listed_names<D: Folder>(
+    alloc: Global,
+    folder: &D,
+    folders: &[String],
+) -> Result<Vec<String>, AllocError>
+    ensures { IfOk result (λ names. AreListed (D.facts folder.now).names
+        (map string_bytes folders.now) (map string_bytes names.items)) }
+{
+    let mut names = Vec::new(alloc);
+    for path in folders {
+        let mut here = names_in(alloc, folder, path.as_str())?;
+        names.append(&mut here)?;
+    }
+    Ok(names)
+}
+
+// The names in the folder at a path; none where it can't be read.
+fn names_in<D: Folder>(alloc: Global, folder: &D, path: &str) -> Result<Vec<String>, AllocError>
+    ensures { IfOk result (λ names. MayList ((D.facts folder.now).names path.now)
+        (map string_bytes names.items)) }
+{
+    match folder.names(alloc, path) {
+        Ok(names) => Ok(names),
+        Err(FolderError::Unreadable) => Ok(Vec::new(alloc)),
+        Err(FolderError::Memory) => Err(AllocError),
+    }
+}
+
+// The names of the programs whose tree files have these names.
+fn stems_of(alloc: Global, names: &[String]) -> Result<Vec<String>, AllocError>
+    ensures { IfOk result (λ found.
+        map string_bytes found.items ≡ stems (map string_bytes names.now)) }
+{
+    let mut found = Vec::new(alloc);
+    for name in names {
+        push_stem(&mut found, alloc, name.as_str())?;
+    }
+    Ok(found)
+}
+
+// Adds the name of the program whose tree file has this name, where it is one of a tree file.
+fn push_stem(found: &mut Vec<String>, alloc: Global, name: &str) -> Result<(), AllocError>
+    ensures { OnOk result (map string_bytes found.new.items
+        ≡ map string_bytes found.old.items ++ found_stem (tree_stem name.now)) }
+{
+    let Some(stem) = tree_stem(name) else {
+        return Ok(());
+    };
+    found.push(String::from_str(alloc, stem)?)?;
+    Ok(())
+}
+
+// Those of the names that are of other programs.
+fn other_names(alloc: Global, names: Vec<String>) -> Result<Vec<String>, AllocError>
+    ensures { IfOk result (λ kept.
+        map string_bytes kept.items ≡ filter is_other_name (map string_bytes names.items)) }
+{
+    let mut kept = Vec::new(alloc);
+    for name in names {
+        if name.as_str() == OWN_NAME {
+            continue;
+        }
+        kept.push(name)?;
+    }
+    Ok(kept)
+}
+
+// Sorts, and leaves each name once.
+fn each_once(names: &mut Vec<String>) -> Result<(), AllocError>
+    ensures { OnOk result
+        (map string_bytes names.new.items ≡ each_once (map string_bytes names.old.items)) }
+{
+    names.sort()?;
+    names.dedup();
+    Ok(())
+}

@@ -1,2 +1,0 @@
-pub mod ToolLine
-pub mod ToolPlans

@@ -1,5 +1,0 @@
-use Rattle.complgen_trees.proofs.Stems.{stem_is}
-use Rattle.complgen_trees.proofs.files.tree_stem.Goals as goal
-
-pub returns : goal.returns
-returns c = stem_is c.args.name.now c.strip_suffix.result c.strip_suffix.ensures.cases

@@ -1,4 +1,0 @@
-pub mod Folders
-pub mod KnownNames
-pub mod Requests
-pub mod TreeFiles
