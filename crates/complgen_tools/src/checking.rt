@@ -9,8 +9,8 @@ ghost use Rattle.complgen_tools.specs.Checking.{argument_steps, command_steps, f
 ghost use Rattle.complgen_tools.specs.Checking.{is_note, item_steps, key_steps, only_notes};
 ghost use Rattle.complgen_tools.specs.Checking.{place_steps, shown_warning};
 
+use crate::all_warnings::tree_warnings;
 use crate::lines::put_findings;
-use crate::tree_warnings::tree_warnings;
 use cc_base::Sink;
 use cc_command::Command;
 use cc_command_warnings::{self as warnings, Key, Place, Warning};

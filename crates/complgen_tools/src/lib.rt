@@ -2,12 +2,12 @@
 #![tactic(auto)]
 
 mod all_scripts;
+mod all_warnings;
 mod checking;
 mod lines;
 mod safe_script;
-mod tree_warnings;
 
 pub use crate::all_scripts::scripts;
+pub use crate::all_warnings::tree_warnings;
 pub use crate::checking::check;
 pub use crate::safe_script::write_shell_if_no_warnings;
-pub use crate::tree_warnings::tree_warnings;

@@ -9,7 +9,7 @@ ghost use Rattle.cc_bash.specs.Labels.{shared_label};
 ghost use Rattle.cc_shell.specs.Shells.{shell_spec};
 ghost use Rattle.complgen_tools.specs.TreeWarnings.{warnings_of};
 
-use crate::tree_warnings::tree_warnings;
+use crate::all_warnings::tree_warnings;
 use cc_base::{Error, Sink};
 use cc_command::Command;
 use cc_command_warnings::are_notes;

@@ -7,7 +7,7 @@ use Rattle.cc_command_warnings.specs.Notes.{are_notes}
 use Rattle.cc_command_warnings.specs.declared.warning.Warning.{Warning}
 use Rattle.complgen_tools.specs.TreeWarnings.{called, warnings_of}
 use Rattle.complgen_tools.proofs.NoWarnings.{premises_hold}
-use Rattle.complgen_tools.proofs.tree_warnings.tree_warnings.Goals as goal
+use Rattle.complgen_tools.proofs.all_warnings.tree_warnings.Goals as goal
 
 pub returns-clause-premises : goal.returns-clause-premises
 returns-clause-premises c = λ none.
