@@ -91,7 +91,6 @@ fn write_requested<R: Env + Files + Eprint + AllocGlobal, D: Folder, W: Sink>(
     reply(alloc, env, words, path, bytes, current_dir, folder, out)
 }
 
-// Writes the registrations of the programs that have a tree file.
 fn write_known<R: Eprint + AllocGlobal, D: Folder, W: Sink>(
     rt: &R,
     env: &EnvValues,
