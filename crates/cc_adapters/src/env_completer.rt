@@ -8,7 +8,7 @@ ghost use Rattle.cc_base.specs.Writes.{Writes};
 ghost use Rattle.cc_candidates.specs.declared.candidate.CompletionCandidate.{CompletionCandidate};
 ghost use Rattle.cc_engine.specs.Completion.{Completes};
 ghost use Rattle.cc_engine.specs.Paths.{PathsOf};
-ghost use Rattle.cc_values.specs.Values.{returned_by};
+ghost use Rattle.cc_gather.specs.Values.{returned_by};
 
 use cc_base::{Error, Sink};
 use cc_candidates::{CandidateSources, Completers};

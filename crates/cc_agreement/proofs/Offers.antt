@@ -34,7 +34,7 @@ use Rattle.cc_gather.proofs.Law.{all-shown}
 use Rattle.cc_parser.specs.Parsers.{IsAppOf, has_globals}
 use Rattle.cc_parser.specs.Taken.{fits_parser, KnowsChild, KnowsLong, KnowsShort, TakesNames, TakesOffered, TakesSiblings}
 use Rattle.cc_agreement.specs.ParserAgreement.{AgreesWithParser, IsParserOf, IsTaken, RefusesBoth, match_values, values_among}
-use Rattle.cc_values.specs.Values.{MayReturn, values}
+use Rattle.cc_gather.specs.Values.{MayReturn, values}
 use Rattle.cc_walk.specs.Lookup.{positional_at}
 use Rattle.cc_walk.specs.WordClasses.{value_character}
 use Rattle.cc_walk.specs.Words.{before_equals}

@@ -17,7 +17,7 @@ use Rattle.cc_quote.specs.PlainName.{is_plain_name}
 use Rattle.cc_command.specs.Tree.{Tree}
 use Rattle.cc_command.proofs.BuiltAgain.{built_tree-again}
 use Rattle.cc_engine.specs.Completion.{Completes, Refuses, words_before}
-use Rattle.cc_values.specs.Values.{MayReturn}
+use Rattle.cc_gather.specs.Values.{MayReturn}
 use Rattle.cc_walk.specs.Visible.{HasNoHiddenAlias}
 
 -- one tree, of which the script reads back

@@ -13,7 +13,7 @@ use Rattle.cc_gather.specs.declared.options.OptionMatch.{OptionMatch}
 use Rattle.cc_gather.specs.declared.options.OptionMatch.TheVariants.{Listed, ValuesOf}
 use Rattle.cc_parser.specs.Parsers.{IsAppOf, has_globals}
 use Rattle.cc_parser.specs.Taken.{KnowsChild, KnowsLong, KnowsShort, TakesOffered, fits_parser}
-use Rattle.cc_values.specs.Values.{MayReturn}
+use Rattle.cc_gather.specs.Values.{MayReturn}
 use Rattle.cc_walk.specs.Destination.{WordsLeadTo, WordsLeadOnlyTo}
 use Rattle.cc_walk.specs.Lookup.{positional_at}
 use Rattle.cc_walk.specs.declared.state.State.{State}

@@ -8,7 +8,7 @@ ghost use Rattle.cc_base.specs.Writes.{CountsWrite};
 ghost use Rattle.cc_bash.specs.Script.{bash_script};
 ghost use Rattle.cc_command.specs.Built.{built_under};
 ghost use Rattle.cc_engine.specs.Paths.{PathsOf};
-ghost use Rattle.cc_values.specs.Values.{returned_by};
+ghost use Rattle.cc_gather.specs.Values.{returned_by};
 
 use cc_base::{Error, Sink};
 use cc_bash::Bash;

@@ -12,7 +12,7 @@ ghost use Rattle.cc_gather.specs.Finished.{Differ};
 ghost use Rattle.cc_parser.specs.Parsers.{has_globals};
 ghost use Rattle.cc_parser.specs.Taken.{fits_parser};
 ghost use Rattle.cc_agreement.specs.ParserAgreement.{AgreesWithParser, IsParserOf, RefusesBoth};
-ghost use Rattle.cc_values.specs.Values.{returned_by};
+ghost use Rattle.cc_gather.specs.Values.{returned_by};
 
 use bumpalo::Bump;
 use cc_base::Error;

@@ -25,8 +25,8 @@ use Rattle.cc_gather.specs.Options.{longs, shorts}
 use Rattle.cc_gather.specs.OptionMatches.{match_of}
 use Rattle.cc_paths.specs.PathCandidates.{grouped_candidates, groups}
 use Rattle.cc_paths.specs.PathTexts.{word_prefix}
-use Rattle.cc_values.specs.Parts.{front_length}
-use Rattle.cc_values.specs.Values.{completer, gather, nothing, paths, question, sorted, values}
+use Rattle.cc_gather.specs.Parts.{front_length}
+use Rattle.cc_gather.specs.Values.{completer, gather, nothing, paths, question, sorted, values}
 use Rattle.cc_walk.specs.Blocks.{start}
 use Rattle.cc_walk.specs.Lookup.{allows_hyphens_at, capacity_at, positional_at}
 use Rattle.cc_walk.specs.Machine.{NodeState, walk}

@@ -5,7 +5,7 @@ use Rattle.cc_arg.specs.declared.parts.ArgParts.{ArgParts as Arg}
 use Rattle.cc_candidates.specs.declared.candidate.CompletionCandidate.{CompletionCandidate}
 use Rattle.cc_command.specs.Tree.{Tree}
 use Rattle.cc_gather.specs.Finished.{finish}
-use Rattle.cc_values.specs.Values.{Allows, ArgumentValues, MayReturn}
+use Rattle.cc_gather.specs.Values.{Allows, ArgumentValues, MayReturn}
 use Rattle.cc_walk.specs.declared.state.Pending.{Pending}
 use Rattle.cc_walk.specs.declared.state.Pending.TheVariants.{OptionOpen}
 use Rattle.cc_walk.specs.declared.state.State.{State}

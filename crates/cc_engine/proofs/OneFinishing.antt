@@ -13,7 +13,7 @@ use Rattle.cc_walk.specs.declared.state.State.{State}
 use Rattle.cc_walk.specs.Lookup.{positional_at}
 use Rattle.cc_engine.specs.Completion.{FinishesOnce, Returned, besides, candidates_for, finished_last, offered, opened_values, positional_values}
 use Rattle.cc_engine.specs.OpenLists.{all_open, least, none_open, open_lists_by}
-use Rattle.cc_values.specs.Values.{values}
+use Rattle.cc_gather.specs.Values.{values}
 
 -- without a number a positional has no values
 no_values : (positional : Option Arg) (word : List ℕ) (returned : List CompletionCandidate) → positional_values positional None word returned ≡ []

@@ -16,8 +16,8 @@ use Rattle.cc_gather.specs.Finished.{finish, first_of_ids, is_shown, shown_or_al
 use Rattle.cc_gather.specs.OptionMatches.{match_of, with_prefix}
 use Rattle.cc_gather.specs.declared.options.OptionMatch.{OptionMatch}
 use Rattle.cc_gather.specs.declared.options.OptionMatch.TheVariants.{Listed, ValuesOf}
-use Rattle.cc_values.specs.Parts.{part}
-use Rattle.cc_values.specs.Values.{Allows, MayReturn, Question, nothing, candidates, completer, paths, question, values}
+use Rattle.cc_gather.specs.Parts.{part}
+use Rattle.cc_gather.specs.Values.{Allows, MayReturn, Question, nothing, candidates, completer, paths, question, values}
 use Rattle.cc_walk.specs.declared.state.Pending.{Pending}
 use Rattle.cc_walk.specs.declared.state.Pending.TheVariants.{OptionOpen}
 use Rattle.cc_walk.specs.declared.state.State.{State}

@@ -4,7 +4,7 @@ ghost use Rattle.std.specs.Prelude.{◌≡◌, ◌++◌, nat_le, IfOk, if◌then
 ghost use Rattle.cc_gather.specs.Finished.{finish};
 ghost use Rattle.cc_engine.specs.OpenLists.{least};
 ghost use Rattle.cc_engine.specs.Completion.{AreOffered, Offers};
-ghost use Rattle.cc_values.specs.Values.{returned_by};
+ghost use Rattle.cc_gather.specs.Values.{returned_by};
 
 use crate::offered_lists::{children, options, positional_values};
 use crate::open_lists::OpenLists;
@@ -12,8 +12,7 @@ use crate::sources::Sources;
 use cc_arg::{Arg, counted_range};
 use cc_candidates::{CandidateSources, Completers, CompletionCandidate};
 use cc_command::Command;
-use cc_gather::{finish, finish_after};
-use cc_values::PathSource;
+use cc_gather::{PathSource, finish, finish_after};
 use cc_walk::{Pending, State, positional_at};
 use std::alloc::{AllocError, Global};
 

@@ -6,7 +6,7 @@ ghost use Rattle.cc_command.specs.Built.{built_tree};
 ghost use Rattle.cc_engine.specs.Completion.{Completes, Refuses, is_in_range, names_before, words_before};
 ghost use Rattle.cc_engine.specs.Paths.{PathsOf};
 ghost use Rattle.cc_gather.specs.Finished.{Differ};
-ghost use Rattle.cc_values.specs.Values.{returned_by};
+ghost use Rattle.cc_gather.specs.Values.{returned_by};
 
 use crate::candidates::offer_candidates;
 use crate::folder_paths::FolderPaths;
@@ -15,8 +15,8 @@ use cc_base::Error;
 use cc_candidates::{CandidateSources, Completers, CompletionCandidate};
 use cc_command::Command;
 use cc_flat::Flat;
+use cc_gather::PathSource;
 use cc_paths::Folder;
-use cc_values::PathSource;
 use cc_walk::walk;
 use std::alloc::{AllocError, Global};
 

@@ -5,8 +5,8 @@ ghost use Rattle.cc_engine.specs.Paths.{PathsOf};
 
 use cc_arg::ValueHint;
 use cc_candidates::CompletionCandidate;
+use cc_gather::PathSource;
 use cc_paths::{EveryPath, Folder, IsDir, IsExecutable, IsFile, path_candidates};
-use cc_values::PathSource;
 use std::alloc::{AllocError, Global};
 
 /// A folder, read from the folder in which a program runs.

@@ -6,14 +6,13 @@ ghost use Rattle.cc_candidates.specs.declared.candidate.CompletionCandidate.{Com
 ghost use Rattle.cc_engine.specs.Completion.{children_question, offered_children};
 ghost use Rattle.cc_engine.specs.Completion.{positional_question, positional_values};
 ghost use Rattle.cc_engine.specs.Completion.{offered_match, match_candidates, match_question};
-ghost use Rattle.cc_values.specs.Values.{Allows, returned_by};
+ghost use Rattle.cc_gather.specs.Values.{Allows, returned_by};
 
 use crate::sources::Sources;
 use cc_arg::Arg;
 use cc_candidates::{CandidateSources, Completers, CompletionCandidate};
 use cc_command::Command;
-use cc_gather::{OptionMatch, all_with_prefix, match_options, subcommand_candidates};
-use cc_values::PathSource;
+use cc_gather::{OptionMatch, PathSource, all_with_prefix, match_options, subcommand_candidates};
 use std::alloc::{AllocError, Global};
 
 /// The children that begin with the word, and what the list of other programs adds.

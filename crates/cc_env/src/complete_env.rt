@@ -8,7 +8,7 @@ ghost use Rattle.cc_engine.specs.Paths.{PathsOf};
 ghost use Rattle.cc_replies.specs.Environment.{value_of};
 ghost use Rattle.cc_env.specs.Wanted.{wanted_name};
 ghost use Rattle.cc_env.specs.Steps.{MakesText, Tries, names_of};
-ghost use Rattle.cc_values.specs.Values.{returned_by};
+ghost use Rattle.cc_gather.specs.Values.{returned_by};
 
 use crate::wanted::{known_shell, wanted_name};
 use cc_adapters::{Builtin, EnvCompleter, Shells};

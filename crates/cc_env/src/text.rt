@@ -9,7 +9,7 @@ ghost use Rattle.cc_engine.specs.Completion.{Completes};
 ghost use Rattle.cc_engine.specs.Paths.{PathsOf};
 ghost use Rattle.cc_env.specs.Steps.{BuiltUnlessMemory, IsRegistration, MakesText, RepliesAs};
 ghost use Rattle.cc_env.specs.Steps.{completer_path, in_memory, made_bytes, names_of};
-ghost use Rattle.cc_values.specs.Values.{returned_by};
+ghost use Rattle.cc_gather.specs.Values.{returned_by};
 
 use crate::arguments::{after_dashes, keep_last, program_path};
 use crate::complete_env::CompleteEnv;

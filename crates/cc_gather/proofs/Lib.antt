@@ -2,11 +2,14 @@ pub mod Ascending
 pub mod Examples
 pub mod Filters
 pub mod FirstOfIds
+pub mod Gathering
 pub mod Groups
 pub mod InOrder
 pub mod InTurn
+pub mod LastPosition
 pub mod Law
 pub mod LongNames
 pub mod Ranks
+pub mod Rows
 pub mod WordKinds
 pub mod Zips

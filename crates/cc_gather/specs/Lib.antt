@@ -4,5 +4,7 @@ pub mod Lookup
 pub mod Numbers
 pub mod OptionMatches
 pub mod Options
+pub mod Parts
 pub mod Ranked
 pub mod Seen
+pub mod Values

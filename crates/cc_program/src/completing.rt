@@ -8,7 +8,7 @@ ghost use Rattle.cc_env.specs.Steps.{MakesText, Tries, names_of};
 ghost use Rattle.cc_env.specs.Wanted.{wanted_name};
 ghost use Rattle.cc_program.specs.Requests.{TriesSome, system_facts};
 ghost use Rattle.cc_replies.specs.Environment.{value_of};
-ghost use Rattle.cc_values.specs.Values.{returned_by};
+ghost use Rattle.cc_gather.specs.Values.{returned_by};
 
 use cc_base::{Error, Sink};
 use cc_candidates::{CandidateSources, Completers};

@@ -148,8 +148,8 @@ pub use Rattle.cc_gather.specs.Options as OfferedOptions
 pub use Rattle.cc_gather.specs.OptionMatches
 pub use Rattle.cc_gather.specs.declared.options.OptionMatch
 pub use Rattle.cc_gather.specs.declared.options.ValueQuery
-pub use Rattle.cc_values.specs.Parts as ValueParts
-pub use Rattle.cc_values.specs.Values as ArgumentValues
+pub use Rattle.cc_gather.specs.Parts as ValueParts
+pub use Rattle.cc_gather.specs.Values as ArgumentValues
 pub use Rattle.cc_engine.specs.Completion
 pub use Rattle.cc_engine.specs.OpenLists
 pub use Rattle.cc_engine.specs.Paths as HintPaths

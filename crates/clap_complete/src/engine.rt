@@ -6,8 +6,8 @@ pub use cc_candidates::{
     FnCandidates, FnCompleter, SubcommandCandidates, ValueCandidates, ValueCompleter,
 };
 pub use cc_engine::complete;
+pub use cc_gather::{complete_possible_values, possible_value_candidates};
 pub use cc_paths::{
     EveryPath, FnTest, Folder, FolderError, IsDir, IsExecutable, IsFile, MemoryFolder,
     PathCompleter, PathTest, RealFolder,
 };
-pub use cc_values::{complete_possible_values, possible_value_candidates};

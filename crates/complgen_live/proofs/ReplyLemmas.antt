@@ -17,7 +17,7 @@ use Rattle.cc_env.specs.Steps.{Ends, EndsAs, MakesText, Tries, factory_failed, n
 use Rattle.cc_replies.specs.Environment.{value_of}
 use Rattle.cc_replies.specs.declared.environment.EnvValues.{EnvValues}
 use Rattle.cc_tree_file.specs.TreeFile.{Describes}
-use Rattle.cc_values.specs.Values.{MayReturn}
+use Rattle.cc_gather.specs.Values.{MayReturn}
 use Rattle.complgen_live.specs.Replies.{EndsReply, MakesFor, Paths, paths_alone, requested, shell_names, variable}
 use Rattle.complgen_live.specs.Replies as outcome
 use Rattle.complgen_live.specs.TreeErrors.{DescribedBy}

@@ -16,7 +16,7 @@ use Rattle.cc_env.specs.Steps.{MakesText, names_of}
 use Rattle.cc_replies.specs.Environment.{value_of}
 use Rattle.cc_replies.specs.declared.environment.EnvValues.{EnvValues}
 use Rattle.cc_tree_file.specs.TreeFile.{Describes, SpellsNone}
-use Rattle.cc_values.specs.Values.{MayReturn}
+use Rattle.cc_gather.specs.Values.{MayReturn}
 use Rattle.complgen_live.specs.TreeErrors.{bad_form_text, not_json_text}
 
 -- the variable whose value names the shell

@@ -6,7 +6,7 @@ use Rattle.std.specs.String.{string_bytes}
 use Rattle.complgen_command_line.specs.declared.types.Plan.{Plan}
 use Rattle.complgen_command_line.specs.declared.types.Plan.TheVariants.{Candidates}
 use Rattle.complgen_command_line.specs.declared.types.Refusal.{Refusal}
-use Rattle.cc_values.specs.Values.{MayReturn}
+use Rattle.cc_gather.specs.Values.{MayReturn}
 use Rattle.cc_command.specs.Built.{built_tree}
 use Rattle.cc_candidates.specs.Sources.{ReturnsAt}
 use Rattle.cc_candidates.specs.declared.sources.Source.{Source}

@@ -1,6 +1,6 @@
 -- The candidates for a word of a command line, where there are no completers, and their reply.
 use Rattle.std.specs.Prelude.{⊤, ◌≡◌, ℕ, List, [], true, false, length}
-use Rattle.cc_values.specs.Values.{MayReturn}
+use Rattle.cc_gather.specs.Values.{MayReturn}
 use Rattle.cc_command.specs.Built.{built_tree}
 use Rattle.cc_engine.specs.Completion.{Completes, is_in_range}
 use Rattle.cc_candidates.specs.declared.candidate.CompletionCandidate.{CompletionCandidate}

@@ -4,7 +4,7 @@ use crate::checks::is;
 use cc_arg::PossibleValue;
 use cc_base::Error;
 use cc_candidates::CompletionCandidate;
-use cc_values::{complete_possible_values, possible_value_candidates};
+use cc_gather::{complete_possible_values, possible_value_candidates};
 use std::alloc::{AllocError, Global};
 use std::process::Abort;
 

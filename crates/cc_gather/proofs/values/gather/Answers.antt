@@ -1,8 +1,8 @@
 use Rattle.std.proofs.Common.{◌∙◌, ap, sym, rules}
 use Rattle.std.specs.Option.{option_copied}
-use Rattle.cc_values.proofs.Gathering.{of_completer, of_list, of_nothing, of_paths, of_values}
+use Rattle.cc_gather.proofs.Gathering.{of_completer, of_list, of_nothing, of_paths, of_values}
 use Rattle.std.proofs.lemmas.Result.{IfOk-weaker}
-use Rattle.cc_values.proofs.values.gather.Goals as goal
+use Rattle.cc_gather.proofs.values.gather.Goals as goal
 
 pub returns-in-Some : goal.returns-in-Some
 returns-in-Some g c =

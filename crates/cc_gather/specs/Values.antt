@@ -13,7 +13,7 @@ use Rattle.cc_candidates.specs.declared.candidate.CompletionCandidate.{Completio
 use Rattle.cc_candidates.specs.Candidate.{comes_before, new_candidate}
 use Rattle.cc_candidates.specs.declared.numbers.ArgValueCandidates.{ArgValueCandidates}
 use Rattle.cc_candidates.specs.declared.numbers.ArgValueCompleter.{ArgValueCompleter}
-use Rattle.cc_values.specs.Parts.{front, part}
+use Rattle.cc_gather.specs.Parts.{front, part}
 
 -- where a list of candidates comes from: nowhere, or from the completer of a number for the number
 -- of the value and a text, from the list of a number, or from the paths of a kind for a text

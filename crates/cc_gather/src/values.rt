@@ -3,7 +3,7 @@
 ghost use Rattle.std.specs.Prelude.{◌≡◌, ◌++◌, ℕ, List, map, IfOk};
 ghost use Rattle.cc_arg.specs.declared.value_hint.ValueHint.{ValueHint};
 ghost use Rattle.cc_candidates.specs.declared.candidate.CompletionCandidate.{CompletionCandidate};
-ghost use Rattle.cc_values.specs.Values.{Gathers, ArgumentValues, as_value, is_path, returned_by, sorted};
+ghost use Rattle.cc_gather.specs.Values.{Gathers, ArgumentValues, as_value, is_path, returned_by, sorted};
 ghost use Rattle.cc_arg.specs.Printed.{printed};
 
 use crate::parts::split_at_delimiter;

@@ -2,7 +2,7 @@
 
 ghost use Rattle.std.specs.Prelude.{◌≡◌, filter, map, IfOk, IfErr};
 ghost use Rattle.cc_candidates.specs.Beginning.{begins};
-ghost use Rattle.cc_values.specs.Values.{value_candidate};
+ghost use Rattle.cc_gather.specs.Values.{value_candidate};
 
 use cc_arg::PossibleValue;
 use cc_base::Error;

@@ -1,8 +1,8 @@
 use Rattle.std.proofs.Common.{◌≡◌, ◌++◌, drop, map}
 use Rattle.std.specs.Prelude.{filter}
 use Rattle.cc_candidates.specs.Beginning.{begins}
-use Rattle.cc_values.specs.Values.{value_candidate}
-use Rattle.cc_values.proofs.possible.candidates_beginning.Given as goal
+use Rattle.cc_gather.specs.Values.{value_candidate}
+use Rattle.cc_gather.proofs.possible.candidates_beginning.Given as goal
 
 abbrev pub invariant-loop-value : goal.invariant-loop-value
 invariant-loop-value l =

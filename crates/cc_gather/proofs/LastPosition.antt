@@ -5,7 +5,7 @@ use Rattle.std.specs.List.{starts_with}
 use Rattle.std.proofs.lemmas.Bool.Decides.{Decides-eqb}
 use Rattle.std.proofs.lemmas.Slice.Eq.{starts_is}
 use Rattle.std.specs.Str.Pattern.{LacksTextAt, RFindsText}
-use Rattle.cc_values.specs.Parts.{last_position, through}
+use Rattle.cc_gather.specs.Parts.{last_position, through}
 
 -- a text begins with another exactly where it is the other followed by a rest
 pub begins_so : (text sought : List ℕ) → starts_with nat_eq text sought ≡ true → (rest : List ℕ) × (text ≡ sought ++ rest)

@@ -1,7 +1,7 @@
 //! A word of several values.
 
 ghost use Rattle.std.specs.Prelude.{◌≡◌, ◌<◌, length, take, drop};
-ghost use Rattle.cc_values.specs.Parts.{front, last_position, part, through};
+ghost use Rattle.cc_gather.specs.Parts.{front, last_position, part, through};
 
 /// A word up to the end of its last delimiter, and what follows. Without a delimiter all follows.
 #[tactic(auto, unfolding(crate::specs::Parts::front_length))]

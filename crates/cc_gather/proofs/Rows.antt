@@ -6,8 +6,8 @@ use Rattle.cc_arg.specs.declared.parts.ArgParts.{ArgParts as Arg}
 use Rattle.cc_arg.specs.Arguments.{new_arg}
 use Rattle.cc_arg.specs.Printed.{printed, printed_after_name, printed_names, printed_values}
 use Rattle.cc_candidates.specs.Candidate.{new_candidate}
-use Rattle.cc_values.specs.Parts.{front, front_length, part}
-use Rattle.cc_values.specs.Values.{gather, question, nothing, values}
+use Rattle.cc_gather.specs.Parts.{front, front_length, part}
+use Rattle.cc_gather.specs.Values.{gather, question, nothing, values}
 
 parts :
     (front (Some comma) (codes "a,b,c") ≡ codes "a,b,")

@@ -1,6 +1,6 @@
 use Rattle.std.proofs.Common.{◌∙◌, ap, sym, take, drop, rules}
-use Rattle.cc_values.proofs.LastPosition.{through_none, through_some}
-use Rattle.cc_values.proofs.parts.split_after_last.Goals as goal
+use Rattle.cc_gather.proofs.LastPosition.{through_none, through_some}
+use Rattle.cc_gather.proofs.parts.split_after_last.Goals as goal
 
 pub returns-in-Some-clause-front : goal.returns-in-Some-clause-front
 returns-in-Some-clause-front c =

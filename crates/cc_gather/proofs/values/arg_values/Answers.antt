@@ -1,8 +1,8 @@
 use Rattle.std.proofs.Common.{◌∙◌, ap}
-use Rattle.cc_values.specs.Parts.{front, part}
-use Rattle.cc_values.proofs.Gathering.{argument_values}
+use Rattle.cc_gather.specs.Parts.{front, part}
+use Rattle.cc_gather.proofs.Gathering.{argument_values}
 use Rattle.std.proofs.lemmas.Result.{IfOk-weaker}
-use Rattle.cc_values.proofs.values.arg_values.Goals as goal
+use Rattle.cc_gather.proofs.values.arg_values.Goals as goal
 
 pub returns : goal.returns
 returns g c =
