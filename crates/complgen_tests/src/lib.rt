@@ -1,18 +1,16 @@
-//! Tests of what the program is made of that no case of `cc_cases` can say: plans, files that are
-//! no text or very large, memory, and writers that fail.
+//! Tests of what the program is made of that no case of `cc_cases` can say: what `Debug` shows, the
+//! built-in tree, files that are no text or very large, memory, and writers that fail.
 #![tactic(auto)]
 
 #[cfg(test)]
 mod checks;
 #[cfg(test)]
-mod lines;
+mod debug;
 #[cfg(test)]
 mod own_tree;
 #[cfg(test)]
 mod runs;
 #[cfg(test)]
 mod scripts;
-#[cfg(test)]
-mod words;
 #[cfg(test)]
 mod writers;

@@ -1,11 +1,10 @@
 //! The built-in tree has the subcommands and the arguments of the command line, and no others.
 
-use crate::words::refusal_of;
 use cc_arg::Arg;
 use cc_command::Command;
 use cc_fixtures::words::to_strings;
 use cc_tree_file::read_tree;
-use complgen_command_line::{Refusal, names_tool, plan_tool};
+use complgen_command_line::{Refusal, names_tool, plan, plan_tool};
 use complgen_live::OWN_TREE;
 use std::alloc::Global;
 use std::convert::AsStr;
@@ -60,6 +59,15 @@ fn has_arguments(rt: &impl Abort, alloc: Global, help: &str, child: &Command) {
     assert!(rt; lines_with(help, "      --") == longs, "options of {help}");
     let shown = usize::saturating_add(lines_with(help, "  <"), lines_with(help, "  ["));
     assert!(rt; shown == positionals, "values of {help}");
+}
+
+// The refusal of these words; fails where there is a plan.
+fn refusal_of(rt: &impl Abort, alloc: Global, words: &[&str]) -> Refusal {
+    let words = to_strings(alloc, words).expect(rt, "no words");
+    match plan(alloc, words.as_slice()) {
+        Ok(_) => panic!(rt; "a plan"),
+        Err(refusal) => refusal,
+    }
 }
 
 // The help of a subcommand, which one of two command lines has.

@@ -41,15 +41,6 @@ fn writes_nothing_without_memory(rt: HostRuntime) {
 }
 
 #[test]
-fn writes_the_keys_of_a_child(rt: HostRuntime) {
-    let script = script_of(rt.alloc(), "elvish", PARENT.as_bytes()).expect(&rt, "no script");
-    assert!(rt; script.as_str().contains("&'app'= {"));
-    assert!(rt; script.as_str().contains("&'app;run'= {"));
-    assert!(rt; script.as_str().contains("&'app;r'= {"));
-    assert!(rt; !script.as_str().contains("app;go"));
-}
-
-#[test]
 fn reports_a_file_that_is_not_utf8(rt: HostRuntime) {
     fails(
         &rt,

@@ -1,6 +1,5 @@
 //! Replies of adapters.
 
-use crate::checks::same;
 use cc_adapters::EnvCompleter;
 use cc_base::{Collected, Error, Sink};
 use cc_candidates::Completers;
@@ -10,21 +9,6 @@ use cc_paths::MemoryFolder;
 use cc_replies::EnvValues;
 use std::alloc::{AllocError, Global};
 use std::process::Abort;
-
-/// Fails unless the reply for the words is this text, where its variable has the index.
-pub(crate) fn replies<R: Abort + AllocGlobal, E: EnvCompleter>(
-    rt: &R,
-    shell: &E,
-    tree: &str,
-    index: &str,
-    words: &[&str],
-    wanted: &str,
-) {
-    let mut sink = Collected::new(rt.alloc());
-    let done = reply(rt.alloc(), shell, tree, index, words, &mut sink);
-    assert!(rt; done.is_ok());
-    same(rt, sink.as_slice(), wanted.as_bytes());
-}
 
 /// Fails unless there is nothing to complete, and nothing is written.
 pub(crate) fn refuses<R: Abort + AllocGlobal, E: EnvCompleter>(
