@@ -13,7 +13,7 @@ use Rattle.cc_bash.specs.Script.{bash_script}
 use Rattle.cc_candidates.specs.declared.candidate.CompletionCandidate.{CompletionCandidate}
 use Rattle.cc_command.specs.Built.{built_tree, built_under}
 use Rattle.cc_command.specs.Plain.{is_plain_tree}
-use Rattle.cc_quote.specs.PlainName.{is_plain_name}
+use Rattle.cc_base.specs.PlainName.{is_plain_name}
 use Rattle.cc_command.specs.Tree.{Tree}
 use Rattle.cc_command.proofs.BuiltAgain.{built_tree-again}
 use Rattle.cc_engine.specs.Completion.{Completes, Refuses, words_before}

@@ -7,5 +7,7 @@ pub mod JoinedTexts
 pub mod Lines
 pub mod Lists
 pub mod Members
+pub mod NameBytes
+pub mod PlainNames
 pub mod Sorted
 pub mod WrittenTexts

@@ -6,6 +6,7 @@ pub mod ErrorText
 pub mod Found
 pub mod Held
 pub mod Joined
+pub mod PlainName
 pub mod Sink
 pub mod Sorting
 pub mod Told

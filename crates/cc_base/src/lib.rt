@@ -1,5 +1,5 @@
 //! What every crate of the library uses: the field types whose contents clauses compare, the
-//! library's error, and the sink that a script or a reply is written to.
+//! library's error, the sink that a script or a reply is written to, and which names are plain.
 #![tactic(auto)]
 
 mod collected;
@@ -10,6 +10,7 @@ mod held;
 mod history;
 mod items;
 mod joined;
+mod names;
 mod pieces;
 mod sink;
 mod text;
@@ -22,6 +23,7 @@ pub use crate::failures::Failures;
 pub use crate::held::Held;
 pub use crate::items::Items;
 pub use crate::joined::{put_separator, put_word};
+pub use crate::names::is_plain_name;
 pub use crate::pieces::{put_around, put_piece, put_pieces};
 pub use crate::sink::{Sink, put_all};
 pub use crate::text::Text;

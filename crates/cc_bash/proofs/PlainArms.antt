@@ -19,7 +19,7 @@ use Rattle.cc_command.specs.declared.node.Node.{Node}
 use Rattle.cc_command.specs.ArgumentLists.{is_option, options, positionals}
 use Rattle.cc_command.specs.Names.{visible_names}
 use Rattle.cc_command.specs.Plain.{is_plain_forest, is_plain_node, passes_if_some}
-use Rattle.cc_quote.specs.PlainName.{is_plain_name}
+use Rattle.cc_base.specs.PlainName.{is_plain_name}
 use Rattle.cc_command.specs.Tree.{Forest, none, more, Tree}
 use Rattle.cc_command.proofs.PlainParts.{IsPlainName, IsPlainShort, IsPlainArgument, IsPlainBelow, plain_node, plain_more}
 use Rattle.cc_generator.specs.ArgumentNames.{aliases_then, long_word, short_word}

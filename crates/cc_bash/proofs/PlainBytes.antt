@@ -6,11 +6,11 @@ use Rattle.std.proofs.lemmas.Bool.Decides.{nat_tests}
 use Rattle.cc_base.specs.Bytes.{dash, underscore, comma, close_parenthesis}
 use Rattle.cc_base.proofs.Booleans.{each_passes}
 use Rattle.cc_base.proofs.Members.{AllByRecursion-weaker, AllByRecursion-append}
-use Rattle.cc_quote.specs.PlainName.{foreign, name_byte, is_joined, is_plain_name}
+use Rattle.cc_base.specs.PlainName.{foreign, name_byte, is_joined, is_plain_name}
 use Rattle.cc_command.specs.Tree.{Tree}
 use Rattle.cc_command.specs.Names.{full_name}
 use Rattle.cc_command.specs.Plain.{is_plain_tree}
-use Rattle.cc_quote.proofs.NameBytes.{plain_bytes, letter_or_joiner}
+use Rattle.cc_base.proofs.NameBytes.{plain_bytes, letter_or_joiner}
 use Rattle.cc_command.proofs.PlainParts.{IsPlainName, plain_full_name}
 use Rattle.cc_quote.specs.PosixSigns.{sign}
 use Rattle.cc_quote.specs.PosixSigns.Sign.{other}

@@ -9,7 +9,7 @@ use Rattle.cc_command.specs.Texts.{help_name, version_name}
 use Rattle.cc_command.specs.Tree.{Forest, none, more, Tree}
 use Rattle.cc_command.specs.Names.{full_name}
 use Rattle.cc_command.specs.Made.{new_tree, with_argument, with_child}
-use Rattle.cc_quote.specs.PlainName.{is_joined, is_plain_name, name_byte}
+use Rattle.cc_base.specs.PlainName.{is_joined, is_plain_name, name_byte}
 use Rattle.cc_command.specs.Plain.{is_plain_tree, siblings_differ}
 use Rattle.cc_command.specs.Quiet.{is_quiet_tree}
 use Rattle.cc_command.specs.Generated.{help_argument, version_argument}

@@ -9,7 +9,7 @@ use Rattle.cc_arg.specs.declared.parts.ArgParts.{ArgParts as Arg}
 use Rattle.cc_command.specs.declared.node.Node.{Node}
 use Rattle.cc_command.specs.Tree.{Forest, none, more, join, Tree}
 use Rattle.cc_command.specs.Names.{contains_name, has_name, has_child, full_name, joined_name}
-use Rattle.cc_quote.specs.PlainName.{name_byte, is_joined, is_plain_name}
+use Rattle.cc_base.specs.PlainName.{name_byte, is_joined, is_plain_name}
 use Rattle.cc_command.specs.Plain.{is_plain_tree, is_plain_forest, is_plain_node, is_plain_argument, siblings_differ, passes_if_some, all_differ, names_of, names_of_all}
 use Rattle.cc_command.specs.Texts.{help_name, help_about, version_name, last_order}
 use Rattle.cc_command.specs.Generated.{help_argument, version_argument, generated_node, copies, help_command, needs_help_child, help_child}

@@ -3,7 +3,7 @@ use Rattle.std.proofs.Common.{◌≡◌, ◌∙◌, ap, ap₂, refl, ℕ, Bool, 
 use Rattle.std.specs.Char.{is_ascii_alphanumeric}
 use Rattle.std.specs.List.{list_all}
 use Rattle.cc_arg.specs.declared.parts.ArgParts.{ArgParts as Arg}
-use Rattle.cc_quote.specs.PlainName.{is_plain_name}
+use Rattle.cc_base.specs.PlainName.{is_plain_name}
 use Rattle.cc_command.specs.Plain.{has_no_quote, is_plain_argument, is_plain_forest, is_plain_node, passes_if_some, siblings_differ}
 use Rattle.cc_command.specs.Tree.{Forest, none, more, Tree}
 use Rattle.cc_command_warnings.specs.Notes.{are_notes, is_note}

@@ -5,7 +5,7 @@ use Rattle.cc_command.specs.Escaped.{is_escaped_tree}
 use Rattle.cc_command.specs.Plain.{is_plain_forest, is_plain_node, passes_if_some, siblings_differ}
 use Rattle.cc_command.specs.Quiet.{is_quiet_tree}
 use Rattle.cc_command.specs.Tree.{Tree}
-use Rattle.cc_quote.specs.PlainName.{is_plain_name}
+use Rattle.cc_base.specs.PlainName.{is_plain_name}
 use Rattle.cc_command_warnings.specs.CommandWarnings.{clap_list, command_list, hidden_argument, hidden_command}
 use Rattle.cc_command_warnings.specs.Notes.{are_notes}
 use Rattle.cc_command_warnings.specs.PlainWarnings.{plain_argument, plain_command}

@@ -6,7 +6,7 @@ use Rattle.cc_base.specs.Bytes.{dash}
 use Rattle.cc_arg.specs.declared.parts.ArgParts.{ArgParts as Arg}
 use Rattle.cc_command.specs.Plain.{has_no_quote}
 use Rattle.cc_command.specs.Tree.{Tree}
-use Rattle.cc_quote.specs.PlainName.{is_plain_name}
+use Rattle.cc_base.specs.PlainName.{is_plain_name}
 use Rattle.cc_command_warnings.specs.Places.{warning}
 use Rattle.cc_command_warnings.specs.SiblingNames.{taken_names}
 use Rattle.cc_command_warnings.specs.Walk.{each_from, unless}

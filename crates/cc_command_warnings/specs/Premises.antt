@@ -4,7 +4,7 @@ use Rattle.cc_command.specs.Escaped.{is_escaped_tree}
 use Rattle.cc_command.specs.Plain.{is_plain_tree, passes_if_some}
 use Rattle.cc_command.specs.Quiet.{is_quiet_tree}
 use Rattle.cc_command.specs.Tree.{Tree}
-use Rattle.cc_quote.specs.PlainName.{is_plain_name}
+use Rattle.cc_base.specs.PlainName.{is_plain_name}
 use Rattle.cc_command_warnings.specs.PlainWarnings.{name_list, plain_argument, plain_command}
 use Rattle.cc_command_warnings.specs.QuietWarnings.{quiet_argument}
 use Rattle.cc_command_warnings.specs.QuoteWarnings.{quotes_argument, quotes_command}

@@ -16,9 +16,8 @@ use crate::siblings::push_taken_names;
 use crate::walk::Check;
 use crate::warning::{Kind, Warning, push_warning};
 use cc_arg::Arg;
-use cc_base::Text;
+use cc_base::{Text, is_plain_name};
 use cc_command::Command;
-use cc_quote::is_plain_name;
 use std::alloc::AllocError;
 
 /// Names of commands and arguments that are not plain, and names of children that an earlier one

@@ -18,9 +18,8 @@ use crate::quotes::Quotes;
 use crate::scopes::push_scope;
 use crate::walk::push_tree;
 use crate::warning::{Kind, Warning};
-use cc_base::{Items, Text};
+use cc_base::{Items, Text, is_plain_name};
 use cc_command::Command;
-use cc_quote::is_plain_name;
 use std::alloc::{AllocError, Global};
 
 /// The warnings about what the promises of scripts take for granted: that the names are plain, also

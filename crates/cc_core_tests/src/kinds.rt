@@ -4,9 +4,9 @@
 use crate::checks::same;
 use crate::fixtures::{APP_WITH_INPUT, built_tree, tree};
 use cc_arg::Arg;
+use cc_base::is_plain_name;
 use cc_command::Command;
 use cc_fixtures::trees::{NESTED, QUOTED};
-use cc_quote::is_plain_name;
 use std::alloc::Global;
 use std::process::Abort;
 

@@ -10,9 +10,10 @@ use Rattle.cc_arg.specs.declared.parts.ArgParts.{ArgParts as Arg}
 use Rattle.cc_arg.specs.ShownNames.{shown_shorts, shown_longs}
 use Rattle.cc_command.specs.Names.{visible_names}
 use Rattle.cc_command.specs.Plain.{is_plain_forest}
-use Rattle.cc_quote.specs.PlainName.{foreign, name_byte, is_joined, is_plain_name}
+use Rattle.cc_base.specs.PlainName.{foreign, name_byte, is_joined, is_plain_name}
 use Rattle.cc_command.specs.Tree.{Forest, none, more}
-use Rattle.cc_quote.proofs.NameBytes.{plain_bytes, fish_safe}
+use Rattle.cc_base.proofs.NameBytes.{plain_bytes}
+use Rattle.cc_quote.proofs.SafeNames.{fish_safe}
 use Rattle.cc_command.proofs.PlainParts.{IsPlainName, IsPlainShort, IsPlainArgument, plain_node, plain_more, shown_plain}
 use Rattle.cc_quote.specs.FishQuote.{begins_word, is_fish_safe, fish_escaped}
 use Rattle.cc_quote.proofs.FishEscaped.{safe_escaped}

@@ -3,7 +3,7 @@
 ghost use Rattle.std.specs.Prelude.{◌≡◌, Some, IsTrue, IfOk, IfErr, OnOk};
 ghost use Rattle.std.specs.String.{string_bytes};
 ghost use Rattle.cc_command.specs.Plain.{is_plain_tree};
-ghost use Rattle.cc_quote.specs.PlainName.{is_plain_name};
+ghost use Rattle.cc_base.specs.PlainName.{is_plain_name};
 ghost use Rattle.cc_command.specs.Quiet.{is_quiet_tree};
 ghost use Rattle.cc_command.specs.Built.{built_under};
 ghost use Rattle.cc_generator.specs.Generators.{Generates, IsReady, LeavesBuilt, ShellSpec};

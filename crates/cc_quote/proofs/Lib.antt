@@ -15,8 +15,6 @@ pub mod FishEscaped
 mod FishExamples
 pub mod FishReaders
 pub mod FishWords
-pub mod NameBytes
-pub mod PlainNames
 pub mod PosixCutting
 mod PosixExamples
 pub mod PosixTokenReading
@@ -25,6 +23,7 @@ pub mod PowershellCutting
 pub mod PowershellSearch
 pub mod PowershellSigns
 pub mod PowershellWords
+pub mod SafeNames
 pub mod WithinQuotes
 pub mod WordReading
 mod ZshExamples

@@ -5,7 +5,6 @@ pub mod Escapes
 pub mod FishEscapes
 pub mod FishQuote
 pub mod FishTokens
-pub mod PlainName
 pub mod PlainPath
 pub mod PosixQuote
 pub mod PosixSigns

@@ -1,6 +1,6 @@
 //! Writers and readers of quoted words: a writer quotes or escapes a text so that the shell keeps
 //! it, and the reader of the same shell gives the text back; an escape of a description makes a
-//! space of each line feed. No reader expands anything. Plain names and paths need no quotes.
+//! space of each line feed. No reader expands anything. Plain paths need no quotes.
 #![tactic(auto)]
 
 mod bash;
@@ -8,7 +8,7 @@ mod elvish;
 mod escape;
 mod fish;
 mod fish_reader;
-mod names;
+mod paths;
 mod posix;
 mod powershell;
 mod word;
@@ -24,7 +24,7 @@ pub use crate::fish::{
     put_fish_help_for_eval, put_fish_quoted_for_eval,
 };
 pub use crate::fish_reader::{fish_double, fish_word};
-pub use crate::names::{is_plain_name, is_plain_path};
+pub use crate::paths::is_plain_path;
 pub use crate::posix::{posix_quote, posix_word};
 pub use crate::powershell::{PowershellEscape, powershell_escape, powershell_word};
 pub use crate::zsh::{

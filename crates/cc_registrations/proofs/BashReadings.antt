@@ -3,8 +3,8 @@ use Rattle.std.proofs.Common.{◌≡◌, ◌==◌, ℕ, IsTrue, List, [], ◌∷
 use Rattle.std.specs.Option.{option_and_then}
 use Rattle.cc_base.proofs.Lines.{regroup_six}
 use Rattle.cc_base.specs.Bytes.{equals, line_feed, open_parenthesis, space}
-use Rattle.cc_quote.specs.PlainName.{is_plain_name, name_byte}
-use Rattle.cc_quote.proofs.NameBytes.{plain_bytes, AreNameBytes, name_lacks, name_no_blanks, name_no_line_feeds, plain_some}
+use Rattle.cc_base.specs.PlainName.{is_plain_name, name_byte}
+use Rattle.cc_base.proofs.NameBytes.{plain_bytes, AreNameBytes, name_lacks, name_no_blanks, name_no_line_feeds, plain_some}
 use Rattle.cc_quote.specs.BashDouble.{bash_doubled}
 use Rattle.cc_quote.specs.PosixQuote.{posix_word_of}
 use Rattle.cc_quote.proofs.BashDoubles.{doubled_is_word}

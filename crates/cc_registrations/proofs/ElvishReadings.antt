@@ -1,8 +1,9 @@
 -- A registration for Elvish is read as what it was made for.
 use Rattle.std.proofs.Common.{◌≡◌, ℕ, IsTrue, List, [], ◌∷◌, ◌++◌, Some, option_map, drop, codes, refl, ◌∙◌, ap, ap₂, append_assoc, append-nil}
 use Rattle.std.specs.Option.{option_and_then}
-use Rattle.cc_quote.specs.PlainName.{is_plain_name, name_byte}
-use Rattle.cc_quote.proofs.NameBytes.{plain_bytes, name_lacks, name_no_blanks, posix_plain, path_safe, safe_as_it_is}
+use Rattle.cc_base.specs.PlainName.{is_plain_name, name_byte}
+use Rattle.cc_base.proofs.NameBytes.{plain_bytes, name_lacks, name_no_blanks}
+use Rattle.cc_quote.proofs.SafeNames.{posix_plain, path_safe, safe_as_it_is}
 use Rattle.cc_quote.specs.ElvishQuote.{elvish_word_of}
 use Rattle.cc_base.proofs.Lines.{regroup_six}
 use Rattle.cc_base.specs.Bytes.{is_blank, close_bracket, equals, space}

@@ -3,8 +3,9 @@ use Rattle.std.proofs.Common.{◌≡◌, ℕ, IsTrue, List, [], ◌∷◌, ◌++
 use Rattle.std.specs.Option.{option_and_then}
 use Rattle.cc_base.proofs.Lines.{regroup_six}
 use Rattle.cc_base.specs.Bytes.{dash, equals, space}
-use Rattle.cc_quote.specs.PlainName.{is_plain_name, name_byte}
-use Rattle.cc_quote.proofs.NameBytes.{plain_bytes, name_lacks, fish_plain, fish_safe_bytes, no_joiner_first, plain_some}
+use Rattle.cc_base.specs.PlainName.{is_plain_name, name_byte}
+use Rattle.cc_base.proofs.NameBytes.{plain_bytes, name_lacks, no_joiner_first, plain_some}
+use Rattle.cc_quote.proofs.SafeNames.{fish_plain, fish_safe_bytes}
 use Rattle.cc_quote.specs.FishQuote.{fish_sign, fish_quoted, fish_quoted_for_eval, fish_double_from, fish_double_of, fish_word_of}
 use Rattle.cc_quote.specs.FishQuote.{in_double}
 use Rattle.cc_quote.proofs.FishWords.{safe_double_escaped}

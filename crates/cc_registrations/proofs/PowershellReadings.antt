@@ -3,8 +3,9 @@ use Rattle.std.proofs.Common.{◌≡◌, ℕ, IsTrue, List, [], ◌∷◌, ◌++
 use Rattle.std.specs.Option.{option_and_then}
 use Rattle.cc_base.proofs.Lines.{regroup_five, regroup_six}
 use Rattle.cc_base.specs.Bytes.{dollar, line_feed, semicolon, space}
-use Rattle.cc_quote.specs.PlainName.{is_plain_name, name_byte}
-use Rattle.cc_quote.proofs.NameBytes.{plain_bytes, name_lacks, posix_plain, plain_safe, path_safe, safe_as_it_is}
+use Rattle.cc_base.specs.PlainName.{is_plain_name, name_byte}
+use Rattle.cc_base.proofs.NameBytes.{plain_bytes, name_lacks}
+use Rattle.cc_quote.proofs.SafeNames.{posix_plain, plain_safe, path_safe, safe_as_it_is}
 use Rattle.cc_quote.specs.PowershellQuote.{powershell_word_of}
 use Rattle.cc_quote.proofs.BeforeBlanks.{powershell_before_space, bare_first}
 use Rattle.cc_base.specs.Found.{after, with_front, cut_at, up_to, after_mark, between, without_blanks, word_by, word_after}

@@ -2,8 +2,8 @@
 use Rattle.std.proofs.Common.{◌≢◌, ◌==◌, Bool, true, false, cond, ℕ, List, [], ◌∷◌}
 use Rattle.cc_base.specs.Bytes.{dash, underscore}
 use Rattle.cc_base.proofs.Members.{AllByRecursion-append}
-use Rattle.cc_quote.specs.PlainName.{foreign, name_byte}
-use Rattle.cc_quote.proofs.NameBytes.{AreNameBytes}
+use Rattle.cc_base.specs.PlainName.{foreign, name_byte}
+use Rattle.cc_base.proofs.NameBytes.{AreNameBytes}
 use Rattle.cc_registrations.specs.Names.{underscored}
 
 pub underscored_bytes : (text : List ℕ) → AreNameBytes text → AreNameBytes (underscored text)

@@ -3,8 +3,9 @@ use Rattle.std.proofs.Common.{◌≡◌, ◌==◌, ℕ, IsTrue, List, [], ◌∷
 use Rattle.std.specs.Option.{option_and_then}
 use Rattle.cc_base.proofs.Lines.{regroup_five, regroup_six}
 use Rattle.cc_base.specs.Bytes.{equals, line_feed, open_parenthesis, space, underscore}
-use Rattle.cc_quote.specs.PlainName.{is_plain_name, name_byte}
-use Rattle.cc_quote.proofs.NameBytes.{plain_bytes, AreNameBytes, name_lacks, name_no_blanks, name_no_line_feeds, posix_plain, no_joiner_first, plain_some}
+use Rattle.cc_base.specs.PlainName.{is_plain_name, name_byte}
+use Rattle.cc_base.proofs.NameBytes.{plain_bytes, AreNameBytes, name_lacks, name_no_blanks, name_no_line_feeds, no_joiner_first, plain_some}
+use Rattle.cc_quote.proofs.SafeNames.{posix_plain}
 use Rattle.cc_quote.specs.PosixQuote.{posix_quoted, posix_word_of}
 use Rattle.cc_quote.proofs.BeforeBlanks.{posix_before_space, posix_before_line_feed, bare_first}
 use Rattle.cc_base.specs.Found.{after, with_front, cut_at, up_to, after_mark, between, without_blanks, after_last_from, last_line, word_by, word_after}

@@ -2,7 +2,7 @@
 use Rattle.std.specs.Prelude.{⊤, ◌≡◌, ℕ, IsTrue, List, [], ◌++◌, Option, Some, option_map, codes}
 use Rattle.cc_quote.specs.BashDouble.{bash_doubled}
 use Rattle.cc_quote.specs.PosixQuote.{posix_word_of}
-use Rattle.cc_quote.specs.PlainName.{is_plain_name}
+use Rattle.cc_base.specs.PlainName.{is_plain_name}
 use Rattle.cc_base.specs.Found.{before_last, between, last_line, up_to, without_blanks, word_after, words_from}
 use Rattle.cc_registrations.specs.Names.{underscored}
 

@@ -1,6 +1,6 @@
 -- The registration for Elvish, and what its parts are read as.
 use Rattle.std.specs.Prelude.{⊤, ◌≡◌, ℕ, IsTrue, List, ◌++◌, Option, Some, option_map, codes}
-use Rattle.cc_quote.specs.PlainName.{is_plain_name}
+use Rattle.cc_base.specs.PlainName.{is_plain_name}
 use Rattle.cc_quote.specs.ElvishQuote.{elvish_word_of}
 use Rattle.cc_quote.specs.PosixQuote.{posix_quoted}
 use Rattle.cc_base.specs.Found.{between, last_run, up_to, word_after}

@@ -2,7 +2,7 @@
 use Rattle.std.specs.Prelude.{⊤, ◌≡◌, ℕ, IsTrue, List, ◌++◌, Option, Some, codes}
 use Rattle.std.specs.Option.{option_and_then}
 use Rattle.cc_quote.specs.FishQuote.{fish_double_of, fish_quoted, fish_quoted_for_eval, fish_word_of}
-use Rattle.cc_quote.specs.PlainName.{is_plain_name}
+use Rattle.cc_base.specs.PlainName.{is_plain_name}
 use Rattle.cc_base.specs.Found.{between, word_after}
 
 -- ---- its text

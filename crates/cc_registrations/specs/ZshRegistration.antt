@@ -1,7 +1,7 @@
 -- The registration for zsh, and what its parts are read as.
 use Rattle.std.specs.Prelude.{⊤, ◌≡◌, ℕ, IsTrue, List, ◌++◌, Option, Some, option_map, codes}
 use Rattle.cc_quote.specs.PosixQuote.{posix_quoted, posix_word_of}
-use Rattle.cc_quote.specs.PlainName.{is_plain_name}
+use Rattle.cc_base.specs.PlainName.{is_plain_name}
 use Rattle.cc_base.specs.Found.{between, last_line, up_to, without_blanks, word_after}
 use Rattle.cc_registrations.specs.Names.{underscored}
 

@@ -6,7 +6,7 @@ ghost use Rattle.std.specs.String.{string_bytes};
 ghost use Rattle.cc_base.specs.declared.error.Error.{Error};
 ghost use Rattle.cc_command.specs.Built.{built_under};
 ghost use Rattle.cc_command.specs.Plain.{is_plain_tree};
-ghost use Rattle.cc_quote.specs.PlainName.{is_plain_name};
+ghost use Rattle.cc_base.specs.PlainName.{is_plain_name};
 ghost use Rattle.cc_shell.specs.Files.{EndsFile, LeavesTree};
 
 use cc_base::{Counted, Error};

@@ -6,8 +6,8 @@ use Rattle.cc_arg.specs.declared.parts.ArgParts.{ArgParts as Arg}
 use Rattle.cc_command.specs.ArgumentLists.{options, flags}
 use Rattle.cc_command.specs.Names.{full_name}
 use Rattle.cc_command.specs.Plain.{is_plain_tree}
-use Rattle.cc_quote.specs.PlainName.{name_byte, foreign}
-use Rattle.cc_quote.proofs.NameBytes.{name_is_not}
+use Rattle.cc_base.specs.PlainName.{name_byte, foreign}
+use Rattle.cc_base.proofs.NameBytes.{name_is_not}
 use Rattle.cc_command.specs.Tree.{Tree}
 use Rattle.cc_command.proofs.PlainParts.{IsPlainArgument, IsPlainBelow, plain_node}
 use Rattle.cc_base.specs.Bytes.{colon, line_feed, space}

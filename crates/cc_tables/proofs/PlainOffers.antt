@@ -17,8 +17,8 @@ use Rattle.cc_command.specs.Tree.{Forest, none, more, Tree}
 use Rattle.cc_command.specs.ArgumentLists.{options, flags}
 use Rattle.cc_command.specs.Names.{visible_names}
 use Rattle.cc_command.specs.Plain.{is_plain_forest}
-use Rattle.cc_quote.specs.PlainName.{name_byte, foreign, is_plain_name, is_joined}
-use Rattle.cc_quote.proofs.NameBytes.{AreNameBytes, plain_bytes}
+use Rattle.cc_base.specs.PlainName.{name_byte, foreign, is_plain_name, is_joined}
+use Rattle.cc_base.proofs.NameBytes.{AreNameBytes, plain_bytes}
 use Rattle.cc_command.proofs.PlainParts.{IsPlainName, IsPlainShort, IsPlainArgument, IsPlainBelow}
 use Rattle.cc_command.proofs.PlainParts.{plain_node, plain_more, shown_plain}
 use Rattle.cc_tables.specs.Offers.{word, short_offer, long_offer, argument_offer, argument_offers}

@@ -9,9 +9,9 @@ use Rattle.cc_base.proofs.Differing.{AllDifferBy-map}
 use Rattle.cc_base.proofs.Members.{AllByRecursion-weaker, AllByRecursion-append, AllByRecursion-map}
 use Rattle.cc_command.specs.Names.{full_name}
 use Rattle.cc_command.specs.Plain.{is_plain_tree}
-use Rattle.cc_quote.specs.PlainName.{name_byte, foreign}
+use Rattle.cc_base.specs.PlainName.{name_byte, foreign}
 use Rattle.cc_command.specs.Tree.{Tree}
-use Rattle.cc_quote.proofs.NameBytes.{plain_bytes}
+use Rattle.cc_base.proofs.NameBytes.{plain_bytes}
 use Rattle.cc_command.proofs.PlainParts.{IsPlainBelow, IsPlainName, plain_full_name}
 use Rattle.cc_visits.specs.Visits.{Keyed, joined_path, longer_path, table_visits}
 use Rattle.cc_visits.proofs.DifferentKeys.{joined_keys_differ}

@@ -18,8 +18,8 @@ use Rattle.cc_command.specs.Escaped.{is_escaped_argument, is_escaped_forest, is_
 use Rattle.cc_command.specs.Names.{visible_names}
 use Rattle.cc_command.specs.Plain.{is_plain_forest, passes_if_some}
 use Rattle.cc_command.specs.Tree.{Forest, none, more, Tree}
-use Rattle.cc_quote.specs.PlainName.{name_byte, foreign, is_plain_name}
-use Rattle.cc_quote.proofs.NameBytes.{letter_or_joiner}
+use Rattle.cc_base.specs.PlainName.{name_byte, foreign, is_plain_name}
+use Rattle.cc_base.proofs.NameBytes.{letter_or_joiner}
 use Rattle.cc_command.proofs.PlainParts.{IsPlainName, IsPlainShort, IsPlainArgument, IsPlainBelow, plain_node, plain_more, shown_plain}
 use Rattle.cc_tables.specs.Offers.{word, short_offer, long_offer, argument_offer, argument_offers, child_offer, child_offers, children_offers, node_offers}
 use Rattle.cc_tables.specs.PowershellScript.{shown_text}

@@ -5,8 +5,8 @@ use Rattle.std.proofs.lemmas.Bool.Decides.{nat_tests}
 use Rattle.cc_base.proofs.Members.{AllByRecursion-weaker, AllByRecursion-append}
 use Rattle.cc_command.specs.Names.{full_name}
 use Rattle.cc_command.specs.Plain.{is_plain_tree}
-use Rattle.cc_quote.specs.PlainName.{name_byte, foreign}
-use Rattle.cc_quote.proofs.NameBytes.{letter_or_joiner}
+use Rattle.cc_base.specs.PlainName.{name_byte, foreign}
+use Rattle.cc_base.proofs.NameBytes.{letter_or_joiner}
 use Rattle.cc_command.specs.Tree.{Tree}
 use Rattle.cc_command.proofs.PlainParts.{plain_full_name}
 use Rattle.cc_quote.specs.PowershellTokens.{is_quote_first, IsUnquoted}

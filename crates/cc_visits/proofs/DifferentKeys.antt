@@ -7,9 +7,9 @@ use Rattle.cc_base.specs.Differ.{AllDifferBy}
 use Rattle.cc_base.proofs.Differing.{AllDifferBy-finer}
 use Rattle.cc_base.proofs.Members.{AllByRecursion-weaker}
 use Rattle.cc_command.specs.Plain.{is_plain_tree}
-use Rattle.cc_quote.specs.PlainName.{name_byte, foreign}
+use Rattle.cc_base.specs.PlainName.{name_byte, foreign}
 use Rattle.cc_command.specs.Tree.{Tree}
-use Rattle.cc_quote.proofs.NameBytes.{plain_bytes}
+use Rattle.cc_base.proofs.NameBytes.{plain_bytes}
 use Rattle.cc_command.proofs.PlainParts.{IsPlainName}
 use Rattle.cc_visits.specs.Paths.{CoversPaths}
 use Rattle.cc_visits.specs.Visits.{Keyed, joined_path}

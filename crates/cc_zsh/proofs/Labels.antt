@@ -13,7 +13,7 @@ use Rattle.cc_command.specs.declared.node.Node.{Node}
 use Rattle.cc_command.specs.Names.{full_name, joined_name, visible_names}
 use Rattle.cc_command.specs.Plain.{is_plain_forest, siblings_differ}
 use Rattle.cc_command.specs.Tree.{Forest, none, more, Tree, IsSibling}
-use Rattle.cc_quote.proofs.PlainNames.{plain_after, plain_after_start, plain_after_end, plain_after_more}
+use Rattle.cc_base.proofs.PlainNames.{plain_after, plain_after_start, plain_after_end, plain_after_more}
 use Rattle.cc_command.proofs.PlainParts.{IsPlainName, plain_node, plain_more}
 use Rattle.cc_command.proofs.SiblingNames.{not_shared, first_differs}
 use Rattle.cc_zsh.specs.Functions.{Function, function_of, functions_below}

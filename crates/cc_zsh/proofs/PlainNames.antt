@@ -15,8 +15,8 @@ use Rattle.cc_arg.specs.declared.names.ShownName.TheVariants.{Short, Long}
 use Rattle.cc_arg.specs.ShownNames.{shown_names, shown_shorts, shown_longs}
 use Rattle.cc_command.specs.declared.node.Node.{Node}
 use Rattle.cc_command.specs.Plain.{passes_if_some}
-use Rattle.cc_quote.specs.PlainName.{letter, joiner, foreign, is_joined, name_byte, is_plain_name}
-use Rattle.cc_quote.proofs.NameBytes.{plain_bytes, letter_or_joiner}
+use Rattle.cc_base.specs.PlainName.{letter, joiner, foreign, is_joined, name_byte, is_plain_name}
+use Rattle.cc_base.proofs.NameBytes.{plain_bytes, letter_or_joiner}
 use Rattle.cc_command.proofs.PlainParts.{IsPlainName, IsPlainShort, IsPlainArgument, shown_plain}
 use Rattle.cc_quote.specs.PosixSigns.{sign}
 use Rattle.cc_quote.specs.PosixSigns.Sign.{other}

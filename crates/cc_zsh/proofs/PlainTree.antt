@@ -15,8 +15,8 @@ use Rattle.cc_command.specs.Texts.{help_name}
 use Rattle.cc_command.specs.Names.{full_name, joined_name, visible_names}
 use Rattle.cc_command.specs.Plain.{is_plain_forest, is_plain_tree}
 use Rattle.cc_command.specs.Tree.{Forest, none, more, join, Tree}
-use Rattle.cc_quote.specs.PlainName.{is_joined, is_plain_name}
-use Rattle.cc_quote.proofs.PlainNames.{plain_after, plain_after_start, plain_after_more}
+use Rattle.cc_base.specs.PlainName.{is_joined, is_plain_name}
+use Rattle.cc_base.proofs.PlainNames.{plain_after, plain_after_start, plain_after_more}
 use Rattle.cc_command.proofs.PlainParts.{IsPlainName, IsPlainArgument, IsPlainNode, plain_node, plain_more, plain_tree, plain_full_name}
 use Rattle.cc_zsh.specs.Functions.{Function, entry, entries_of, function_of, functions_below, function_below, is_again, once_after, sorted_functions}
 use Rattle.cc_zsh.specs.Reader.{is_name_byte}

@@ -1,7 +1,7 @@
 -- A script that is read as the definitions say.
 use Rattle.std.proofs.Common.{◌≡◌, ◌∷◌, ◌++◌, [], List, ℕ, true, false, refl, codes, Some, None}
 use Rattle.cc_base.specs.Found.{after as text_after}
-use Rattle.cc_quote.specs.PlainName.{is_joined, is_plain_name, name_byte}
+use Rattle.cc_base.specs.PlainName.{is_joined, is_plain_name, name_byte}
 use Rattle.cc_quote.specs.PosixSigns.{sign, byte_of}
 use Rattle.cc_quote.specs.PosixTokens.{cut, posix_tokens}
 use Rattle.cc_quote.specs.Tokens.{is_word}

@@ -6,7 +6,7 @@ use Rattle.std.specs.List.{flat_map, list_all}
 use Rattle.std.specs.Option.{option_to_list}
 use Rattle.cc_base.specs.Bytes.{space, open_parenthesis, close_parenthesis, star, plus, dash, colon, equals, open_bracket, backslash, close_bracket, underscore}
 use Rattle.cc_base.specs.Found.{after as text_after}
-use Rattle.cc_quote.specs.PlainName.{is_plain_name}
+use Rattle.cc_base.specs.PlainName.{is_plain_name}
 use Rattle.cc_quote.specs.PosixTokens.{is_double_quote, posix_tokens}
 use Rattle.cc_quote.specs.Tokens.{Piece, Token, is_word}
 use Rattle.cc_quote.specs.Tokens.Piece.{bare, quoted, unclosed}

@@ -23,7 +23,7 @@ pub use Rattle.cc_quote.specs.Escapes
 pub use Rattle.cc_quote.specs.FishEscapes
 pub use Rattle.cc_quote.specs.FishQuote
 pub use Rattle.cc_quote.specs.FishTokens
-pub use Rattle.cc_quote.specs.PlainName
+pub use Rattle.cc_base.specs.PlainName
 pub use Rattle.cc_quote.specs.PlainPath
 pub use Rattle.cc_quote.specs.PosixQuote
 pub use Rattle.cc_quote.specs.PosixSigns

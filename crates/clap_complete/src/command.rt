@@ -4,6 +4,5 @@ pub use cc_arg::{
     Arg, ArgAction, LongAndVisibleAliases, PossibleValue, ShortAndVisibleAliases, ValueHint,
     ValueRange,
 };
-pub use cc_base::Text;
+pub use cc_base::{Text, is_plain_name};
 pub use cc_command::{Arguments, Command, NameAndVisibleAliases};
-pub use cc_quote::is_plain_name;

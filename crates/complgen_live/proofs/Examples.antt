@@ -2,7 +2,7 @@
 use Rattle.std.proofs.Common.{◌≡◌, true, false, [], ◌∷◌, Some, None, codes, filter, refl}
 use Rattle.std.specs.Path.{path_file_name, path_join, rsplit_once, split_last_component, trim_trailing}
 use Rattle.cc_base.specs.Sorting.{in_order, insert}
-use Rattle.cc_quote.specs.PlainName.{is_joined, is_plain_name, name_byte}
+use Rattle.cc_base.specs.PlainName.{is_joined, is_plain_name, name_byte}
 use Rattle.complgen_live.specs.Folders.{tree_folders}
 use Rattle.complgen_live.specs.KnownNames.{each_once, is_other_name}
 use Rattle.complgen_live.specs.Requests.{is_request, request_words}

@@ -3,11 +3,11 @@
 ghost use Rattle.std.specs.Prelude.{◌≡◌, IfOk, filter, map, string_bytes};
 ghost use Rattle.std.specs.Option.{option_copied};
 ghost use Rattle.std.specs.Path.{path_file_name};
-ghost use Rattle.cc_quote.specs.PlainName.{is_plain_name};
+ghost use Rattle.cc_base.specs.PlainName.{is_plain_name};
 ghost use Rattle.complgen_live.specs.TreeFiles.{tree_path, tree_paths, tree_stem};
 
+use cc_base::is_plain_name;
 use cc_paths::join;
-use cc_quote::is_plain_name;
 use std::alloc::{AllocError, Global};
 use std::path::Path;
 

@@ -1,4 +1,2 @@
 pub mod RegisterLemmas
 pub mod ReplyLemmas
-pub mod ScriptLemmas
-pub mod WritingLemmas

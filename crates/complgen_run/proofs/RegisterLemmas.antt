@@ -10,11 +10,11 @@ use Rattle.cc_base.specs.declared.error.Error.TheVariants as error
 use Rattle.cc_base.specs.declared.failures.Failures.{Failures}
 use Rattle.cc_command.specs.Tree.{Tree}
 use Rattle.cc_base.specs.Writes.{Writes}
-use Rattle.complgen_run.specs.Refusals.{Reports, error_line}
+use Rattle.complgen_script.specs.Refusals.{Reports, error_line}
 use Rattle.complgen_run.specs.Registrations.{IsRegistration, Registers, AdapterReads, RegistrationReadsBy}
 use Rattle.complgen_run.specs.Registrations.{no_registration, registration_by, some_registration}
-use Rattle.complgen_run.specs.Writing.{Finishes}
-use Rattle.complgen_run.proofs.WritingLemmas.{ends_failed, ends_written, same}
+use Rattle.complgen_script.specs.Writing.{Finishes}
+use Rattle.complgen_script.proofs.WritingLemmas.{ends_failed, ends_written, same}
 use Rattle.cc_tree_file.specs.TreeFile.{HoldsTree}
 
 module _ {S : Type 0} (taken : S → List ℕ) (failed : S → Failures) (message bin : List ℕ)

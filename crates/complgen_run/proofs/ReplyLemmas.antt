@@ -19,10 +19,10 @@ use Rattle.cc_command.specs.Tree.{Tree}
 use Rattle.cc_base.specs.Writes.{IsWrite, Writes}
 use Rattle.cc_replies.specs.Reply.{LinesRead, lines_reply}
 use Rattle.complgen_run.specs.Ends.{Ends, EndsReply}
-use Rattle.complgen_run.specs.Refusals.{Reports}
+use Rattle.complgen_script.specs.Refusals.{Reports}
 use Rattle.complgen_run.specs.Replies.{AreFound, FindsNone, IsOutOfRange, IsReply, Paths, only_paths}
-use Rattle.complgen_run.proofs.WritingLemmas.{ends_cut_off, ends_rejected, ends_unwritten}
-use Rattle.complgen_run.proofs.WritingLemmas.{ends_written, same}
+use Rattle.complgen_script.proofs.WritingLemmas.{ends_cut_off, ends_rejected, ends_unwritten}
+use Rattle.complgen_script.proofs.WritingLemmas.{ends_written, same}
 use Rattle.cc_tree_file.specs.TreeFile.{HoldsTree}
 
 -- why a call that builds the command finds no candidates

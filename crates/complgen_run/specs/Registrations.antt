@@ -10,8 +10,8 @@ use Rattle.cc_shell.specs.Shells.{shell_text}
 use Rattle.cc_command.specs.Tree.{Tree}
 use Rattle.complgen_command_line.specs.Refusals.{IsRefusal}
 use Rattle.complgen_command_line.specs.declared.types.Refusal.{Refusal}
-use Rattle.complgen_run.specs.Refusals.{error_line}
-use Rattle.complgen_run.specs.Writing.{Finishes, Untouched}
+use Rattle.complgen_script.specs.Refusals.{error_line}
+use Rattle.complgen_script.specs.Writing.{Finishes, Untouched}
 
 -- the variable by which a shell asks
 abbrev pub variable : List ℕ

@@ -11,7 +11,7 @@ use Rattle.cc_arg.specs.declared.value_hint.ValueHint.{ValueHint}
 use Rattle.complgen_command_line.specs.Refusals.{IsRefusal}
 use Rattle.complgen_command_line.specs.declared.types.Refusal.{Refusal}
 use Rattle.cc_replies.specs.Reply.{LinesRead, lines_reply}
-use Rattle.complgen_run.specs.Refusals.{error_line}
+use Rattle.complgen_script.specs.Refusals.{error_line}
 
 -- the paths that may be found for a value hint and a text
 abbrev pub Paths : Type 1

@@ -7,10 +7,10 @@ ghost use Rattle.complgen_run.specs.Ends.{Ends, ReadsBack};
 
 use crate::registrations::register;
 use crate::replies::reply;
-use crate::scripts::script;
 use cc_base::Sink;
 use cc_paths::Folder;
 use complgen_command_line::{Plan, Refusal};
+use complgen_script::script;
 use std::alloc::Global;
 
 /// Carries out the plan, over the bytes of its tree file, or `None` where that file can't be read.

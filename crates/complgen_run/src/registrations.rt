@@ -3,24 +3,36 @@
 ghost use Rattle.std.specs.Prelude.{◌≡◌, find, true};
 ghost use Rattle.std.specs.Option.{option_copied};
 ghost use Rattle.cc_adapters.specs.Builtins.{all_builtins, builtin_spec};
+ghost use Rattle.cc_base.specs.declared.error.Error.TheVariants.{UnknownShell};
 ghost use Rattle.cc_shell.specs.Shells.{shell_text};
 ghost use Rattle.complgen_run.specs.Ends.{EndsRegistration};
 ghost use Rattle.complgen_run.specs.Registrations.{IsRegistration, Registers, RegistrationReads};
 ghost use Rattle.complgen_run.specs.Registrations.{RegistrationReadsBy, no_registration_text, registration_by};
 ghost use Rattle.complgen_run.specs.Registrations.{registration_for};
-ghost use Rattle.complgen_run.specs.Writing.{Finishes};
+ghost use Rattle.complgen_script.specs.Refusals.{error_line};
+ghost use Rattle.complgen_script.specs.Writing.{Finishes};
 
-use crate::refusals::{error_refusal, no_registration};
-use crate::shells::shell_of;
-use crate::tree_files::tree;
 use cc_adapters::{Builtin, EnvCompleter, Shells};
 use cc_base::Sink;
-use cc_shell::Shell;
+use cc_shell::{Shell, each_shell};
 use complgen_command_line::Refusal;
+use complgen_script::{error_refusal, shell_of, tree};
 use std::alloc::Global;
 
 // The variable by which a shell asks.
 const VARIABLE: &str = "COMPLETE";
+
+// What is printed of a shell that has no registration, with the names of those that have one.
+macro_rules! no_registration {
+    ([$shell:tt] $($variant:ident $text:literal $programs:tt,)*) => {
+        match $shell {
+            $(Shell::$variant => concat!(
+                "unknown shell `", $text,
+                "`, expected one of `bash`, `elvish`, `fish`, `powershell`, `zsh`\n"
+            ),)*
+        }
+    };
+}
 
 /// Writes the registration for the shell of this name.
 pub(crate) fn register<W: Sink>(
@@ -82,4 +94,11 @@ fn register_by<W: Sink>(
         Ok(()) => Ok(()),
         Err(error) => Err(error_refusal(alloc, &error)),
     }
+}
+
+// What is printed where a registration is wanted and this shell has none.
+fn no_registration(shell: Shell) -> &'static str
+    ensures { result.now ≡ error_line (UnknownShell (no_registration_text shell)) }
+{
+    each_shell!(no_registration! shell)
 }

@@ -6,8 +6,6 @@ ghost use Rattle.cc_engine.specs.Paths.{PathsOf};
 ghost use Rattle.complgen_run.specs.Ends.{EndsReply};
 ghost use Rattle.complgen_run.specs.Replies.{AreFound, FindsNone};
 
-use crate::refusals::error_refusal;
-use crate::tree_files::tree;
 use cc_base::{Error, Sink};
 use cc_candidates::{Completers, CompletionCandidate};
 use cc_command::Command;
@@ -15,6 +13,7 @@ use cc_engine::complete;
 use cc_paths::Folder;
 use cc_replies::write_lines;
 use complgen_command_line::Refusal;
+use complgen_script::{error_refusal, tree};
 use std::alloc::{AllocError, Global};
 
 // The folder that relative paths start from.

@@ -6,7 +6,7 @@ use Rattle.cc_base.specs.declared.error.Error.TheVariants.{Memory, Write}
 use Rattle.cc_base.specs.declared.failures.Failures.{Failures}
 use Rattle.complgen_command_line.specs.declared.types.Refusal.{Refusal}
 use Rattle.complgen_command_line.specs.Refusals.{IsRefusal}
-use Rattle.complgen_run.specs.Refusals.{Reports, unreadable_line}
+use Rattle.complgen_script.specs.Refusals.{Reports, unreadable_line}
 use Rattle.cc_tree_errors.specs.declared.finding.PlacedFinding.{PlacedFinding}
 use Rattle.complgen_tools.specs.Checking.{EndsCheck, Finds, only_notes, out_of_memory, printed}
 use Rattle.complgen_tools.specs.Checking.{unreadable, write_failed}

@@ -13,7 +13,7 @@ use Rattle.cc_command.specs.Tree.{Tree}
 use Rattle.cc_shell.specs.Files.{EndsFile as EndsGenerated}
 use Rattle.cc_command.proofs.PlainBuilt.{plain_built_under}
 use Rattle.cc_command.specs.Plain.{is_plain_tree}
-use Rattle.cc_quote.specs.PlainName.{is_plain_name}
+use Rattle.cc_base.specs.PlainName.{is_plain_name}
 use Rattle.cc_shell.specs.Shells.{shell_spec}
 use Rattle.cc_shell.specs.declared.shell.Shell.{Shell}
 use Rattle.cc_shell.specs.declared.shell.Shell.TheVariants.{Bash, Elvish, Fish, Nushell, PowerShell, Zsh}
@@ -21,9 +21,9 @@ use Rattle.cc_tree_file.specs.TreeFile.{HoldsTree}
 use Rattle.cc_tree_file.specs.declared.error.TreeError.TheVariants as tree_error
 use Rattle.complgen_command_line.specs.Refusals.{IsOutOfMemory}
 use Rattle.complgen_command_line.specs.declared.types.Refusal.{Refusal}
-use Rattle.complgen_run.specs.TreeFiles.{ReportsFile as ReportsTreeFile, bad_form, not_json, unreadable}
-use Rattle.complgen_run.specs.Scripts.{ScriptReads}
-use Rattle.complgen_run.specs.Writing.{Untouched}
+use Rattle.complgen_script.specs.TreeFiles.{ReportsFile as ReportsTreeFile, bad_form, not_json, unreadable}
+use Rattle.complgen_script.specs.Scripts.{ScriptReads}
+use Rattle.complgen_script.specs.Writing.{Untouched}
 use Rattle.complgen_tools.specs.AllScripts.{EndsFile, EndsFiles, EndsScripts, PrintsLine, ReadsBack}
 use Rattle.complgen_tools.specs.AllScripts.{ReportsFile}
 use Rattle.complgen_tools.specs.AllScripts.{file_failed, other_shells, out_of_memory, path_line}

@@ -7,7 +7,7 @@ use Rattle.cc_command.specs.Escaped.{is_escaped_tree}
 use Rattle.cc_command.specs.Plain.{is_plain_argument, is_plain_forest, is_plain_node, is_plain_tree, passes_if_some, siblings_differ}
 use Rattle.cc_command.specs.Quiet.{is_quiet_tree}
 use Rattle.cc_command.specs.Tree.{Tree}
-use Rattle.cc_quote.specs.PlainName.{is_plain_name}
+use Rattle.cc_base.specs.PlainName.{is_plain_name}
 use Rattle.cc_command.proofs.EscapedBuilt.{escaped_built_under}
 use Rattle.cc_command_warnings.specs.CommandWarnings.{command_list}
 use Rattle.cc_command_warnings.specs.Notes.{are_notes}

@@ -8,7 +8,7 @@ use Rattle.cc_base.specs.declared.failures.Failures.{Failures}
 use Rattle.cc_base.specs.declared.error.Error.{Error}
 use Rattle.cc_base.specs.declared.error.Error.TheVariants.{LabelClash, Write}
 use Rattle.cc_command.specs.Plain.{is_plain_tree}
-use Rattle.cc_quote.specs.PlainName.{is_plain_name}
+use Rattle.cc_base.specs.PlainName.{is_plain_name}
 use Rattle.cc_command.specs.Tree.{Tree}
 use Rattle.cc_shell.specs.Shells.{all_shells, shell_spec}
 use Rattle.cc_shell.specs.declared.shell.Shell.{Shell}
@@ -16,10 +16,10 @@ use Rattle.cc_shell.specs.declared.shell.Shell.TheVariants.{Bash, Elvish, Fish, 
 use Rattle.cc_tree_file.specs.TreeFile.{HoldsTree}
 use Rattle.complgen_command_line.specs.Refusals.{IsOutOfMemory, IsRefusal}
 use Rattle.complgen_command_line.specs.declared.types.Refusal.{Refusal}
-use Rattle.complgen_run.specs.Refusals.{IsMade, Reports, error_line}
-use Rattle.complgen_run.specs.Scripts.{SharesLabel}
-use Rattle.complgen_run.specs.TreeFiles.{HoldsNoTree}
-use Rattle.complgen_run.specs.Writing.{Untouched}
+use Rattle.complgen_script.specs.Refusals.{IsMade, Reports, error_line}
+use Rattle.complgen_script.specs.Scripts.{SharesLabel}
+use Rattle.complgen_script.specs.TreeFiles.{HoldsNoTree}
+use Rattle.complgen_script.specs.Writing.{Untouched}
 
 -- the path of the script for a shell, as a line
 abbrev pub path_line : List ℕ → List ℕ → Shell → List ℕ

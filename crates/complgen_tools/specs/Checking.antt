@@ -27,8 +27,8 @@ use Rattle.complgen_tools.specs.Promises.{HoldPremises}
 use Rattle.complgen_tools.specs.TreeWarnings.{built_as, warnings_of}
 use Rattle.complgen_command_line.specs.Refusals.{IsOutOfMemory, IsRefusal}
 use Rattle.complgen_command_line.specs.declared.types.Refusal.{Refusal}
-use Rattle.complgen_run.specs.Refusals.{error_line, unreadable_line}
-use Rattle.complgen_run.specs.Writing.{Untouched}
+use Rattle.complgen_script.specs.Refusals.{error_line, unreadable_line}
+use Rattle.complgen_script.specs.Writing.{Untouched}
 use Rattle.complgen_tools.specs.Lines.{finding_lines}
 
 -- ---- what is shown of a warning

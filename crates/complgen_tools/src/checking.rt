@@ -18,7 +18,7 @@ use cc_tree_errors::{
     Checked, Finding, Level, PlacedFinding, Step, check_file, on_one_line, place_findings,
 };
 use complgen_command_line::Refusal;
-use complgen_run::{UNREADABLE, error_refusal};
+use complgen_script::{UNREADABLE, error_refusal};
 use std::alloc::{AllocError, Global};
 
 /// Prints a line for each error, warning and note about a tree file, and returns whether there are

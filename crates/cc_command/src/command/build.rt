@@ -9,7 +9,7 @@ ghost use Rattle.cc_command.specs.Names.{full_name, joined_name};
 ghost use Rattle.cc_command.specs.Built.{built_tree, built_under, globals};
 ghost use Rattle.cc_command.specs.Additions.{AreAfter, AreBuiltBy, AreOfTreeAfter, IsBuiltBy};
 ghost use Rattle.cc_command.specs.Additions.{Suit, SuitTree};
-ghost use Rattle.cc_quote.specs.PlainName.{is_plain_name};
+ghost use Rattle.cc_base.specs.PlainName.{is_plain_name};
 ghost use Rattle.cc_command.specs.Plain.{is_plain_tree};
 ghost use Rattle.cc_command.specs.Quiet.{is_quiet_tree};
 

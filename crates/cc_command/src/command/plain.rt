@@ -6,7 +6,7 @@ ghost use Rattle.std.specs.Option.{option_copied};
 ghost use Rattle.std.specs.Char.{is_ascii_alphanumeric};
 ghost use Rattle.cc_command.specs.Tree.{forest_of};
 ghost use Rattle.cc_command.specs.Names.{contains_name, has_child};
-ghost use Rattle.cc_quote.specs.PlainName.{is_plain_name};
+ghost use Rattle.cc_base.specs.PlainName.{is_plain_name};
 ghost use Rattle.cc_command.specs.Plain.{all_differ, has_no_quote, is_plain_argument};
 ghost use Rattle.cc_command.specs.Plain.{is_plain_forest, is_plain_node, is_plain_tree};
 ghost use Rattle.cc_command.specs.Plain.{names_of, passes_if_some, siblings_differ};
@@ -16,8 +16,7 @@ use crate::command::children::has_child;
 use crate::command::getters::contains_name;
 use crate::node::Node;
 use cc_arg::Arg;
-use cc_base::Text;
-use cc_quote::is_plain_name;
+use cc_base::{Text, is_plain_name};
 
 impl Command {
     /// Whether the tree is plain, so that a script can hold its names as they are.

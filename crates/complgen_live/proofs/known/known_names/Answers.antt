@@ -1,6 +1,6 @@
 use Rattle.std.proofs.Common.{◌≡◌, ◌-◌, ◌∙◌, ap, map, filter, length, arith}
 use Rattle.std.specs.String.{string_bytes}
-use Rattle.cc_quote.specs.PlainName.{is_plain_name}
+use Rattle.cc_base.specs.PlainName.{is_plain_name}
 use Rattle.complgen_live.specs.KnownNames.{each_once, is_odd_name, is_other_name}
 use Rattle.complgen_live.specs.TreeFiles.{stems}
 use Rattle.complgen_live.proofs.Names.{counted}

@@ -1,6 +1,6 @@
 use Rattle.std.proofs.lemmas.Result.{err_from_is_err_and}
-use Rattle.complgen_run.specs.Ends.{known_shell, unknown_shell}
-use Rattle.complgen_run.proofs.WritingLemmas.{same}
+use Rattle.complgen_script.specs.Ends.{known_shell, unknown_shell}
+use Rattle.complgen_script.proofs.WritingLemmas.{same}
 use Rattle.complgen_run.proofs.registrations.register.Goals as goal
 
 pub returns-in_err-shell : goal.returns-in_err-shell

@@ -1,5 +1,5 @@
 use Rattle.std.proofs.Common.{◌≡◌, IsTrue, rules, subst, sym}
-use Rattle.cc_quote.specs.PlainName.{is_plain_name}
+use Rattle.cc_base.specs.PlainName.{is_plain_name}
 use Rattle.cc_command.specs.Plain.{passes_if_some}
 use Rattle.cc_command.proofs.BuiltAgain.{built_tree-again}
 use Rattle.cc_command.proofs.PlainBuilt.{plain_built_under}

@@ -1,6 +1,6 @@
 use Rattle.std.proofs.Common.{rules}
-use Rattle.cc_quote.proofs.PlainNames.{plain_after-failed, plain_after-passed, plain_after-done}
-use Rattle.cc_quote.proofs.names.is_plain_name.Goals as goal
+use Rattle.cc_base.proofs.PlainNames.{plain_after-failed, plain_after-passed, plain_after-done}
+use Rattle.cc_base.proofs.names.is_plain_name.Goals as goal
 
 pub returns-then-not-may_follow : goal.returns-then-not-may_follow
 returns-then-not-may_follow c =

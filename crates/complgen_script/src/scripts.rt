@@ -2,9 +2,9 @@
 
 ghost use Rattle.std.specs.Prelude.{OnOk, true};
 ghost use Rattle.std.specs.Option.{option_copied};
-ghost use Rattle.complgen_run.specs.Ends.{EndsScript, NamedScriptReads};
-ghost use Rattle.complgen_run.specs.Scripts.{IsScript, ScriptReads, SharesLabel};
-ghost use Rattle.complgen_run.specs.Writing.{Finishes};
+ghost use Rattle.complgen_script.specs.Ends.{EndsScript, NamedScriptReads};
+ghost use Rattle.complgen_script.specs.Scripts.{IsScript, ScriptReads, SharesLabel};
+ghost use Rattle.complgen_script.specs.Writing.{Finishes};
 
 use crate::refusals::error_refusal;
 use crate::shells::shell_of;

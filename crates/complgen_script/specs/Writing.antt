@@ -7,8 +7,8 @@ use Rattle.cc_base.specs.Sink.{add_failure}
 use Rattle.cc_command.specs.Tree.{Tree}
 use Rattle.complgen_command_line.specs.Refusals.{IsOutOfMemory, IsRefusal}
 use Rattle.complgen_command_line.specs.declared.types.Refusal.{Refusal}
-use Rattle.complgen_run.specs.Refusals.{error_line}
-use Rattle.complgen_run.specs.TreeFiles.{HoldsNoTree}
+use Rattle.complgen_script.specs.Refusals.{error_line}
+use Rattle.complgen_script.specs.TreeFiles.{HoldsNoTree}
 use Rattle.cc_tree_file.specs.TreeFile.{Describes}
 
 -- nothing is taken, and no write failed

@@ -3,7 +3,7 @@ use Rattle.std.specs.Prelude.{ℕ, List, Option, None, Some, Result, Ok, Err}
 use Rattle.cc_command.specs.Tree.{Tree}
 use Rattle.complgen_command_line.specs.Refusals.{IsRefusal}
 use Rattle.complgen_command_line.specs.declared.types.Refusal.{Refusal}
-use Rattle.complgen_run.specs.Refusals.{ReportsTree, bad_form_line, not_json_line, unreadable_line}
+use Rattle.complgen_script.specs.Refusals.{ReportsTree, bad_form_line, not_json_line, unreadable_line}
 use Rattle.cc_tree_file.specs.TreeFile.{Describes, HoldsTree, ReadsTree, SpellsNone}
 use Rattle.cc_tree_file.specs.declared.error.TreeError.{TreeError}
 

@@ -1,7 +1,7 @@
 use Rattle.std.proofs.Common.{◌≡◌, drop}
-use Rattle.cc_quote.specs.PlainName.{is_plain_name}
-use Rattle.cc_quote.proofs.PlainNames.{plain_after}
-use Rattle.cc_quote.proofs.names.is_plain_name.Given as goal
+use Rattle.cc_base.specs.PlainName.{is_plain_name}
+use Rattle.cc_base.proofs.PlainNames.{plain_after}
+use Rattle.cc_base.proofs.names.is_plain_name.Given as goal
 
 -- the bytes that were passed over may be there
 abbrev pub invariant-loop-byte : goal.invariant-loop-byte

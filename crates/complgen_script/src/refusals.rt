@@ -1,12 +1,8 @@
 //! What is printed of an error.
 
-ghost use Rattle.std.specs.Prelude.{◌≡◌};
-ghost use Rattle.cc_base.specs.declared.error.Error.TheVariants.{UnknownShell};
-ghost use Rattle.complgen_run.specs.Refusals.{HasText, Reports, ReportsTree, error_line};
-ghost use Rattle.complgen_run.specs.Registrations.{no_registration_text};
+ghost use Rattle.complgen_script.specs.Refusals.{HasText, Reports, ReportsTree};
 
 use cc_base::Error;
-use cc_shell::{Shell, each_shell};
 use cc_tree_file::TreeError;
 use complgen_command_line::{Refusal, WRITE_FAILED};
 use std::alloc::{AllocError, Global};
@@ -19,28 +15,9 @@ const NOT_JSON: &str = "tree: not JSON\n";
 
 const BAD_FORM: &str = "tree: bad form\n";
 
-// What is printed of a shell that has no registration, with the names of those that have one.
-macro_rules! no_registration {
-    ([$shell:tt] $($variant:ident $text:literal $programs:tt,)*) => {
-        match $shell {
-            $(Shell::$variant => concat!(
-                "unknown shell `", $text,
-                "`, expected one of `bash`, `elvish`, `fish`, `powershell`, `zsh`\n"
-            ),)*
-        }
-    };
-}
-
 const NO_COMPLETION: &str = "no completion generated\n";
 
 const NO_ARGUMENTS: &str = "no arguments\n";
-
-/// What is printed where a registration is wanted and this shell has none.
-pub(crate) fn no_registration(shell: Shell) -> &'static str
-    ensures { result.now ≡ error_line (UnknownShell (no_registration_text shell)) }
-{
-    each_shell!(no_registration! shell)
-}
 
 /// What is printed of the error of a tree file.
 pub(crate) fn tree_refusal(error: TreeError) -> Refusal

@@ -8,10 +8,10 @@ use Rattle.cc_base.specs.declared.error.Error.TheVariants as error
 use Rattle.cc_base.specs.declared.failures.Failures.{Failures}
 use Rattle.cc_command.specs.Tree.{Tree}
 use Rattle.cc_base.specs.Writes.{CountsWrite, IsMemoryOrWrite, IsWrite}
-use Rattle.complgen_run.specs.Refusals.{Reports}
-use Rattle.complgen_run.specs.TreeFiles.{ReportsFile, bad_form, not_json, unreadable}
-use Rattle.complgen_run.specs.Writing.{Finishes, Untouched, no_tree, no_text, out_of_memory}
-use Rattle.complgen_run.specs.Writing.{out_of_memory_in_text, write_failed, written}
+use Rattle.complgen_script.specs.Refusals.{Reports}
+use Rattle.complgen_script.specs.TreeFiles.{ReportsFile, bad_form, not_json, unreadable}
+use Rattle.complgen_script.specs.Writing.{Finishes, Untouched, no_tree, no_text, out_of_memory}
+use Rattle.complgen_script.specs.Writing.{out_of_memory_in_text, write_failed, written}
 use Rattle.cc_tree_file.specs.TreeFile.{HoldsTree}
 use Rattle.cc_tree_file.specs.declared.error.TreeError.TheVariants.{BadForm, Memory, NotJson}
 

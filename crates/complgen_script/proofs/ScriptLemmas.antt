@@ -10,12 +10,12 @@ use Rattle.cc_shell.specs.declared.shell.Shell.{Shell}
 use Rattle.cc_shell.specs.Shells.{shell_spec, shell_text}
 use Rattle.cc_command.specs.Tree.{Tree}
 use Rattle.cc_base.specs.Writes.{CountsWrite}
-use Rattle.complgen_run.specs.Refusals.{Reports}
-use Rattle.complgen_run.specs.Ends.{NamedScriptReads}
-use Rattle.complgen_run.specs.Scripts.{IsScript, ScriptReads, SharesLabel}
-use Rattle.complgen_run.specs.Writing.{Finishes}
-use Rattle.complgen_run.proofs.WritingLemmas.{ends_failed, ends_rejected, ends_without_memory}
-use Rattle.complgen_run.proofs.WritingLemmas.{ends_written}
+use Rattle.complgen_script.specs.Refusals.{Reports}
+use Rattle.complgen_script.specs.Ends.{NamedScriptReads}
+use Rattle.complgen_script.specs.Scripts.{IsScript, ScriptReads, SharesLabel}
+use Rattle.complgen_script.specs.Writing.{Finishes}
+use Rattle.complgen_script.proofs.WritingLemmas.{ends_failed, ends_rejected, ends_without_memory}
+use Rattle.complgen_script.proofs.WritingLemmas.{ends_written}
 use Rattle.cc_tree_file.specs.TreeFile.{HoldsTree}
 
 -- what a script is read as, for the shell that has this name

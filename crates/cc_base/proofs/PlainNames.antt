@@ -3,7 +3,7 @@ use Rattle.std.proofs.Common.{◌≡◌, ℕ, ◌+◌, ◌<◌, ◌≤◌, List,
 use Rattle.std.proofs.lemmas.List.{at_drop_more, at_drop_all}
 use Rattle.std.specs.Char.{is_ascii_alphanumeric}
 use Rattle.cc_base.specs.Bytes.{dash, underscore}
-use Rattle.cc_quote.specs.PlainName.{NameByte, letter, joiner, foreign, name_byte, is_joined, is_plain_name}
+use Rattle.cc_base.specs.PlainName.{NameByte, letter, joiner, foreign, name_byte, is_joined, is_plain_name}
 
 -- what is left of a name is joined, after a letter or after none
 unfoldable pub joined_after : Bool → List NameByte → Bool

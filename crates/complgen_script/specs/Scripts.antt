@@ -3,12 +3,12 @@ use Rattle.std.specs.Prelude.{◌≡◌, ℕ, List, Option, Some, None, IsTrue}
 use Rattle.cc_command.specs.Built.{built_under}
 use Rattle.cc_base.specs.declared.error.Error.TheVariants.{LabelClash}
 use Rattle.cc_command.specs.Plain.{is_plain_tree}
-use Rattle.cc_quote.specs.PlainName.{is_plain_name}
+use Rattle.cc_base.specs.PlainName.{is_plain_name}
 use Rattle.cc_shell.specs.declared.shell.Shell.{Shell}
 use Rattle.cc_shell.specs.Shells.{shell_spec}
 use Rattle.cc_command.specs.Tree.{Tree}
 use Rattle.complgen_command_line.specs.declared.types.Refusal.{Refusal}
-use Rattle.complgen_run.specs.Refusals.{IsMade, error_line}
+use Rattle.complgen_script.specs.Refusals.{IsMade, error_line}
 use Rattle.cc_tree_file.specs.TreeFile.{HoldsTree}
 
 -- two nodes of the command, built under the bin name, would share this label, and that is reported

@@ -1,7 +1,7 @@
 //! Tree files.
 
 ghost use Rattle.std.specs.Option.{option_copied};
-ghost use Rattle.complgen_run.specs.TreeFiles.{ReadsFile};
+ghost use Rattle.complgen_script.specs.TreeFiles.{ReadsFile};
 
 use crate::refusals::{UNREADABLE, tree_refusal};
 use cc_command::Command;

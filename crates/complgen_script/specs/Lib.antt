@@ -1,0 +1,5 @@
+pub mod Ends
+pub mod Refusals
+pub mod Scripts
+pub mod TreeFiles
+pub mod Writing
