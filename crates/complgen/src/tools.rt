@@ -4,7 +4,8 @@ use crate::contents;
 use crate::output::{buffered, flush};
 use cc_base::Sink;
 use complgen_command_line::{Refusal, ToolPlan, plan_tool};
-use complgen_tools::{check, scripts};
+use complgen_script::scripts;
+use complgen_tools::check;
 use std::convert::AsStr;
 use std::rt::Files;
 

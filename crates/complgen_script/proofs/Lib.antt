@@ -1,2 +1,3 @@
+mod FileLemmas
 pub mod ScriptLemmas
 pub mod WritingLemmas

@@ -1,3 +1,4 @@
+pub mod AllScripts
 pub mod Ends
 pub mod Refusals
 pub mod Scripts

@@ -52,7 +52,7 @@ pub fn error_refusal(alloc: Global, error: &Error) -> Refusal
 }
 
 /// A refusal with this text and status 1, if there was memory for it.
-pub fn text_refusal(text: Result<String, AllocError>) -> Refusal
+pub(crate) fn text_refusal(text: Result<String, AllocError>) -> Refusal
     ensures { HasText text result }
 {
     match text {

@@ -1,6 +1,5 @@
 mod BuiltAgain
 mod CheckLemmas
-mod FileLemmas
 mod LineLemmas
 mod NoWarnings
 mod SoundLemmas

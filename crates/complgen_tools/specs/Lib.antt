@@ -1,4 +1,3 @@
-pub mod AllScripts
 pub mod Checking
 pub mod Lines
 pub mod Promises

@@ -24,11 +24,11 @@ use Rattle.complgen_command_line.specs.declared.types.Refusal.{Refusal}
 use Rattle.complgen_script.specs.TreeFiles.{ReportsFile as ReportsTreeFile, bad_form, not_json, unreadable}
 use Rattle.complgen_script.specs.Scripts.{ScriptReads}
 use Rattle.complgen_script.specs.Writing.{Untouched}
-use Rattle.complgen_tools.specs.AllScripts.{EndsFile, EndsFiles, EndsScripts, PrintsLine, ReadsBack}
-use Rattle.complgen_tools.specs.AllScripts.{ReportsFile}
-use Rattle.complgen_tools.specs.AllScripts.{file_failed, other_shells, out_of_memory, path_line}
-use Rattle.complgen_tools.specs.AllScripts.{path_lines, write_failed, written}
-use Rattle.complgen_tools.specs.AllScripts.{files, no_memory, no_tree, shared_label}
+use Rattle.complgen_script.specs.AllScripts.{EndsFile, EndsFiles, EndsScripts, PrintsLine, ReadsBack}
+use Rattle.complgen_script.specs.AllScripts.{ReportsFile}
+use Rattle.complgen_script.specs.AllScripts.{file_failed, other_shells, out_of_memory, path_line}
+use Rattle.complgen_script.specs.AllScripts.{path_lines, write_failed, written}
+use Rattle.complgen_script.specs.AllScripts.{files, no_memory, no_tree, shared_label}
 
 module _ {S : Type 0} (taken : S → List ℕ) (failed : S → Failures) (folder : List ℕ) where
   same : (state : S) → Untouched taken failed state state

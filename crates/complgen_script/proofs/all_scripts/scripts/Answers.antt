@@ -1,7 +1,7 @@
 use Rattle.std.proofs.Common.{refl}
 use Rattle.std.proofs.lemmas.Result.{err_from_is_err_and, on_ok_weaker}
-use Rattle.complgen_tools.proofs.FileLemmas.{all_read, first_failed, others_follow, scripts_unread}
-use Rattle.complgen_tools.proofs.all_scripts.scripts.Goals as goal
+use Rattle.complgen_script.proofs.FileLemmas.{all_read, first_failed, others_follow, scripts_unread}
+use Rattle.complgen_script.proofs.all_scripts.scripts.Goals as goal
 
 pub returns-in_err-command-clause-ends : goal.returns-in_err-command-clause-ends
 returns-in_err-command-clause-ends g c =

@@ -8,10 +8,10 @@ use Rattle.cc_command.specs.Plain.{is_plain_tree}
 use Rattle.cc_command.specs.Tree.{Tree}
 use Rattle.cc_shell.specs.Shells.{shell_spec}
 use Rattle.cc_shell.specs.declared.shell.Shell.TheVariants.{Bash}
-use Rattle.complgen_tools.specs.AllScripts.{HasNoLabels, ReadsBack, path_line, path_lines}
-use Rattle.complgen_tools.specs.AllScripts.{written}
-use Rattle.complgen_tools.proofs.FileLemmas.{files_failed, line_written, none_shared}
-use Rattle.complgen_tools.proofs.all_scripts.write_each.Goals as goal
+use Rattle.complgen_script.specs.AllScripts.{HasNoLabels, ReadsBack, path_line, path_lines}
+use Rattle.complgen_script.specs.AllScripts.{written}
+use Rattle.complgen_script.proofs.FileLemmas.{files_failed, line_written, none_shared}
+use Rattle.complgen_script.proofs.all_scripts.write_each.Goals as goal
 
 pub returns-in_err-write_one-clause-ends : goal.returns-in_err-write_one-clause-ends
 returns-in_err-write_one-clause-ends g c =

@@ -2,7 +2,7 @@ use Rattle.std.proofs.lemmas.Result.{err_from_is_err_and}
 use Rattle.complgen_script.specs.Ends.{known_shell, unknown_shell}
 use Rattle.complgen_script.proofs.ScriptLemmas.{named_reads}
 use Rattle.complgen_script.proofs.WritingLemmas.{same}
-use Rattle.complgen_script.proofs.scripts.script.Goals as goal
+use Rattle.complgen_script.proofs.one_script.script.Goals as goal
 
 pub returns-in_err-shell-clause-ends : goal.returns-in_err-shell-clause-ends
 returns-in_err-shell-clause-ends g c =

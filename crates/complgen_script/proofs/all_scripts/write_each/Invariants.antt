@@ -1,7 +1,7 @@
 use Rattle.std.proofs.Common.{◌≡◌, ◌++◌, drop}
 use Rattle.std.specs.List.{AllByRecursion}
-use Rattle.complgen_tools.specs.AllScripts.{HasNoLabels, ReadsBack, path_lines}
-use Rattle.complgen_tools.proofs.all_scripts.write_each.Given as goal
+use Rattle.complgen_script.specs.AllScripts.{HasNoLabels, ReadsBack, path_lines}
+use Rattle.complgen_script.proofs.all_scripts.write_each.Given as goal
 
 -- what was printed and the lines that are left make the whole; no write failed; the command is as it
 -- was; the shells that are left have no labels, and where their scripts read back, all do

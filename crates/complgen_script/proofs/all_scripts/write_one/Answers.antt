@@ -2,9 +2,9 @@ use Rattle.std.proofs.Common.{◌∙◌, ◌++◌, ℕ, List, codes, subst, sym}
 use Rattle.std.specs.Prelude.{String}
 use Rattle.std.specs.declared.alloc.Global.{Global}
 use Rattle.std.proofs.lemmas.Result.{err_from_is_err_and}
-use Rattle.complgen_tools.specs.AllScripts.{PrintsLine}
-use Rattle.complgen_tools.proofs.FileLemmas.{file_printed, file_refused, file_without_memory}
-use Rattle.complgen_tools.proofs.all_scripts.write_one.Goals as goal
+use Rattle.complgen_script.specs.AllScripts.{PrintsLine}
+use Rattle.complgen_script.proofs.FileLemmas.{file_printed, file_refused, file_without_memory}
+use Rattle.complgen_script.proofs.all_scripts.write_one.Goals as goal
 
 pub returns-in_err-name-clause-ends : goal.returns-in_err-name-clause-ends
 returns-in_err-name-clause-ends g c =

@@ -9,15 +9,16 @@ ghost use Rattle.cc_base.specs.PlainName.{is_plain_name};
 ghost use Rattle.cc_shell.specs.Shells.{shell_spec};
 ghost use Rattle.cc_shell.specs.declared.shell.Shell.{Shell};
 ghost use Rattle.complgen_script.specs.Scripts.{ScriptReads};
-ghost use Rattle.complgen_tools.specs.AllScripts.{EndsFile, EndsFiles, EndsScripts, HasNoLabels};
-ghost use Rattle.complgen_tools.specs.AllScripts.{PrintsLine, ReadsBack, ReportsFile, path_line};
-ghost use Rattle.complgen_tools.specs.AllScripts.{path_lines};
+ghost use Rattle.complgen_script.specs.AllScripts.{EndsFile, EndsFiles, EndsScripts, HasNoLabels};
+ghost use Rattle.complgen_script.specs.AllScripts.{PrintsLine, ReadsBack, ReportsFile, path_line};
+ghost use Rattle.complgen_script.specs.AllScripts.{path_lines};
 
+use crate::refusals::{error_refusal, text_refusal};
+use crate::tree_files::tree;
 use cc_base::{Error, Sink, put_pieces};
 use cc_command::Command;
 use cc_shell::{Shell, generate_to};
 use complgen_command_line::{Refusal, WRITE_FAILED};
-use complgen_script::{error_refusal, text_refusal, tree};
 use std::alloc::Global;
 use std::rt::Files;
 

@@ -2,7 +2,7 @@ use Rattle.std.proofs.Common.{sym}
 use Rattle.std.proofs.lemmas.Result.{err_from_is_err_and}
 use Rattle.complgen_script.proofs.ScriptLemmas.{script_failed, script_written}
 use Rattle.complgen_script.proofs.WritingLemmas.{ends_unread, ends_unwritten}
-use Rattle.complgen_script.proofs.scripts.script_by.Goals as goal
+use Rattle.complgen_script.proofs.one_script.script_by.Goals as goal
 
 pub returns-in_err-command-clause-ends : goal.returns-in_err-command-clause-ends
 returns-in_err-command-clause-ends g c =
