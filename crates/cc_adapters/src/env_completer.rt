@@ -11,8 +11,9 @@ ghost use Rattle.cc_engine.specs.Paths.{PathsOf};
 ghost use Rattle.cc_gather.specs.Values.{returned_by};
 
 use cc_base::{Error, Sink};
-use cc_candidates::{CandidateSources, Completers};
+use cc_candidates::Completers;
 use cc_command::Command;
+use cc_numbers::CandidateSources;
 use cc_paths::Folder;
 use cc_replies::EnvValues;
 use std::alloc::Global;

@@ -12,9 +12,10 @@ ghost use Rattle.cc_replies.specs.Reply.{lines_reply, values_reply, zsh_reply};
 ghost use Rattle.cc_gather.specs.Values.{returned_by};
 
 use cc_base::{Error, Sink};
-use cc_candidates::{CandidateSources, Completers, CompletionCandidate};
+use cc_candidates::{Completers, CompletionCandidate};
 use cc_command::Command;
 use cc_engine::complete;
+use cc_numbers::CandidateSources;
 use cc_paths::Folder;
 use cc_replies::{write_lines, write_values, write_zsh_items};
 use std::alloc::Global;

@@ -12,10 +12,11 @@ ghost use Rattle.cc_gather.specs.Values.{returned_by};
 
 use cc_base::{Error, Sink};
 use cc_bash::Bash;
-use cc_candidates::{CandidateSources, Completers, CompletionCandidate};
+use cc_candidates::{Completers, CompletionCandidate};
 use cc_command::Command;
 use cc_engine::complete;
 use cc_generator::generate;
+use cc_numbers::CandidateSources;
 use cc_paths::Folder;
 use std::alloc::Global;
 

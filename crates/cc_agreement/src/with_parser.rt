@@ -16,9 +16,10 @@ ghost use Rattle.cc_gather.specs.Values.{returned_by};
 
 use bumpalo::Bump;
 use cc_base::Error;
-use cc_candidates::{CandidateSources, Completers, CompletionCandidate};
+use cc_candidates::{Completers, CompletionCandidate};
 use cc_command::Command;
 use cc_engine::complete;
+use cc_numbers::CandidateSources;
 use cc_parser::parser;
 use cc_paths::Folder;
 use std::alloc::Global;

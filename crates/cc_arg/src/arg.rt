@@ -15,7 +15,7 @@ use crate::possible_value::PossibleValue;
 use crate::range::ValueRange;
 use crate::value_hint::ValueHint;
 use cc_base::{Error, Items, Text};
-use cc_candidates::{ArgValueCandidates, ArgValueCompleter};
+use cc_numbers::{ArgValueCandidates, ArgValueCompleter};
 use std::alloc::{AllocError, Global};
 use std::marker::Model;
 

@@ -6,9 +6,9 @@ ghost use Rattle.cc_candidates.specs.Sources.{Adds};
 
 use crate::candidate::CompletionCandidate;
 use crate::closures::{FnCandidates, FnCompleter, ListCall, TextCall};
-use crate::numbers::ArgValueCompleter;
-use crate::sources::{CandidateSources, Source};
+use crate::sources::Source;
 use crate::traits::{ValueCandidates, ValueCompleter};
+use cc_numbers::{ArgValueCompleter, CandidateSources};
 use std::alloc::{AllocError, Global};
 
 type Completer = Source<Box<dyn ValueCompleter>, FnCompleter>;
@@ -33,6 +33,8 @@ impl CandidateSources for Completers {
     ghost use Rattle.std.specs.Prelude.{◌≡◌, Ok};
     ghost use Rattle.cc_candidates.specs.Sources.{ReturnsAt};
 
+    type Candidate = CompletionCandidate;
+
     ghost may_complete = { λ completers which number text. ReturnsAt
         (λ item. (ValueCompleter-box item).completes item.value number text)
         (λ closure list. (alloc : _) × (passed : _) × (found : _)
@@ -45,6 +47,38 @@ impl CandidateSources for Completers {
         (λ closure list. (alloc : _) × (found : _)
         × ListCall.post closure.call alloc (Ok found) × (found.items ≡ list))
         completers.lists.items completers.added_lists.items which };
+
+    fn complete_at(
+        &self,
+        alloc: Global,
+        completer: usize,
+        number: usize,
+        text: &str,
+    ) -> Result<Vec<CompletionCandidate>, AllocError> {
+        if let Some(completer) = self.completers.get(completer) {
+            return complete_by(completer, alloc, number, text);
+        }
+        match self.added_completers.get(completer - self.completers.len()) {
+            Some(Source::Boxed(completer)) => complete_by(completer, alloc, number, text),
+            Some(Source::Closure(closure)) => closure.complete_at(alloc, number, text),
+            None => Ok(Vec::new(alloc)),
+        }
+    }
+
+    fn candidates(
+        &self,
+        alloc: Global,
+        list: usize,
+    ) -> Result<Vec<CompletionCandidate>, AllocError> {
+        if let Some(list) = self.lists.get(list) {
+            return candidates_of(list, alloc);
+        }
+        match self.added_lists.get(list - self.lists.len()) {
+            Some(Source::Boxed(list)) => candidates_of(list, alloc),
+            Some(Source::Closure(closure)) => closure.candidates(alloc),
+            None => Ok(Vec::new(alloc)),
+        }
+    }
 }
 
 impl Completers {
@@ -170,46 +204,6 @@ impl Completers {
         let number = self.lists.len() + self.added_lists.len();
         self.added_lists.push(Source::Closure(closure))?;
         Ok(number)
-    }
-
-    // What the completer of this number returns.
-    pub(crate) fn complete_at(
-        &self,
-        alloc: Global,
-        completer: usize,
-        number: usize,
-        text: &str,
-    ) -> Result<Vec<CompletionCandidate>, AllocError>
-        ensures { IfOk result (λ found. ⟦<Completers as CandidateSources>⟧.may_complete self.now
-            completer number text.now found.items) }
-    {
-        if let Some(completer) = self.completers.get(completer) {
-            return complete_by(completer, alloc, number, text);
-        }
-        match self.added_completers.get(completer - self.completers.len()) {
-            Some(Source::Boxed(completer)) => complete_by(completer, alloc, number, text),
-            Some(Source::Closure(closure)) => closure.complete_at(alloc, number, text),
-            None => Ok(Vec::new(alloc)),
-        }
-    }
-
-    // The candidates of the list of this number.
-    pub(crate) fn candidates(
-        &self,
-        alloc: Global,
-        number: usize,
-    ) -> Result<Vec<CompletionCandidate>, AllocError>
-        ensures { IfOk result (λ found. ⟦<Completers as CandidateSources>⟧.may_list self.now number
-            found.items) }
-    {
-        if let Some(list) = self.lists.get(number) {
-            return candidates_of(list, alloc);
-        }
-        match self.added_lists.get(number - self.lists.len()) {
-            Some(Source::Boxed(list)) => candidates_of(list, alloc),
-            Some(Source::Closure(closure)) => closure.candidates(alloc),
-            None => Ok(Vec::new(alloc)),
-        }
     }
 }
 

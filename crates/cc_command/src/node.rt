@@ -4,7 +4,7 @@ ghost use Rattle.std.specs.Prelude.{◌≡◌};
 
 use cc_arg::Arg;
 use cc_base::{Items, Text};
-use cc_candidates::SubcommandCandidates;
+use cc_numbers::SubcommandCandidates;
 use std::alloc::Global;
 
 /// What one command of a tree holds besides its children.

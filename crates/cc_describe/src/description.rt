@@ -5,7 +5,7 @@ ghost use Rattle.cc_describe.specs.Described.{arg_of, described_values, flag_of,
 ghost use Rattle.cc_describe.specs.Described.{one_or_more, option_of, positional_of};
 
 use cc_arg::{ArgAction, ValueHint, ValueRange};
-use cc_candidates::ArgValueCompleter;
+use cc_numbers::ArgValueCompleter;
 
 /// An argument as most programs have it, described by borrowed texts. It allocates nothing, and its
 /// methods return a changed copy; `command`, `group` and `arg` make the argument of it.

@@ -11,9 +11,10 @@ ghost use Rattle.cc_replies.specs.Environment.{value_of};
 ghost use Rattle.cc_gather.specs.Values.{returned_by};
 
 use cc_base::{Error, Sink};
-use cc_candidates::{CandidateSources, Completers};
+use cc_candidates::Completers;
 use cc_command::Command;
 use cc_env::CompleteEnv;
+use cc_numbers::CandidateSources;
 use cc_paths::RealFolder;
 use cc_replies::{home, variables};
 use std::alloc::Global;

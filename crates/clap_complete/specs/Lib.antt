@@ -120,9 +120,9 @@ pub use Rattle.cc_candidates.specs.Beginning
 pub use Rattle.cc_candidates.specs.Candidate
 pub use Rattle.cc_candidates.specs.Sources as CandidateSources
 pub use Rattle.cc_candidates.specs.declared.candidate.CompletionCandidate
-pub use Rattle.cc_candidates.specs.declared.numbers.ArgValueCandidates
-pub use Rattle.cc_candidates.specs.declared.numbers.ArgValueCompleter
-pub use Rattle.cc_candidates.specs.declared.numbers.SubcommandCandidates
+pub use Rattle.cc_numbers.specs.declared.numbers.ArgValueCandidates
+pub use Rattle.cc_numbers.specs.declared.numbers.ArgValueCompleter
+pub use Rattle.cc_numbers.specs.declared.numbers.SubcommandCandidates
 pub use Rattle.cc_candidates.specs.declared.sources.Source as CandidateSource
 pub use Rattle.cc_paths.specs.Folders
 pub use Rattle.cc_paths.specs.InMemory

@@ -2,11 +2,13 @@
 
 pub use cc_agreement::{bash_script_and_candidates, has_no_hidden_alias};
 pub use cc_candidates::{
-    ArgValueCandidates, ArgValueCompleter, CandidateSources, Completers, CompletionCandidate,
-    FnCandidates, FnCompleter, SubcommandCandidates, ValueCandidates, ValueCompleter,
+    Completers, CompletionCandidate, FnCandidates, FnCompleter, ValueCandidates, ValueCompleter,
 };
 pub use cc_engine::complete;
 pub use cc_gather::{complete_possible_values, possible_value_candidates};
+pub use cc_numbers::{
+    ArgValueCandidates, ArgValueCompleter, CandidateSources, SubcommandCandidates,
+};
 pub use cc_paths::{
     EveryPath, FnTest, Folder, FolderError, IsDir, IsExecutable, IsFile, MemoryFolder,
     PathCompleter, PathTest, RealFolder,

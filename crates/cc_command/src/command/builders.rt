@@ -8,7 +8,7 @@ use crate::command::Command;
 use crate::node::Node;
 use cc_arg::{Arg, fill_display_order};
 use cc_base::{Error, Text};
-use cc_candidates::SubcommandCandidates;
+use cc_numbers::SubcommandCandidates;
 use std::alloc::AllocError;
 
 impl Command {

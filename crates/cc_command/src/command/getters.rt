@@ -10,7 +10,7 @@ ghost use Rattle.cc_command.specs.Iterators.{arguments_left, names_left};
 use crate::command::{Arguments, Command, NameAndVisibleAliases};
 use cc_arg::Arg;
 use cc_base::Text;
-use cc_candidates::SubcommandCandidates;
+use cc_numbers::SubcommandCandidates;
 
 impl Command {
     /// The name.

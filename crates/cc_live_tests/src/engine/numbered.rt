@@ -3,9 +3,9 @@
 
 use cc_arg::{Arg, ValueRange};
 use cc_base::Error;
-use cc_candidates::{ArgValueCandidates, ArgValueCompleter, SubcommandCandidates};
 use cc_command::Command;
 use cc_fixtures::trees::{BARE, read};
+use cc_numbers::{ArgValueCandidates, ArgValueCompleter, SubcommandCandidates};
 use std::alloc::Global;
 
 const APP: &str = r#"{"name": "app"}"#;

@@ -2,8 +2,6 @@
 
 ghost use Rattle.std.specs.Prelude.{◌≡◌, IfOk};
 
-use crate::candidate::CompletionCandidate;
-use crate::completers::Completers;
 use crate::sources::CandidateSources;
 use std::alloc::{AllocError, Global};
 
@@ -23,29 +21,29 @@ impl ArgValueCompleter {
 
     /// The candidates for a text that is the first value; none where there is no such completer.
     /// Fails where memory runs out.
-    pub fn complete(
+    pub fn complete<S: CandidateSources>(
         &self,
         alloc: Global,
-        completers: &Completers,
+        completers: &S,
         text: &str,
-    ) -> Result<Vec<CompletionCandidate>, AllocError>
-        ensures { IfOk result (λ found. ⟦<Completers as CandidateSources>⟧.may_complete
-            completers.now self.now.number 0 text.now found.items) }
+    ) -> Result<Vec<S::Candidate>, AllocError>
+        ensures { IfOk result (λ found. S.may_complete completers.now self.now.number 0 text.now
+            found.items) }
     {
         completers.complete_at(alloc, self.number, 0, text)
     }
 
     /// The candidates for a text that is the value of this number, counted from 0; none where there
     /// is no such completer. Fails where memory runs out.
-    pub fn complete_at(
+    pub fn complete_at<S: CandidateSources>(
         &self,
         alloc: Global,
-        completers: &Completers,
+        completers: &S,
         number: usize,
         text: &str,
-    ) -> Result<Vec<CompletionCandidate>, AllocError>
-        ensures { IfOk result (λ found. ⟦<Completers as CandidateSources>⟧.may_complete
-            completers.now self.now.number number text.now found.items) }
+    ) -> Result<Vec<S::Candidate>, AllocError>
+        ensures { IfOk result (λ found. S.may_complete completers.now self.now.number number
+            text.now found.items) }
     {
         completers.complete_at(alloc, self.number, number, text)
     }
@@ -66,13 +64,12 @@ impl ArgValueCandidates {
     }
 
     /// The candidates; none where there is no such list. Fails where memory runs out.
-    pub fn candidates(
+    pub fn candidates<S: CandidateSources>(
         &self,
         alloc: Global,
-        completers: &Completers,
-    ) -> Result<Vec<CompletionCandidate>, AllocError>
-        ensures { IfOk result (λ found. ⟦<Completers as CandidateSources>⟧.may_list completers.now
-            self.now.number found.items) }
+        completers: &S,
+    ) -> Result<Vec<S::Candidate>, AllocError>
+        ensures { IfOk result (λ found. S.may_list completers.now self.now.number found.items) }
     {
         completers.candidates(alloc, self.number)
     }
@@ -93,13 +90,12 @@ impl SubcommandCandidates {
     }
 
     /// The candidates; none where there is no such list. Fails where memory runs out.
-    pub fn candidates(
+    pub fn candidates<S: CandidateSources>(
         &self,
         alloc: Global,
-        completers: &Completers,
-    ) -> Result<Vec<CompletionCandidate>, AllocError>
-        ensures { IfOk result (λ found. ⟦<Completers as CandidateSources>⟧.may_list completers.now
-            self.now.number found.items) }
+        completers: &S,
+    ) -> Result<Vec<S::Candidate>, AllocError>
+        ensures { IfOk result (λ found. S.may_list completers.now self.now.number found.items) }
     {
         completers.candidates(alloc, self.number)
     }
