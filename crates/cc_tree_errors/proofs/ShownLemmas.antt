@@ -4,7 +4,8 @@ use Rattle.std.proofs.lemmas.List.{append-nil, map-append}
 use Rattle.std.proofs.lemmas.Bool.Decides.{nat_tests}
 use Rattle.std.proofs.lemmas.Str.{encodes-append}
 use Rattle.std.specs.Str.{chars}
-use Rattle.cc_tree_errors.specs.Shown.{shown_text, visible}
+use Rattle.cc_shown.specs.Shown.{visible}
+use Rattle.cc_tree_errors.specs.Shown.{shown_text}
 
 -- one character more
 pub shown_more : (before : List ℕ) (done : List ℕ) (c : ℕ)

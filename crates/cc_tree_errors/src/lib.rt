@@ -15,6 +15,5 @@ pub use crate::checking::{Checked, check_file, file_errors};
 pub use crate::doubles::double_keys;
 pub use crate::finding::{Finding, Level, PlacedFinding, place_findings};
 pub use crate::places::{line_and_column, offset_of, show_path};
-pub use crate::shown::on_one_line;
 pub use crate::walk::tree_errors;
 pub use cc_tree_file::{Fault, FaultKind, ObjectKind, Step};

@@ -1,19 +1,13 @@
-//! Texts of a file as they are shown on one line.
+//! Texts of a file as they are shown on one line, cut where they are long.
 
-ghost use Rattle.std.specs.Prelude.{◌≡◌, ◌++◌, IfOk, OnOk, encode_utf8_all, map, take};
+ghost use Rattle.std.specs.Prelude.{◌≡◌, ◌++◌, OnOk, encode_utf8_all, map, take};
 ghost use Rattle.std.specs.Str.{chars};
 ghost use Rattle.std.specs.String.{string_bytes};
-ghost use Rattle.cc_tree_errors.specs.Shown.{on_one_line, shown_text, visible};
+ghost use Rattle.cc_shown.specs.Shown.{visible};
+ghost use Rattle.cc_tree_errors.specs.Shown.{shown_text};
 
-use std::alloc::{AllocError, Global};
-
-/// Returns a text with each control character as `?`: a name in a file may hold one that ends the
-/// line, or that a terminal takes for a command. Fails where memory runs out.
-pub fn on_one_line(alloc: Global, text: &str) -> Result<String, AllocError>
-    ensures { IfOk result (λ shown. string_bytes shown ≡ on_one_line text.now) }
-{
-    text.chars().map(visible).collect(alloc)
-}
+use cc_shown::visible;
+use std::alloc::AllocError;
 
 // The most characters that are shown of a text of the file.
 const MOST_SHOWN: usize = 60;
@@ -41,15 +35,4 @@ fn push_first(shown: &mut String, text: &str) -> Result<(), AllocError>
         shown.push(visible(character))?;
     }
     Ok(())
-}
-
-// A character as it is shown.
-fn visible(character: char) -> char
-    ensures { result ≡ visible character }
-{
-    if character.is_control() {
-        '?'
-    } else {
-        character
-    }
 }

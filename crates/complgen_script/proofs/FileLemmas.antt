@@ -46,8 +46,10 @@ module _ {S : Type 0} (taken : S → List ℕ) (failed : S → Failures) (folder
       → PrintsLine taken failed line old new result
       → EndsFile taken failed clash folder line old new result
   file_printed path None line old new (Ok tt) ends printed = written printed.0 printed.1
-  file_printed path None line old new (Err refusal) ends printed =
-      write_failed printed.0 refusal printed.1 printed.2
+  file_printed path None line old new (Err refusal) ends (inl (out, same_then)) =
+      out_of_memory refusal out same_then
+  file_printed path None line old new (Err refusal) ends (inr (kind, is, counted)) =
+      write_failed kind refusal is counted
   file_printed path (Some label) line old new result ends printed = absurd ends
 
   pub file_refused : (T : Type 0) (clash : Option (List ℕ)) (line : List ℕ) (state : S)

@@ -1,22 +1,35 @@
 -- How writing the script of a tree file ends.
-use Rattle.std.proofs.Common.{◌≡◌, inl, inr, refl, subst, ℕ, List, Option, None, Some, Result}
+use Rattle.std.proofs.Common.{◌≡◌, ◌⊎◌, inl, inr, refl, subst, ℕ, List, Option, None, Some, Result}
 use Rattle.std.proofs.Common.{true, Ok, Err, OnOk}
 use Rattle.complgen_command_line.specs.declared.types.Refusal.{Refusal}
 use Rattle.cc_command.specs.Built.{built_under}
 use Rattle.cc_base.specs.declared.error.Error.{Error}
+use Rattle.cc_base.specs.declared.error.Error.TheVariants as error
 use Rattle.cc_base.specs.declared.failures.Failures.{Failures}
 use Rattle.cc_generator.specs.Generators.{Generates, ReportsClash}
 use Rattle.cc_shell.specs.declared.shell.Shell.{Shell}
-use Rattle.cc_shell.specs.Shells.{shell_spec, shell_text}
+use Rattle.cc_shell.specs.Shells.{invalid_variant, shell_spec, shell_text}
 use Rattle.cc_command.specs.Tree.{Tree}
 use Rattle.cc_base.specs.Writes.{CountsWrite}
-use Rattle.complgen_script.specs.Refusals.{Reports}
+use Rattle.complgen_script.specs.Refusals.{IsMade, Reports, shown_line}
 use Rattle.complgen_script.specs.Ends.{NamedScriptReads}
 use Rattle.complgen_script.specs.Scripts.{IsScript, ScriptReads, SharesLabel}
 use Rattle.complgen_script.specs.Writing.{Finishes}
 use Rattle.complgen_script.proofs.WritingLemmas.{ends_failed, ends_rejected, ends_without_memory}
 use Rattle.complgen_script.proofs.WritingLemmas.{ends_written}
 use Rattle.cc_tree_file.specs.TreeFile.{HoldsTree}
+
+-- what fails is no shell
+pub none_found : (shell : Shell) (e : Error)
+    → ◌≡◌ {A = Result Shell Error} (Err e) (Ok shell) → ⊥
+none_found shell e is = cc
+
+-- what a name that no shell has reports
+pub unknown_reported : (name : List ℕ) (e : Error) (refusal : Refusal)
+    → (e ≡ error.InvalidVariant (invalid_variant name)) ⊎ (e ≡ error.Memory) → Reports e refusal
+    → IsMade (shown_line (error.InvalidVariant (invalid_variant name))) refusal
+unknown_reported name e refusal (inl is) reported = subst (λ f. Reports f refusal) is reported
+unknown_reported name e refusal (inr is) reported = inl (subst (λ f. Reports f refusal) is reported)
 
 -- what a script is read as, for the shell that has this name
 pub named_reads : (shell : Shell) (name bin : List ℕ) (file : Option (List ℕ))

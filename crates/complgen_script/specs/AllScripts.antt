@@ -1,5 +1,5 @@
 -- What writing the scripts of all shells prints, and how it ends.
-use Rattle.std.specs.Prelude.{◌≡◌, ◌++◌, ℕ, List, [], ◌∷◌, IsTrue, None, Option, Some, Result, Ok, Err, codes}
+use Rattle.std.specs.Prelude.{◌≡◌, ◌⊎◌, ◌++◌, ℕ, List, [], ◌∷◌, IsTrue, None, Option, Some, Result, Ok, Err, codes}
 use Rattle.std.specs.List.{flat_map}
 use Rattle.std.specs.Path.{path_join}
 use Rattle.std.specs.declared.io.ErrorKind.{ErrorKind}
@@ -13,17 +13,18 @@ use Rattle.cc_command.specs.Tree.{Tree}
 use Rattle.cc_shell.specs.Shells.{all_shells, shell_spec}
 use Rattle.cc_shell.specs.declared.shell.Shell.{Shell}
 use Rattle.cc_shell.specs.declared.shell.Shell.TheVariants.{Bash, Elvish, Fish, Nushell, PowerShell, Zsh}
+use Rattle.cc_shown.specs.Shown.{on_one_line}
 use Rattle.cc_tree_file.specs.TreeFile.{HoldsTree}
 use Rattle.complgen_command_line.specs.Refusals.{IsOutOfMemory, IsRefusal}
 use Rattle.complgen_command_line.specs.declared.types.Refusal.{Refusal}
-use Rattle.complgen_script.specs.Refusals.{IsMade, Reports, error_line}
+use Rattle.complgen_script.specs.Refusals.{IsMade, Reports, as_line, error_line, shown_line}
 use Rattle.complgen_script.specs.Scripts.{SharesLabel}
 use Rattle.complgen_script.specs.TreeFiles.{HoldsNoTree}
 use Rattle.complgen_script.specs.Writing.{Untouched}
 
--- the path of the script for a shell, as a line
+-- the path of the script for a shell, as a line, each control character as `?`
 abbrev pub path_line : List ℕ → List ℕ → Shell → List ℕ
-path_line bin folder shell = path_join folder ((shell_spec shell).file bin) ++ codes "\n"
+path_line bin folder shell = as_line (path_join folder ((shell_spec shell).file bin))
 
 -- the paths of the scripts for some shells, a line each
 abbrev pub path_lines : List ℕ → List ℕ → List Shell → List ℕ
@@ -31,20 +32,22 @@ path_lines bin folder shells = flat_map (path_line bin folder) shells
 
 -- a file in this folder can't be made or written
 abbrev pub folder_line : List ℕ → List ℕ
-folder_line folder = folder ++ codes ": write failed\n"
+folder_line folder = on_one_line folder ++ codes ": write failed\n"
 
 -- what an error of writing a script to a file in this folder prints
 abbrev pub ReportsFile : List ℕ → Error → Refusal → Type 0
 ReportsFile folder (Write kind) refusal = IsMade (folder_line folder) refusal
 ReportsFile folder error refusal = Reports error refusal
 
--- how the printing of a line ends: a write that failed is counted with its kind
+-- how the printing of a line ends: out of memory, or with a write that failed, which is counted
+-- with its kind
 abbrev pub PrintsLine : {S : Type 0} → (S → List ℕ) → (S → Failures) → List ℕ → S → S
     → Result (Unit {0}) Refusal → Type 0
 PrintsLine taken failed line old new (Ok tt) =
     (taken new ≡ taken old ++ line) × (failed new ≡ failed old)
-PrintsLine taken failed line old new (Err refusal) = (kind : ErrorKind)
-    × IsRefusal (error_line (Write kind)) refusal × (failed new ≡ add_failure kind (failed old))
+PrintsLine taken failed line old new (Err refusal) =
+    (IsOutOfMemory refusal × (failed new ≡ failed old)) ⊎ ((kind : ErrorKind)
+    × IsRefusal (error_line (Write kind)) refusal × (failed new ≡ add_failure kind (failed old)))
 
 -- How the writing of scripts to their files, and of lines to the output, ends. Where it fails, some
 -- lines may be printed.
@@ -71,7 +74,7 @@ EndsFile taken failed None folder line old new result =
     EndsFiles taken failed folder line old new result
 EndsFile taken failed (Some label) folder line old new (Ok tt) = ⊥
 EndsFile taken failed (Some label) folder line old new (Err refusal) =
-    IsMade (error_line (LabelClash label)) refusal × Untouched taken failed old new
+    IsMade (shown_line (LabelClash label)) refusal × Untouched taken failed old new
 
 -- How the writing of all scripts of a tree file ends.
 pub data EndsScripts {S : Type 0} (taken : S → List ℕ) (failed : S → Failures)

@@ -6,6 +6,7 @@ use Rattle.std.specs.declared.alloc.Global.{Global}
 use Rattle.cc_base.specs.declared.error.Error.{Error}
 use Rattle.cc_base.specs.declared.error.Error.TheVariants as error
 use Rattle.cc_base.specs.ErrorText.{error_text}
+use Rattle.cc_shown.specs.Shown.{on_one_line}
 use Rattle.cc_shell.specs.declared.shell.Shell.{Shell}
 use Rattle.cc_shell.specs.Shells.{invalid_variant, shell_text}
 use Rattle.complgen_command_line.specs.Refusals.{IsOutOfMemory, IsRefusal}
@@ -18,6 +19,14 @@ use Rattle.cc_tree_file.specs.declared.error.TreeError.TheVariants.{BadForm, Mem
 -- the text of an error of the library, as a line
 abbrev pub error_line : Error → List ℕ
 error_line error = error_text error ++ codes "\n"
+
+-- a text that comes from outside, as a line: each control character as `?`
+abbrev pub as_line : List ℕ → List ℕ
+as_line text = on_one_line text ++ codes "\n"
+
+-- the text of an error of the library as such a line
+abbrev pub shown_line : Error → List ℕ
+shown_line error = as_line (error_text error)
 
 -- the tree file can't be read
 abbrev pub unreadable_line : List ℕ
@@ -37,12 +46,13 @@ bad_form_line = codes "tree: bad form\n"
 abbrev pub IsMade : List ℕ → Refusal → Type 0
 IsMade text refusal = IsOutOfMemory refusal ⊎ IsRefusal text refusal
 
--- what an error of the library prints
+-- what an error of the library prints; a text that names a label, a shell or a path may come from
+-- outside
 abbrev pub Reports : Error → Refusal → Type 0
-Reports (error.LabelClash label) refusal = IsMade (error_line (error.LabelClash label)) refusal
-Reports (error.UnknownShell text) refusal = IsMade (error_line (error.UnknownShell text)) refusal
+Reports (error.LabelClash label) refusal = IsMade (shown_line (error.LabelClash label)) refusal
+Reports (error.UnknownShell text) refusal = IsMade (shown_line (error.UnknownShell text)) refusal
 Reports (error.InvalidVariant text) refusal =
-    IsMade (error_line (error.InvalidVariant text)) refusal
+    IsMade (shown_line (error.InvalidVariant text)) refusal
 Reports error refusal = IsRefusal (error_line error) refusal
 
 -- what the error of a tree file prints
@@ -60,4 +70,4 @@ HasText (Err failed) refusal = IsOutOfMemory refusal
 abbrev pub FindsShell : List ℕ → Result Shell Refusal → Type 0
 FindsShell name (Ok shell) = name ≡ shell_text shell
 FindsShell name (Err refusal) = ((shell : Shell) → name ≡ shell_text shell → ⊥)
-    × IsMade (error_line (error.InvalidVariant (invalid_variant name))) refusal
+    × IsMade (shown_line (error.InvalidVariant (invalid_variant name))) refusal

@@ -8,7 +8,7 @@ use Rattle.cc_shell.specs.declared.shell.Shell.{Shell}
 use Rattle.cc_shell.specs.Shells.{shell_spec}
 use Rattle.cc_command.specs.Tree.{Tree}
 use Rattle.complgen_command_line.specs.declared.types.Refusal.{Refusal}
-use Rattle.complgen_script.specs.Refusals.{IsMade, error_line}
+use Rattle.complgen_script.specs.Refusals.{IsMade, shown_line}
 use Rattle.cc_tree_file.specs.TreeFile.{HoldsTree}
 
 -- two nodes of the command, built under the bin name, would share this label, and that is reported
@@ -16,7 +16,7 @@ pub record SharesLabel (shell : Shell) (bin : List ℕ) (tree : Tree) (refusal :
     : Type 0 where
   pub label : List ℕ
   pub shared : (shell_spec shell).clash (built_under (Some bin) tree) ≡ Some label
-  pub reported : IsMade (error_line (LabelClash label)) refusal
+  pub reported : IsMade (shown_line (LabelClash label)) refusal
 
 -- the script of the command, built under the bin name, of which no two nodes share a label
 pub record IsScript (shell : Shell) (bin : List ℕ) (tree : Tree) (text : List ℕ) : Type 0 where

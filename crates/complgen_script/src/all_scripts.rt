@@ -1,8 +1,9 @@
 //! The scripts of all shells, each in a file.
 
-ghost use Rattle.std.specs.Prelude.{◌≡◌, ◌++◌, IsTrue, OnOk, Some, codes};
+ghost use Rattle.std.specs.Prelude.{◌≡◌, IfOk, IsTrue, OnOk, Some};
 ghost use Rattle.std.specs.List.{AllByRecursion};
 ghost use Rattle.std.specs.Option.{option_copied};
+ghost use Rattle.std.specs.String.{string_bytes};
 ghost use Rattle.cc_command.specs.Built.{built_under};
 ghost use Rattle.cc_command.specs.Plain.{is_plain_tree};
 ghost use Rattle.cc_base.specs.PlainName.{is_plain_name};
@@ -10,21 +11,23 @@ ghost use Rattle.cc_shell.specs.Shells.{shell_spec};
 ghost use Rattle.cc_shell.specs.declared.shell.Shell.{Shell};
 ghost use Rattle.complgen_script.specs.Scripts.{ScriptReads};
 ghost use Rattle.complgen_script.specs.AllScripts.{EndsFile, EndsFiles, EndsScripts, HasNoLabels};
-ghost use Rattle.complgen_script.specs.AllScripts.{PrintsLine, ReadsBack, ReportsFile, path_line};
-ghost use Rattle.complgen_script.specs.AllScripts.{path_lines};
+ghost use Rattle.complgen_script.specs.AllScripts.{PrintsLine, ReadsBack, ReportsFile};
+ghost use Rattle.complgen_script.specs.AllScripts.{folder_line, path_line, path_lines};
+ghost use Rattle.complgen_script.specs.Refusals.{as_line};
 
-use crate::refusals::{error_refusal, text_refusal};
+use crate::refusals::{as_line, error_refusal, text_refusal};
 use crate::tree_files::tree;
-use cc_base::{Error, Sink, put_pieces};
+use cc_base::{Error, Sink, put_piece};
 use cc_command::Command;
 use cc_shell::{Shell, generate_to};
+use cc_shown::on_one_line;
 use complgen_command_line::{Refusal, WRITE_FAILED};
-use std::alloc::Global;
+use std::alloc::{AllocError, Global};
 use std::rt::Files;
 
 /// Writes the scripts of all shells for a tree file, each to the file that its shell looks for, in
-/// a folder, and prints the paths of these files, one a line. There are no bytes where the tree
-/// file can't be read.
+/// a folder, and prints the paths of these files, one a line, each control character as `?`. There
+/// are no bytes where the tree file can't be read.
 ///
 /// Fails with status 1: where the tree file holds no tree, or two of its commands share a label of
 /// the bash script, before any file is made; where a file can't be made or written, as in a folder
@@ -97,16 +100,17 @@ fn write_one<R: Files, W: Sink>(
 {
     let name = String::from_str(alloc, bin)?;
     match generate_to(files, alloc, shell, command, name, folder) {
-        Ok(path) => put_path(out, path.as_str()),
+        Ok(path) => put_path(alloc, out, path.as_str()),
         Err(error) => Err(file_refusal(alloc, folder, &error)),
     }
 }
 
-// Puts a path as a line.
-fn put_path<W: Sink>(out: &mut W, path: &str) -> Result<(), Refusal>
-    ensures { PrintsLine W.taken W.failed (path.now ++ codes "\n") out.old out.new result }
+// Puts a path as a line, each control character as `?`.
+fn put_path<W: Sink>(alloc: Global, out: &mut W, path: &str) -> Result<(), Refusal>
+    ensures { PrintsLine W.taken W.failed (as_line path.now) out.old out.new result }
 {
-    match put_pieces(out, &[path, "\n"]) {
+    let line = as_line(alloc, path)?;
+    match put_piece(out, line.as_str()) {
         Ok(()) => Ok(()),
         Err(_) => Err(Refusal::from_static(1, WRITE_FAILED)),
     }
@@ -117,7 +121,16 @@ fn file_refusal(alloc: Global, folder: &str, error: &Error) -> Refusal
     ensures { ReportsFile folder.now error.now result }
 {
     match error {
-        Error::Write(_) => text_refusal(format!(in alloc; "{folder}: write failed\n")),
+        Error::Write(_) => text_refusal(folder_line(alloc, folder)),
         error => error_refusal(alloc, error),
     }
+}
+
+// The line that says that a file in this folder can't be made or written.
+fn folder_line(alloc: Global, folder: &str) -> Result<String, AllocError>
+    ensures { IfOk result (λ line. string_bytes line ≡ folder_line folder.now) }
+{
+    let mut line = on_one_line(alloc, folder)?;
+    line.push_str(": write failed\n")?;
+    Ok(line)
 }

@@ -1,8 +1,11 @@
 //! What is printed of an error.
 
-ghost use Rattle.complgen_script.specs.Refusals.{HasText, Reports, ReportsTree};
+ghost use Rattle.std.specs.Prelude.{◌≡◌, IfOk};
+ghost use Rattle.std.specs.String.{string_bytes};
+ghost use Rattle.complgen_script.specs.Refusals.{HasText, Reports, ReportsTree, as_line, shown_line};
 
 use cc_base::Error;
+use cc_shown::on_one_line;
 use cc_tree_file::TreeError;
 use complgen_command_line::{Refusal, WRITE_FAILED};
 use std::alloc::{AllocError, Global};
@@ -30,8 +33,9 @@ pub(crate) fn tree_refusal(error: TreeError) -> Refusal
     }
 }
 
-/// What is printed of an error of the library: status 1, and the error's text as a line; that of
-/// `Memory` where there is no memory for the text.
+/// Returns what is printed of an error of the library: status 1, and the error's text as a line;
+/// that of `Memory` where there is no memory for the text. A text that names a label, a shell or a
+/// path may come from a tree file or a caller, so each control character in it becomes `?`.
 pub fn error_refusal(alloc: Global, error: &Error) -> Refusal
     ensures { Reports error.now result }
 {
@@ -40,15 +44,31 @@ pub fn error_refusal(alloc: Global, error: &Error) -> Refusal
         Error::Write(_) => Refusal::from_static(1, WRITE_FAILED),
         Error::NoCompletion => Refusal::from_static(1, NO_COMPLETION),
         Error::NoArguments => Refusal::from_static(1, NO_ARGUMENTS),
-        Error::LabelClash(label) => {
-            let label = label.as_str();
-            text_refusal(format!(in alloc; "two commands share the label {label}\n"))
-        }
-        Error::UnknownShell(text) | Error::InvalidVariant(text) => {
-            let text = text.as_str();
-            text_refusal(format!(in alloc; "{text}\n"))
+        Error::LabelClash(_) | Error::UnknownShell(_) | Error::InvalidVariant(_) => {
+            text_refusal(shown_line(alloc, error))
         }
     }
+}
+
+// The text of an error as a line, each control character as `?`.
+fn shown_line(alloc: Global, error: &Error) -> Result<String, AllocError>
+    ensures { IfOk result (λ line. string_bytes line ≡ shown_line error.now) }
+{
+    let text = error.to_string(alloc)?;
+    as_line(alloc, text.as_str())
+}
+
+/// Returns a text that comes from outside as a line, each control character as `?`.
+///
+/// # Errors
+///
+/// `AllocError` if an allocation fails.
+pub(crate) fn as_line(alloc: Global, text: &str) -> Result<String, AllocError>
+    ensures { IfOk result (λ line. string_bytes line ≡ as_line text.now) }
+{
+    let mut line = on_one_line(alloc, text)?;
+    line.push_str("\n")?;
+    Ok(line)
 }
 
 /// A refusal with this text and status 1, if there was memory for it.

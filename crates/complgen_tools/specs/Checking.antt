@@ -15,10 +15,10 @@ use Rattle.cc_command_warnings.specs.declared.warning.Level.TheVariants as warni
 use Rattle.cc_command_warnings.specs.declared.warning.Warning.{Warning}
 use Rattle.cc_shell.specs.Shells.{shell_spec}
 use Rattle.cc_shell.specs.declared.shell.Shell.{Shell}
+use Rattle.cc_shown.specs.Shown.{on_one_line}
 use Rattle.cc_tree_errors.specs.Checks.{DescribesNone}
 use Rattle.cc_tree_errors.specs.Findings.{AreErrors, IsDouble, Shown, shown_placed}
 use Rattle.cc_tree_errors.specs.Places.{ShownStep, index, key, path_text}
-use Rattle.cc_tree_errors.specs.Shown.{on_one_line}
 use Rattle.cc_tree_errors.specs.declared.finding.Level.{Level}
 use Rattle.cc_tree_errors.specs.declared.finding.Level.TheVariants as level
 use Rattle.cc_tree_errors.specs.declared.finding.PlacedFinding.{PlacedFinding}

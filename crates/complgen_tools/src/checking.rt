@@ -14,9 +14,8 @@ use crate::lines::put_findings;
 use cc_base::Sink;
 use cc_command::Command;
 use cc_command_warnings::{self as warnings, Key, Place, Warning};
-use cc_tree_errors::{
-    Checked, Finding, Level, PlacedFinding, Step, check_file, on_one_line, place_findings,
-};
+use cc_shown::on_one_line;
+use cc_tree_errors::{Checked, Finding, Level, PlacedFinding, Step, check_file, place_findings};
 use complgen_command_line::Refusal;
 use complgen_script::{UNREADABLE, error_refusal};
 use std::alloc::{AllocError, Global};

@@ -3,7 +3,7 @@ use Rattle.std.proofs.lemmas.Iterator.{YieldsList-from_chars, YieldsList-from_ta
 use Rattle.std.proofs.lemmas.Iterator.Consumers.{YieldsList-end}
 use Rattle.std.proofs.lemmas.List.{map-id}
 use Rattle.std.specs.String.{string_bytes}
-use Rattle.cc_tree_errors.specs.Shown.{visible}
+use Rattle.cc_shown.specs.Shown.{visible}
 use Rattle.cc_tree_errors.proofs.ShownLemmas.{shown_more}
 use Rattle.cc_tree_errors.proofs.shown.push_first.Goals as goal
 
@@ -14,7 +14,7 @@ loop-character-preserved c =
     ≡ string_bytes c.loop-character.shown ++ encode_utf8 c.visible.result = search rules in
     pushed ∙ ap (λ shown. shown ++ encode_utf8 c.visible.result) c.loop-character.invariant
     ∙ ap (λ shown. (before ++ encode_utf8_all (map visible c.loop-character.yielded)) ++ encode_utf8 shown)
-    c.visible.ensures
+    c.visible.ensures.shown
     ∙ shown_more before c.loop-character.yielded c.in-Some.character
 
 pub returns : goal.returns

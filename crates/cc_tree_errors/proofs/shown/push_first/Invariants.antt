@@ -1,6 +1,6 @@
 use Rattle.std.proofs.Common.{◌≡◌, ◌++◌, encode_utf8_all, map}
 use Rattle.std.specs.String.{string_bytes}
-use Rattle.cc_tree_errors.specs.Shown.{visible}
+use Rattle.cc_shown.specs.Shown.{visible}
 use Rattle.cc_tree_errors.proofs.shown.push_first.Given as goal
 
 abbrev pub invariant-loop-character : goal.invariant-loop-character

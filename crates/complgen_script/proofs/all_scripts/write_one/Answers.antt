@@ -1,8 +1,9 @@
-use Rattle.std.proofs.Common.{◌∙◌, ◌++◌, ℕ, List, codes, subst, sym}
+use Rattle.std.proofs.Common.{◌∙◌, ℕ, List, subst, sym}
 use Rattle.std.specs.Prelude.{String}
 use Rattle.std.specs.declared.alloc.Global.{Global}
 use Rattle.std.proofs.lemmas.Result.{err_from_is_err_and}
 use Rattle.complgen_script.specs.AllScripts.{PrintsLine}
+use Rattle.complgen_script.specs.Refusals.{as_line}
 use Rattle.complgen_script.proofs.FileLemmas.{file_printed, file_refused, file_without_memory}
 use Rattle.complgen_script.proofs.all_scripts.write_one.Goals as goal
 
@@ -15,7 +16,7 @@ pub returns-in-Ok-clause-ends : goal.returns-in-Ok-clause-ends
 returns-in-Ok-clause-ends g c =
     rw (sym c.in_ok-name.ensures.ok)
     (file_printed _ _ _ c.in-Ok.path _ _ _ _ _ c.in-Ok.ensures.ends
-    (subst (λ (path : List ℕ). PrintsLine g.W.Sink.taken g.W.Sink.failed (path ++ codes "\n")
+    (subst (λ (path : List ℕ). PrintsLine g.W.Sink.taken g.W.Sink.failed (as_line path)
     c.args.out.now c.put_path.new.out c.put_path.result)
     (c.as_str.ensures.value ∙ c.in-Ok.ensures.path) c.put_path.ensures))
 
