@@ -6,7 +6,7 @@ use Rattle.cc_command.specs.Plain.{is_plain_forest, is_plain_node, passes_if_som
 use Rattle.cc_command.specs.Quiet.{is_quiet_tree}
 use Rattle.cc_command.specs.Tree.{Tree}
 use Rattle.cc_base.specs.PlainName.{is_plain_name}
-use Rattle.cc_command_warnings.specs.CommandWarnings.{clap_list, command_list, hidden_argument, hidden_command}
+use Rattle.cc_command_warnings.specs.CommandWarnings.{clap_list, command_list, hidden_argument, hidden_command, zsh_list}
 use Rattle.cc_command_warnings.specs.Notes.{are_notes}
 use Rattle.cc_command_warnings.specs.PlainWarnings.{plain_argument, plain_command}
 use Rattle.cc_command_warnings.specs.Premises.{bin_list, holds_premises, own_bin_list, premise_list}
@@ -57,8 +57,11 @@ premise_notes bin tree =
 pub premises_hold : (bin : Option (List ℕ)) (tree : Tree) → IsTrue (are_notes (command_list bin tree)) → IsTrue (holds_premises bin tree)
 premises_hold bin tree h =
     let hidden = tree_list hidden_command hidden_argument [] tree in
-    let both = and_parts (are_notes (premise_list bin tree ++ clap_list tree)) (are_notes hidden)
-    (subst IsTrue (notes_append (premise_list bin tree ++ clap_list tree) hidden) h) in
-    let first = and_parts (are_notes (premise_list bin tree)) (are_notes (clap_list tree))
-    (subst IsTrue (notes_append (premise_list bin tree) (clap_list tree)) both.0) in
+    let scripts = premise_list bin tree ++ zsh_list tree in
+    let both = and_parts (are_notes (scripts ++ clap_list tree)) (are_notes hidden)
+    (subst IsTrue (notes_append (scripts ++ clap_list tree) hidden) h) in
+    let second = and_parts (are_notes scripts) (are_notes (clap_list tree))
+    (subst IsTrue (notes_append scripts (clap_list tree)) both.0) in
+    let first = and_parts (are_notes (premise_list bin tree)) (are_notes (zsh_list tree))
+    (subst IsTrue (notes_append (premise_list bin tree) (zsh_list tree)) second.0) in
     subst IsTrue (premise_notes bin tree) first.0

@@ -9,6 +9,7 @@ use Rattle.cc_command_warnings.specs.PositionalWarnings.{positional_command}
 use Rattle.cc_command_warnings.specs.Premises.{premise_list}
 use Rattle.cc_command_warnings.specs.Scopes.{scope_list}
 use Rattle.cc_command_warnings.specs.Walk.{tree_list, when}
+use Rattle.cc_command_warnings.specs.ZshWarnings.{zsh_argument}
 use Rattle.cc_command_warnings.specs.declared.place.Key.TheVariants.{Hide}
 use Rattle.cc_command_warnings.specs.declared.warning.Kind.TheVariants.{HiddenCommand, HiddenArgument}
 use Rattle.cc_command_warnings.specs.declared.warning.Warning.{Warning}
@@ -28,7 +29,11 @@ abbrev pub hidden_argument : List ℕ → ℕ → Arg → List Warning
 hidden_argument path index argument =
     when argument.hide (warning path (Some index) Hide None HiddenArgument)
 
+-- names and helps that end a text of the zsh script
+abbrev pub zsh_list : Tree → List Warning
+zsh_list tree = tree_list (λ path tree. []) zsh_argument [] tree
+
 -- all of them
 abbrev pub command_list : Option (List ℕ) → Tree → List Warning
-command_list bin tree = (premise_list bin tree ++ clap_list tree)
+command_list bin tree = ((premise_list bin tree ++ zsh_list tree) ++ clap_list tree)
     ++ tree_list hidden_command hidden_argument [] tree

@@ -10,7 +10,9 @@ pub mod PositionalWarnings
 pub mod Premises
 pub mod QuietWarnings
 pub mod QuoteWarnings
+pub mod Running
 pub mod Scopes
 pub mod SiblingNames
 pub mod Texts
 pub mod Walk
+pub mod ZshWarnings

@@ -1,9 +1,10 @@
 -- What a warning prints.
-use Rattle.std.specs.Prelude.{ℕ, List, [], ◌++◌, Option, Some, codes, decimal, encode_utf8}
+use Rattle.std.specs.Prelude.{ℕ, List, [], ◌++◌, Option, Some, codes, decimal, encode_utf8, if◌then◌else◌}
+use Rattle.cc_command_warnings.specs.Running.{may_run_name, may_run_value}
 use Rattle.cc_command_warnings.specs.declared.place.Key.{Key}
-use Rattle.cc_command_warnings.specs.declared.place.Key.TheVariants.{BinName, Aliases, VisibleAliases, Id, Short, Long, ValueNames}
+use Rattle.cc_command_warnings.specs.declared.place.Key.TheVariants.{BinName, Aliases, Help, VisibleAliases, Id, PossibleValues, Short, Long, ValueNames}
 use Rattle.cc_command_warnings.specs.declared.warning.Kind.{Kind}
-use Rattle.cc_command_warnings.specs.declared.warning.Kind.TheVariants.{BinNotPlain, NotPlain, LongWithHyphen, ShortNotPlain, Quote, TakenName, LoudValue, SharedLabel, UnescapedQuote}
+use Rattle.cc_command_warnings.specs.declared.warning.Kind.TheVariants.{BinNotPlain, NotPlain, LongWithHyphen, ShortNotPlain, Quote, ZshSign, TakenName, LoudValue, SharedLabel, UnescapedQuote}
 use Rattle.cc_command_warnings.specs.declared.warning.Kind.TheVariants.{TakenId, TakenLong, TakenShort, TakenByHelp, TakenByVersion, UnknownConflict, SelfConflict}
 use Rattle.cc_command_warnings.specs.declared.warning.Kind.TheVariants.{IndexOutOfRange, TakenIndex, ManyBeforeLast, SecondLast, ValuesOfFlag, RequiredAfterOptional, LastOption, GlobalRequired, MoreNamesThanValues, CommandHintWithoutMany}
 use Rattle.cc_command_warnings.specs.declared.warning.Kind.TheVariants.{PositionalWithoutValue, NoVersion, IndexOfOption, LastBesideChildren, HiddenCommand, HiddenArgument}
@@ -26,6 +27,8 @@ named (Some Id) = codes "id"
 named (Some Short) = codes "short"
 named (Some Long) = codes "long"
 named (Some ValueNames) = codes "value name"
+named (Some Help) = codes "help"
+named (Some PossibleValues) = codes "help of this value"
 named _ = codes "name"
 
 -- what the flags `help` and `version` are called, by the key
@@ -58,24 +61,75 @@ fixed_text HiddenArgument =
     codes "a script offers a hidden argument all the same; live completion hides it"
 fixed_text _ = []
 
+-- what a shell may do with a name that is not plain
+abbrev pub harm_text : List ℕ → List ℕ
+harm_text name =
+    if may_run_name name then codes ": scripts may break at it, and the shell may run it"
+    else codes ": scripts may break at it"
+
 -- the text of a name that is not plain
-abbrev pub plain_rule : List ℕ
-plain_rule = codes " (letters and digits, with single - or _ between them)"
-    ++ codes ": scripts may break at it"
+abbrev pub plain_rule : List ℕ → List ℕ
+plain_rule name = codes " (letters and digits, with single - or _ between them)"
+    ++ harm_text name
 
 abbrev pub unplain_text : List ℕ → List ℕ
 unplain_text name = codes " `" ++ name ++ codes "` is not plain"
 
 abbrev pub is_not_plain_text : List ℕ → List ℕ
-is_not_plain_text name = unplain_text name ++ plain_rule
+is_not_plain_text name = unplain_text name ++ plain_rule name
 
 abbrev pub not_plain_text : List ℕ → List ℕ → List ℕ
 not_plain_text named name = (codes "the " ++ named) ++ is_not_plain_text name
 
--- the text of a value that is not quiet
+-- the sign that ends a text of the zsh script, by the key
+abbrev pub zsh_sign : Option Key → List ℕ
+zsh_sign (Some Help) = codes "\\"
+zsh_sign (Some PossibleValues) = codes "\""
+zsh_sign _ = codes ": or a \\"
+
+-- the text of a name or a help that ends a text of the zsh script by a sign
+abbrev pub sign_rule : List ℕ → List ℕ → List ℕ
+sign_rule named sign = codes "the " ++ named ++ codes " holds a " ++ sign
+
+abbrev pub ended_text : List ℕ → List ℕ → List ℕ
+ended_text named sign = sign_rule named sign
+    ++ codes ", which ends a text of the zsh script: the shell may run what follows"
+
+-- the text of a long that begins with a hyphen
+abbrev pub hyphen_end : List ℕ → List ℕ
+hyphen_end long =
+    if may_run_name long then codes "; the shell may run it" else []
+
+abbrev pub hyphen_rule : List ℕ → List ℕ
+hyphen_rule long = codes "the long `" ++ long ++ codes "` begins with a hyphen: write it without"
+
+abbrev pub hyphen_text : List ℕ → List ℕ
+hyphen_text long = hyphen_rule long ++ hyphen_end long
+
+-- the text of a short that is no letter or digit
+abbrev pub sign_text : ℕ → List ℕ
+sign_text short = codes "the short `" ++ encode_utf8 short ++ codes "` is no ASCII letter or digit"
+
+abbrev pub short_sign_text : ℕ → List ℕ
+short_sign_text short = sign_text short ++ harm_text (encode_utf8 short)
+
+-- the text of a value that is not quiet: one that bash may run, and any other
+abbrev pub quiet_rule : List ℕ
+quiet_rule = codes " (safe are letters, digits and +-./:@_,=)"
+
+abbrev pub run_value_text : List ℕ → List ℕ
+run_value_text value = codes "the shell may run the value `" ++ value
+    ++ codes "`: bash expands it at each Tab"
+
+abbrev pub split_value_text : List ℕ → List ℕ
+split_value_text value = codes "bash may split or change the value `" ++ value ++ codes "`"
+
+abbrev pub value_harm_text : List ℕ → List ℕ
+value_harm_text value =
+    if may_run_value value then run_value_text value else split_value_text value
+
 abbrev pub loud_value_text : List ℕ → List ℕ
-loud_value_text value = (codes "bash takes the value `" ++ value ++ codes "` apart")
-    ++ codes ", or reads it otherwise (plain are letters, digits and +-./:@_,=)"
+loud_value_text value = value_harm_text value ++ quiet_rule
 
 -- the text of a name that a command before it has
 abbrev pub taken_name_text : List ℕ → List ℕ → List ℕ
@@ -149,18 +203,17 @@ clap_text key kind = fixed_text kind
 abbrev pub kind_text : Option Key → Kind → List ℕ
 kind_text key (BinNotPlain name) = not_plain_text (codes "bin name") name
 kind_text key (NotPlain name) = not_plain_text (named key) name
-kind_text key (LongWithHyphen long) =
-    codes "the long `" ++ long ++ codes "` begins with a hyphen: write it without"
-kind_text key (ShortNotPlain short) = codes "the short `" ++ encode_utf8 short
-    ++ codes "` is no ASCII letter or digit: scripts may break at it"
-kind_text key Quote =
-    codes "the " ++ named key ++ codes " holds a ', which breaks the zsh script"
+kind_text key (LongWithHyphen long) = hyphen_text long
+kind_text key (ShortNotPlain short) = short_sign_text short
+kind_text key Quote = ended_text (named key) (codes "'")
+kind_text key ZshSign = ended_text (named key) (zsh_sign key)
 kind_text key (TakenName name command) = taken_name_text name command
 kind_text key (LoudValue value) = loud_value_text value
 kind_text key (SharedLabel label) = codes "two commands share the label " ++ label
     ++ codes " of the bash script, which is not written"
 kind_text key (UnescapedQuote quote) =
-    codes "PowerShell takes " ++ encode_utf8 quote ++ codes " for a quote"
+    codes "PowerShell takes " ++ encode_utf8 quote
+    ++ codes " for the end of the text, and may run what follows"
 kind_text key kind = clap_text key kind
 
 -- the text of a warning

@@ -12,11 +12,13 @@ mod positionals;
 mod premises;
 mod quiet;
 mod quotes;
+mod running;
 mod scopes;
 mod siblings;
 mod texts;
 mod walk;
 mod warning;
+mod zsh;
 
 pub use crate::place::{Key, Place};
 pub use crate::premises::{command_warnings, premise_warnings};

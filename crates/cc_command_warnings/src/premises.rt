@@ -18,6 +18,7 @@ use crate::quotes::Quotes;
 use crate::scopes::push_scope;
 use crate::walk::push_tree;
 use crate::warning::{Kind, Warning};
+use crate::zsh::Zsh;
 use cc_base::{Items, Text, is_plain_name};
 use cc_command::Command;
 use std::alloc::{AllocError, Global};
@@ -46,11 +47,11 @@ pub fn premise_warnings(
 }
 
 /// The warnings and notes about a command that is called by this bin name, where one is passed:
-/// those of `premise_warnings`; then those about what clap refuses, first of each argument alone,
-/// then of each in its command, then of the positionals of a command together, then of all its
-/// arguments; then the notes about what is hidden. A label of the bash script that two commands
-/// share is not among them. Where there are none but notes, what the promises of scripts take for
-/// granted holds.
+/// those of `premise_warnings`; then those about names and helps that end a text of the zsh script;
+/// then those about what clap refuses, first of each argument alone, then of each in its command,
+/// then of the positionals of a command together, then of all its arguments; then the notes about
+/// what is hidden. A label of the bash script that two commands share is not among them. Where
+/// there are none but notes, what the promises of scripts take for granted holds.
 ///
 /// Fails where memory runs out.
 #[tactic(auto, using(crate::proofs::PremisesFound::premises_hold))]
@@ -66,6 +67,7 @@ pub fn command_warnings(
 {
     let mut found = Vec::new(alloc);
     push_premise_warnings(&mut found, alloc, bin, command)?;
+    push_tree(&Zsh, &mut found, root(alloc), command)?;
     push_clap_warnings(&mut found, alloc, command)?;
     push_tree(&Hidden, &mut found, root(alloc), command)?;
     Ok(found)

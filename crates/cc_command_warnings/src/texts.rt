@@ -2,19 +2,21 @@
 
 ghost use Rattle.std.specs.Prelude.{◌≡◌, Some};
 ghost use Rattle.std.specs.Fmt.{DisplaysOnOk};
-ghost use Rattle.cc_command_warnings.specs.Texts.{clap_text, fixed_text, help_name};
+ghost use Rattle.cc_command_warnings.specs.Texts.{clap_text, ended_text, fixed_text, help_name};
 ghost use Rattle.cc_command_warnings.specs.Texts.{kind_text, taken_index_text};
+ghost use Rattle.cc_command_warnings.specs.Texts.{harm_text, hyphen_end, hyphen_rule, hyphen_text};
 ghost use Rattle.cc_command_warnings.specs.Texts.{index_of_text, is_not_plain_text, loud_value_text};
 ghost use Rattle.cc_command_warnings.specs.Texts.{more_names_text, named, not_plain_text};
 ghost use Rattle.cc_command_warnings.specs.Texts.{index_text, outside_text, plain_rule};
 ghost use Rattle.cc_command_warnings.specs.Texts.{positionals_text, range_text, short_text};
-ghost use Rattle.cc_command_warnings.specs.Texts.{taken_flag_text};
+ghost use Rattle.cc_command_warnings.specs.Texts.{short_sign_text, sign_rule, sign_text, taken_flag_text};
 ghost use Rattle.cc_command_warnings.specs.Texts.{taken_long_text};
 ghost use Rattle.cc_command_warnings.specs.Texts.{taken_name_text, taken_short_text, taken_text};
-ghost use Rattle.cc_command_warnings.specs.Texts.{unplain_text};
-ghost use Rattle.cc_command_warnings.specs.Texts.{version_name, warning_text};
+ghost use Rattle.cc_command_warnings.specs.Texts.{unplain_text, value_harm_text};
+ghost use Rattle.cc_command_warnings.specs.Texts.{version_name, warning_text, zsh_sign};
 
 use crate::place::Key;
+use crate::running::{may_run_name, may_run_value};
 use crate::warning::{Kind, Warning};
 use std::fmt;
 
@@ -38,20 +40,10 @@ fn write_kind<W: fmt::Write>(
     match kind {
         Kind::BinNotPlain(name) => write_not_plain("bin name", name.as_str(), f),
         Kind::NotPlain(name) => write_not_plain(named, name.as_str(), f),
-        Kind::LongWithHyphen(long) => {
-            let long = long.as_str();
-            write!(
-                f,
-                "the long `{long}` begins with a hyphen: write it without"
-            )
-        }
-        Kind::ShortNotPlain(short) => {
-            write!(
-                f,
-                "the short `{short}` is no ASCII letter or digit: scripts may break at it"
-            )
-        }
-        Kind::Quote => write!(f, "the {named} holds a ', which breaks the zsh script"),
+        Kind::LongWithHyphen(long) => write_long_with_hyphen(long.as_str(), f),
+        Kind::ShortNotPlain(short) => write_short_not_plain(*short, f),
+        Kind::Quote => write_ended(named, "'", f),
+        Kind::ZshSign => write_ended(named, zsh_sign(key), f),
         Kind::TakenName(name, command) => write_taken_name(name.as_str(), command.as_str(), f),
         Kind::LoudValue(value) => write_loud_value(value.as_str(), f),
         Kind::SharedLabel(label) => {
@@ -61,8 +53,39 @@ fn write_kind<W: fmt::Write>(
                 "two commands share the label {label} of the bash script, which is not written"
             )
         }
-        Kind::UnescapedQuote(quote) => write!(f, "PowerShell takes {quote} for a quote"),
+        Kind::UnescapedQuote(quote) => {
+            write!(
+                f,
+                "PowerShell takes {quote} for the end of the text, and may run what follows"
+            )
+        }
         kind => write_clap(key, kind, f),
+    }
+}
+
+fn write_ended<W: fmt::Write>(named: &str, sign: &str, f: &mut fmt::Formatter<W>) -> fmt::Result
+    ensures { DisplaysOnOk W.write_str_gives f.old result
+        (Some (ended_text named.now sign.now)) f.new }
+{
+    write_sign_rule(named, sign, f)?;
+    f.write_str(", which ends a text of the zsh script: the shell may run what follows")
+}
+
+fn write_sign_rule<W: fmt::Write>(named: &str, sign: &str, f: &mut fmt::Formatter<W>) -> fmt::Result
+    ensures { DisplaysOnOk W.write_str_gives f.old result
+        (Some (sign_rule named.now sign.now)) f.new }
+{
+    write!(f, "the {named} holds a {sign}")
+}
+
+// The sign that ends a text of the zsh script, by the key.
+fn zsh_sign(key: Option<Key>) -> &'static str
+    ensures { result.now ≡ zsh_sign key }
+{
+    match key {
+        Some(Key::Help) => "\\",
+        Some(Key::PossibleValues) => "\"",
+        _ => ": or a \\",
     }
 }
 
@@ -79,7 +102,7 @@ fn write_is_not_plain<W: fmt::Write>(name: &str, f: &mut fmt::Formatter<W>) -> f
         (Some (is_not_plain_text name.now)) f.new }
 {
     write_unplain(name, f)?;
-    write_plain_rule(f)
+    write_plain_rule(name, f)
 }
 
 fn write_unplain<W: fmt::Write>(name: &str, f: &mut fmt::Formatter<W>) -> fmt::Result
@@ -88,19 +111,71 @@ fn write_unplain<W: fmt::Write>(name: &str, f: &mut fmt::Formatter<W>) -> fmt::R
     write!(f, " `{name}` is not plain")
 }
 
-fn write_plain_rule<W: fmt::Write>(f: &mut fmt::Formatter<W>) -> fmt::Result
-    ensures { DisplaysOnOk W.write_str_gives f.old result (Some plain_rule) f.new }
+fn write_plain_rule<W: fmt::Write>(name: &str, f: &mut fmt::Formatter<W>) -> fmt::Result
+    ensures { DisplaysOnOk W.write_str_gives f.old result (Some (plain_rule name.now)) f.new }
 {
     f.write_str(" (letters and digits, with single - or _ between them)")?;
-    f.write_str(": scripts may break at it")
+    f.write_str(harm_text(name))
+}
+
+// What a shell may do with a name that is not plain.
+fn harm_text(name: &str) -> &'static str
+    ensures { result.now ≡ harm_text name.now }
+{
+    if may_run_name(name) {
+        ": scripts may break at it, and the shell may run it"
+    } else {
+        ": scripts may break at it"
+    }
+}
+
+fn write_long_with_hyphen<W: fmt::Write>(long: &str, f: &mut fmt::Formatter<W>) -> fmt::Result
+    ensures { DisplaysOnOk W.write_str_gives f.old result (Some (hyphen_text long.now)) f.new }
+{
+    write_hyphen_rule(long, f)?;
+    f.write_str(hyphen_end(long))
+}
+
+fn write_hyphen_rule<W: fmt::Write>(long: &str, f: &mut fmt::Formatter<W>) -> fmt::Result
+    ensures { DisplaysOnOk W.write_str_gives f.old result (Some (hyphen_rule long.now)) f.new }
+{
+    write!(
+        f,
+        "the long `{long}` begins with a hyphen: write it without"
+    )
+}
+
+// What is said too of a long that begins with a hyphen.
+fn hyphen_end(long: &str) -> &'static str
+    ensures { result.now ≡ hyphen_end long.now }
+{
+    if may_run_name(long) {
+        "; the shell may run it"
+    } else {
+        ""
+    }
 }
 
 fn write_loud_value<W: fmt::Write>(value: &str, f: &mut fmt::Formatter<W>) -> fmt::Result
     ensures { DisplaysOnOk W.write_str_gives f.old result
         (Some (loud_value_text value.now)) f.new }
 {
-    write!(f, "bash takes the value `{value}` apart")?;
-    f.write_str(", or reads it otherwise (plain are letters, digits and +-./:@_,=)")
+    write_value_harm(value, f)?;
+    f.write_str(" (safe are letters, digits and +-./:@_,=)")
+}
+
+fn write_value_harm<W: fmt::Write>(value: &str, f: &mut fmt::Formatter<W>) -> fmt::Result
+    ensures { DisplaysOnOk W.write_str_gives f.old result
+        (Some (value_harm_text value.now)) f.new }
+{
+    if may_run_value(value) {
+        write!(
+            f,
+            "the shell may run the value `{value}`: bash expands it at each Tab"
+        )
+    } else {
+        write!(f, "bash may split or change the value `{value}`")
+    }
 }
 
 fn write_taken_name<W: fmt::Write>(
@@ -113,6 +188,21 @@ fn write_taken_name<W: fmt::Write>(
 {
     write!(f, "`{name}` is also a name of")?;
     write!(f, " the command `{command}` before it")
+}
+
+fn write_short_not_plain<W: fmt::Write>(short: char, f: &mut fmt::Formatter<W>) -> fmt::Result
+    ensures { DisplaysOnOk W.write_str_gives f.old result
+        (Some (short_sign_text short)) f.new }
+{
+    write_sign(short, f)?;
+    let mut bytes = [0; 4];
+    f.write_str(harm_text(short.encode_utf8(&mut bytes)))
+}
+
+fn write_sign<W: fmt::Write>(short: char, f: &mut fmt::Formatter<W>) -> fmt::Result
+    ensures { DisplaysOnOk W.write_str_gives f.old result (Some (sign_text short)) f.new }
+{
+    write!(f, "the short `{short}` is no ASCII letter or digit")
 }
 
 // What clap says of names and indexes.
@@ -262,6 +352,8 @@ fn named(key: Option<Key>) -> &'static str
         Some(Key::Short) => "short",
         Some(Key::Long) => "long",
         Some(Key::ValueNames) => "value name",
+        Some(Key::Help) => "help",
+        Some(Key::PossibleValues) => "help of this value",
         _ => "name",
     }
 }

@@ -31,6 +31,10 @@ pub enum Kind {
     ShortNotPlain(char),
     /// An id or a value name holds a `'`.
     Quote,
+    /// A name or a help that ends a text of the zsh script: a value name of an option, or an id of a
+    /// positional, with a `:` or a backslash; the help of a positional with a backslash; or the help
+    /// of a possible value with a `"`.
+    ZshSign,
     /// A name of a child that an earlier one has, or the same child: the name, and the name of that
     /// child.
     TakenName(Text, Text),

@@ -51,14 +51,14 @@ const WARNED: &str = "\
 name: the name `my app` is not plain (letters and digits, with single - or _ between them): \
     scripts may break at it
 1/visible_aliases[0]: `a` is also a name of the command `add` before it
-args[0].id: the id holds a ', which breaks the zsh script
+args[0].id: the id holds a ', which ends a text of the zsh script: the shell may run what follows
 args[0].short: the short `é` is no ASCII letter or digit: scripts may break at it
 args[0].long: the long `--label` begins with a hyphen: write it without
 args[0].aliases[0]: the alias `a b` is not plain (letters and digits, with single - or _ \
     between them): scripts may break at it
-args[1].possible_values[0]: bash takes the value `dark red` apart, or reads it otherwise (plain \
-    are letters, digits and +-./:@_,=)
-args[0].help: PowerShell takes ‘ for a quote
+args[1].possible_values[0]: bash may split or change the value `dark red` (safe are letters, \
+    digits and +-./:@_,=)
+args[0].help: PowerShell takes ‘ for the end of the text, and may run what follows
 args[1].global: global and required
 args[1].value_names: 2 value names, and at most 1 value
 args[2].last: only a positional, without short and long, can be last
