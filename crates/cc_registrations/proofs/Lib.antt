@@ -2,6 +2,16 @@ pub mod BashReadings
 pub mod ElvishReadings
 mod Examples
 pub mod FishReadings
+pub mod Identifiers
+pub mod ListedNames
 pub mod PowershellReadings
+pub mod QuotedNames
+pub mod Regrouped
+pub mod SafeBashReadings
+pub mod SafeElvishReadings
+mod SafeExamples
+pub mod SafeFishReadings
+pub mod SafePowershellReadings
+pub mod SafeZshReadings
 pub mod Underscored
 pub mod ZshReadings

@@ -3,4 +3,9 @@ pub mod ElvishRegistration
 pub mod FishRegistration
 pub mod Names
 pub mod PowershellRegistration
+pub mod SafeBash
+pub mod SafeElvish
+pub mod SafeFish
+pub mod SafePowershell
+pub mod SafeZsh
 pub mod ZshRegistration

@@ -1,8 +1,62 @@
 -- Names in a registration.
-use Rattle.std.specs.Prelude.{ℕ, List, codes}
-use Rattle.cc_base.specs.Bytes.{dash}
+use Rattle.std.specs.Prelude.{ℕ, suc, zero, Bool, ◌||◌, ◌==◌, if◌then◌else◌, List, [], ◌∷◌, ◌++◌, map, length, Option, Some, None, option_map, codes}
+use Rattle.std.specs.Char.{is_ascii_alphanumeric}
+use Rattle.cc_base.specs.Bytes.{dash, single_quote, underscore}
+use Rattle.cc_base.specs.Found.{after}
+use Rattle.cc_quote.specs.ElvishQuote.{elvish_escaped}
 use Rattle.cc_quote.specs.Escapes.{replace_byte}
+use Rattle.cc_quote.specs.PowershellQuote.{powershell_escaped}
 
 -- a name with `_` for each `-`
 abbrev pub underscored : List ℕ → List ℕ
 underscored name = replace_byte dash (codes "_") name
+
+-- ---- identifiers
+
+-- whether a byte may occur in an identifier: an ASCII letter, a digit or `_`
+unfoldable pub is_identifier_byte : ℕ → Bool
+is_identifier_byte byte = is_ascii_alphanumeric byte || byte == underscore
+
+-- what an identifier has for a byte: the byte, or `_` for one that may not occur
+unfoldable pub identifier_byte : ℕ → ℕ
+identifier_byte byte = if is_identifier_byte byte then byte else underscore
+
+-- a text as an identifier
+abbrev pub identifier : List ℕ → List ℕ
+identifier text = map identifier_byte text
+
+-- ---- names one after another
+
+-- a text between `'`, for Elvish and for PowerShell
+unfoldable pub elvish_quoted : List ℕ → List ℕ
+elvish_quoted text = codes "'" ++ elvish_escaped text ++ codes "'"
+
+unfoldable pub powershell_quoted : List ℕ → List ℕ
+powershell_quoted text = codes "'" ++ powershell_escaped text ++ codes "'"
+
+-- some words, where one more is before them
+abbrev pub with_word : List ℕ → Option (List (List ℕ) × List ℕ) → Option (List (List ℕ) × List ℕ)
+with_word word found = option_map (λ listed. (word ∷ listed.0, listed.1)) found
+
+-- The words that a text begins with, one after another with a separator between them, and what
+-- follows them. A reader reads each, at most so many.
+abbrev pub words_by : (List ℕ → Option (List ℕ × List ℕ)) → List ℕ → ℕ → List ℕ
+    → Option (List (List ℕ) × List ℕ)
+words_by reader between zero text = None
+words_by reader between (suc most) text = elim (reader text) [
+  | None ↦ Some ([], text)
+  | Some read ↦ elim (after between read.1) [
+    | Some rest ↦ with_word read.0 (words_by reader between most rest)
+    | None ↦ Some (read.0 ∷ [], read.1)
+  ]
+]
+
+-- the same, as many as there are
+abbrev pub listed_by : (List ℕ → Option (List ℕ × List ℕ)) → List ℕ → List ℕ
+    → Option (List (List ℕ) × List ℕ)
+listed_by reader between text = words_by reader between (length text) text
+
+-- the word that a text begins with, where that begins with `'`
+abbrev pub quoted_by : (List ℕ → Option (List ℕ × List ℕ)) → List ℕ → Option (List ℕ × List ℕ)
+quoted_by reader [] = None
+quoted_by reader (byte ∷ text) = if byte == single_quote then reader (byte ∷ text) else None

@@ -2,9 +2,9 @@
 
 ghost use Rattle.std.specs.Prelude.{◌≡◌};
 ghost use Rattle.cc_base.specs.Writes.{Writes, as_write};
-ghost use Rattle.cc_registrations.specs.Names.{underscored};
+ghost use Rattle.cc_registrations.specs.Names.{identifier, identifier_byte, underscored};
 
-use cc_base::Sink;
+use cc_base::{Error, Sink, put_all};
 use cc_quote::{Replace, put_escaped};
 use std::io::ErrorKind;
 
@@ -17,4 +17,27 @@ pub(crate) fn put_underscored<W: Sink>(sink: &mut W, name: &str) -> Result<(), E
         by: "_",
     };
     put_escaped(sink, &escape, name)
+}
+
+/// Writes the text as an identifier: with `_` for each byte that is not an ASCII letter, a digit or
+/// `_`.
+pub(crate) fn put_identifier<W: Sink>(sink: &mut W, text: &str) -> Result<(), Error>
+    ensures { Writes W.taken W.failed result sink.old sink.new (identifier text.now) }
+{
+    for byte in text.as_bytes() {
+        put_all(sink, &[identifier_byte(*byte)])?;
+    }
+    Ok(())
+}
+
+// The byte, or `_` for one that no identifier has.
+#[tactic(auto, unfolding(crate::specs::Names::identifier_byte, crate::specs::Names::is_identifier_byte))]
+fn identifier_byte(byte: u8) -> u8
+    ensures { result ≡ identifier_byte byte }
+{
+    if byte.is_ascii_alphanumeric() || byte == b'_' {
+        byte
+    } else {
+        b'_'
+    }
 }

@@ -1,0 +1,151 @@
+-- Safe registrations that are read as the definitions say.
+use Rattle.std.proofs.Common.{◌≡◌, List, [], ◌∷◌, ℕ, Option, Some, refl, codes}
+use Rattle.cc_base.specs.Found.{after, with_front, cut_at, up_to, after_mark, between, without_blanks, word_by, word_after}
+use Rattle.cc_quote.specs.FishQuote.{is_fish_safe, fish_sign, fish_quoted}
+use Rattle.cc_quote.specs.PosixQuote.{posix_word_from, posix_word_of, is_posix_safe, is_posix_safe_word, posix_quoted}
+use Rattle.cc_quote.specs.PosixSigns.{sign, byte_of}
+use Rattle.cc_quote.specs.PowershellQuote.{sign_before, powershell_signs}
+use Rattle.cc_quote.specs.Signs.{sign as quoting_sign}
+use Rattle.cc_registrations.specs.Names.{is_identifier_byte, identifier_byte, identifier, elvish_quoted, powershell_quoted}
+use Rattle.cc_registrations.specs.SafeBash as bash
+use Rattle.cc_registrations.specs.SafeBash.{SafeBashReads}
+use Rattle.cc_registrations.specs.SafeZsh as zsh
+use Rattle.cc_registrations.specs.SafeZsh.{SafeZshReads}
+use Rattle.cc_registrations.specs.SafeFish as fish
+use Rattle.cc_registrations.specs.SafeFish.{SafeFishReads}
+use Rattle.cc_registrations.specs.SafeElvish as elvish
+use Rattle.cc_registrations.specs.SafeElvish.{SafeElvishReads}
+use Rattle.cc_registrations.specs.SafePowershell as powershell
+use Rattle.cc_registrations.specs.SafePowershell.{SafePowershellReads}
+
+-- programs that no name says, one after another
+odd_bins : List (List ℕ)
+odd_bins = codes "git" ∷ codes "it's $x" ∷ codes "" ∷ codes " -- \\" ∷ []
+
+identifier_row : identifier (codes "a-b C9_$;") ≡ codes "a_b_C9___"
+unfolding is_identifier_byte identifier_byte
+identifier_row = refl
+
+bash_row : SafeBashReads (codes "V=$x") (codes "my name") odd_bins (codes "/o'p $x | \\ COMPLETER \"a\\")
+unfolding odd_bins after with_front cut_at up_to after_mark between without_blanks word_by word_after is_identifier_byte identifier_byte posix_word_from posix_word_of sign byte_of is_posix_safe is_posix_safe_word posix_quoted bash.names_begin bash.names_follow bash.function_begins bash.function_head bash.call_begins bash.call_ends bash.names_line bash.function_front bash.safe_bash bash.safe_bash_name bash.safe_bash_names bash.safe_bash_binaries bash.safe_bash_function bash.safe_bash_variable bash.safe_bash_completer
+bash_row = record {
+  variable_read = refl;
+  name_read = refl;
+  completer_read = refl;
+  binaries_read = refl;
+}
+
+bash_empty_row : SafeBashReads (codes "V=$x") (codes "my name") [] (codes "/o'p $x | \\ COMPLETER \"a\\")
+unfolding odd_bins after with_front cut_at up_to after_mark between without_blanks word_by word_after is_identifier_byte identifier_byte posix_word_from posix_word_of sign byte_of is_posix_safe is_posix_safe_word posix_quoted bash.names_begin bash.names_follow bash.function_begins bash.function_head bash.call_begins bash.call_ends bash.names_line bash.function_front bash.safe_bash bash.safe_bash_name bash.safe_bash_names bash.safe_bash_binaries bash.safe_bash_function bash.safe_bash_variable bash.safe_bash_completer
+bash_empty_row = record {
+  variable_read = refl;
+  name_read = refl;
+  completer_read = refl;
+  binaries_read = refl;
+}
+
+zsh_row : SafeZshReads (codes "V=$x") (codes "my name") odd_bins (codes "/o'p $x | \\ COMPLETER \"a\\")
+unfolding odd_bins after with_front cut_at up_to after_mark between without_blanks word_by word_after is_identifier_byte identifier_byte posix_word_from posix_word_of sign byte_of is_posix_safe is_posix_safe_word posix_quoted zsh.names_begin zsh.names_follow zsh.function_begins zsh.function_head zsh.call_begins zsh.call_ends zsh.names_line zsh.function_front zsh.safe_zsh zsh.safe_zsh_name zsh.safe_zsh_names zsh.safe_zsh_binaries zsh.safe_zsh_function zsh.safe_zsh_variable zsh.safe_zsh_completer
+zsh_row = record {
+  variable_read = refl;
+  name_read = refl;
+  completer_read = refl;
+  binaries_read = refl;
+}
+
+zsh_empty_row : SafeZshReads (codes "V=$x") (codes "my name") [] (codes "/o'p $x | \\ COMPLETER \"a\\")
+unfolding odd_bins after with_front cut_at up_to after_mark between without_blanks word_by word_after is_identifier_byte identifier_byte posix_word_from posix_word_of sign byte_of is_posix_safe is_posix_safe_word posix_quoted zsh.names_begin zsh.names_follow zsh.function_begins zsh.function_head zsh.call_begins zsh.call_ends zsh.names_line zsh.function_front zsh.safe_zsh zsh.safe_zsh_name zsh.safe_zsh_names zsh.safe_zsh_binaries zsh.safe_zsh_function zsh.safe_zsh_variable zsh.safe_zsh_completer
+zsh_empty_row = record {
+  variable_read = refl;
+  name_read = refl;
+  completer_read = refl;
+  binaries_read = refl;
+}
+
+fish_row : SafeFishReads (codes "V=$x") (codes "my name") odd_bins (codes "/o'p $x | \\ COMPLETER \"a\\")
+unfolding odd_bins after with_front cut_at up_to after_mark between without_blanks word_by word_after is_identifier_byte identifier_byte is_fish_safe fish_sign fish_quoted fish.names_begin fish.names_follow fish.function_begins fish.function_head fish.call_begins fish.call_ends fish.names_line fish.function_front fish.safe_fish fish.safe_fish_name fish.safe_fish_names fish.safe_fish_binaries fish.safe_fish_function fish.safe_fish_variable fish.safe_fish_completer
+fish_row = record {
+  variable_read = refl;
+  name_read = refl;
+  completer_read = refl;
+  binaries_read = refl;
+}
+
+fish_empty_row : SafeFishReads (codes "V=$x") (codes "my name") [] (codes "/o'p $x | \\ COMPLETER \"a\\")
+unfolding odd_bins after with_front cut_at up_to after_mark between without_blanks word_by word_after is_identifier_byte identifier_byte is_fish_safe fish_sign fish_quoted fish.names_begin fish.names_follow fish.function_begins fish.function_head fish.call_begins fish.call_ends fish.names_line fish.function_front fish.safe_fish fish.safe_fish_name fish.safe_fish_names fish.safe_fish_binaries fish.safe_fish_function fish.safe_fish_variable fish.safe_fish_completer
+fish_empty_row = record {
+  variable_read = refl;
+  name_read = refl;
+  completer_read = refl;
+  binaries_read = refl;
+}
+
+elvish_row : SafeElvishReads (codes "V=$x") (codes "my name") odd_bins (codes "/o'p $x | \\ COMPLETER \"a\\")
+unfolding odd_bins after with_front cut_at up_to after_mark between without_blanks word_by word_after is_identifier_byte identifier_byte elvish_quoted quoting_sign elvish.names_begin elvish.function_head elvish.call_begins elvish.call_ends elvish.registration_front elvish.safe_elvish elvish.safe_elvish_names elvish.safe_elvish_binaries elvish.safe_elvish_function elvish.safe_elvish_variable elvish.safe_elvish_completer
+elvish_row = record {
+  variable_read = refl;
+  completer_read = refl;
+  binaries_read = refl;
+}
+
+elvish_empty_row : SafeElvishReads (codes "V=$x") (codes "my name") [] (codes "/o'p $x | \\ COMPLETER \"a\\")
+unfolding odd_bins after with_front cut_at up_to after_mark between without_blanks word_by word_after is_identifier_byte identifier_byte elvish_quoted quoting_sign elvish.names_begin elvish.function_head elvish.call_begins elvish.call_ends elvish.registration_front elvish.safe_elvish elvish.safe_elvish_names elvish.safe_elvish_binaries elvish.safe_elvish_function elvish.safe_elvish_variable elvish.safe_elvish_completer
+elvish_empty_row = record {
+  variable_read = refl;
+  completer_read = refl;
+  binaries_read = refl;
+}
+
+powershell_row : SafePowershellReads (codes "V=$x") (codes "my name") odd_bins (codes "/o'p $x | \\ COMPLETER \"a\\")
+unfolding odd_bins after with_front cut_at up_to after_mark between without_blanks word_by word_after is_identifier_byte identifier_byte powershell_quoted quoting_sign sign_before powershell_signs powershell.names_begin powershell.script_head powershell.variable_kept powershell.call_begins powershell.call_ends powershell.script_ends powershell.registration_head powershell.call powershell.registration_tail powershell.safe_powershell powershell.safe_powershell_names powershell.safe_powershell_binaries powershell.safe_powershell_script powershell.safe_powershell_variable powershell.safe_powershell_completer
+powershell_row = record {
+  variable_read = refl;
+  completer_read = refl;
+  binaries_read = refl;
+}
+
+powershell_empty_row : SafePowershellReads (codes "V=$x") (codes "my name") [] (codes "/o'p $x | \\ COMPLETER \"a\\")
+unfolding odd_bins after with_front cut_at up_to after_mark between without_blanks word_by word_after is_identifier_byte identifier_byte powershell_quoted quoting_sign sign_before powershell_signs powershell.names_begin powershell.script_head powershell.variable_kept powershell.call_begins powershell.call_ends powershell.script_ends powershell.registration_head powershell.call powershell.registration_tail powershell.safe_powershell powershell.safe_powershell_names powershell.safe_powershell_binaries powershell.safe_powershell_script powershell.safe_powershell_variable powershell.safe_powershell_completer
+powershell_empty_row = record {
+  variable_read = refl;
+  completer_read = refl;
+  binaries_read = refl;
+}
+
+-- ---- their first lines
+
+first_line : List ℕ → Option (List ℕ)
+first_line text = up_to (codes "\n") text
+
+some_bins : List (List ℕ)
+some_bins = codes "git" ∷ codes "a'b" ∷ []
+
+bash_line :
+    first_line (bash.safe_bash (codes "V") (codes "my-name") some_bins (codes "c"))
+    ≡ Some (codes "complete -o nospace -o bashdefault -F _complgen_my_name -- git 'a'\\''b'")
+unfolding first_line some_bins after with_front cut_at up_to after_mark between without_blanks word_by word_after is_identifier_byte identifier_byte posix_word_from posix_word_of sign byte_of is_posix_safe is_posix_safe_word posix_quoted bash.names_begin bash.names_follow bash.function_begins bash.function_head bash.call_begins bash.call_ends bash.names_line bash.function_front bash.safe_bash bash.safe_bash_name bash.safe_bash_names bash.safe_bash_binaries bash.safe_bash_function bash.safe_bash_variable bash.safe_bash_completer
+bash_line = refl
+
+zsh_line :
+    first_line (zsh.safe_zsh (codes "V") (codes "my-name") some_bins (codes "c"))
+    ≡ Some (codes "compdef _complgen_my_name git 'a'\\''b'")
+unfolding first_line some_bins after with_front cut_at up_to after_mark between without_blanks word_by word_after is_identifier_byte identifier_byte posix_word_from posix_word_of sign byte_of is_posix_safe is_posix_safe_word posix_quoted zsh.names_begin zsh.names_follow zsh.function_begins zsh.function_head zsh.call_begins zsh.call_ends zsh.names_line zsh.function_front zsh.safe_zsh zsh.safe_zsh_name zsh.safe_zsh_names zsh.safe_zsh_binaries zsh.safe_zsh_function zsh.safe_zsh_variable zsh.safe_zsh_completer
+zsh_line = refl
+
+fish_line :
+    first_line (fish.safe_fish (codes "V") (codes "my-name") some_bins (codes "c"))
+    ≡ Some (codes "complete --keep-order --exclusive --arguments \"(__complgen_my_name)\" --command git --command 'a\\'b'")
+unfolding first_line some_bins after with_front cut_at up_to after_mark between without_blanks word_by word_after is_identifier_byte identifier_byte is_fish_safe fish_sign fish_quoted fish.names_begin fish.names_follow fish.function_begins fish.function_head fish.call_begins fish.call_ends fish.names_line fish.function_front fish.safe_fish fish.safe_fish_name fish.safe_fish_names fish.safe_fish_binaries fish.safe_fish_function fish.safe_fish_variable fish.safe_fish_completer
+fish_line = refl
+
+elvish_line :
+    first_line (elvish.safe_elvish (codes "V") (codes "my-name") some_bins (codes "c"))
+    ≡ Some (codes "for complgen-name ['git' 'a''b'] {")
+unfolding first_line some_bins after with_front cut_at up_to after_mark between without_blanks word_by word_after is_identifier_byte identifier_byte elvish_quoted quoting_sign elvish.names_begin elvish.function_head elvish.call_begins elvish.call_ends elvish.registration_front elvish.safe_elvish elvish.safe_elvish_names elvish.safe_elvish_binaries elvish.safe_elvish_function elvish.safe_elvish_variable elvish.safe_elvish_completer
+elvish_line = refl
+
+powershell_line :
+    first_line (powershell.safe_powershell (codes "V") (codes "my-name") some_bins (codes "c"))
+    ≡ Some (codes "Register-ArgumentCompleter -Native -CommandName 'git', 'a''b' -ScriptBlock {")
+unfolding first_line some_bins after with_front cut_at up_to after_mark between without_blanks word_by word_after is_identifier_byte identifier_byte powershell_quoted quoting_sign sign_before powershell_signs powershell.names_begin powershell.script_head powershell.variable_kept powershell.call_begins powershell.call_ends powershell.script_ends powershell.registration_head powershell.call powershell.registration_tail powershell.safe_powershell powershell.safe_powershell_names powershell.safe_powershell_binaries powershell.safe_powershell_script powershell.safe_powershell_variable powershell.safe_powershell_completer
+powershell_line = refl

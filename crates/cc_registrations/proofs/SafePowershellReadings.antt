@@ -1,0 +1,88 @@
+-- A safe registration for PowerShell is read as what it was made for.
+use Rattle.std.proofs.Common.{◌≡◌, ℕ, List, [], ◌∷◌, ◌++◌, Some, map, option_map, drop, codes, refl, ◌∙◌, ap, arith, append-nil}
+use Rattle.std.specs.Option.{option_and_then}
+use Rattle.cc_base.specs.Bytes.{space}
+use Rattle.cc_base.specs.Found.{after, after_mark, between, cut_at, up_to, with_front, without_blanks, word_after, word_by}
+use Rattle.cc_base.specs.Joined.{joined}
+use Rattle.cc_base.proofs.Finding.{past_free, past_lacking}
+use Rattle.cc_quote.specs.PowershellQuote.{powershell_word_of}
+use Rattle.cc_quote.specs.QuotedWord.{line_feeds_as_spaces}
+use Rattle.cc_registrations.specs.Names.{identifier, is_identifier_byte, powershell_quoted, quoted_by}
+use Rattle.cc_registrations.specs.SafePowershell.{names_begin, script_head, variable_kept, call_begins, call_ends, registration_head, call, registration_tail, safe_powershell, safe_powershell_names, safe_powershell_binaries, safe_powershell_script, safe_powershell_variable, safe_powershell_completer, SafePowershellReads}
+use Rattle.cc_registrations.proofs.Identifiers.{identifier_lacks}
+use Rattle.cc_registrations.proofs.ListedNames.{ReadsWords, listed}
+use Rattle.cc_registrations.proofs.QuotedNames.{powershell_before, powershell_quoted_before, powershell_ends_at_comma, powershell_ends_at_space}
+use Rattle.cc_registrations.proofs.Regrouped.{regroup_nine}
+
+module _ (variable name : List ℕ) (bins : List (List ℕ)) (completer : List ℕ) where
+  abbrev v : List ℕ
+  v = identifier variable
+
+  abbrev names : List ℕ
+  names = joined (codes ", ") (map powershell_quoted bins)
+
+  -- from the completer on
+  abbrev completed : List ℕ
+  completed = powershell_quoted completer ++ registration_tail variable
+
+  -- from the second occurrence of the variable on
+  abbrev called : List ℕ
+  called = v ++ (call_begins ++ completed)
+
+  -- after the programs
+  abbrev script : List ℕ
+  script = script_head ++ (v ++ (variable_kept ++ called))
+
+  in_turn : safe_powershell variable name bins completer ≡ names_begin ++ (names ++ script)
+  unfolding safe_powershell registration_head call
+  in_turn = regroup_nine names_begin names script_head v variable_kept v call_begins (powershell_quoted completer) (registration_tail variable)
+
+  reads : ReadsWords powershell_quoted line_feeds_as_spaces (quoted_by powershell_word_of) (codes ", ") space (drop 1 script)
+  unfolding after script_head
+  reads = record {
+    before_more = λ word more. powershell_quoted_before 44 (space ∷ more) (powershell_ends_at_comma (space ∷ more)) word;
+    before_end = λ word. powershell_quoted_before space (drop 1 script) (powershell_ends_at_space (drop 1 script)) word;
+    skips = λ more. refl;
+    no_more = refl;
+    no_word = refl;
+    is_some = omega arith;
+  }
+
+  names_found : safe_powershell_names (safe_powershell variable name bins completer) ≡ Some (map line_feeds_as_spaces bins, script)
+  unfolding safe_powershell_names after_mark after with_front cut_at names_begin script_head
+  names_found = ap safe_powershell_names in_turn ∙ listed reads bins
+
+  binaries_found : safe_powershell_binaries (safe_powershell variable name bins completer) ≡ Some (map line_feeds_as_spaces bins)
+  unfolding safe_powershell_binaries
+  binaries_found = ap (option_map (λ listed. listed.0)) names_found
+
+  script_found : safe_powershell_script (safe_powershell variable name bins completer) ≡ Some script
+  unfolding safe_powershell_script
+  script_found = ap (option_map (λ listed. listed.1)) names_found
+
+  variable_found : safe_powershell_variable (safe_powershell variable name bins completer) ≡ Some v
+  unfolding safe_powershell_variable between up_to after_mark after with_front cut_at script_head variable_kept is_identifier_byte
+  variable_found =
+      ap (option_and_then (between (codes "$env:") (codes ","))) script_found
+      ∙ ap (option_map (λ c. c.0)) (past_lacking 44 [] v (variable_kept ++ called) (identifier_lacks 44 variable refl))
+      ∙ ap Some (append-nil v)
+
+  completer_found : safe_powershell_completer (safe_powershell variable name bins completer) ≡ Some (line_feeds_as_spaces completer)
+  unfolding safe_powershell_completer word_after after_mark after with_front cut_at word_by without_blanks script_head variable_kept call_begins call_ends registration_tail powershell_quoted is_identifier_byte
+  completer_found =
+      let mark = codes "| &" in
+      let rest = drop 1 (registration_tail variable) in
+      ap (option_and_then (word_after powershell_word_of mark)) script_found
+      ∙ ap (λ found. option_and_then (word_by powershell_word_of) (option_map (λ c. c.1) found))
+      (past_free mark script_head (v ++ (variable_kept ++ called)) refl
+      ∙ ap (with_front script_head) (past_lacking 124 (drop 1 mark) v (variable_kept ++ called) (identifier_lacks 124 variable refl))
+      ∙ ap (λ found. with_front script_head (with_front v found)) (past_free mark variable_kept called refl)
+      ∙ ap (λ found. with_front script_head (with_front v (with_front variable_kept found))) (past_lacking 124 (drop 1 mark) v (call_begins ++ completed) (identifier_lacks 124 variable refl)))
+      ∙ ap (option_map (λ read. read.0)) (powershell_before space rest (powershell_ends_at_space rest) completer)
+
+pub safe_powershell_reads : (variable name : List ℕ) (bins : List (List ℕ)) (completer : List ℕ) → SafePowershellReads variable name bins completer
+safe_powershell_reads variable name bins completer = record {
+  variable_read = variable_found variable name bins completer;
+  completer_read = completer_found variable name bins completer;
+  binaries_read = binaries_found variable name bins completer;
+}

@@ -1,0 +1,14 @@
+use Rattle.std.proofs.Common.{◌≡◌, ◌++◌, codes, drop, map}
+use Rattle.cc_base.specs.Joined.{joined_after}
+use Rattle.cc_quote.specs.FishQuote.{fish_quoted}
+use Rattle.cc_registrations.proofs.words.put_fish_names.Given as goal
+
+-- what was taken and the names that are left make the whole; no put failed
+abbrev pub invariant-loop-name : goal.invariant-loop-name
+invariant-loop-name g l = record {
+  written : g.W.Sink.taken l.sink
+      ++ joined_after (codes " --command ") l.begun (map fish_quoted (map (λ name. name.now) (drop l.name-index l.names)))
+      ≡ g.W.Sink.taken l.initial.sink
+      ++ joined_after (codes " --command ") l.initial.begun (map fish_quoted (map (λ name. name.now) l.names));
+  failures : g.W.Sink.failed l.sink ≡ g.W.Sink.failed l.initial.sink;
+}

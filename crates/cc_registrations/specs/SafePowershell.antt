@@ -1,0 +1,149 @@
+-- The safe registration for PowerShell, and what its parts are read as.
+use Rattle.std.specs.Prelude.{⊤, ◌≡◌, ℕ, List, ◌++◌, Option, Some, map, option_map, codes}
+use Rattle.std.specs.Option.{option_and_then}
+use Rattle.cc_base.specs.Found.{after_mark, between, word_after}
+use Rattle.cc_base.specs.Joined.{joined}
+use Rattle.cc_quote.specs.PowershellQuote.{powershell_word_of}
+use Rattle.cc_quote.specs.QuotedWord.{line_feeds_as_spaces}
+use Rattle.cc_registrations.specs.Names.{identifier, listed_by, powershell_quoted, quoted_by}
+
+-- ---- its text
+
+-- up to the programs
+unfoldable pub names_begin : List ℕ
+names_begin = codes "Register-ArgumentCompleter -Native -CommandName "
+
+-- between the programs and the variable
+unfoldable pub script_head : List ℕ
+script_head =
+    codes " -ScriptBlock {\n"
+    ++ codes "    param($wordToComplete, $commandAst, $cursorPosition)\n"
+    ++ codes "\n"
+    ++ codes "    # The words up to the cursor, without the quotes that they were typed with.\n"
+    ++ codes "    $words = @(foreach ($element in $commandAst.CommandElements) {\n"
+    ++ codes "        $extent = $element.Extent\n"
+    ++ codes "        if ($extent.StartOffset -ge $cursorPosition) { break }\n"
+    ++ codes "        $end = $extent.EndOffset\n"
+    ++ codes "        if ($end -gt $cursorPosition) {\n"
+    ++ codes "            $extent.Text.Substring(0, $cursorPosition - $extent.StartOffset) -replace '^[''\"]'\n"
+    ++ codes "        } elseif ($element -is [System.Management.Automation.Language.StringConstantExpressionAst]) {\n"
+    ++ codes "            $element.Value\n"
+    ++ codes "        } else {\n"
+    ++ codes "            $extent.Text\n"
+    ++ codes "        }\n"
+    ++ codes "    })\n"
+    ++ codes "    if ($end -lt $cursorPosition) { $words += '' }\n"
+    ++ codes "\n"
+    ++ codes "    # Asks for candidates; where complgen asks back, with what the words that it names print.\n"
+    ++ codes "    $PSNativeCommandUseErrorActionPreference = $false\n"
+    ++ codes "    $before = @($env:"
+
+-- between the first two occurrences of the variable
+unfoldable pub variable_kept : List ℕ
+variable_kept =
+    codes ", $env:_COMPLGEN_VALUES)\n"
+    ++ codes "    function Request($values) {\n"
+    ++ codes "        begin { $lines = [System.Collections.Generic.List[string]]::new() }\n"
+    ++ codes "        process { $lines.Add(\"$_\") }\n"
+    ++ codes "        end {\n"
+    ++ codes "            $env:"
+
+-- from there up to the completer
+unfoldable pub call_begins : List ℕ
+call_begins =
+    codes " = 'powershell'\n"
+    ++ codes "            $env:_COMPLGEN_VALUES = $values\n"
+    ++ codes "            try { $lines | & "
+
+-- between the completer and the third occurrence of the variable
+unfoldable pub call_ends : List ℕ
+call_ends =
+    codes " -- @words 2>$null }\n"
+    ++ codes "            finally { $env:"
+
+-- after the variable
+unfoldable pub script_ends : List ℕ
+script_ends =
+    codes ", $env:_COMPLGEN_VALUES = $before }\n"
+    ++ codes "        }\n"
+    ++ codes "    }\n"
+    ++ codes "    $reply = @($null | Request 'ask')\n"
+    ++ codes "    if ($LASTEXITCODE -eq 3) {\n"
+    ++ codes "        $run = ($reply -join \"`n\").Split(\"`v\")\n"
+    ++ codes "        $name = [WildcardPattern]::Escape($run[0])\n"
+    ++ codes "        $program = Get-Command $name -CommandType Application -TotalCount 1 -ErrorAction Ignore\n"
+    ++ codes "        $rest = @($run | Select-Object -Skip 1 | Select-Object -SkipLast 1)\n"
+    ++ codes "        $lines = if ($program) { $null | & $program @rest 2>$null }\n"
+    ++ codes "        $reply = @($lines | Request 'stdin')\n"
+    ++ codes "    }\n"
+    ++ codes "    if ($LASTEXITCODE -ne 0) { return }\n"
+    ++ codes "    foreach ($line in $reply) {\n"
+    ++ codes "        $text, $value, $help = $line -split \"`t\", 3\n"
+    ++ codes "        if (-not $help) { $help = $value }\n"
+    ++ codes "        [System.Management.Automation.CompletionResult]::new($text, $value, 'ParameterValue', $help)\n"
+    ++ codes "    }\n"
+    ++ codes "}\n"
+
+-- what opens each fixed text
+unfoldable pub fixed_texts : ⊤
+unfolding names_begin script_head variable_kept call_begins call_ends script_ends
+fixed_texts = tt
+
+-- up to the first occurrence of the variable
+unfoldable pub registration_head : List (List ℕ) → List ℕ
+registration_head bins =
+    names_begin ++ joined (codes ", ") (map powershell_quoted bins) ++ script_head
+
+-- from there up to the completer
+unfoldable pub call : List ℕ → List ℕ
+call variable = identifier variable ++ variable_kept ++ identifier variable ++ call_begins
+
+-- after the completer
+unfoldable pub registration_tail : List ℕ → List ℕ
+registration_tail variable = call_ends ++ identifier variable ++ script_ends
+
+-- the registration, which holds no name
+unfoldable pub safe_powershell : List ℕ → List ℕ → List (List ℕ) → List ℕ → List ℕ
+safe_powershell variable name bins completer =
+    registration_head bins ++ call variable ++ powershell_quoted completer
+    ++ registration_tail variable
+
+-- ---- how it is read
+
+-- the programs, which are quoted words after `-CommandName`, and what follows them
+unfoldable pub safe_powershell_names : List ℕ → Option (List (List ℕ) × List ℕ)
+safe_powershell_names text =
+    option_and_then (listed_by (quoted_by powershell_word_of) (codes ", "))
+    (after_mark (codes "-CommandName ") text)
+
+-- the programs
+unfoldable pub safe_powershell_binaries : List ℕ → Option (List (List ℕ))
+safe_powershell_binaries text = option_map (λ listed. listed.0) (safe_powershell_names text)
+
+-- the script, which follows them
+unfoldable pub safe_powershell_script : List ℕ → Option (List ℕ)
+safe_powershell_script text = option_map (λ listed. listed.1) (safe_powershell_names text)
+
+-- the variable: there, from the first `$env:` up to `,`
+unfoldable pub safe_powershell_variable : List ℕ → Option (List ℕ)
+safe_powershell_variable text =
+    option_and_then (between (codes "$env:") (codes ",")) (safe_powershell_script text)
+
+-- the completer: there, the word after the first `| &`
+unfoldable pub safe_powershell_completer : List ℕ → Option (List ℕ)
+safe_powershell_completer text =
+    option_and_then (word_after powershell_word_of (codes "| &")) (safe_powershell_script text)
+
+-- The registration is read as what it was made for: any variable as an identifier, and any programs
+-- and any completer as they are, with a space for each line feed.
+pub record SafePowershellReads (variable name : List ℕ) (bins : List (List ℕ))
+    (completer : List ℕ) : Type 0 where
+  pub variable_read :
+      safe_powershell_variable (safe_powershell variable name bins completer)
+      ≡ Some (identifier variable)
+  pub completer_read :
+      safe_powershell_completer (safe_powershell variable name bins completer)
+      ≡ Some (line_feeds_as_spaces completer)
+  pub binaries_read :
+      safe_powershell_binaries (safe_powershell variable name bins completer)
+      ≡ Some (map line_feeds_as_spaces bins)
