@@ -23,17 +23,17 @@ use Rattle.cc_base.proofs.Finding.{Lacks, past_lacking}
 
 -- ---- what the tests say
 
-false_not : (test : Bool) → not test ≡ true → test ≡ false
+pub false_not : (test : Bool) → not test ≡ true → test ≡ false
 false_not true e = cc
 false_not false e = refl
 
-without : (special : ℕ) (text : List ℕ) → is_without special text ≡ true → IsWithout special text
+pub without : (special : ℕ) (text : List ℕ) → is_without special text ≡ true → IsWithout special text
 without special [] e = tt
 without special (byte ∷ text) e =
     let parts = and_parts (not (byte == special)) (is_without special text) e in
     (false_not (byte == special) parts.0, without special text parts.1)
 
-abbrev IsHelpWithout : ℕ → Option (List ℕ) → Type 0
+abbrev pub IsHelpWithout : ℕ → Option (List ℕ) → Type 0
 IsHelpWithout special None = ⊤
 IsHelpWithout special (Some help) = IsWithout special help
 
@@ -103,7 +103,7 @@ values_back between candidates separator is e =
 
 -- ---- lines
 
-line_on : (line text rest : List ℕ) → IsWithout line_feed text → lines_from line (text ++ rest) ≡ lines_from (line ++ text) rest
+pub line_on : (line text rest : List ℕ) → IsWithout line_feed text → lines_from line (text ++ rest) ≡ lines_from (line ++ text) rest
 unfolding lines_from
 line_on line [] rest h = ap (λ p. lines_from p rest) (sym (append-nil line))
 line_on line (byte ∷ text) rest h =
@@ -112,7 +112,7 @@ line_on line (byte ∷ text) rest h =
     ∙ ap (λ p. lines_from p rest) (append_assoc line (byte ∷ []) text)
 
 -- without its line feed
-abbrev line_body : Shown → List ℕ
+abbrev pub line_body : Shown → List ℕ
 line_body item = item.value ++ tab_help item.help
 
 -- the help is a first line
@@ -126,7 +126,7 @@ body_one_line candidate h =
     AllByRecursion-append (λ byte. (byte == line_feed) ≡ false) candidate.value (tab_help (shown candidate).help) h (help_one_line candidate.help)
 
 -- the other side of each test
-lacks : (special : ℕ) (text : List ℕ) → IsWithout special text → Lacks special text
+pub lacks : (special : ℕ) (text : List ℕ) → IsWithout special text → Lacks special text
 lacks special text h = AllByRecursion-weaker (λ byte. (byte == special) ≡ false) (λ byte. (special == byte) ≡ false) (λ byte e. other_side byte special e) text h
 
 abbrev line_tells : List ℕ → Option (List ℕ × List ℕ) → Shown
@@ -135,7 +135,7 @@ line_tells line found = elim found [
   | None ↦ record { value = line; help = None }
 ]
 
-body_read : (value : List ℕ) (help : Option (List ℕ)) → IsWithout tab value → line_shown (value ++ tab_help help) ≡ record { value = value; help = help }
+pub body_read : (value : List ℕ) (help : Option (List ℕ)) → IsWithout tab value → line_shown (value ++ tab_help help) ≡ record { value = value; help = help }
 unfolding line_shown tab_help after with_front cut_at
 body_read value None h =
     ap (λ line. line_shown line) (append-nil value)
@@ -157,7 +157,7 @@ lines_back (candidate ∷ candidates) e =
 -- ---- zsh
 
 -- a backslash is no separator
-marked_without : (separator : ℕ) (is_marked : ℕ → Bool) (text : List ℕ) → (backslash == separator) ≡ false → IsWithout separator text → IsWithout separator (marked is_marked text)
+pub marked_without : (separator : ℕ) (is_marked : ℕ → Bool) (text : List ℕ) → (backslash == separator) ≡ false → IsWithout separator text → IsWithout separator (marked is_marked text)
 marked_without separator is_marked [] e h = tt
 marked_without separator is_marked (byte ∷ text) e h =
     AllByRecursion-append (λ b. (b == separator) ≡ false) (marked_byte is_marked byte) (marked is_marked text) (by_test (is_marked byte)) (marked_without separator is_marked text e h.1)
@@ -166,7 +166,7 @@ marked_without separator is_marked (byte ∷ text) e h =
     by_test true = (e, (h.0, tt))
     by_test false = (h.0, tt)
 
-colon_help_without : (separator : ℕ) (help : Option (List ℕ)) → (backslash == separator) ≡ false → (colon == separator) ≡ false → IsHelpWithout separator help → IsWithout separator (colon_help help)
+pub colon_help_without : (separator : ℕ) (help : Option (List ℕ)) → (backslash == separator) ≡ false → (colon == separator) ≡ false → IsHelpWithout separator help → IsWithout separator (colon_help help)
 unfolding colon_help
 colon_help_without separator None e f h = tt
 colon_help_without separator (Some help) e f h = (f, marked_without separator is_reply_help_marked help e h)
@@ -222,7 +222,7 @@ unfolding shown_from marks_from colon_help
 help_read value None = refl
 help_read value (Some help) = ap (option_map (λ help. record { value = value; help = Some help })) (help_marks help)
 
-item_read : (item : Shown) → shown_from [] (marks (zsh_item item)) ≡ Some item
+pub item_read : (item : Shown) → shown_from [] (marks (zsh_item item)) ≡ Some item
 unfolding marks zsh_item
 item_read item =
     ap (shown_from []) (marks-marked is_reply_value_marked refl item.value (colon_help item.help))

@@ -1,9 +1,11 @@
 -- Values of environment variables, the index of a word, and the separator of a reply.
 use Rattle.std.specs.Prelude.{◌≡◌, ◌<◌, ◌^◌, ℕ, List, Option, Some, None}
-use Rattle.std.specs.Prelude.{codes, find, option_map, unwrap_or}
+use Rattle.std.specs.Prelude.{Bool, codes, find, is_some, option_map, unwrap_or}
 use Rattle.std.specs.String.{string_bytes}
 use Rattle.std.specs.Str.{bytes_eq}
 use Rattle.std.specs.Str.Parse.{IsNumeral, digits_value, without_leading_plus}
+use Rattle.cc_replies.specs.BashWords.{open_quote}
+use Rattle.cc_replies.specs.declared.bash_words.OpenQuote.{OpenQuote}
 pub use Rattle.cc_replies.specs.declared.environment.EnvValues.{EnvValues}
 
 -- the value of the first variable of a name
@@ -36,3 +38,17 @@ IsIndex (Some text) index = IsNumberOf text index
 -- what is between values
 abbrev pub separator_of : EnvValues → List ℕ
 separator_of env = unwrap_or (value_of (codes "_CLAP_IFS") env) (codes "\n")
+
+-- ---- what the safe registrations pass on
+
+-- whether one of them asks
+abbrev pub asks_safely : EnvValues → Bool
+asks_safely env = is_some (value_of (codes "_COMPLGEN_VALUES") env)
+
+-- what bash keeps of the word
+abbrev pub kept_of : EnvValues → List ℕ
+kept_of env = unwrap_or (value_of (codes "_COMPLGEN_KEPT") env) (codes "")
+
+-- the quote that is open in bash's line
+abbrev pub quote_of : EnvValues → OpenQuote
+quote_of env = open_quote (unwrap_or (value_of (codes "_COMPLGEN_QUOTE") env) (codes ""))

@@ -1,3 +1,7 @@
+pub mod BashWords
 pub mod Environment
+pub mod PowershellWords
 pub mod Reply
+pub mod SafeReplies
+pub mod SafeValues
 pub mod Variables

@@ -5,8 +5,10 @@ ghost use Rattle.std.specs.Option.{option_copied};
 ghost use Rattle.std.specs.Prelude.{option_map, find};
 ghost use Rattle.std.specs.Str.{bytes_eq};
 ghost use Rattle.std.specs.String.{string_bytes};
-ghost use Rattle.cc_replies.specs.Environment.{index_name, separator_of, value_of, IsIndex, IsNumberOf};
+ghost use Rattle.cc_replies.specs.Environment.{asks_safely, index_name, kept_of, quote_of};
+ghost use Rattle.cc_replies.specs.Environment.{separator_of, value_of, IsIndex, IsNumberOf};
 
+use crate::bash_words::OpenQuote;
 use cc_base::Items;
 
 /// Values of environment variables.
@@ -59,6 +61,28 @@ impl EnvValues {
         ensures { result.now ≡ separator_of self.now }
     {
         self.get("_CLAP_IFS").unwrap_or("\n")
+    }
+
+    /// Whether a safe registration asks, which sets `_COMPLGEN_VALUES`.
+    pub fn asks_safely(&self) -> bool
+        ensures { result ≡ asks_safely self.now }
+    {
+        self.get("_COMPLGEN_VALUES").is_some()
+    }
+
+    /// Returns the part of the word that bash keeps: the value of `_COMPLGEN_KEPT`, else nothing.
+    pub fn kept(&self) -> &str
+        ensures { result.now ≡ kept_of self.now }
+    {
+        self.get("_COMPLGEN_KEPT").unwrap_or("")
+    }
+
+    /// Returns the quote that is open in bash's line, by the value of `_COMPLGEN_QUOTE`. No quote
+    /// is open if it is not set.
+    pub fn open_quote(&self) -> OpenQuote
+        ensures { result ≡ quote_of self.now }
+    {
+        OpenQuote::of(self.get("_COMPLGEN_QUOTE").unwrap_or(""))
     }
 }
 

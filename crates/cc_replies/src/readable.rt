@@ -77,7 +77,7 @@ fn is_help_without(help: Option<&str>, special: u8) -> bool
     }
 }
 
-fn is_without(text: &str, special: u8) -> bool
+pub(crate) fn is_without(text: &str, special: u8) -> bool
     ensures { result ≡ is_without special text.now }
 {
     text.as_bytes().iter().all(|byte| *byte != special)

@@ -1,0 +1,192 @@
+-- What bash reads from the lines of its reply.
+use Rattle.std.proofs.Common.{◌≡◌, ◌==◌, ◌||◌, ℕ, Bool, true, false, cond, not, List, [], ◌∷◌, ◌++◌, Option, Some, None, option_map, codes, inl, inr, refl, sym, ◌∙◌, ap, ap₂, subst, arith}
+use Rattle.std.proofs.lemmas.Bool.{and_parts, cases_Bool, ne_eqb}
+use Rattle.std.proofs.lemmas.Bool.Decides.{Decides-eqb, nat_tests}
+use Rattle.std.specs.Char.{is_ascii_control}
+use Rattle.std.specs.List.{AllByRecursion}
+use Rattle.cc_base.specs.Bytes.{backslash, line_feed, single_quote}
+use Rattle.cc_base.specs.Found.{after}
+use Rattle.cc_base.proofs.Cases.{choose, option_cases}
+use Rattle.cc_base.proofs.Members.{AllByRecursion-weaker}
+use Rattle.cc_candidates.specs.declared.candidate.CompletionCandidate.{CompletionCandidate}
+use Rattle.cc_quote.specs.BashDouble.{is_double_marked}
+use Rattle.cc_quote.specs.Escapes.{marked}
+use Rattle.cc_replies.specs.BashWords.{BashWordsRead, OpenQuote, Bare, Single, Double, bare_read, bare_text, bare_word_read, bash_line_word, bash_text, bash_word_line, double_read, exclamation, holds, holds_rest, home_start, is_bare_byte, is_bare_escaped, is_bare_marked, is_bash_insertable, is_double_kept, single_read, start_text, word_read}
+use Rattle.cc_replies.specs.SafeValues.{is_safe_text}
+use Rattle.cc_replies.proofs.FirstLines.{IsWithout}
+use Rattle.cc_replies.proofs.ReplyReadings.{marked_without, without}
+use Rattle.cc_replies.proofs.SafeReadings.{IsUncontrolled, ReadsLine, lines_back, safe_uncontrolled, uncontrolled_without}
+
+-- ---- a text with backslashes
+
+-- a byte that is marked may follow a backslash; one that is not stands for itself
+pub record IsHeld (is_kept is_escaped is_marked : ℕ → Bool) (byte : ℕ) : Type 0 where
+  pub marked : is_marked byte ≡ true → is_escaped byte ≡ true
+  pub no_backslash : is_marked byte ≡ false → (byte == backslash) ≡ false
+  pub kept : is_marked byte ≡ false → is_kept byte ≡ true
+
+module _ (is_kept is_escaped is_marked : ℕ → Bool) where
+  abbrev read : Bool → List ℕ → Option (List ℕ)
+  read escaped text = word_read is_kept is_escaped escaped text
+
+  pub marked_reads : (text : List ℕ) → AllByRecursion (IsHeld is_kept is_escaped is_marked) text → read false (marked is_marked text) ≡ Some text
+  unfolding word_read
+  marked_reads [] h = refl
+  marked_reads (byte ∷ text) h = by_test (is_marked byte) refl ∙ ap (option_map (λ word. byte ∷ word)) (marked_reads text h.1)
+    where
+      by_test : (m : Bool) → is_marked byte ≡ m
+          → read false (cond m (backslash ∷ byte ∷ []) (byte ∷ []) ++ marked is_marked text) ≡ option_map (λ word. byte ∷ word) (read false (marked is_marked text))
+      by_test true e = ap (λ b. choose b (option_map (λ word. byte ∷ word) (read false (marked is_marked text))) None) (h.0.marked e)
+      by_test false e =
+          ap (λ b. choose b (read true (marked is_marked text)) (choose (is_kept byte) (option_map (λ word. byte ∷ word) (read false (marked is_marked text))) None)) (h.0.no_backslash e)
+          ∙ ap (λ b. choose b (option_map (λ word. byte ∷ word) (read false (marked is_marked text))) None) (h.0.kept e)
+
+-- ---- each quote
+
+bare_held : (byte : ℕ) → is_ascii_control byte ≡ false → IsHeld is_bare_byte is_bare_escaped is_bare_marked byte
+bare_held byte e = record {
+  marked = λ m. grind (arith, nat_tests);
+  no_backslash = λ m. grind (arith, nat_tests);
+  kept = λ m. grind (arith, nat_tests);
+}
+
+bare_reads : (text : List ℕ) → IsUncontrolled text → bare_read (marked is_bare_marked text) ≡ Some text
+unfolding bare_read
+bare_reads text h =
+    marked_reads is_bare_byte is_bare_escaped is_bare_marked text
+    (AllByRecursion-weaker (λ byte. is_ascii_control byte ≡ false) (IsHeld is_bare_byte is_bare_escaped is_bare_marked) bare_held text h)
+
+double_held : (byte : ℕ) → (byte == exclamation) ≡ false → IsHeld is_double_kept is_double_marked is_double_marked byte
+double_held byte e = record {
+  marked = λ m. m;
+  no_backslash = λ m. grind (arith, nat_tests);
+  kept = λ m. ap (λ b. not (b || byte == exclamation)) m ∙ ap not e;
+}
+
+double_reads : (text : List ℕ) → IsWithout exclamation text → double_read (marked is_double_marked text) ≡ Some text
+unfolding double_read
+double_reads text h =
+    marked_reads is_double_kept is_double_marked is_double_marked text
+    (AllByRecursion-weaker (λ byte. (byte == exclamation) ≡ false) (IsHeld is_double_kept is_double_marked is_double_marked) double_held text h)
+
+single_reads : (text : List ℕ) → IsWithout single_quote text → single_read text ≡ Some text
+unfolding single_read
+single_reads [] h = refl
+single_reads (byte ∷ text) h =
+    ap (λ b. choose b None (option_map (λ word. byte ∷ word) (single_read text))) h.0
+    ∙ ap (option_map (λ word. byte ∷ word)) (single_reads text h.1)
+
+-- ---- a bare word from its start
+
+-- what follows a beginning, with it, is the text
+follows : (front text rest : List ℕ) → after front text ≡ Some rest → text ≡ front ++ rest
+unfolding after
+follows [] text rest e = cc
+follows (byte ∷ front) [] rest e = cc
+follows (byte ∷ front) (first ∷ text) rest e = elim (cases_Bool (byte == first)) [
+  | inl is ↦ ap₂ (λ b t. b ∷ t) (sym ((Decides-eqb byte first).0 is)) (follows front text rest (sym (ap (λ b. choose b (after front text) None) is) ∙ e))
+  | inr isnt ↦ let none : None ≡ Some rest = sym (ap (λ b. choose b (after front text) None) isnt) ∙ e in cc
+]
+
+all_right : {X : Type 0} (P : X → Type 0) → (xs ys : List X) → AllByRecursion P (xs ++ ys) → AllByRecursion P ys
+all_right P [] ys h = h
+all_right P (x ∷ xs) ys h = all_right P xs ys h.1
+
+-- no word that is written begins with `~/` but one that does
+no_home : (word : List ℕ) → after home_start (marked is_bare_marked word) ≡ None
+unfolding after
+no_home [] = refl
+no_home (byte ∷ word) = by_test (is_bare_marked byte) refl
+  where
+    by_test : (m : Bool) → is_bare_marked byte ≡ m → after home_start (cond m (backslash ∷ byte ∷ []) (byte ∷ []) ++ marked is_bare_marked word) ≡ None
+    by_test true e = refl
+    by_test false e =
+        let other : (126 == byte) ≡ false = ne_eqb 126 byte (λ same. let both : true ≡ false = ap is_bare_marked same ∙ e in cc) in
+        ap (λ b. choose b (after (codes "/") (marked is_bare_marked word)) None) other
+
+start_reads : (word : List ℕ) → IsUncontrolled word → bare_word_read (start_text word) ≡ Some word
+unfolding bare_word_read start_text after
+start_reads word h = elim (option_cases (after home_start word)) [
+  | inl found ↦
+      let below : List ℕ = found.0 in
+      let whole : word ≡ home_start ++ below = follows home_start word below found.1 in
+      let clean : IsUncontrolled below = all_right (λ byte. is_ascii_control byte ≡ false) home_start below (subst (λ t. IsUncontrolled t) whole h) in
+      ap (λ found. bare_word_read (written found)) found.1
+      ∙ ap (option_map (λ word. home_start ++ word)) (bare_reads below clean)
+      ∙ ap Some (sym whole)
+  | inr none ↦
+      ap (λ found. bare_word_read (written found)) none
+      ∙ ap (λ found. reading (marked is_bare_marked word) found) (no_home word)
+      ∙ bare_reads word h
+]
+  where
+    written : Option (List ℕ) → List ℕ
+    written found = elim found [
+      | Some below ↦ home_start ++ marked is_bare_marked below
+      | None ↦ marked is_bare_marked word
+    ]
+
+    reading : List ℕ → Option (List ℕ) → Option (List ℕ)
+    reading line found = elim found [
+      | Some rest ↦ option_map (λ word. home_start ++ word) (bare_read rest)
+      | None ↦ bare_read line
+    ]
+
+-- ---- what follows the part that bash keeps
+
+text_reads : (kept : List ℕ) (quote : OpenQuote) (rest : List ℕ) → IsUncontrolled rest → holds quote rest ≡ true → bash_line_word kept quote (bash_text kept quote rest) ≡ Some rest
+unfolding bash_line_word bash_text bare_text
+text_reads kept Single rest h k = single_reads rest (without single_quote rest k)
+text_reads kept Double rest h k = double_reads rest (without exclamation rest k)
+text_reads [] Bare rest h k = start_reads rest h
+text_reads (byte ∷ kept) Bare rest h k = bare_reads rest h
+
+start_without : (word : List ℕ) → IsUncontrolled word → IsWithout line_feed (start_text word)
+unfolding start_text
+start_without word h = elim (option_cases (after home_start word)) [
+  | inl found ↦
+      let clean : IsUncontrolled found.0 = all_right (λ byte. is_ascii_control byte ≡ false) home_start found.0 (subst (λ t. IsUncontrolled t) (follows home_start word found.0 found.1) h) in
+      subst (λ found. IsWithout line_feed (elim found [ Some below ↦ home_start ++ marked is_bare_marked below | None ↦ marked is_bare_marked word ])) (sym found.1)
+      (refl, (refl, marked_without line_feed is_bare_marked found.0 refl (uncontrolled_without line_feed refl found.0 clean)))
+  | inr none ↦
+      subst (λ found. IsWithout line_feed (elim found [ Some below ↦ home_start ++ marked is_bare_marked below | None ↦ marked is_bare_marked word ])) (sym none)
+      (marked_without line_feed is_bare_marked word refl (uncontrolled_without line_feed refl word h))
+]
+
+text_without : (kept : List ℕ) (quote : OpenQuote) (rest : List ℕ) → IsUncontrolled rest → IsWithout line_feed (bash_text kept quote rest)
+unfolding bash_text bare_text
+text_without kept Single rest h = uncontrolled_without line_feed refl rest h
+text_without kept Double rest h = marked_without line_feed is_double_marked rest refl (uncontrolled_without line_feed refl rest h)
+text_without [] Bare rest h = start_without rest h
+text_without (byte ∷ kept) Bare rest h = marked_without line_feed is_bare_marked rest refl (uncontrolled_without line_feed refl rest h)
+
+-- ---- the law
+
+abbrev reads_word : List ℕ → OpenQuote → List ℕ → Option (List ℕ)
+reads_word kept quote line = option_map (λ rest. kept ++ rest) (bash_line_word kept quote line)
+
+word_reads : (kept : List ℕ) (quote : OpenQuote) (value : List ℕ) → is_bash_insertable kept quote value ≡ true → ReadsLine (reads_word kept quote) (bash_word_line kept quote value) (Some value)
+unfolding bash_word_line
+word_reads kept quote value e =
+    let parts = and_parts (is_safe_text value) (holds_rest quote (after kept value)) e in
+    elim (option_cases (after kept value)) [
+      | inl found ↦
+          let rest : List ℕ = found.0 in
+          let whole : value ≡ kept ++ rest = follows kept value rest found.1 in
+          let clean : IsUncontrolled rest = all_right (λ byte. is_ascii_control byte ≡ false) kept rest (subst (λ t. IsUncontrolled t) whole (safe_uncontrolled value parts.0)) in
+          record {
+            body = bash_text kept quote rest;
+            whole = ap (λ found. elim found [ Some rest ↦ bash_text kept quote rest ++ codes "\n" | None ↦ [] ]) found.1;
+            one_line = text_without kept quote rest clean;
+            reads =
+                ap (option_map (λ rest. kept ++ rest)) (text_reads kept quote rest clean (sym (ap (holds_rest quote) found.1) ∙ parts.1))
+                ∙ ap Some (sym whole);
+          }
+      | inr none ↦ let both : false ≡ true = sym (ap (holds_rest quote) none) ∙ parts.1 in cc
+    ]
+
+pub words_read_back : (kept : List ℕ) (quote : OpenQuote) (candidates : List CompletionCandidate) → BashWordsRead kept quote candidates
+unfolding BashWordsRead
+words_read_back kept quote candidates =
+    lines_back (reads_word kept quote) (λ candidate. Some candidate.value) (λ candidate. is_bash_insertable kept quote candidate.value)
+    (λ candidate. bash_word_line kept quote candidate.value) (λ candidate e. word_reads kept quote candidate.value e) candidates

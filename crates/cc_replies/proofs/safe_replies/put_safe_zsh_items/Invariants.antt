@@ -1,0 +1,14 @@
+use Rattle.std.proofs.Common.{◌≡◌, ◌++◌, drop, filter, flat_map}
+use Rattle.cc_replies.specs.SafeReplies.{safe_zsh_line}
+use Rattle.cc_replies.specs.SafeValues.{is_safe_text}
+use Rattle.cc_replies.proofs.safe_replies.put_safe_zsh_items.Given as goal
+
+-- what was taken and the candidates that are left make the whole; no put failed
+abbrev pub invariant-loop-candidate : goal.invariant-loop-candidate
+invariant-loop-candidate g l = record {
+  written : g.W.Sink.taken l.sink
+      ++ flat_map safe_zsh_line (filter (λ candidate. is_safe_text candidate.value) (drop l.candidate-index l.candidates))
+      ≡ g.W.Sink.taken l.initial.sink
+      ++ flat_map safe_zsh_line (filter (λ candidate. is_safe_text candidate.value) l.candidates);
+  failures : g.W.Sink.failed l.sink ≡ g.W.Sink.failed l.initial.sink;
+}

@@ -1,0 +1,153 @@
+-- What bash inserts into its line, and how bash reads it there.
+use Rattle.std.specs.Prelude.{◌≡◌, ℕ, Bool, true, false, not, ◌&&◌, ◌||◌, ◌==◌, List, [], ◌∷◌, ◌++◌, Option, Some, None, bytes_eq, codes, filter, flat_map, if◌then◌else◌, map, option_map}
+use Rattle.std.specs.Char.{is_ascii, is_ascii_alphanumeric}
+use Rattle.std.specs.List.{list_any}
+use Rattle.cc_base.specs.Bytes as ascii
+use Rattle.cc_base.specs.Found.{after}
+use Rattle.cc_candidates.specs.declared.candidate.CompletionCandidate.{CompletionCandidate}
+use Rattle.cc_quote.specs.BashDouble.{is_double_marked, bash_doubled}
+use Rattle.cc_quote.specs.Escapes.{marked}
+use Rattle.cc_replies.specs.Reply.{is_without, lines_from}
+use Rattle.cc_replies.specs.SafeValues.{is_safe_text}
+pub use Rattle.cc_replies.specs.declared.bash_words.OpenQuote.{OpenQuote}
+pub use Rattle.cc_replies.specs.declared.bash_words.OpenQuote.TheVariants.{Bare, Single, Double}
+
+-- `!`
+abbrev pub exclamation : ℕ
+exclamation = 33
+
+-- the quote of this text: `'`, `"`, or none
+abbrev pub open_quote : List ℕ → OpenQuote
+open_quote text =
+    if bytes_eq text (codes "'") then Single
+    else (if bytes_eq text (codes "\"") then Double else Bare)
+
+-- the home folder, at the start of a word
+abbrev pub home_start : List ℕ
+home_start = codes "~/"
+
+-- ---- how bash reads what follows the part that it keeps
+
+-- bash takes the byte as itself in a bare word: an ASCII letter or digit, one of these, or a byte
+-- of a character that is not ASCII
+abbrev pub is_bare_byte : ℕ → Bool
+is_bare_byte byte =
+    is_ascii_alphanumeric byte || list_any (λ plain. byte == plain) (codes "_./:@%+=,-")
+    || not (is_ascii byte)
+
+-- a word, after a backslash or after none: which bytes stand for themselves, and which may follow a
+-- backslash; none where another byte occurs, or where a backslash is last
+unfoldable pub word_read : (ℕ → Bool) → (ℕ → Bool) → Bool → List ℕ → Option (List ℕ)
+word_read is_kept is_escaped false [] = Some []
+word_read is_kept is_escaped true [] = None
+word_read is_kept is_escaped true (byte ∷ line) = elim (is_escaped byte) [
+  | true ↦ option_map (λ word. byte ∷ word) (word_read is_kept is_escaped false line)
+  | false ↦ None
+]
+word_read is_kept is_escaped false (byte ∷ line) = elim (byte == ascii.backslash) [
+  | true ↦ word_read is_kept is_escaped true line
+  | false ↦ elim (is_kept byte) [
+    | true ↦ option_map (λ word. byte ∷ word) (word_read is_kept is_escaped false line)
+    | false ↦ None
+  ]
+]
+
+-- bare: a backslash and a line feed are nothing to bash
+abbrev pub is_bare_escaped : ℕ → Bool
+is_bare_escaped byte = not (byte == ascii.line_feed)
+
+unfoldable pub bare_read : List ℕ → Option (List ℕ)
+bare_read line = word_read is_bare_byte is_bare_escaped false line
+
+-- a bare word from its start, where `~/` is itself
+unfoldable pub bare_word_read : List ℕ → Option (List ℕ)
+bare_word_read line = elim (after home_start line) [
+  | Some rest ↦ option_map (λ word. home_start ++ word) (bare_read rest)
+  | None ↦ bare_read line
+]
+
+-- between `"`: neither a `"` nor what bash replaces there
+abbrev pub is_double_kept : ℕ → Bool
+is_double_kept byte = not (is_double_marked byte || byte == exclamation)
+
+unfoldable pub double_read : List ℕ → Option (List ℕ)
+double_read line = word_read is_double_kept is_double_marked false line
+
+-- between `'`: any byte but a `'`
+unfoldable pub single_read : List ℕ → Option (List ℕ)
+single_read [] = Some []
+single_read (byte ∷ line) = elim (byte == ascii.single_quote) [
+  | true ↦ None
+  | false ↦ option_map (λ word. byte ∷ word) (single_read line)
+]
+
+-- what bash reads from a line that it inserts after the part that it keeps, in the quote that is
+-- open there; none where it would take a byte for anything but a part of the word
+unfoldable pub bash_line_word : List ℕ → OpenQuote → List ℕ → Option (List ℕ)
+bash_line_word kept Single line = single_read line
+bash_line_word kept Double line = double_read line
+bash_line_word [] Bare line = bare_word_read line
+bash_line_word (_ ∷ _) Bare line = bare_read line
+
+-- ---- what is written
+
+-- what is after a backslash in a bare word
+abbrev pub is_bare_marked : ℕ → Bool
+is_bare_marked byte = list_any (λ special. byte == special) (codes " !\"#$&'()*;<>?[\\]^`{|}~")
+
+-- a bare word from its start
+unfoldable pub start_text : List ℕ → List ℕ
+start_text word = elim (after home_start word) [
+  | Some below ↦ home_start ++ marked is_bare_marked below
+  | None ↦ marked is_bare_marked word
+]
+
+-- what follows the part that bash keeps, in a bare word
+unfoldable pub bare_text : List ℕ → List ℕ → List ℕ
+bare_text [] rest = start_text rest
+bare_text (_ ∷ _) rest = marked is_bare_marked rest
+
+-- what follows the part that bash keeps, in the quote that is open there
+unfoldable pub bash_text : List ℕ → OpenQuote → List ℕ → List ℕ
+bash_text kept Bare rest = bare_text kept rest
+bash_text kept Single rest = rest
+bash_text kept Double rest = bash_doubled rest
+
+-- the line of a value that begins with that part
+unfoldable pub bash_word_line : List ℕ → OpenQuote → List ℕ → List ℕ
+bash_word_line kept quote value = elim (after kept value) [
+  | Some rest ↦ bash_text kept quote rest ++ codes "\n"
+  | None ↦ []
+]
+
+-- the text can be written in the quote that is open: `'` ends `'`, and between `"` nothing keeps
+-- bash from replacing `!`
+abbrev pub holds : OpenQuote → List ℕ → Bool
+holds Bare rest = true
+holds Single rest = is_without ascii.single_quote rest
+holds Double rest = is_without exclamation rest
+
+abbrev pub holds_rest : OpenQuote → Option (List ℕ) → Bool
+holds_rest quote None = false
+holds_rest quote (Some rest) = holds quote rest
+
+-- the value has a byte, no control character, begins with the part that bash keeps, and what
+-- follows that can be written in the quote that is open
+abbrev pub is_bash_insertable : List ℕ → OpenQuote → List ℕ → Bool
+is_bash_insertable kept quote value = is_safe_text value && holds_rest quote (after kept value)
+
+-- a line for each such value
+abbrev pub bash_words_reply : List ℕ → OpenQuote → List CompletionCandidate → List ℕ
+bash_words_reply kept quote candidates =
+    flat_map (λ candidate. bash_word_line kept quote candidate.value)
+    (filter (λ candidate. is_bash_insertable kept quote candidate.value) candidates)
+
+-- ---- the law
+
+-- what bash keeps, and what it reads from each line after that, is each such value
+unfoldable pub BashWordsRead : List ℕ → OpenQuote → List CompletionCandidate → Type 0
+BashWordsRead kept quote candidates =
+    map (λ line. option_map (λ rest. kept ++ rest) (bash_line_word kept quote line))
+    (lines_from [] (bash_words_reply kept quote candidates))
+    ≡ map (λ candidate. Some candidate.value)
+    (filter (λ candidate. is_bash_insertable kept quote candidate.value) candidates)

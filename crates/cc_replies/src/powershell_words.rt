@@ -1,0 +1,145 @@
+//! The reply to PowerShell: the word to insert, and what is listed. PowerShell inserts a word as it
+//! is passed.
+
+ghost use Rattle.std.specs.Prelude.{◌≡◌, ◌<◌, ◌+◌, IfErr, drop, length, slice_index};
+ghost use Rattle.std.specs.List.{list_all, list_any};
+ghost use Rattle.cc_base.specs.Writes.{IsWrite, Writes, as_write};
+ghost use Rattle.cc_replies.specs.PowershellWords.{PowershellWordsRead, begins_other_quote};
+ghost use Rattle.cc_replies.specs.PowershellWords.{is_powershell_bare, is_powershell_byte};
+ghost use Rattle.cc_replies.specs.PowershellWords.{is_powershell_insertable, is_split_parameter};
+ghost use Rattle.cc_replies.specs.PowershellWords.{is_splitting};
+ghost use Rattle.cc_replies.specs.PowershellWords.{powershell_line, powershell_word};
+ghost use Rattle.cc_replies.specs.PowershellWords.{powershell_words_reply};
+ghost use Rattle.cc_replies.specs.SafeValues.{is_found, safe_shown};
+
+use crate::safe::is_safe_text;
+use crate::safe_replies::put_safe_line;
+use cc_base::{Error, Sink, put_piece};
+use cc_candidates::CompletionCandidate;
+use cc_quote::{PowershellEscape, put_escaped};
+use std::io::ErrorKind;
+
+/// Writes a line for each value that PowerShell can insert: the word to insert, a tab and the
+/// value. A second tab and the first line of the help follow, if that line is not empty and has no
+/// control character.
+///
+/// Leaves out a value that is empty, has a control character, or contains U+2018, U+201A or U+201B,
+/// which PowerShell takes for quotes.
+///
+/// # Errors
+///
+/// `Write` if the sink fails.
+#[tactic(auto, using(crate::proofs::PowershellReadings::words_read_back))]
+pub fn write_powershell_words<W: Sink>(
+    sink: &mut W,
+    candidates: &[CompletionCandidate],
+) -> Result<(), Error>
+    ensures written { Writes W.taken W.failed result sink.old sink.new
+        (powershell_words_reply candidates.now) }
+    ensures write_only { IfErr result IsWrite }
+    ensures read_back { PowershellWordsRead candidates.now }
+{
+    Ok(put_powershell_words(sink, candidates)?)
+}
+
+fn put_powershell_words<W: Sink>(
+    sink: &mut W,
+    candidates: &[CompletionCandidate],
+) -> Result<(), ErrorKind>
+    ensures { Writes W.taken W.failed (as_write result) sink.old sink.new
+        (powershell_words_reply candidates.now) }
+{
+    for candidate in candidates {
+        if !is_powershell_insertable(candidate.get_value()) {
+            continue;
+        }
+        put_powershell_line(sink, candidate)?;
+    }
+    Ok(())
+}
+
+#[tactic(auto, unfolding(crate::specs::PowershellWords::powershell_line))]
+fn put_powershell_line<W: Sink>(
+    sink: &mut W,
+    candidate: &CompletionCandidate,
+) -> Result<(), ErrorKind>
+    ensures { Writes W.taken W.failed (as_write result) sink.old sink.new
+        (powershell_line (safe_shown candidate.now)) }
+{
+    put_powershell_word(sink, candidate.get_value())?;
+    put_piece(sink, "\t")?;
+    put_safe_line(sink, candidate)
+}
+
+#[tactic(auto, unfolding(crate::specs::PowershellWords::powershell_word))]
+fn put_powershell_word<W: Sink>(sink: &mut W, value: &str) -> Result<(), ErrorKind>
+    ensures { Writes W.taken W.failed (as_write result) sink.old sink.new
+        (powershell_word value.now) }
+{
+    if is_powershell_bare(value.as_bytes()) {
+        return put_piece(sink, value);
+    }
+    put_piece(sink, "'")?;
+    put_escaped(sink, &PowershellEscape, value)?;
+    put_piece(sink, "'")
+}
+
+fn is_powershell_insertable(value: &str) -> bool
+    ensures { result ≡ is_powershell_insertable value.now }
+{
+    is_safe_text(value) && !has_other_quote(value.as_bytes())
+}
+
+fn has_other_quote(text: &[u8]) -> bool
+    ensures { result ≡ is_found begins_other_quote text.now }
+{
+    for at in 0..text.len() {
+        if begins_other_quote_at(text, at) {
+            return true;
+        }
+    }
+    false
+}
+
+// Whether U+2018, U+201A or U+201B begins at the index.
+fn begins_other_quote_at(text: &[u8], at: usize) -> bool
+    requires { at < length text.now }
+    ensures { result ≡ begins_other_quote (slice_index text.now at) (drop (at + 1) text.now) }
+{
+    matches!(&text[at..], [0xE2, 0x80, 0x98 | 0x9A | 0x9B, ..])
+}
+
+fn is_powershell_bare(value: &[u8]) -> bool
+    ensures { result ≡ is_powershell_bare value.now }
+{
+    !value.is_empty() && are_powershell_bytes(value) && !is_split_parameter(value)
+}
+
+fn are_powershell_bytes(bytes: &[u8]) -> bool
+    ensures { result ≡ list_all is_powershell_byte bytes.now }
+{
+    bytes.iter().all(|byte| is_powershell_byte(*byte))
+}
+
+fn is_powershell_byte(byte: u8) -> bool
+    ensures { result ≡ is_powershell_byte byte }
+{
+    byte.is_ascii_alphanumeric() || matches!(byte, b'_' | b'-' | b'/' | b'=' | b':' | b'+' | b'.')
+}
+
+// Whether PowerShell takes the word for a parameter and its argument.
+fn is_split_parameter(word: &[u8]) -> bool
+    ensures { result ≡ is_split_parameter word.now }
+{
+    match word {
+        [b'-', rest @ ..] => has_splitting(rest),
+        _ => false,
+    }
+}
+
+// Whether one of the bytes ends a parameter's name.
+fn has_splitting(bytes: &[u8]) -> bool
+    ensures { result ≡ list_any is_splitting bytes.now }
+{
+    bytes.iter().any(|byte| matches!(*byte, b'.' | b':'))
+}

@@ -1,0 +1,47 @@
+//! Texts that can stand in a line of a reply. A control character could end the line, or be a
+//! command to the terminal.
+
+ghost use Rattle.std.specs.Prelude.{◌≡◌, ◌<◌, drop, length, slice_index, ◌+◌};
+ghost use Rattle.std.specs.Option.{option_copied};
+ghost use Rattle.cc_replies.specs.SafeValues.{begins_control, is_found, is_safe_text, safe_help};
+
+use crate::reply::first_line;
+
+/// Whether the text is not empty and has no control character: none below U+0020, no U+007F, and
+/// none from U+0080 to U+009F.
+pub(crate) fn is_safe_text(text: &str) -> bool
+    ensures { result ≡ is_safe_text text.now }
+{
+    !text.is_empty() && !has_control(text.as_bytes())
+}
+
+/// Returns the first line of the help, unless that is empty or has a control character.
+#[tactic(auto, unfolding(crate::specs::SafeValues::safe_help))]
+pub(crate) fn safe_help(help: Option<&str>) -> Option<&str>
+    ensures { option_copied result ≡ safe_help (option_copied help.entry) }
+{
+    let line = first_line(help?);
+    if is_safe_text(line) { Some(line) } else { None }
+}
+
+fn has_control(text: &[u8]) -> bool
+    ensures { result ≡ is_found begins_control text.now }
+{
+    for at in 0..text.len() {
+        if begins_control_at(text, at) {
+            return true;
+        }
+    }
+    false
+}
+
+fn begins_control_at(text: &[u8], at: usize) -> bool
+    requires { at < length text.now }
+    ensures { result ≡ begins_control (slice_index text.now at) (drop (at + 1) text.now) }
+{
+    match &text[at..] {
+        [0xC2, 0x80..=0x9F, ..] => true,
+        [byte, ..] => byte.is_ascii_control(),
+        [] => false,
+    }
+}
