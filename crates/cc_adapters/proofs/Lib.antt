@@ -1,2 +1,3 @@
 mod Examples
 pub mod Replying
+pub mod SafeReplying

@@ -4,6 +4,8 @@ use Rattle.std.proofs.Common.{Result, Ok, Err, IfErr, IsErrAnd}
 use Rattle.std.proofs.Common.{ap, inl, refl, subst, sym}
 use Rattle.cc_adapters.specs.Wanted.{WantsThese}
 use Rattle.cc_adapters.specs.Replies.{FailsToReply, IsWanted, Replies}
+use Rattle.cc_adapters.specs.SafeShells.{safe_reply}
+use Rattle.cc_adapters.specs.declared.builtin.Builtin.{Builtin}
 use Rattle.cc_base.specs.Writes.{IsWrite, Writes}
 use Rattle.cc_base.specs.declared.error.Error.{Error}
 use Rattle.cc_base.specs.declared.error.Error.TheVariants.{Memory, NoCompletion, Write}
@@ -12,6 +14,7 @@ use Rattle.cc_candidates.specs.declared.candidate.CompletionCandidate.{Completio
 use Rattle.cc_command.specs.Built.{built_tree}
 use Rattle.cc_command.specs.Tree.{Tree}
 use Rattle.cc_engine.specs.Completion.{Refuses, is_in_range}
+use Rattle.cc_replies.specs.declared.bash_words.OpenQuote.{OpenQuote}
 
 module _ {S : Type 0} (taken : S → List ℕ) (failed : S → Failures) (before after : Tree)
     (Wants : List (List ℕ) → ℕ → Type 0)
@@ -165,3 +168,21 @@ replied_between taken failed before after Wants Offers result old new words numb
     number wants
     (subst (λ b. Replies taken failed result old new before after (WantsThese words number) Offers
     (reply b)) same r)
+
+-- the same of a reply to a safe request, whose kept part and quote have other names
+pub replied_safely : {S : Type 0} (taken : S → List ℕ) (failed : S → Failures)
+    (before after : Tree) (Wants : List (List ℕ) → ℕ → Type 0)
+    (Offers : List (List ℕ) → ℕ → List CompletionCandidate → Type 0)
+    (result : Result (Unit {0}) Error) (old new : S) (words : List (List ℕ)) (number : ℕ)
+    (shell : Builtin) (kept known_kept : List ℕ) (quote known_quote : OpenQuote)
+    → kept ≡ known_kept → quote ≡ known_quote → Wants words number
+    → Replies taken failed result old new before after (WantsThese words number) Offers (safe_reply shell kept quote)
+    → Replies taken failed result old new before after Wants Offers (safe_reply shell known_kept known_quote)
+replied_safely taken failed before after Wants Offers result old new words number shell kept
+    known_kept quote known_quote same_kept same_quote wants r =
+    replied_as_wanted taken failed before after Wants Offers
+    (safe_reply shell known_kept known_quote) result old new words number wants
+    (subst (λ k. Replies taken failed result old new before after (WantsThese words number) Offers
+    (safe_reply shell k known_quote)) same_kept
+    (subst (λ q. Replies taken failed result old new before after (WantsThese words number) Offers
+    (safe_reply shell kept q)) same_quote r))

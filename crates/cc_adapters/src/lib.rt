@@ -8,6 +8,7 @@ mod env_completer;
 mod fish;
 mod powershell;
 mod reply;
+mod safe_shell;
 mod shells;
 mod zsh;
 
@@ -17,5 +18,6 @@ pub use crate::elvish::Elvish;
 pub use crate::env_completer::EnvCompleter;
 pub use crate::fish::Fish;
 pub use crate::powershell::Powershell;
+pub use crate::safe_shell::SafeShell;
 pub use crate::shells::{ShellNames, Shells};
 pub use crate::zsh::Zsh;

@@ -4,6 +4,7 @@ ghost use Rattle.std.specs.Prelude.{◌≡◌, ◌-◌, ℕ, IfErr, List, length
 ghost use Rattle.std.specs.Option.{option_copied};
 ghost use Rattle.cc_adapters.specs.Wanted.{WantsThese};
 ghost use Rattle.cc_adapters.specs.Replies.{Replies};
+ghost use Rattle.cc_adapters.specs.SafeShells.{safe_reply};
 ghost use Rattle.cc_base.specs.Writes.{IsWrite, Writes};
 ghost use Rattle.cc_candidates.specs.declared.candidate.CompletionCandidate.{CompletionCandidate};
 ghost use Rattle.cc_engine.specs.Completion.{Completes};
@@ -11,13 +12,17 @@ ghost use Rattle.cc_engine.specs.Paths.{PathsOf};
 ghost use Rattle.cc_replies.specs.Reply.{lines_reply, values_reply, zsh_reply};
 ghost use Rattle.cc_gather.specs.Values.{returned_by};
 
+use crate::builtin::Builtin;
 use cc_base::{Error, Sink};
 use cc_candidates::{Completers, CompletionCandidate};
 use cc_command::Command;
 use cc_engine::complete;
 use cc_numbers::CandidateSources;
 use cc_paths::Folder;
-use cc_replies::{write_lines, write_values, write_zsh_items};
+use cc_replies::{
+    OpenQuote, write_bash_words, write_lines, write_powershell_words, write_safe_lines,
+    write_safe_values, write_safe_zsh_items, write_values, write_zsh_items,
+};
 use std::alloc::Global;
 
 /// The format in which a shell reads candidates.
@@ -65,6 +70,30 @@ impl ReplyFormat for Lines {
 
     fn write<W: Sink>(&self, found: &[CompletionCandidate], sink: &mut W) -> Result<(), Error> {
         write_lines(sink, found)
+    }
+}
+
+/// What is inserted as the value that it stands for, in this shell. bash has kept this text of the
+/// word, and this quote is open there.
+#[derive(Drop)]
+pub(crate) struct SafeReply<'s> {
+    pub(crate) shell: Builtin,
+    pub(crate) kept: &'s str,
+    pub(crate) quote: OpenQuote,
+}
+
+impl ReplyFormat for SafeReply<'_> {
+    ghost text = { λ format found.
+        safe_reply format.shell format.kept.now format.quote found };
+
+    fn write<W: Sink>(&self, found: &[CompletionCandidate], sink: &mut W) -> Result<(), Error> {
+        match self.shell {
+            Builtin::Bash => write_bash_words(sink, self.kept, self.quote, found),
+            Builtin::Elvish => write_safe_values(sink, found),
+            Builtin::Fish => write_safe_lines(sink, found),
+            Builtin::Powershell => write_powershell_words(sink, found),
+            Builtin::Zsh => write_safe_zsh_items(sink, found),
+        }
     }
 }
 

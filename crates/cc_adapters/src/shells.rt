@@ -4,10 +4,12 @@ ghost use Rattle.std.specs.Iterator.{YieldsFirstBy, item_count};
 ghost use Rattle.std.specs.Prelude.{◌≡◌, find, map, option_map};
 ghost use Rattle.std.specs.Slice.Iter.{iter_rest};
 ghost use Rattle.cc_adapters.specs.Builtins.{all_builtins};
+ghost use Rattle.cc_adapters.specs.SafeShells.{all_safe};
 ghost use Rattle.cc_adapters.specs.Shells.{names_left};
 
 use crate::builtin::{BUILTINS, Builtin};
 use crate::env_completer::EnvCompleter;
+use crate::safe_shell::{SAFE_SHELLS, SafeShell};
 use std::slice;
 
 /// The shells that a caller offers, by their adapters.
@@ -20,6 +22,16 @@ impl Shells<'static, Builtin> {
         ensures { result.0.now ≡ all_builtins }
     {
         Shells(BUILTINS)
+    }
+}
+
+impl Shells<'static, SafeShell> {
+    /// The shells of this library by their safe adapters, in the order of the built-in ones: what
+    /// they register evaluates nothing, and what they reply is inserted as it is meant.
+    pub fn safe() -> Shells<'static, SafeShell>
+        ensures { result.0.now ≡ all_safe }
+    {
+        Shells(SAFE_SHELLS)
     }
 }
 

@@ -1,6 +1,7 @@
 //! The programs that command lines call: `complgen`, and a program that completes itself.
 
 use crate::document::Document;
+use cc_adapters::EnvCompleter;
 use cc_base::{Collected, Error};
 use cc_candidates::Completers;
 use cc_command::Command;
@@ -29,8 +30,12 @@ pub(crate) struct Outcome {
 ///
 /// `complgen` is the program of that name. Any other program completes itself: the variable `TREE`
 /// names the tree of its command, `PWD` is its current folder, `BIN` and `COMPLETER` are what its
-/// registration names. Where it is not called for a completion it prints `(goes on)`. Fails where
-/// memory runs out.
+/// registration names, and with `SAFE` it completes itself by the safe adapters. If it is not called
+/// for a completion it prints `(goes on)`.
+///
+/// # Errors
+///
+/// `Memory` if an allocation fails.
 pub(crate) fn run_line(
     alloc: Global,
     document: &Document,
@@ -151,7 +156,26 @@ fn completed(
         .get("TREE")
         .and_then(|name| document.tree(name))
         .unwrap_or(&[]);
-    let mut program = CompleteEnv::with_factory(|alloc: Global| command(alloc, tree));
+    let factory = |alloc: Global| command(alloc, tree);
+    if variables.get("SAFE").is_some() {
+        return completed_by(alloc, CompleteEnv::safe(factory), variables, words);
+    }
+    completed_by(alloc, CompleteEnv::with_factory(factory), variables, words)
+}
+
+// What a program prints that completes itself so.
+fn completed_by<F, E>(
+    alloc: Global,
+    program: CompleteEnv<'_, F, E>,
+    variables: &EnvValues,
+    words: Vec<String>,
+) -> Result<Outcome, Error>
+where
+    F: Fn(Global) -> Result<Command, Error> + Drop,
+    E: EnvCompleter,
+    requires { F.IsAlwaysCallable program.factory }
+{
+    let mut program = program;
     if let Some(bin) = variables.get("BIN") {
         program = program.bin(String::from_str(alloc, bin)?);
     }

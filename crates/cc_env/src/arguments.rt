@@ -33,9 +33,13 @@ pub(crate) fn keep_last(mut texts: Vec<String>, count: usize) -> Vec<String>
     texts
 }
 
-/// The path by which a shell runs the program of this first argument: one that leads through a
-/// folder is joined to the current folder, where there is one. Fails where memory runs out.
-pub(crate) fn program_path(
+/// Returns the path by which a shell runs the program that was called by this first argument. A
+/// path that leads through a directory is joined to the current directory, if there is one.
+///
+/// # Errors
+///
+/// `AllocError` if an allocation fails.
+pub fn program_path(
     alloc: Global,
     current_dir: Option<&str>,
     program: &str,

@@ -3,6 +3,7 @@
 ghost use Rattle.std.specs.Prelude.{◌≡◌, Some, None, codes, map, string_bytes};
 ghost use Rattle.std.specs.Option.{option_copied};
 ghost use Rattle.cc_adapters.specs.Builtins.{all_builtins};
+ghost use Rattle.cc_adapters.specs.SafeShells.{all_safe};
 ghost use Rattle.cc_engine.specs.Completion.{Completes};
 ghost use Rattle.cc_engine.specs.Paths.{PathsOf};
 ghost use Rattle.cc_replies.specs.Environment.{value_of};
@@ -11,7 +12,7 @@ ghost use Rattle.cc_env.specs.Steps.{MakesText, Tries, names_of};
 ghost use Rattle.cc_gather.specs.Values.{returned_by};
 
 use crate::wanted::{known_shell, wanted_name};
-use cc_adapters::{Builtin, EnvCompleter, Shells};
+use cc_adapters::{Builtin, EnvCompleter, SafeShell, Shells};
 use cc_base::{Error, Sink, Text, put_all};
 use cc_candidates::Completers;
 use cc_command::Command;
@@ -48,6 +49,26 @@ impl<F> CompleteEnv<'static, F, Builtin> {
             bin: None,
             completer: None,
             shells: Shells::builtins(),
+        }
+    }
+}
+
+impl<F> CompleteEnv<'static, F, SafeShell> {
+    /// Completes the command that the factory makes, for the variable `COMPLETE` and the safe
+    /// shells: what they register evaluates nothing, and what they reply is inserted as it is
+    /// meant.
+    pub fn safe(factory: F) -> CompleteEnv<'static, F, SafeShell>
+        ensures factory { result.factory ≡ factory }
+        ensures variable { result.variable.now ≡ codes "COMPLETE" }
+        ensures names { (result.bin ≡ None) × (result.completer ≡ None) }
+        ensures shells { result.shells.0.now ≡ all_safe }
+    {
+        CompleteEnv {
+            factory,
+            variable: "COMPLETE",
+            bin: None,
+            completer: None,
+            shells: Shells::safe(),
         }
     }
 }

@@ -6,4 +6,6 @@ mod complete_env;
 mod text;
 mod wanted;
 
+pub use crate::arguments::program_path;
 pub use crate::complete_env::CompleteEnv;
+pub use crate::wanted::{known_shell, wanted_name};

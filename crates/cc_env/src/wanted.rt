@@ -13,10 +13,10 @@ use cc_base::{Error, Text};
 use std::alloc::{AllocError, Global};
 use std::path::Path;
 
-/// The name of the shell that the value of a variable wants, where it wants one: the last piece of
-/// a path without its extension, or the value where it has no such piece. An empty value and `0`
-/// want none.
-pub(crate) fn wanted_name(value: Option<&str>) -> Option<&str>
+/// Returns the name of the shell that the value of a variable requests: the last piece of a path
+/// without its extension, or the whole value if it has no such piece. Returns `None` if there is no
+/// value, or if it is empty or `0`.
+pub fn wanted_name(value: Option<&str>) -> Option<&str>
     ensures { option_copied result ≡ wanted_name (option_copied value.entry) }
 {
     let value = value?;
@@ -32,11 +32,12 @@ fn wants_nothing(value: &str) -> bool
     value == "" || value == "0"
 }
 
-/// The first shell that has a name.
+/// Returns the first of the shells that has a name.
 ///
-/// Fails with `UnknownShell` where none has it, and with `Memory` where there is no memory for the
-/// message.
-pub(crate) fn known_shell<'a, E: EnvCompleter>(
+/// # Errors
+///
+/// `UnknownShell` if none has it, and `Memory` if there is no memory for that message.
+pub fn known_shell<'a, E: EnvCompleter>(
     alloc: Global,
     shells: &'a Shells<'_, E>,
     name: &str,

@@ -169,15 +169,27 @@ pub use Rattle.cc_base.specs.Found as FoundTexts
 pub use Rattle.cc_registrations.specs.Names as RegistrationNames
 pub use Rattle.cc_registrations.specs.PowershellRegistration
 pub use Rattle.cc_registrations.specs.ZshRegistration
+pub use Rattle.cc_registrations.specs.SafeBash as SafeBashRegistration
+pub use Rattle.cc_registrations.specs.SafeElvish as SafeElvishRegistration
+pub use Rattle.cc_registrations.specs.SafeFish as SafeFishRegistration
+pub use Rattle.cc_registrations.specs.SafePowershell as SafePowershellRegistration
+pub use Rattle.cc_registrations.specs.SafeZsh as SafeZshRegistration
 pub use Rattle.cc_replies.specs.Environment as EnvironmentValues
 pub use Rattle.cc_replies.specs.declared.environment.EnvValues
 pub use Rattle.cc_replies.specs.Reply as ShellReplies
+pub use Rattle.cc_replies.specs.BashWords as InsertedBashWords
+pub use Rattle.cc_replies.specs.PowershellWords as InsertedPowershellWords
+pub use Rattle.cc_replies.specs.SafeReplies
+pub use Rattle.cc_replies.specs.SafeValues
+pub use Rattle.cc_replies.specs.declared.bash_words.OpenQuote
 pub use Rattle.cc_adapters.specs.Wanted as WantedWords
 pub use Rattle.cc_adapters.specs.Builtins as BuiltinShells
 pub use Rattle.cc_adapters.specs.Replies as AdapterReplies
+pub use Rattle.cc_adapters.specs.SafeShells
 pub use Rattle.cc_adapters.specs.ShellNames
 pub use Rattle.cc_adapters.specs.Shells as OfferedShells
 pub use Rattle.cc_adapters.specs.declared.builtin.Builtin
+pub use Rattle.cc_adapters.specs.declared.safe_shell.SafeShell
 pub use Rattle.cc_env.specs.Arguments as RequestArguments
 pub use Rattle.cc_env.specs.Wanted as WantedShell
 pub use Rattle.cc_env.specs.Steps as RequestSteps

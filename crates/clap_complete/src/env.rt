@@ -1,7 +1,7 @@
-//! A program that completes its own command line where the environment of its shell asks for it.
+//! A program that completes its own command line when its shell asks for it by the environment.
 
 pub use cc_adapters::{
-    Bash, Builtin, Elvish, EnvCompleter, Fish, Powershell, ShellNames, Shells, Zsh,
+    Bash, Builtin, Elvish, EnvCompleter, Fish, Powershell, SafeShell, ShellNames, Shells, Zsh,
 };
 pub use cc_env::CompleteEnv;
 pub use cc_quote::is_plain_path;

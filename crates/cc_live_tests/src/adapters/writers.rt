@@ -20,6 +20,13 @@ fn registrations_and_replies_that_are_not_taken(rt: HostRuntime) {
     }
 }
 
+#[test]
+fn safe_registrations_that_are_not_taken(rt: HostRuntime) {
+    for shell in Shells::safe().iter() {
+        fails_at_each(&rt, shell, false);
+    }
+}
+
 // Fails unless a writer with too little room takes the beginning of the text, and the call then
 // fails with the writer's kind.
 fn fails_at_each<R: Abort + AllocGlobal, E: EnvCompleter>(rt: &R, shell: &E, asks: bool) {
