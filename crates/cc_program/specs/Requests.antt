@@ -1,8 +1,8 @@
 -- What a shell asks for, by an environment that is not known beforehand.
 use Rattle.std.specs.Prelude.{◌≡◌, ⊤, ℕ, Bool, List, Option, None, Result, Err, codes}
 use Rattle.std.specs.declared.alloc.Global.{Global}
-use Rattle.cc_adapters.specs.Builtins.{all_builtins}
-use Rattle.cc_adapters.specs.declared.builtin.Builtin.{Builtin}
+use Rattle.cc_adapters.specs.SafeShells.{all_safe}
+use Rattle.cc_adapters.specs.declared.safe_shell.SafeShell.{SafeShell}
 use Rattle.cc_base.specs.declared.error.Error.{Error}
 use Rattle.cc_base.specs.declared.error.Error.TheVariants.{Memory}
 use Rattle.cc_paths.specs.Folders.{FolderFacts}
@@ -21,11 +21,11 @@ system_facts home = record {
 -- How a call ends that completes words by an environment: memory ran out before anything was
 -- written; or it ended so for some values of environment variables, some current folder and some
 -- home folder, with the commands that the factory makes, the variable `COMPLETE`, neither a binary
--- nor a completer set, and the built-in shells.
+-- nor a completer set, and the safe shells.
 pub data TriesSome {S F : Type 0} (old new : S) (result : Result Bool Error) (factory : F)
     (Ends : Global → EnvValues → Option (List ℕ) → Option (List ℕ) → F → List ℕ → Option (List ℕ)
-    → Option (List ℕ) → List Builtin → Type 0) : Type 0 where
+    → Option (List ℕ) → List SafeShell → Type 0) : Type 0 where
   out_of_memory : result ≡ Err Memory → new ≡ old → TriesSome old new result factory Ends
   tried : (alloc : Global) (env : EnvValues) (current home : Option (List ℕ))
-      → Ends alloc env current home factory (codes "COMPLETE") None None all_builtins
+      → Ends alloc env current home factory (codes "COMPLETE") None None all_safe
       → TriesSome old new result factory Ends

@@ -1,7 +1,7 @@
 //! Live completion, by what the environment says.
 
 ghost use Rattle.std.specs.Prelude.{map, string_bytes};
-ghost use Rattle.cc_adapters.specs.Builtins.{builtin_spec};
+ghost use Rattle.cc_adapters.specs.SafeShells.{safe_spec};
 ghost use Rattle.cc_engine.specs.Completion.{Completes};
 ghost use Rattle.cc_engine.specs.Paths.{PathsOf};
 ghost use Rattle.cc_env.specs.Steps.{MakesText, Tries, names_of};
@@ -21,11 +21,18 @@ use std::alloc::Global;
 use std::env::{self, Env};
 use std::rt::Files;
 
-// The variables by which a shell asks.
-const VARIABLES: [&str; 3] = ["COMPLETE", "_CLAP_COMPLETE_INDEX", "_CLAP_IFS"];
+// The variables by which a shell asks: by the safe registration, or by one of the original's form.
+const VARIABLES: [&str; 6] = [
+    "COMPLETE",
+    "_COMPLGEN_VALUES",
+    "_COMPLGEN_KEPT",
+    "_COMPLGEN_QUOTE",
+    "_CLAP_COMPLETE_INDEX",
+    "_CLAP_IFS",
+];
 
-/// Writes what a shell asks for, where the environment says that one asks, and returns whether it
-/// does: the program then has nothing else to do. `words` are those of the command line, the
+/// Writes what a shell asks for by the environment, through the safe adapters, and returns whether
+/// one asks: the program then has nothing else to do. `words` are those of the command line, the
 /// program's name first; the factory makes the command that is completed.
 ///
 /// The environment, the current folder and the user's home folder are those of the system.
@@ -44,8 +51,8 @@ where
     W: Sink,
     requires { F.IsAlwaysCallable factory }
     ensures { TriesSome out.old out.new result factory (λ alloc env current home made_by variable
-        bin completer shells. Tries W.taken W.failed builtin_spec shells (λ shell. MakesText
-        (λ made. F.post made_by alloc made) (builtin_spec shell)
+        bin completer shells. Tries W.taken W.failed safe_spec shells (λ shell. MakesText
+        (λ made. F.post made_by alloc made) (safe_spec shell)
         (names_of variable bin completer current) env (Completes (returned_by
         ⟦<Completers as CandidateSources>⟧.may_complete
         ⟦<Completers as CandidateSources>⟧.may_list completers.now
@@ -57,6 +64,6 @@ where
     let folder = RealFolder::new(rt, home(rt)?);
     let current = env::current_dir(rt).ok();
     let current = current.as_ref().map(|path| path.as_str());
-    let asked = CompleteEnv::with_factory(factory);
+    let asked = CompleteEnv::safe(factory);
     asked.try_complete(alloc, words, current, &variables, &folder, completers, out)
 }

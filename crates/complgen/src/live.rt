@@ -1,5 +1,5 @@
-//! Requests of shells: registrations of all programs that have a tree file, and the candidates for
-//! a word of one of them.
+//! Requests of shells: the registration of all programs that have a tree file, and the candidates
+//! for a word of one of them.
 
 use crate::contents;
 use crate::output::{buffered, flush};
@@ -18,8 +18,11 @@ use std::env::{self, Env};
 use std::rt::Files;
 
 // The variables that shells set, and those that say where tree files lie.
-const VARIABLES: [&str; 7] = [
+const VARIABLES: [&str; 10] = [
     "COMPLETE",
+    "_COMPLGEN_VALUES",
+    "_COMPLGEN_KEPT",
+    "_COMPLGEN_QUOTE",
     "_CLAP_COMPLETE_INDEX",
     "_CLAP_IFS",
     "COMPLGEN_PATH",
@@ -66,7 +69,7 @@ fn print<R: Env + Files + Print + Eprint + AllocGlobal, D: Folder>(
     }
 }
 
-// Writes the registrations, or the reply where words follow the `--`. Returns whether anything was
+// Writes the registration, or the reply if words follow the `--`. Returns whether anything was
 // written.
 fn write_requested<R: Env + Files + Eprint + AllocGlobal, D: Folder, W: Sink>(
     rt: &R,
@@ -102,8 +105,7 @@ fn write_known<R: Eprint + AllocGlobal, D: Folder, W: Sink>(
 ) -> Result<(), Error> {
     let alloc = rt.alloc();
     let known = known_names(alloc, folder, folders)?;
-    let names = known.names.as_slice();
-    write_registrations(alloc, env, program, current_dir, folder, names, out)?;
+    write_registrations(alloc, env, program, current_dir, &known.names, out)?;
     report_passed_over(rt, known.passed_over);
     Ok(())
 }

@@ -35,8 +35,9 @@ const NO_COMMAND: &str = "tree: describes no command\n";
 /// more room. Any bytes may be passed.
 ///
 /// `words` are the program's arguments, its name first. `variables` are names and values in turn:
-/// `COMPLETE` requests, by the name of the shell, with `_CLAP_COMPLETE_INDEX` and `_CLAP_IFS` as
-/// registrations set them; `HOME` is the user's home folder and `PWD` the folder where relative
+/// `COMPLETE` requests, by the name of the shell, with `_COMPLGEN_VALUES`, `_COMPLGEN_KEPT` and
+/// `_COMPLGEN_QUOTE` as the registration sets them, or with `_CLAP_COMPLETE_INDEX` and `_CLAP_IFS`
+/// as registrations of the original's form do; `HOME` is the user's home folder and `PWD` the folder where relative
 /// paths begin. `names` are those in the folder of the path `listed`, none where it can't be read;
 /// `folders` and `files` are paths of folders and of files, of that folder itself and of its names,
 /// each joined to `listed` by one slash. What is not among them is neither.

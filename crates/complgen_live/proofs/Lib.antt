@@ -1,7 +1,6 @@
-mod Alone
 mod Examples
 mod Names
-mod RegisterLemmas
+mod PlainKnown
 mod ReplyLemmas
 mod Stems
 mod Untaken

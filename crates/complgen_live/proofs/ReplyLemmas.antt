@@ -2,8 +2,8 @@
 use Rattle.std.proofs.Common.{◌≡◌, ◌⊎◌, inl, inr, refl, sym, subst, ℕ, Bool, false, List, [], Option, Some, None, Result, Ok, Err}
 use Rattle.std.specs.Borrow.{Bor}
 use Rattle.std.specs.Option.{option_copied}
-use Rattle.cc_adapters.specs.Builtins.{all_builtins, builtin_spec}
-use Rattle.cc_adapters.specs.declared.builtin.Builtin.{Builtin}
+use Rattle.cc_adapters.specs.SafeShells.{all_safe, safe_spec}
+use Rattle.cc_adapters.specs.declared.safe_shell.SafeShell.{SafeShell}
 use Rattle.cc_base.specs.declared.error.Error.{Error}
 use Rattle.cc_base.specs.declared.error.Error.TheVariants as error
 use Rattle.cc_base.specs.declared.failures.Failures.{Failures}
@@ -65,22 +65,22 @@ module _ {S : Type 0} (taken : S → List ℕ) (failed : S → Failures) (env : 
 
   module _ (Makes : Result Tree Error → Type 0)
       (described : (made : Result Tree Error) → Makes made → DescribedBy path bytes made) where
-    abbrev MakesBy : MayReturn → List (List ℕ) → Builtin → Result (List ℕ) Error → Type 0
+    abbrev MakesBy : MayReturn → List (List ℕ) → SafeShell → Result (List ℕ) Error → Type 0
     MakesBy sources arguments shell result =
-        MakesText Makes (builtin_spec shell) (names_of variable None None current) env (Completes sources)
+        MakesText Makes (safe_spec shell) (names_of variable None None current) env (Completes sources)
         arguments result
 
     -- the file describes the command that the text is made of; or it describes none
-    abbrev OverTree : List (List ℕ) → Builtin → Result (List ℕ) Error → Type 0
+    abbrev OverTree : List (List ℕ) → SafeShell → Result (List ℕ) Error → Type 0
     OverTree arguments shell result = (tree : Tree) × Describes bytes (Some tree)
         × MakesFor env current Finds arguments shell tree result
 
-    abbrev EndsText : List (List ℕ) → Builtin → Result (List ℕ) Error → Type 0
+    abbrev EndsText : List (List ℕ) → SafeShell → Result (List ℕ) Error → Type 0
     EndsText arguments shell (Ok text) = OverTree arguments shell (Ok text)
     EndsText arguments shell (Err error) =
         DescribedBy path bytes (Err error) ⊎ OverTree arguments shell (Err error)
 
-    ends_text : (shell : Builtin) {arguments : List (List ℕ)} {result : Result (List ℕ) Error}
+    ends_text : (shell : SafeShell) {arguments : List (List ℕ)} {result : Result (List ℕ) Error}
         → MakesBy (paths_alone Finds) arguments shell result → EndsText arguments shell result
     ends_text shell (factory_failed arguments error fails) = inl (described (Err error) fails)
     ends_text shell (out_of_memory arguments) = inl tt
@@ -94,7 +94,7 @@ module _ {S : Type 0} (taken : S → List ℕ) (failed : S → Failures) (env : 
         inr (tree, described (Ok tree) makes, replied tree program rest (Err error) refl some replies)
 
     -- a shell requests it
-    ends_known : (shell : Builtin) {result : Result Bool Error} → requested env ≡ known shell
+    ends_known : (shell : SafeShell) {result : Result Bool Error} → requested env ≡ known shell
         → Ends taken failed (MakesBy (paths_alone Finds) words shell) old new result → Reply result
     ends_known shell requests (nothing_written error makes same) = elim (ends_text shell makes) [
       | inl why ↦ undescribed error why same
@@ -108,7 +108,7 @@ module _ {S : Type 0} (taken : S → List ℕ) (failed : S → Failures) (env : 
         outcome.written bytes text over.0 shell requests over.1 over.2 took counts
 
     -- by what is requested
-    ends_wanted : (wanted : Wanted Builtin) (result : Result Bool Error) → requested env ≡ wanted
+    ends_wanted : (wanted : Wanted SafeShell) (result : Result Bool Error) → requested env ≡ wanted
         → EndsAs taken failed shell_names (MakesBy (paths_alone Finds) words) wanted old new result
         → Reply result
     ends_wanted nothing result requests done =
@@ -127,23 +127,23 @@ module _ {S : Type 0} (taken : S → List ℕ) (failed : S → Failures) (env : 
     -- the same of the call as it is made: by the variable, without a binary and a completer, among
     -- these shells
     pub replies_tried : (sources : MayReturn) (by_name : List ℕ) (bin called : Option (List ℕ))
-        (shells : List Builtin) (result : Result Bool Error) → sources ≡ paths_alone Finds
-        → by_name ≡ variable → (bin ≡ None) × (called ≡ None) → shells ≡ all_builtins
-        → Tries taken failed builtin_spec shells
-        (λ shell. MakesText Makes (builtin_spec shell) (names_of by_name bin called current) env
+        (shells : List SafeShell) (result : Result Bool Error) → sources ≡ paths_alone Finds
+        → by_name ≡ variable → (bin ≡ None) × (called ≡ None) → shells ≡ all_safe
+        → Tries taken failed safe_spec shells
+        (λ shell. MakesText Makes (safe_spec shell) (names_of by_name bin called current) env
         (Completes sources) words) (wanted_name (value_of by_name env)) old new result
         → Reply result
     replies_tried sources by_name bin called shells result is by none all tried =
-        let by_all = subst (λ s. Tries taken failed builtin_spec s
-        (λ shell. MakesText Makes (builtin_spec shell) (names_of by_name bin called current) env
+        let by_all = subst (λ s. Tries taken failed safe_spec s
+        (λ shell. MakesText Makes (safe_spec shell) (names_of by_name bin called current) env
         (Completes sources) words) (wanted_name (value_of by_name env)) old new result) all tried in
-        let by_variable = subst (λ v. Tries taken failed builtin_spec all_builtins
-        (λ shell. MakesText Makes (builtin_spec shell) (names_of v bin called current) env
+        let by_variable = subst (λ v. Tries taken failed safe_spec all_safe
+        (λ shell. MakesText Makes (safe_spec shell) (names_of v bin called current) env
         (Completes sources) words) (wanted_name (value_of v env)) old new result) by by_all in
-        let without_bin = subst (λ b. Tries taken failed builtin_spec all_builtins
-        (λ shell. MakesText Makes (builtin_spec shell) (names_of variable b called current) env
+        let without_bin = subst (λ b. Tries taken failed safe_spec all_safe
+        (λ shell. MakesText Makes (safe_spec shell) (names_of variable b called current) env
         (Completes sources) words) (wanted_name (value_of variable env)) old new result) none.0 by_variable in
         replies sources result is
-        (subst (λ c. Tries taken failed builtin_spec all_builtins
-        (λ shell. MakesText Makes (builtin_spec shell) (names_of variable None c current) env
+        (subst (λ c. Tries taken failed safe_spec all_safe
+        (λ shell. MakesText Makes (safe_spec shell) (names_of variable None c current) env
         (Completes sources) words) (wanted_name (value_of variable env)) old new result) none.1 without_bin)

@@ -1,44 +1,45 @@
--- Registrations of programs, by which a shell runs this program for their candidates.
-use Rattle.std.specs.Prelude.{◌≡◌, ℕ, List, [], Result, IfErr, IfOk, OnOk}
-use Rattle.std.specs.List.{AllByRecursion, flat_map}
-use Rattle.cc_adapters.specs.Builtins.{builtin_spec}
-use Rattle.cc_adapters.specs.declared.builtin.Builtin.{Builtin}
+-- The registration of programs, by which a shell runs this program for their candidates.
+use Rattle.std.specs.Prelude.{◌≡◌, ℕ, IsTrue, List, Result, Ok, IfErr, IfOk, OnOk}
+use Rattle.std.specs.List.{AllByRecursion}
+use Rattle.cc_adapters.specs.SafeShells.{SafeReads, safe_registration}
+use Rattle.cc_adapters.specs.declared.safe_shell.SafeShell.{SafeShell}
+use Rattle.cc_base.specs.PlainName.{is_plain_name}
 use Rattle.cc_base.specs.Writes.{Writes}
 use Rattle.cc_base.specs.declared.error.Error.{Error}
-use Rattle.cc_base.specs.declared.error.Error.TheVariants.{Memory}
 use Rattle.cc_base.specs.declared.failures.Failures.{Failures}
 use Rattle.cc_env.specs.Wanted.{Wanted, IsUnknownShell, known, nothing, unknown}
+use Rattle.complgen_live.specs.KnownNames.{own_name}
 use Rattle.complgen_live.specs.Replies.{shell_names, variable}
 
--- the registration of a program: named, called and completed by this name, with this completer
-abbrev pub registration_of : Builtin → List ℕ → List ℕ → List ℕ
-registration_of shell completer name =
-    (builtin_spec shell).registration variable name name completer
+-- each of the names is plain
+abbrev pub ArePlain : List (List ℕ) → Type 0
+ArePlain names = AllByRecursion (λ name. IsTrue (is_plain_name name)) names
 
--- those of some programs, one after another
-abbrev pub registrations_of : Builtin → List ℕ → List (List ℕ) → List ℕ
-registrations_of shell completer names = flat_map (registration_of shell completer) names
+-- the registration of some programs, with this completer; its function is named after this program
+abbrev pub registration_of : SafeShell → List ℕ → List (List ℕ) → List ℕ
+registration_of safe completer names =
+    safe_registration safe.shell variable own_name names completer
 
--- what the registration of a program is read as; where the name is plain, its variable, its binary
--- and its completer come out
-abbrev pub RegistrationReads : Builtin → List ℕ → List ℕ → Type 0
-RegistrationReads shell completer name =
-    (builtin_spec shell).Reads variable name name completer
+-- what it is read as: its variable, its completer, and the names, where they are plain
+abbrev pub RegistrationReads : SafeShell → List ℕ → List (List ℕ) → Type 0
+RegistrationReads safe completer names = SafeReads safe.shell variable own_name names completer
 
--- the registrations of these programs are written, and what each is read as holds
+-- the registration of these programs is written; then what it is read as holds, and the names are
+-- plain
 pub record WritesAll {S : Type 0} (taken : S → List ℕ) (failed : S → Failures)
-    (completer : List ℕ) (names : List (List ℕ)) (shell : Builtin) (old new : S)
+    (completer : List ℕ) (names : List (List ℕ)) (safe : SafeShell) (old new : S)
     (result : Result (Unit {0}) Error) : Type 0 where
-  pub writes : Writes taken failed result old new (registrations_of shell completer names)
-  pub read_back : OnOk result (AllByRecursion (RegistrationReads shell completer) names)
+  pub writes : Writes taken failed result old new (registration_of safe completer names)
+  pub read_back : OnOk result (RegistrationReads safe completer names)
+  pub plain : OnOk result (ArePlain names)
 
--- How writing them ends, by what is requested. Where no shell is, nothing is written; and where no
--- shell has the name, that is reported, unless there is no program to register.
+-- How writing it ends, by what is requested. If no shell is requested, nothing is written; if no
+-- shell has the name, that is reported.
 abbrev pub RegistersAll : {S : Type 0} → (S → List ℕ) → (S → Failures) → List ℕ → List (List ℕ)
-    → Wanted Builtin → S → S → Result (Unit {0}) Error → Type 0
+    → Wanted SafeShell → S → S → Result (Unit {0}) Error → Type 0
 RegistersAll taken failed completer names nothing old new result =
-    (new ≡ old) × IfErr result (λ error. error ≡ Memory)
+    (result ≡ Ok tt) × (new ≡ old)
 RegistersAll taken failed completer names (unknown name) old new result =
-    (new ≡ old) × IfOk result (λ _. names ≡ []) × IfErr result (IsUnknownShell shell_names name)
-RegistersAll taken failed completer names (known shell) old new result =
-    WritesAll taken failed completer names shell old new result
+    IfOk result (λ _. ⊥) × IfErr result (IsUnknownShell shell_names name) × (new ≡ old)
+RegistersAll taken failed completer names (known safe) old new result =
+    WritesAll taken failed completer names safe old new result

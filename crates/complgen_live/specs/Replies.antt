@@ -1,8 +1,8 @@
 -- How replying to a request ends, over a tree file.
 use Rattle.std.specs.Prelude.{◌≡◌, ◌++◌, ℕ, Bool, true, false, List, [], map, Option, None, Some, Result, Ok, Err, codes}
 use Rattle.std.specs.declared.io.ErrorKind.{ErrorKind}
-use Rattle.cc_adapters.specs.Builtins.{all_builtins, builtin_spec}
-use Rattle.cc_adapters.specs.declared.builtin.Builtin.{Builtin}
+use Rattle.cc_adapters.specs.SafeShells.{all_safe, safe_spec}
+use Rattle.cc_adapters.specs.declared.safe_shell.SafeShell.{SafeShell}
 use Rattle.cc_arg.specs.declared.value_hint.ValueHint.{ValueHint}
 use Rattle.cc_base.specs.Sink.{add_failure}
 use Rattle.cc_base.specs.declared.error.Error.{Error}
@@ -24,13 +24,13 @@ abbrev pub variable : List ℕ
 variable = codes "COMPLETE"
 
 -- what is requested: nothing, by a name that no shell has, or by a shell
-abbrev pub requested : EnvValues → Wanted Builtin
-requested env = wanted_of (λ shell. (builtin_spec shell).named) all_builtins
+abbrev pub requested : EnvValues → Wanted SafeShell
+requested env = wanted_of (λ shell. (safe_spec shell).named) all_safe
     (wanted_name (value_of variable env))
 
 -- the names of the shells
 abbrev pub shell_names : List (List ℕ)
-shell_names = map (λ shell. (builtin_spec shell).name) all_builtins
+shell_names = map (λ shell. (safe_spec shell).name) all_safe
 
 -- the paths that may be found for a value hint and a text
 abbrev pub Paths : Type 1
@@ -45,10 +45,10 @@ paths_alone Finds = record {
 }
 
 -- how making the text for a shell ends, of a program that makes this command
-abbrev pub MakesFor : EnvValues → Option (List ℕ) → Paths → List (List ℕ) → Builtin → Tree
+abbrev pub MakesFor : EnvValues → Option (List ℕ) → Paths → List (List ℕ) → SafeShell → Tree
     → Result (List ℕ) Error → Type 0
 MakesFor env current Finds words shell tree result =
-    MakesText (λ made. made ≡ Ok tree) (builtin_spec shell) (names_of variable None None current)
+    MakesText (λ made. made ≡ Ok tree) (safe_spec shell) (names_of variable None None current)
     env (Completes (paths_alone Finds)) words result
 
 -- How it ends, by what is requested and what the tree file holds: the command is the very one that
@@ -78,19 +78,19 @@ pub data EndsReply {S : Type 0} (taken : S → List ℕ) (failed : S → Failure
   out_of_memory : (bytes : List ℕ) → new ≡ old
       → EndsReply taken failed env current Finds words path old new (Some bytes) (Err Memory)
   -- there is no text for the words, and nothing is written
-  no_text : (bytes : List ℕ) (tree : Tree) (shell : Builtin) (error : Error)
+  no_text : (bytes : List ℕ) (tree : Tree) (shell : SafeShell) (error : Error)
       → requested env ≡ known shell → Describes bytes (Some tree)
       → MakesFor env current Finds words shell tree (Err error) → new ≡ old
       → EndsReply taken failed env current Finds words path old new (Some bytes) (Err error)
   -- a write failed, which is counted with its kind
-  write_failed : (bytes text : List ℕ) (tree : Tree) (shell : Builtin) (kind : ErrorKind)
+  write_failed : (bytes text : List ℕ) (tree : Tree) (shell : SafeShell) (kind : ErrorKind)
       → requested env ≡ known shell → Describes bytes (Some tree)
       → MakesFor env current Finds words shell tree (Ok text)
       → failed new ≡ add_failure kind (failed old)
       → EndsReply taken failed env current Finds words path old new (Some bytes)
       (Err (Write kind))
   -- the text is written
-  written : (bytes text : List ℕ) (tree : Tree) (shell : Builtin) → requested env ≡ known shell
+  written : (bytes text : List ℕ) (tree : Tree) (shell : SafeShell) → requested env ≡ known shell
       → Describes bytes (Some tree) → MakesFor env current Finds words shell tree (Ok text)
       → taken new ≡ taken old ++ text → failed new ≡ failed old
       → EndsReply taken failed env current Finds words path old new (Some bytes) (Ok true)

@@ -3,20 +3,22 @@ use Rattle.std.specs.Prelude.{◌≡◌, ◌⊎◌, ⊤, ◌++◌, ℕ, List, No
 use Rattle.cc_base.specs.declared.error.Error.{Error}
 use Rattle.cc_base.specs.declared.error.Error.TheVariants.{InvalidVariant, Memory}
 use Rattle.cc_command.specs.Tree.{Tree}
+use Rattle.cc_shown.specs.Shown.{on_one_line}
 use Rattle.cc_tree_file.specs.TreeFile.{Describes, SpellsNone}
 
--- before what is wrong
+-- before what is wrong, for a path as it is shown
 unfoldable pub about_tree : List ℕ → List ℕ
-about_tree path = (codes "complgen: " ++ path) ++ codes ": tree: "
+about_tree shown = (codes "complgen: " ++ shown) ++ codes ": tree: "
 
--- the file at a path is no JSON
+-- the file at a path is not JSON
 unfoldable pub not_json_text : List ℕ → List ℕ
-not_json_text path = about_tree path ++ codes "not JSON"
+not_json_text path = about_tree (on_one_line path) ++ codes "not JSON"
 
 -- its JSON describes no command
 unfoldable pub bad_form_text : List ℕ → List ℕ
 bad_form_text path =
-    ((about_tree path ++ codes "bad form (run complgen check ") ++ path) ++ codes ")"
+    ((about_tree (on_one_line path) ++ codes "bad form (run complgen check ") ++ on_one_line path)
+    ++ codes ")"
 
 -- the text says why these bytes, of the file at a path, describe no command
 abbrev pub SaysWhy : List ℕ → List ℕ → List ℕ → Type 0

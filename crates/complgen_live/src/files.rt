@@ -63,7 +63,7 @@ pub fn tree_stem(name: &str) -> Option<&str>
 }
 
 /// Those of the names that are plain, which alone are registered. Fails where memory runs out.
-pub fn plain_names(alloc: Global, names: Vec<String>) -> Result<Vec<String>, AllocError>
+pub(crate) fn plain_names(alloc: Global, names: Vec<String>) -> Result<Vec<String>, AllocError>
     ensures { IfOk result (λ kept.
         map string_bytes kept.items ≡ filter is_plain_name (map string_bytes names.items)) }
 {

@@ -6,6 +6,7 @@ ghost use Rattle.complgen_live.specs.KnownNames.{AreKnown, AreListed, each_once,
 ghost use Rattle.complgen_live.specs.TreeFiles.{found_stem, stems, tree_stem};
 
 use crate::files::{plain_names, tree_stem};
+use crate::plain_names::PlainNames;
 use cc_paths::{Folder, FolderError};
 use std::alloc::{AllocError, Global};
 
@@ -15,8 +16,8 @@ const OWN_NAME: &str = "complgen";
 /// The programs whose tree files lie in some folders.
 #[derive(Drop)]
 pub struct KnownNames {
-    /// Their plain names, in order, each once, without that of this program.
-    pub names: Vec<String>,
+    /// Their plain names, in order, each once, without the name of this program.
+    pub names: PlainNames,
     /// How many tree files have a name that is not plain.
     pub passed_over: usize,
 }
@@ -29,7 +30,7 @@ pub fn known_names<D: Folder>(
     folders: &[String],
 ) -> Result<KnownNames, AllocError>
     ensures { IfOk result (λ known. AreKnown (D.facts folder.now).names
-        (map string_bytes folders.now) (map string_bytes known.names.items) known.passed_over) }
+        (map string_bytes folders.now) known.names known.passed_over) }
 {
     let names = listed_names(alloc, folder, folders)?;
     let stems = stems_of(alloc, names.as_slice())?;
@@ -38,7 +39,10 @@ pub fn known_names<D: Folder>(
     let passed_over = count - plain.len();
     let mut names = other_names(alloc, plain)?;
     each_once(&mut names)?;
-    Ok(KnownNames { names, passed_over })
+    Ok(KnownNames {
+        names: PlainNames::new(names),
+        passed_over,
+    })
 }
 
 // The names that are listed in the folders, one folder after another.

@@ -1,5 +1,5 @@
 //! Live completion of any program by its tree file: where tree files lie and which programs have
-//! one, when a shell requests completions by them, the registrations that a shell loads, and the
+//! one, when a shell requests completions by them, the registration that a shell loads, and the
 //! replies to its requests.
 #![tactic(auto)]
 
@@ -7,14 +7,16 @@ mod files;
 mod folders;
 mod known;
 mod own_tree;
+mod plain_names;
 mod registrations;
 mod replies;
 mod requests;
 
-pub use crate::files::{command_name, plain_names, tree_path, tree_paths, tree_stem};
+pub use crate::files::{command_name, tree_path, tree_paths, tree_stem};
 pub use crate::folders::tree_folders;
 pub use crate::known::{KnownNames, known_names};
 pub use crate::own_tree::OWN_TREE;
+pub use crate::plain_names::PlainNames;
 pub use crate::registrations::write_registrations;
 pub use crate::replies::reply;
 pub use crate::requests::{is_request, request_words};

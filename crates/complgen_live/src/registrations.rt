@@ -1,108 +1,90 @@
-//! Registrations of programs, by which a shell runs this program for their candidates.
+//! The registration of programs, by which a shell runs this program for their candidates.
 
-ghost use Rattle.std.specs.Prelude.{◌≡◌, [], ◌∷◌, ◌++◌, IfErr, IfOk, map, string_bytes};
+ghost use Rattle.std.specs.Prelude.{◌≡◌, [], ◌∷◌, ◌++◌, IfOk, OnOk, map};
 ghost use Rattle.std.specs.Option.{option_copied};
-ghost use Rattle.cc_command.specs.Made.{new_tree};
 ghost use Rattle.cc_env.specs.Arguments.{program_path};
-ghost use Rattle.complgen_live.specs.Registrations.{RegistersAll};
-ghost use Rattle.complgen_live.specs.Replies.{requested};
 ghost use Rattle.complgen_live.specs.KnownNames.{own_name};
+ghost use Rattle.complgen_live.specs.Registrations.{ArePlain, RegistersAll, WritesAll};
+ghost use Rattle.complgen_live.specs.Replies.{requested};
 
+use crate::plain_names::PlainNames;
+use cc_adapters::{SafeShell, Shells};
 use cc_base::{Error, Sink};
-use cc_candidates::Completers;
-use cc_command::Command;
-use cc_env::CompleteEnv;
-use cc_paths::Folder;
+use cc_env::{known_shell, program_path, wanted_name};
 use cc_replies::EnvValues;
 use std::alloc::{AllocError, Global};
+
+// The variable that requests a registration or a reply, by the name of a shell.
+const VARIABLE: &str = "COMPLETE";
 
 // The name of this program.
 const OWN_NAME: &str = "complgen";
 
-/// Writes a registration for each of the names, and then that of this program, for the shell that
-/// the environment names. Each has the shell run this program, which was called by `program`, for
-/// the candidates of the program of that name; `current_dir` is where a relative path begins. No
-/// tree file is read, and `folder` is not used.
+/// Writes one registration for the programs of these names and for this program itself, for the
+/// shell that the environment requests. It has the shell run this program, which was called by
+/// `program`, for their candidates; a relative path begins at `current_dir`. Writes nothing if no
+/// shell is requested.
 ///
-/// Fails with `UnknownShell` where no shell has the name, and with `Memory`; how many registrations
-/// were written before is left open. Fails with `Write` where the sink fails.
-pub fn write_registrations<D: Folder, W: Sink>(
+/// # Errors
+///
+/// `UnknownShell` if no shell has the requested name, `Memory` if an allocation fails, and `Write`
+/// if the sink fails. After `Memory` and `Write` the sink may hold part of the text.
+pub fn write_registrations<W: Sink>(
     alloc: Global,
     env: &EnvValues,
     program: &str,
     current_dir: Option<&str>,
-    folder: &D,
-    names: &[String],
+    names: &PlainNames,
     out: &mut W,
 ) -> Result<(), Error>
     ensures { RegistersAll W.taken W.failed
         (program_path (option_copied current_dir.entry) program.now)
-        (map string_bytes names.now ++ own_name ∷ []) (requested env.now) out.old out.new result }
+        (names.now ++ own_name ∷ []) (requested env.now) out.old out.new result }
 {
-    write_others(alloc, env, program, current_dir, folder, names, out)?;
-    write_one(alloc, env, program, current_dir, folder, OWN_NAME, out)
+    let Some(name) = wanted_name(env.get(VARIABLE)) else {
+        return Ok(());
+    };
+    let shells = Shells::safe();
+    let shell = known_shell(alloc, &shells, name)?;
+    write_for(alloc, shell, program, current_dir, names, out)
 }
 
-// Writes a registration for each of the names.
-fn write_others<D: Folder, W: Sink>(
+// Writes the registration for a shell.
+fn write_for<W: Sink>(
     alloc: Global,
-    env: &EnvValues,
+    shell: &SafeShell,
     program: &str,
     current_dir: Option<&str>,
-    folder: &D,
-    names: &[String],
+    names: &PlainNames,
     out: &mut W,
 ) -> Result<(), Error>
-    ensures { RegistersAll W.taken W.failed
-        (program_path (option_copied current_dir.entry) program.now) (map string_bytes names.now)
-        (requested env.now) out.old out.new result }
+    ensures { WritesAll W.taken W.failed
+        (program_path (option_copied current_dir.entry) program.now)
+        (names.now ++ own_name ∷ []) shell.now out.old out.new result }
 {
-    for name in names {
-        write_one(alloc, env, program, current_dir, folder, name.as_str(), out)?;
-    }
-    Ok(())
-}
-
-fn write_one<D: Folder, W: Sink>(
-    alloc: Global,
-    env: &EnvValues,
-    program: &str,
-    current_dir: Option<&str>,
-    folder: &D,
-    name: &str,
-    out: &mut W,
-) -> Result<(), Error>
-    ensures { RegistersAll W.taken W.failed
-        (program_path (option_copied current_dir.entry) program.now) (name.now ∷ [])
-        (requested env.now) out.old out.new result }
-{
-    let args = alone(alloc, program)?;
-    let completers = Completers::none(alloc);
-    CompleteEnv::with_factory(|alloc: Global| named(alloc, name)).try_complete(
+    let completer = program_path(alloc, current_dir, program)?;
+    let all = with_own_name(alloc, names)?;
+    shell.write_registrations(
         alloc,
-        args,
-        current_dir,
-        env,
-        folder,
-        &completers,
+        VARIABLE,
+        OWN_NAME,
+        all.as_slice(),
+        completer.as_str(),
         out,
-    )?;
-    Ok(())
+    )
 }
 
-// The word alone.
-fn alone(alloc: Global, word: &str) -> Result<Vec<String>, AllocError>
-    ensures { IfOk result (λ words. map string_bytes words.items ≡ word.now ∷ []) }
+// The names, and then that of this program.
+#[tactic(auto, using(crate::proofs::PlainKnown::with_own))]
+fn with_own_name<'n>(alloc: Global, names: &'n PlainNames) -> Result<Vec<&'n str>, AllocError>
+    ensures all { IfOk result (λ all. map (λ name. name.now) all.items ≡ names.now ++ own_name ∷ []) }
+    ensures plain { OnOk result (ArePlain (names.now ++ own_name ∷ [])) }
 {
-    let mut words = Vec::new(alloc);
-    words.push(String::from_str(alloc, word)?)?;
-    Ok(words)
-}
-
-// A command of this name and nothing else.
-fn named(alloc: Global, name: &str) -> Result<Command, Error>
-    ensures ok { IfOk result (λ command. command ≡ new_tree name.now) }
-    ensures memory { IfErr result (λ error. error ≡ Error.Memory) }
-{
-    Ok(Command::new(alloc, String::from_str(alloc, name)?))
+    let mut all = Vec::new(alloc);
+    let plain = names.as_slice();
+    for name in plain {
+        all.push(name.as_str())?;
+    }
+    all.push(OWN_NAME)?;
+    Ok(all)
 }

@@ -13,6 +13,7 @@ use cc_command::Command;
 use cc_env::CompleteEnv;
 use cc_paths::Folder;
 use cc_replies::EnvValues;
+use cc_shown::on_one_line;
 use cc_tree_file::{TreeError, read_tree};
 use std::alloc::{AllocError, Global};
 
@@ -43,7 +44,7 @@ pub fn reply<'f, D: Folder, W: Sink>(
     };
     let completers = Completers::none(alloc);
     let file = TreeFile { path, bytes };
-    CompleteEnv::with_factory(move |alloc: Global| described(alloc, file)).try_complete(
+    CompleteEnv::safe(move |alloc: Global| described(alloc, file)).try_complete(
         alloc,
         words,
         current_dir,
@@ -77,7 +78,8 @@ fn described(alloc: Global, file: TreeFile<'_>) -> Result<Command, Error>
 fn not_json(alloc: Global, path: &str) -> Result<Text, AllocError>
     ensures { IfOk result (λ text. text ≡ not_json_text path.now) }
 {
-    let mut text = about_tree(alloc, path)?;
+    let path = on_one_line(alloc, path)?;
+    let mut text = about_tree(alloc, path.as_str())?;
     text.push_str("not JSON")?;
     Ok(Text::from(text))
 }
@@ -86,9 +88,10 @@ fn not_json(alloc: Global, path: &str) -> Result<Text, AllocError>
 fn bad_form(alloc: Global, path: &str) -> Result<Text, AllocError>
     ensures { IfOk result (λ text. text ≡ bad_form_text path.now) }
 {
-    let mut text = about_tree(alloc, path)?;
+    let path = on_one_line(alloc, path)?;
+    let mut text = about_tree(alloc, path.as_str())?;
     text.push_str("bad form (run complgen check ")?;
-    text.push_str(path)?;
+    text.push_str(path.as_str())?;
     text.push_str(")")?;
     Ok(Text::from(text))
 }

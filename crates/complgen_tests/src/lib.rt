@@ -7,6 +7,8 @@ mod checks;
 #[cfg(test)]
 mod debug;
 #[cfg(test)]
+mod live;
+#[cfg(test)]
 mod own_tree;
 #[cfg(test)]
 mod runs;

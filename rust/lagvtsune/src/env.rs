@@ -14,9 +14,14 @@ use std::{env, process, str};
 /// The variable by which a shell requests a registration or a reply.
 const REQUEST: &str = "COMPLETE";
 
-/// Those that a registration sets besides.
-const INDEX: &str = "_CLAP_COMPLETE_INDEX";
-const SEPARATOR: &str = "_CLAP_IFS";
+/// The variables that a registration sets besides: the last two those of the original's form.
+const SET_BESIDES: [&str; 5] = [
+    "_COMPLGEN_VALUES",
+    "_COMPLGEN_KEPT",
+    "_COMPLGEN_QUOTE",
+    "_CLAP_COMPLETE_INDEX",
+    "_CLAP_IFS",
+];
 
 /// The user's home folder.
 const HOME: &str = "HOME";
@@ -110,7 +115,8 @@ fn typed_word(words: &[Vec<u8>]) -> Option<&[u8]> {
 fn variables(home: Option<&str>, current_dir: Option<&str>) -> Vec<Vec<u8>> {
     let folders = [(HOME, home), (CURRENT_DIR, current_dir)];
     let folders = folders.map(|(name, path)| (name, path.map(OsString::from)));
-    let requested = [REQUEST, INDEX, SEPARATOR].map(|name| (name, env::var_os(name)));
-    let set = requested.into_iter().chain(folders).filter_map(|(name, value)| Some((name, value?)));
+    let names = [REQUEST].into_iter().chain(SET_BESIDES);
+    let requested = names.map(|name| (name, env::var_os(name)));
+    let set = requested.chain(folders).filter_map(|(name, value)| Some((name, value?)));
     set.flat_map(|(name, value)| [name.as_bytes().to_vec(), value.into_vec()]).collect()
 }

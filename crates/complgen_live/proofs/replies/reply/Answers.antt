@@ -12,5 +12,5 @@ returns g c =
     (without_completers _ _ c.none-completers.result.completers.items
     c.none-completers.result.added_completers.items _ _ c.none-completers.result.lists.items
     c.none-completers.result.added_lists.items _ c.none-completers.ensures.completers
-    c.none-completers.ensures.lists) c.with_factory.ensures.variable c.with_factory.ensures.names
-    c.with_factory.ensures.shells c.try_complete.ensures)
+    c.none-completers.ensures.lists) c.safe.ensures.variable c.safe.ensures.names
+    c.safe.ensures.shells c.try_complete.ensures)
