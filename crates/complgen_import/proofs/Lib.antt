@@ -1,0 +1,15 @@
+pub mod Among
+pub mod ArgumentsRead
+pub mod ClassFacts
+pub mod Complete
+pub mod FrontsRead
+pub mod KeptNames
+pub mod LineRead
+pub mod LinesRead
+pub mod NamesRead
+pub mod Options
+pub mod Rows
+pub mod SeparatorsRead
+pub mod Sound
+pub mod TakesRead
+pub mod WordsRead

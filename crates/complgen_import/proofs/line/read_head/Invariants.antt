@@ -1,0 +1,10 @@
+use Rattle.std.proofs.Common.{length}
+use Rattle.complgen_import.proofs.LineRead.{Continues}
+use Rattle.complgen_import.proofs.line.read_head.Given as goal
+
+-- what is read of the rest ends what is read of the text
+abbrev pub invariant-loop-piece : goal.invariant-loop-piece
+invariant-loop-piece l = Continues l.fn.text l.stage l.rest l.pieces
+
+abbrev pub decreases-loop-piece : goal.decreases-loop-piece
+decreases-loop-piece l = length l.rest

@@ -1,0 +1,57 @@
+-- Classes of bytes, and the longest front of a text that is in a class.
+use Rattle.std.specs.Prelude.{ℕ, Bool, true, false, not, ◌||◌, ◌==◌, List, [], ◌∷◌}
+use Rattle.std.specs.Char.{is_ascii_alphanumeric, is_ascii_digit, is_ascii_lowercase, is_ascii_uppercase}
+use Rattle.complgen_import.specs.declared.class.Class.{Class}
+use Rattle.complgen_import.specs.declared.class.Class.TheVariants.{Blank, NameByte, ValueByte, Capital, CapitalByte, Small, SmallByte, InLine, InAngles, InCurlies, InSquares}
+
+-- a letter, a digit, or one of `_.:+-`
+abbrev pub is_name_byte : ℕ → Bool
+is_name_byte byte =
+    is_ascii_alphanumeric byte
+    || (byte == 95 || byte == 46 || byte == 58 || byte == 43 || byte == 45)
+
+-- an upper case letter, a digit, `_` or `-`
+abbrev pub is_capital_byte : ℕ → Bool
+is_capital_byte byte =
+    is_ascii_uppercase byte || is_ascii_digit byte || (byte == 95 || byte == 45)
+
+-- a letter, a digit, or one of `_-.:/`
+abbrev pub is_small_byte : ℕ → Bool
+is_small_byte byte =
+    is_ascii_alphanumeric byte
+    || (byte == 95 || byte == 45 || byte == 46 || byte == 58 || byte == 47)
+
+-- whether the byte is in the class
+unfoldable pub in_class : Class → ℕ → Bool
+in_class Blank byte = byte == 32
+in_class NameByte byte = is_name_byte byte
+in_class ValueByte byte = is_name_byte byte || (byte == 47 || byte == 64 || byte == 37)
+in_class Capital byte = is_ascii_uppercase byte
+in_class CapitalByte byte = is_capital_byte byte
+in_class Small byte = is_ascii_lowercase byte
+in_class SmallByte byte = is_small_byte byte
+in_class InLine byte = not (byte == 10)
+in_class InAngles byte = not (byte == 60 || byte == 62)
+in_class InCurlies byte = not (byte == 123 || byte == 125)
+in_class InSquares byte = not (byte == 91 || byte == 93)
+
+-- whether a text begins with a byte of the class
+unfoldable pub begins : Class → List ℕ → Bool
+begins class [] = false
+begins class (byte ∷ text) = in_class class byte
+
+-- the bytes at the front of a text that are in the class
+unfoldable pub run : Class → List ℕ → List ℕ
+run class [] = []
+run class (byte ∷ text) = elim (in_class class byte) [
+  | true ↦ byte ∷ run class text
+  | false ↦ []
+]
+
+-- what follows those bytes
+unfoldable pub past : Class → List ℕ → List ℕ
+past class [] = []
+past class (byte ∷ text) = elim (in_class class byte) [
+  | true ↦ past class text
+  | false ↦ byte ∷ text
+]

@@ -1,0 +1,70 @@
+//! Classes of bytes.
+
+ghost use Rattle.std.specs.Prelude.{◌≡◌};
+ghost use Rattle.complgen_import.specs.Classes.{in_class, is_capital_byte, is_name_byte, is_small_byte};
+
+/// A class of bytes.
+#[derive(Clone, Copy, Drop)]
+pub(crate) enum Class {
+    Blank,
+    // a letter, a digit, or one of `_.:+-`
+    NameByte,
+    // the same or one of `/@%`
+    ValueByte,
+    // `A` to `Z`
+    Capital,
+    // the same, a digit, `_` or `-`
+    CapitalByte,
+    // `a` to `z`
+    Small,
+    // a letter, a digit, or one of `_-.:/`
+    SmallByte,
+    // any but a line feed
+    InLine,
+    // neither `<` nor `>`
+    InAngles,
+    // neither `{` nor `}`
+    InCurlies,
+    // neither `[` nor `]`
+    InSquares,
+}
+
+impl Class {
+    /// Whether the byte is in this class.
+    #[tactic(auto, unfolding(crate::specs::Classes::in_class))]
+    pub(crate) fn has(self, byte: u8) -> bool
+        ensures { result ≡ in_class self byte }
+    {
+        match self {
+            Class::Blank => byte == b' ',
+            Class::NameByte => is_name_byte(byte),
+            Class::ValueByte => is_name_byte(byte) || matches!(byte, b'/' | b'@' | b'%'),
+            Class::Capital => byte.is_ascii_uppercase(),
+            Class::CapitalByte => is_capital_byte(byte),
+            Class::Small => byte.is_ascii_lowercase(),
+            Class::SmallByte => is_small_byte(byte),
+            Class::InLine => byte != b'\n',
+            Class::InAngles => !matches!(byte, b'<' | b'>'),
+            Class::InCurlies => !matches!(byte, b'{' | b'}'),
+            Class::InSquares => !matches!(byte, b'[' | b']'),
+        }
+    }
+}
+
+fn is_name_byte(byte: u8) -> bool
+    ensures { result ≡ is_name_byte byte }
+{
+    byte.is_ascii_alphanumeric() || matches!(byte, b'_' | b'.' | b':' | b'+' | b'-')
+}
+
+fn is_capital_byte(byte: u8) -> bool
+    ensures { result ≡ is_capital_byte byte }
+{
+    byte.is_ascii_uppercase() || byte.is_ascii_digit() || matches!(byte, b'_' | b'-')
+}
+
+fn is_small_byte(byte: u8) -> bool
+    ensures { result ≡ is_small_byte byte }
+{
+    byte.is_ascii_alphanumeric() || matches!(byte, b'_' | b'-' | b'.' | b':' | b'/')
+}

@@ -1,0 +1,26 @@
+//! Reads the help text that a program prints.
+#![tactic(auto)]
+
+mod arguments;
+mod bytes;
+mod class;
+mod form;
+mod fronts;
+mod line;
+mod lines;
+mod names;
+mod option_name;
+mod option_names;
+mod pieces;
+mod takes;
+mod values;
+mod words;
+
+pub use crate::arguments::{Argument, read_arguments};
+pub use crate::bytes::Bytes;
+pub use crate::form::{Mark, Name, OptionLine, Piece, Separator, Value};
+pub use crate::line::option_line;
+pub use crate::lines::{Lines, option_lines};
+pub use crate::option_name::OptionName;
+pub use crate::option_names::first_names;
+pub use crate::takes::{ValueCount, value_count};
