@@ -1,0 +1,781 @@
+#!/usr/bin/env python3
+"""Types into real shells that have loaded the safe registrations, and sees what a program receives.
+
+    bench/safe_live.py [--complgen FILE] [--shells bash,zsh,fish,elvish] [--only PART]..
+                       [--before] [--seed N] [--names N] [--verbose]
+
+The shells run in a pseudo terminal and have loaded what `COMPLETE=SHELL complgen` writes for a folder
+of tree files. Their programs write the words that they receive into a file. Nothing that is typed or
+offered may run: `touch` is a program that leaves a mark, and no file may appear in the current folder.
+
+The parts:
+
+- values: each of some ninety odd texts is the one possible value of an argument. It is typed not at all, by
+  its first letter, after `'` and after `"`, and by its first letter after each; then Tab and Enter. The
+  program has to receive exactly the value.
+- files, folders: the same for a file and a folder of that name, by the hint `FilePath`. In a folder a
+  second Tab has to complete the file in it.
+- words: words with `:`, `=` and `@`, earlier words in quotes, a cursor within a word, paths after `~/`.
+- typed: a command substitution is typed and completed. Nothing may run at the Tab.
+- random: folders with names made at random of signs and commands, a file in each, and one to three Tabs.
+  --seed makes other names, --names another number of them.
+- ten-thousand: milliseconds of a Tab with 10,000 candidates, beside the original's registration.
+- start: milliseconds that 500 tree files add to the start of a shell, and the bytes of the registration.
+
+A value that is not inserted has to be one that the rules leave out: `left_out` has them. With --before the
+parts `values`, `files`, `folders` and `words` are tried by the original's registration too, as `complgen
+register` writes it, and so is the file of the issue, `x$(touch${IFS}hit)`. What happens then is counted and
+printed, with --verbose case by case, and does not count for the status.
+
+Printed is a line for each exception, and for each shell and part. The status is 0 where nothing was changed
+or ran, all that was not inserted was to be left out, and the start of each shell is within its bounds.
+"""
+
+import argparse
+import collections
+import fcntl
+import json
+import os
+import pty
+import random
+import re
+import select
+import shutil
+import signal
+import statistics
+import struct
+import subprocess
+import sys
+import tempfile
+import termios
+import time
+
+TOP = os.path.dirname(os.path.dirname(os.path.realpath(__file__)))
+SHELLS = ("bash", "zsh", "fish", "elvish")
+PARTS = ("values", "files", "folders", "words", "typed", "random", "ten-thousand", "start")
+ISSUE = "x$(touch${IFS}hit)"
+VALUES = (
+    "plain", "blank one", "two  blanks", "trail ", " lead", "sq'uote", 'dq"uote', "a\"b'c", "'", '"', "it's a", 'end"',
+    "$(touch hit)", "x$(touch hit)", ISSUE, "`touch hit`", "x`touch hit`", "$HOME", "x$HOME", "${HOME}", "$'x'",
+    "$';touch hit;'", "a$';touch hit;'", '$"x"', "$[1+1]", "$((1+1))", "=(touch hit)", "<(touch hit)", "~+", "x=~", "x=~/y",
+    "semi;touch hit", ";touch hit", "amp&touch hit", "&touch hit", "pipe|touch hit", "|touch hit", "<in", ">out",
+    "x>out", "(x)", "x(y)z", "(touch hit)", "*", "x*", "?", "[ab]", "{a,b}", "x{touch,hit}", "~", "~root", "~/x",
+    "x~", "#hash", "x#hash", "!bang", "x!bang", "!!", "%per", "%", "^caret", "^a^b", "=eq", "=ls", "k=v", "k=v=w",
+    "colon:one", "a:b:c", ":", "img:1.2", "user@host", "@scope/pkg", "img:1.2@sha256:ab", "a,b", "-dash", "--dash=x",
+    "--", "back\\slash", "back\\\\two", "end\\", "\\", "path/to/it", "dir/", "ümlaut–漢", "a\u00a0b", "‘curly’",
+    "e\u0301", "tab\there", "\ttab", "line\nfeed", "line\ntouch hit\n", "esc\x1b[2Jape", "bell\x07", "del\x7f",
+    "c1\x9b2J",
+)
+Driver = collections.namedtuple("Driver", "scratch shell registration setup")
+
+
+# ---- what the rules leave out
+
+def has_control(text):
+    return any(ord(letter) < 32 or 127 <= ord(letter) < 160 for letter in text)
+
+
+# What a shell leaves out at some Tabs only.
+MAY_LEAVE_OUT = "bash may complete nothing after a `"
+
+
+def left_out(shell, quote, value, typed=""):
+    """Why a value is not to be inserted after this open quote; None where it is."""
+    if has_control(value):
+        return "control character"
+    if shell == "bash" and quote == "'" and "'" in value[len(typed):]:
+        return "' between '"
+    if shell == "bash" and quote == '"' and "!" in value[len(typed):]:
+        return '! between "'
+    if shell == "bash" and not quote and value.rpartition("/")[0].count("`") % 2:
+        return MAY_LEAVE_OUT
+    if shell == "zsh" and quote == '"' and "$'" in value:
+        return "$' between \" in zsh"
+    if shell == "fish" and value.startswith("~"):
+        return "~ in fish"
+    if shell == "fish" and value.startswith(".") and not typed:
+        return "fish hides a leading dot"
+    if shell == "fish" and typed == "*" and value != typed:
+        return "fish completes nothing after *"
+    return None
+
+
+# ---- what is typed
+
+SPECIAL = set("$`\"'\\;&|*?[](){}<>#!~=^% \u00a0‘")
+
+
+def letter_in(shell, quote, letter):
+    """The letter as it is typed bare or after a quote; None where it can't be, or is no letter for that."""
+    if has_control(letter):
+        return None
+    if shell == "elvish":
+        return {"": None if letter in SPECIAL else letter, "'": letter.replace("'", "''"),
+                '"': re.sub(r'(["\\])', r"\\\1", letter)}[quote]
+    if quote == "'":
+        if shell == "fish":
+            return re.sub(r"(['\\])", r"\\\1", letter)
+        return None if letter == "'" else letter
+    if quote == '"':
+        if letter == "!" and shell != "fish":
+            return None
+        return re.sub(r'(["\\$])' if shell == "fish" else r'(["\\$`])', r"\\\1", letter)
+    return "\\" + letter if letter in SPECIAL else letter
+
+
+def forms(shell, value):
+    """(open quote, what is meant by what is typed, what is typed)."""
+    for quote in ("", "'", '"'):
+        yield quote, "", quote
+        letter = letter_in(shell, quote, value[0])
+        if letter is not None:
+            yield quote, value[0], quote + letter
+
+
+def open_quote(shell, line):
+    """The quote that is open at the end of a line, or nothing."""
+    quote, escaped = "", False
+    for letter in line:
+        if escaped:
+            escaped = False
+        elif letter == "\\" and escapes(shell, quote):
+            escaped = True
+        elif not quote and letter in "'\"":
+            quote = letter
+        elif letter == quote:
+            quote = ""
+    return quote
+
+
+def escapes(shell, quote):
+    if shell == "elvish":
+        return quote == '"'
+    return quote != "'" or shell == "fish"
+
+
+# ---- the scratch folder
+
+class Scratch:
+    """Folders of tree files, programs, homes and files, which are removed in the end."""
+
+    def __init__(self, complgen, options=None):
+        self.options = options
+        self.path = tempfile.mkdtemp(prefix="safe-live.")
+        self.home, self.trees, self.bin = (os.path.join(self.path, name) for name in ("home", "trees", "bin"))
+        self.record, self.ran = os.path.join(self.path, "record"), os.path.join(self.path, "ran")
+        self.line, self.here = os.path.join(self.path, "line"), os.path.join(self.path, "here")
+        for folder in (self.home, self.trees, self.bin, self.here):
+            os.mkdir(folder)
+        os.symlink(os.path.realpath(complgen), os.path.join(self.bin, "complgen"))
+        self.script("touch", f"#!/bin/sh\ncase $* in hit*) : >'{self.ran}' ;; esac\n")
+        self.environment = {
+            "HOME": self.home, "XDG_CONFIG_HOME": self.home, "XDG_DATA_HOME": self.home, "XDG_STATE_HOME": self.home,
+            "XDG_RUNTIME_DIR": self.home, "XDG_DATA_DIRS": self.path + "/none", "LC_ALL": "C.UTF-8", "TERM": "xterm",
+            "PATH": self.bin + ":" + os.environ["PATH"], "COMPLGEN_PATH": self.trees, "ZDOTDIR": self.home,
+        }
+
+    def script(self, name, text):
+        path = os.path.join(self.bin, name)
+        write(path, text)
+        os.chmod(path, 0o755)
+
+    def program(self, tree):
+        """A tree file, and a program of its name that writes down the words that it receives."""
+        write(os.path.join(self.trees, tree["name"] + ".json"), json.dumps(tree))
+        self.script(tree["name"], f"""#!{sys.executable} -IS
+import json, os, sys
+with open({self.record + ".part"!r}, "w") as file:
+    json.dump(sys.argv[1:], file)
+os.rename({self.record + ".part"!r}, {self.record!r})
+""")
+
+    def written(self, shell, **variables):
+        """What `complgen` writes for a shell to load."""
+        environment = {**self.environment, "COMPLETE": shell, **variables}
+        return subprocess.run(["complgen"], env=environment, cwd=self.here, stdout=subprocess.PIPE, check=True,
+                              executable=os.path.join(self.bin, "complgen")).stdout.decode()
+
+    def original(self, shell):
+        """The registrations of the original's form for all programs, by which the shell calls `complgen`."""
+        texts = []
+        for name in sorted(os.listdir(self.trees)):
+            bin_name = name.removesuffix(".json")
+            words = ["register", "--shell", shell, "--bin", bin_name, os.path.join(self.trees, name)]
+            text = subprocess.run(["complgen", *words], env=self.environment, stdout=subprocess.PIPE, check=True,
+                                  executable=os.path.join(self.bin, "complgen")).stdout.decode()
+            texts.append(re.sub(rf'(["\s]){bin_name}("?) -- ', r"\1complgen\2 -- ", text))
+        return "".join(texts)
+
+    def marks(self, folder, known):
+        """What ran or appeared since; it is removed."""
+        found = sorted(set(os.listdir(folder)) - set(known))
+        for name in found:
+            os.unlink(os.path.join(folder, name))
+        if os.path.exists(self.ran):
+            os.unlink(self.ran)
+            found.append("touch ran")
+        return found
+
+    def remove(self):
+        shutil.rmtree(self.path, ignore_errors=True)
+
+
+def write(path, text):
+    with open(path, "w", encoding="utf-8") as file:
+        file.write(text)
+
+
+def unlink(path):
+    if os.path.exists(path):
+        os.unlink(path)
+
+
+# ---- a shell in a pseudo terminal
+
+READY = "<ready> "
+LISTED = "\x01"
+DUMP = {"bash": "\x18\x18", "zsh": "\x18\x18", "fish": "\x18\x18", "elvish": "\x18"}
+
+
+class Terminal:
+    """A shell that has loaded a registration, in a pseudo terminal."""
+
+    def __init__(self, scratch, shell, registration, setup=""):
+        self.scratch, self.shell, self.seen = scratch, shell, b""
+        loaded = os.path.join(scratch.path, "registration." + shell)
+        write(loaded, registration)
+        words = START[shell](scratch, loaded if registration else os.devnull, setup)
+        self.began = time.monotonic()
+        self.process, self.terminal = pty.fork()
+        if self.process == 0:
+            os.chdir(scratch.here)
+            os.execvpe(words[0], words, scratch.environment)
+        fcntl.ioctl(self.terminal, termios.TIOCSWINSZ, struct.pack("HHHH", 50, 400, 0, 0))
+        self.ready()
+
+    def send(self, text):
+        os.write(self.terminal, text.encode())
+
+    def read(self, seconds):
+        if not select.select([self.terminal], [], [], seconds)[0]:
+            return False
+        try:
+            self.seen += os.read(self.terminal, 65536)
+        except OSError:
+            raise SystemExit(f"{self.shell}: ended: {self.seen[-300:]!r}") from None
+        return True
+
+    def ready(self, seconds=20):
+        """Waits for the prompt that ends a command."""
+        end = time.monotonic() + seconds
+        while READY.encode() not in self.seen:
+            if time.monotonic() > end:
+                return False
+            self.read(0.05)
+        self.seen = self.seen.rpartition(READY.encode())[2]
+        return True
+
+    def wait(self, path, seconds, again=""):
+        """Waits until a file is there. Keys are sent again now and then."""
+        began = last = time.monotonic()
+        while not os.path.exists(path):
+            now = time.monotonic()
+            if now > began + seconds:
+                return False
+            if again and now > last + 1:
+                self.send(again)
+                last = now
+            self.read(0.001)
+        return True
+
+    def tab(self, text, keys="\t"):
+        """Types a text and a Tab; the command line after it and the seconds that it took."""
+        unlink(self.scratch.line)
+        self.send(text)
+        began = time.monotonic()
+        self.send(keys + DUMP[self.shell])
+        there = self.wait(self.scratch.line, 5, DUMP[self.shell])
+        took = time.monotonic() - began
+        if not there:
+            return None, took
+        with open(self.scratch.line, encoding="utf-8") as file:
+            line = file.read()
+        return (line.removesuffix("\n") if self.shell == "fish" else line), took
+
+    def complete(self, text, tabs=1, keys=""):
+        """Types a text, other keys and Tabs, closes a quote that is open then, and presses Enter; the words
+        that the program received."""
+        unlink(self.scratch.record)
+        self.seen = b""
+        for at in range(tabs):
+            line, _ = self.tab("" if at else text + keys)
+            if line and line.startswith(LISTED):
+                # Elvish shows the one candidate in a list, from which Enter takes it
+                line, _ = self.tab("", "\r")
+        self.send(open_quote(self.shell, line or "") + "\r")
+        if not self.wait(self.scratch.record, 4):
+            self.clear()
+            return None
+        self.ready()
+        with open(self.scratch.record, encoding="utf-8") as file:
+            return json.load(file)
+
+    def clear(self):
+        """Leaves the command line empty."""
+        for _ in range(3):
+            line, _ = self.tab("", "\x15")
+            if line == "":
+                self.seen = b""
+                return
+            self.seen = b""
+            self.send("\x03")
+            self.ready(1)
+        raise SystemExit(f"{self.shell}: the command line stays {line!r}")
+
+    def go(self, folder):
+        self.seen = b""
+        self.send(f"cd '{folder}'\r")
+        self.ready()
+        self.settle()
+
+    def settle(self, seconds=0.05):
+        while self.read(seconds):
+            pass
+        self.seen = b""
+
+    def close(self):
+        os.kill(self.process, signal.SIGKILL)
+        os.waitpid(self.process, 0)
+        os.close(self.terminal)
+
+
+def start_bash(scratch, loaded, setup):
+    path = os.path.join(scratch.path, "bashrc")
+    write(path, f"""bind 'set bell-style none'; bind 'set enable-bracketed-paste off'; bind 'set page-completions off'
+bind 'set completion-query-items -1'
+{setup}
+source '{loaded}'
+dump() {{ printf '%s' "$READLINE_LINE" >'{scratch.line}.part'; mv '{scratch.line}.part' '{scratch.line}'; }}
+bind -x '"\\C-x\\C-x": dump'
+PS1='{READY}'
+""")
+    return ["bash", "--noprofile", "--rcfile", path, "-i"]
+
+
+def start_zsh(scratch, loaded, setup):
+    write(os.path.join(scratch.home, ".zshrc"), f"""autoload -Uz compinit; compinit -C -u; LISTMAX=100000
+{setup}
+source '{loaded}'
+dump() {{ print -rn -- "$BUFFER" >'{scratch.line}.part'; mv '{scratch.line}.part' '{scratch.line}'; }}
+zle -N dump; bindkey '^X^X' dump; PS1='{READY}'; unsetopt prompt_cr prompt_sp
+""")
+    return ["zsh", "-d", "-i"]
+
+
+def start_fish(scratch, loaded, setup):
+    os.makedirs(os.path.join(scratch.home, "fish"), exist_ok=True)
+    write(os.path.join(scratch.home, "fish", "config.fish"), f"""set -g fish_greeting
+set -g fish_autosuggestion_enabled 0
+{setup}
+source '{loaded}'
+function dump; commandline | string collect -N >'{scratch.line}.part'; mv '{scratch.line}.part' '{scratch.line}'; end
+function fish_user_key_bindings; bind \\cx\\cx dump; end
+function fish_prompt; printf '{READY}'; end
+""")
+    return ["fish", "--private"]
+
+
+def start_elvish(scratch, loaded, setup):
+    path = os.path.join(scratch.path, "rc.elv")
+    dump = f"$edit:current-command > '{scratch.line}.part'; mv '{scratch.line}.part' '{scratch.line}' }}"
+    write(path, f"""{setup}
+eval (slurp < '{loaded}')
+set edit:insert:binding[Ctrl-X] = {{ print {dump}
+set edit:completion:binding[Ctrl-X] = {{ print "\\x01"{dump}
+set edit:prompt = {{ print '{READY}' }}
+set edit:rprompt = {{ }}
+""")
+    return ["elvish", "-rc", path, "-db", os.path.join(scratch.path, "db"), "-sock", os.path.join(scratch.path, "sock")]
+
+
+START = {"bash": start_bash, "zsh": start_zsh, "fish": start_fish, "elvish": start_elvish}
+
+
+# ---- judging
+
+class Count:
+    """What became of the tries of a part in a shell. A quiet one prints the counts alone."""
+
+    def __init__(self, shell, part, verbose, quiet=False):
+        self.name, self.verbose, self.quiet = f"{shell}, {part}", verbose, quiet and not verbose
+        self.found, self.reasons = collections.Counter(), collections.Counter()
+
+    def judge(self, what, typed, expected, got, reason, marks, prefixes):
+        """Counts a try: what the program is to receive, what it did, and what ran."""
+        if marks:
+            self.say("EVALUATED", what, typed, got, marks)
+        elif got == expected and reason in (None, MAY_LEAVE_OUT):
+            self.found["received"] += 1
+            return
+        elif got in prefixes:
+            self.found["not inserted"] += 1
+            self.reasons[reason or "NOT EXPECTED"] += 1
+            if reason is None:
+                self.say("NOT INSERTED", what, typed, got)
+            elif self.verbose:
+                print(f"  {self.name}: {what!r} typed as {typed!r}: not inserted: {reason}")
+        elif got == expected:
+            self.say("INSERTED AGAINST THE RULES", what, typed, got)
+        else:
+            self.say("CHANGED", what, typed, got)
+
+    def say(self, kind, what, typed, got, *more):
+        if kind != "NOT INSERTED":
+            self.found[kind.lower()] += 1
+        self.found["bad"] += 1
+        if not self.quiet:
+            print(f"  {self.name}: {kind}: {what!r} typed as {typed!r}: received {got!r}", *more)
+
+    def end(self):
+        bad = self.found.pop("bad", 0)
+        counts = [f"{self.found.pop(name, 0)} {name}" for name in ("received", "not inserted", "changed", "evaluated")]
+        counts += [f"{count} {name}" for name, count in self.found.items()]
+        why = "; ".join(f"{count} {reason}" for reason, count in sorted(self.reasons.items()))
+        print(f"{self.name}: " + ", ".join(counts) + (f" ({why})" if why else ""), flush=True)
+        return bad == 0
+
+
+# ---- the parts
+
+def value_tree():
+    return {"name": "vals", "disable_help_subcommand": True, "subcommands": [
+        {"name": f"c{at:02}", "disable_help_flag": True, "args": [{"id": "v", "possible_values": [{"name": value, "help": "a help: of it"}],
+                                        "allow_hyphen_values": True}]}
+        for at, value in enumerate(VALUES)]}
+
+
+def try_values(terminal, scratch, count):
+    for at, value in enumerate(VALUES):
+        for quote, before, typed in forms(terminal.shell, value):
+            name = f"c{at:02}"
+            got = terminal.complete(f"vals {name} {typed}")
+            reason = left_out(terminal.shell, quote, value, before)
+            prefixes = ([name], [name, before]) if before or quote else ([name],)
+            count.judge(value, typed, [name, value], got, reason, scratch.marks(scratch.here, ()), prefixes)
+
+
+def file_names():
+    """Those of the values that can name a file, in a folder of its own each."""
+    return [(f"{at:02}", value) for at, value in enumerate(VALUES) if "/" not in value]
+
+
+def make_files(scratch):
+    for at, value in file_names():
+        os.makedirs(os.path.join(scratch.path, "files", at))
+        write(os.path.join(scratch.path, "files", at, value), "")
+        os.makedirs(os.path.join(scratch.path, "folders", at, value))
+        write(os.path.join(scratch.path, "folders", at, value, "in side"), "")
+
+
+def try_files(terminal, scratch, count):
+    for at, value in file_names():
+        folder = os.path.join(scratch.path, "files", at)
+        terminal.go(folder)
+        for quote, before, typed in forms(terminal.shell, value):
+            if before == "-":
+                continue
+            got = terminal.complete(f"fils {typed}")
+            reason = left_out(terminal.shell, quote, value, before)
+            prefixes = ([], [before]) if before or quote else ([],)
+            count.judge(value, typed, [value], got, reason, scratch.marks(folder, [value]), prefixes)
+
+
+def try_folders(terminal, scratch, count):
+    for at, value in file_names():
+        folder = os.path.join(scratch.path, "folders", at)
+        terminal.go(folder)
+        for quote, before, typed in forms(terminal.shell, value):
+            if before == "-":
+                continue
+            for tabs, wanted in ((1, value + "/"), (2, value + "/in side")):
+                if tabs == 2 and (value.startswith("-") or value == "~"):
+                    continue  # these two words are an option, and the home folder
+                got = terminal.complete(f"fils {typed}", tabs)
+                reason = left_out(terminal.shell, quote, value + "/", before)
+                prefixes = ([], [before]) if before or quote else ([],)
+                count.judge(wanted, typed, [wanted], got, reason, scratch.marks(folder, [value]), prefixes)
+
+
+WORDS = (
+    # what is typed, and what the program is to receive after Tab and Enter
+    ("word img", ["img:1.2"]),
+    ("word img:", ["img:1.2"]),
+    ("word img:1", ["img:1.2"]),
+    ("word img:1.", ["img:1.2"]),
+    ("word 'img:1", ["img:1.2"]),
+    ('word "img:1', ["img:1.2"]),
+    ("word us", ["user@host"]),
+    ("word user@", ["user@host"]),
+    ("word user@h", ["user@host"]),
+    ("word key=", ["key=a:b@c"]),
+    ("word key=a:", ["key=a:b@c"]),
+    ("word key=a:b@", ["key=a:b@c"]),
+    ("word --x=", ["--x=v:1"]),
+    ("word --x=v", ["--x=v:1"]),
+    ("word --x=v:", ["--x=v:1"]),
+    ("word --x v", ["--x", "v:1"]),
+    ("word --x=v:1 us", ["--x=v:1", "user@host"]),
+    ("word --x v:1 img:", ["--x", "v:1", "img:1.2"]),
+    ("word a:b se", ["a:b", "second"]),
+    ("word a=b se", ["a=b", "second"]),
+    ("word user@host se", ["user@host", "second"]),
+    ("word a::b=:c se", ["a::b=:c", "second"]),
+    ("word 'a b' se", ["a b", "second"]),
+    ('word "a b" se', ["a b", "second"]),
+    ('word "a b":c se', ["a b:c", "second"]),
+    ("word a:b c=d th", ["a:b", "c=d", "third"]),
+    ("word 'a:b' \"c=d\" th", ["a:b", "c=d", "third"]),
+    ("word x:1  x:1 th", ["x:1", "x:1", "third"]),
+    ("word : se", [":", "second"]),
+    ("word img:1.2 se", ["img:1.2", "second"]),
+    ("true; word img:1 se", ["img:1", "second"]),
+    ("word 'two w", ["two words"]),
+    ("word 'two words' se", ["two words", "second"]),
+    ("vals 'c00' pl", ["c00", "plain"]),
+    ('vals "c00" pl', ["c00", "plain"]),
+    ('vals c"0"0 pl', ["c00", "plain"]),
+    ("vals 'c0'0 'pl", ["c00", "plain"]),
+    ("vals c01 'bl'an", ["c01", "blank one"]),
+    ("vals c01 bl'an", ["c01", "blank one"]),
+    ("vals c01 'blank 'o", ["c01", "blank one"]),
+    ("word '' se", ["", "second"]),
+    ('word "" se', ["", "second"]),
+)
+ESCAPED = (
+    ("word a\\ b se", ["a b", "second"]),
+    ("word two\\ w", ["two words"]),
+    ("word a\\ b:c\\=d se", ["a b:c=d", "second"]),
+)
+ESCAPED_POSIX = (
+    ("vals \\c00 pl", ["c00", "plain"]),
+    ("word $(echo a b) se", ["a", "b", "second"]),
+)
+
+
+def word_tree():
+    first = ["img:1.2", "user@host", "key=a:b@c", "two words"]
+    return {"name": "word", "disable_help_flag": True, "args": [
+        {"id": "x", "long": "x", "possible_values": [{"name": "v:1"}]},
+        {"id": "first", "possible_values": [{"name": name} for name in first]},
+        {"id": "second", "possible_values": [{"name": "second"}]},
+        {"id": "third", "possible_values": [{"name": "third"}]}]}
+
+
+SIGNS = (
+    "$", "'", '"', "`", "(", ")", ";touch hit;", "$(touch hit)", "`touch hit`", "touch hit", " ", "\\", "{", "}", "!",
+    "~", "=", ":", "#", "*", "?", "[", "]", "<", ">", "|", "&", "^", "%", "@", "a", "b", "é", ",", "+", "-", "$'",
+    '$"', "x", "1", "\\x3b", "\\n", "..", ".", "${", "$[", "=(", "<(", "\u00a0", "\\073",
+)
+
+
+def random_names(seed, count):
+    """Names of folders, made of signs and commands."""
+    chance, names = random.Random(seed), []
+    while len(names) < count:
+        name = "".join(chance.choice(SIGNS) for _ in range(chance.randrange(1, 7)))
+        if name not in (".", "..", "~", *names) and not name.startswith("-"):
+            names.append(name)
+    return names
+
+
+def try_random(terminal, scratch, count):
+    for at, name in enumerate(random_names(scratch.options.seed, scratch.options.names)):
+        folder, inner = os.path.join(scratch.path, "random", str(at)), "in " + name
+        if not os.path.exists(folder):
+            os.makedirs(os.path.join(folder, name))
+            write(os.path.join(folder, name, inner), "")
+        terminal.go(folder)
+        for quote, before, typed in forms(terminal.shell, name):
+            for tabs, wanted in ((1, name + "/"), (2, name + "/" + inner), (3, name + "/" + inner)):
+                got = terminal.complete(f"fils {typed}", tabs)
+                reason = left_out(terminal.shell, quote, wanted, before)
+                prefixes = ([], [before], [name + "/"]) if before or quote else ([], [name + "/"])
+                # After a lone dot, which is the current folder, the paths in it begin with `./`.
+                expected = ["./" + wanted] if before == "." and got == ["./" + wanted] else [wanted]
+                count.judge(wanted, typed, expected, got, reason, scratch.marks(folder, [name]), prefixes)
+
+
+def try_words(terminal, scratch, count):
+    terminal.go(scratch.here)
+    escaped = {"bash": ESCAPED + ESCAPED_POSIX, "zsh": ESCAPED + ESCAPED_POSIX, "fish": ESCAPED, "elvish": ()}
+    for typed, wanted in WORDS + escaped[terminal.shell]:
+        got = terminal.complete(typed)
+        count.judge(wanted, typed, wanted, got, None, scratch.marks(scratch.here, ()), ([typed.split()[1:]]))
+    if terminal.shell == "bash":
+        # a cursor within a word: what is after it stays
+        got = terminal.complete("word us", keys="x\x1b[D")
+        count.judge("user@host", "word us|x", True, got in (["user@host", "x"], ["user@hostx"]), None,
+                    scratch.marks(scratch.here, ()), ())
+    try_home(terminal, scratch, count)
+
+
+def try_home(terminal, scratch, count):
+    write(os.path.join(scratch.home, "notes of it"), "")
+    for typed in ("fils ~/no", "fils ~/notes"):
+        got = terminal.complete(typed)
+        count.judge("~/notes of it", typed, [scratch.home + "/notes of it"], got, None,
+                    scratch.marks(scratch.here, ()), ())
+
+
+TYPED = ("$(touch hit)", "`touch hit`", '"$(touch hit)', "x$(touch hit) ", "'$(touch hit)' ", "$(touch hit",
+         "(touch hit)", "${x:=$(touch hit)}", ";touch hit ", "x;touch hit", "<(touch hit) ", "$x[(touch hit)]",
+         "{$(touch hit),b}", "$((x[$(touch hit)]))")
+
+
+def try_typed(terminal, scratch, count):
+    terminal.go(scratch.here)
+    for typed in TYPED:
+        for program in ("word ", "fils "):
+            line, _ = terminal.tab(program + typed, "\t\t")
+            terminal.settle(0.1)
+            marks = scratch.marks(scratch.here, ())
+            count.judge(typed, program + typed, True, line is not None, None, marks, ())
+            terminal.clear()
+
+
+# ---- times
+
+def try_ten_thousand(scratch, shell, verbose):
+    """Prints the milliseconds of a Tab with 10,000 candidates by each of the two registrations."""
+    values = [{"name": f"value-{at:05}"} for at in range(10000)]
+    scratch.program({"name": "many", "disable_help_flag": True, "args": [{"id": "v", "possible_values": values}]})
+    setup = {"zsh": "unsetopt auto_list auto_menu"}.get(shell, "")
+    found = {}
+    for name, text in (("safe", scratch.written(shell)), ("original's", scratch.original(shell))):
+        terminal = Terminal(scratch, shell, text, setup)
+        took = []
+        for _ in range(7):
+            line, seconds = terminal.tab("many val")
+            if line is None or "value-0" not in line:
+                print(f"  {shell}, ten-thousand, {name}: the line is {line!r}")
+            took.append(seconds * 1000)
+            terminal.clear()
+            terminal.settle()
+        terminal.close()
+        found[name] = statistics.median(took)
+    times = ", ".join(f"{ms:.0f} ms ({name})" for name, ms in found.items())
+    print(f"{shell}, ten-thousand: a Tab takes {times}", flush=True)
+    return True
+
+
+def try_start(scratch, shell, verbose):
+    """Prints what 500 tree files add to the start of a shell, and the bytes of the registration."""
+    folder = os.path.join(scratch.path, "many-trees")
+    os.makedirs(folder, exist_ok=True)
+    for at in range(500):
+        write(os.path.join(folder, f"prog{at:03}.json"), '{"name": "p"}')
+    text = scratch.written(shell, COMPLGEN_PATH=folder)
+    load = {"bash": "source <(COMPLETE=bash complgen)", "zsh": "source <(COMPLETE=zsh complgen)",
+            "fish": "COMPLETE=fish complgen | source", "elvish": "eval (env COMPLETE=elvish complgen | slurp)"}[shell]
+    before, scratch.environment["COMPLGEN_PATH"] = scratch.environment["COMPLGEN_PATH"], folder
+    took = {"": [], load: []}
+    for _ in range(20):
+        for setup in took:
+            terminal = Terminal(scratch, shell, "", setup)
+            took[setup].append((time.monotonic() - terminal.began) * 1000)
+            terminal.close()
+    scratch.environment["COMPLGEN_PATH"] = before
+    more = statistics.median(took[load]) - statistics.median(took[""])
+    size = len(text.encode())
+    good = more <= 10 and size <= 30000
+    print(f"{shell}, start: {more:.1f} ms more with 500 tree files, {size} bytes"
+          + ("" if good else ": MORE THAN 10 ms or 30000 bytes"), flush=True)
+    return good
+
+
+# ---- all
+
+TRIES = {"values": try_values, "files": try_files, "folders": try_folders, "words": try_words, "typed": try_typed,
+         "random": try_random}
+TIMES = {"ten-thousand": try_ten_thousand, "start": try_start}
+
+
+def try_shell(scratch, shell, options):
+    good = True
+    for part in options.only or PARTS:
+        if part in TIMES:
+            good &= TIMES[part](scratch, shell, options.verbose)
+            continue
+        safe = scratch.written(shell)
+        setup = ""
+        if options.before and part not in ("typed", "random"):
+            before = Count(shell, "before, " + part, options.verbose, True)
+            try_part(Driver(scratch, shell, scratch.original(shell), ""), part, before)
+        if part == "typed" and shell == "zsh":
+            # by its own default zsh itself expands what is typed at a Tab, in any command; then it is to complete alone
+            by_default = Count(shell, "its default key for Tab, not counted, typed", options.verbose, True)
+            try_part(Driver(scratch, shell, safe, ""), part, by_default)
+            setup = "bindkey '^I' complete-word"
+        good &= try_part(Driver(scratch, shell, safe, setup), part, Count(shell, part, options.verbose))
+    return good
+
+
+def try_part(driver, part, count):
+    terminal = Terminal(driver.scratch, driver.shell, driver.registration, driver.setup)
+    terminal.settle(0.2)
+    TRIES[part](terminal, driver.scratch, count)
+    terminal.close()
+    return count.end()
+
+
+def show_issue(scratch):
+    """The file of the issue in bash, by the original's registration and by the safe one."""
+    for name, text in (("before", scratch.original("bash")), ("after", scratch.written("bash"))):
+        folder = os.path.join(scratch.path, "issue-" + name)
+        os.makedirs(folder)
+        write(os.path.join(folder, ISSUE), "")
+        terminal = Terminal(scratch, "bash", text)
+        terminal.go(folder)
+        got = terminal.complete("fils x")
+        terminal.close()
+        marks = scratch.marks(folder, [ISSUE])
+        print(f"bash, the file {ISSUE}, {name}: received {got!r}, ran: {', '.join(marks) or 'nothing'}")
+
+
+def arguments():
+    parser = argparse.ArgumentParser(description=__doc__, formatter_class=argparse.RawDescriptionHelpFormatter)
+    parser.add_argument("--complgen", default=os.path.join(TOP, "crates", "complgen", "out", "complgen"))
+    parser.add_argument("--shells", default=",".join(SHELLS))
+    parser.add_argument("--only", action="append", choices=PARTS)
+    parser.add_argument("--before", action="store_true")
+    parser.add_argument("--seed", type=int, default=1)
+    parser.add_argument("--names", type=int, default=40)
+    parser.add_argument("--verbose", action="store_true")
+    return parser.parse_args()
+
+
+def main():
+    options = arguments()
+    if not os.access(options.complgen, os.X_OK):
+        raise SystemExit(f"no program {options.complgen}: run `rt run` in its crate, or name one by --complgen")
+    scratch = Scratch(options.complgen, options)
+    good = True
+    try:
+        scratch.program(value_tree())
+        scratch.program({"name": "fils", "disable_help_flag": True, "args": [{"id": "f", "value_hint": "FilePath"}]})
+        scratch.program(word_tree())
+        make_files(scratch)
+        if options.before and "bash" in options.shells:
+            show_issue(scratch)
+        for shell in options.shells.split(","):
+            if shutil.which(shell) is None:
+                print(f"{shell}: not installed, passed over")
+                continue
+            good &= try_shell(scratch, shell, options)
+    finally:
+        scratch.remove()
+    return 0 if good else 1
+
+
+if __name__ == "__main__":
+    sys.exit(main())
