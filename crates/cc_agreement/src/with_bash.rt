@@ -10,13 +10,12 @@ ghost use Rattle.cc_command.specs.Built.{built_under};
 ghost use Rattle.cc_engine.specs.Paths.{PathsOf};
 ghost use Rattle.cc_gather.specs.Values.{returned_by};
 
-use cc_base::{Error, Sink};
+use cc_base::{CandidateSources, Error, Sink};
 use cc_bash::Bash;
 use cc_candidates::{Completers, CompletionCandidate};
 use cc_command::Command;
 use cc_engine::complete;
 use cc_generator::generate;
-use cc_numbers::CandidateSources;
 use cc_paths::Folder;
 use std::alloc::Global;
 

@@ -15,11 +15,10 @@ ghost use Rattle.cc_agreement.specs.ParserAgreement.{AgreesWithParser, IsParserO
 ghost use Rattle.cc_gather.specs.Values.{returned_by};
 
 use bumpalo::Bump;
-use cc_base::Error;
+use cc_base::{CandidateSources, Error};
 use cc_candidates::{Completers, CompletionCandidate};
 use cc_command::Command;
 use cc_engine::complete;
-use cc_numbers::CandidateSources;
 use cc_parser::parser;
 use cc_paths::Folder;
 use std::alloc::Global;

@@ -14,8 +14,7 @@ use crate::parts::{ArgParts, text_of};
 use crate::possible_value::PossibleValue;
 use crate::range::ValueRange;
 use crate::value_hint::ValueHint;
-use cc_base::{Error, Items, Text};
-use cc_numbers::{ArgValueCandidates, ArgValueCompleter};
+use cc_base::{ArgValueCandidates, ArgValueCompleter, Error, Items, Text};
 use std::alloc::{AllocError, Global};
 use std::marker::Model;
 

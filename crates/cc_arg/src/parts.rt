@@ -8,8 +8,7 @@ use crate::action::ArgAction;
 use crate::possible_value::{PossibleValue, copy_of_given};
 use crate::range::ValueRange;
 use crate::value_hint::ValueHint;
-use cc_base::{Items, Text};
-use cc_numbers::{ArgValueCandidates, ArgValueCompleter};
+use cc_base::{ArgValueCandidates, ArgValueCompleter, Items, Text};
 use std::alloc::{AllocError, Global};
 
 /// What one argument holds, of which a crate above can make one.

@@ -9,5 +9,6 @@ pub mod Lists
 pub mod Members
 pub mod NameBytes
 pub mod PlainNames
+pub mod ShownLemmas
 pub mod Sorted
 pub mod WrittenTexts

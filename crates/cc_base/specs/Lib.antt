@@ -7,6 +7,7 @@ pub mod Found
 pub mod Held
 pub mod Joined
 pub mod PlainName
+pub mod Shown
 pub mod Sink
 pub mod Sorting
 pub mod Told

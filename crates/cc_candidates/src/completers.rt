@@ -8,7 +8,7 @@ use crate::candidate::CompletionCandidate;
 use crate::closures::{FnCandidates, FnCompleter, ListCall, TextCall};
 use crate::sources::Source;
 use crate::traits::{ValueCandidates, ValueCompleter};
-use cc_numbers::{ArgValueCompleter, CandidateSources};
+use cc_base::{ArgValueCompleter, CandidateSources};
 use std::alloc::{AllocError, Global};
 
 type Completer = Source<Box<dyn ValueCompleter>, FnCompleter>;

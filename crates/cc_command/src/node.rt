@@ -3,8 +3,7 @@
 ghost use Rattle.std.specs.Prelude.{◌≡◌};
 
 use cc_arg::Arg;
-use cc_base::{Items, Text};
-use cc_numbers::SubcommandCandidates;
+use cc_base::{Items, SubcommandCandidates, Text};
 use std::alloc::Global;
 
 /// What one command of a tree holds besides its children.

@@ -5,7 +5,7 @@ use crate::fixtures::{built_tree, tree};
 use cc_arg::{Arg, ArgAction, PossibleValue, ValueHint, possible_values};
 use cc_base::{Error, Text};
 use cc_command::Command;
-use cc_tree_file::{TreeError, read_tree};
+use complgen_tree_file::{TreeError, read_tree};
 use std::alloc::{AllocError, Global};
 use std::process::Abort;
 

@@ -2,7 +2,7 @@
 
 use crate::checks::same;
 use crate::fixtures::tree;
-use cc_command_warnings::{Warning, command_warnings};
+use complgen_lints::{Warning, command_warnings};
 use std::alloc::{AllocError, Global};
 
 // A line for each warning: the indexes of its command, that of its argument, its key, that of the

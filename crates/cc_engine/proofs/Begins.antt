@@ -21,8 +21,8 @@ use Rattle.cc_base.proofs.Sorted.{AllByRecursion-in_order}
 use Rattle.cc_candidates.specs.Beginning.{begins}
 use Rattle.cc_candidates.specs.Candidate.{candidate_cmp}
 use Rattle.cc_candidates.specs.declared.candidate.CompletionCandidate.{CompletionCandidate}
-use Rattle.cc_numbers.specs.declared.numbers.ArgValueCandidates.{ArgValueCandidates}
-use Rattle.cc_numbers.specs.declared.numbers.ArgValueCompleter.{ArgValueCompleter}
+use Rattle.cc_base.specs.declared.numbers.ArgValueCandidates.{ArgValueCandidates}
+use Rattle.cc_base.specs.declared.numbers.ArgValueCompleter.{ArgValueCompleter}
 use Rattle.cc_command.specs.Tree.{Tree}
 use Rattle.cc_gather.specs.Children.{children_candidates, external, in_candidates_order, subcommand_candidates}
 use Rattle.cc_gather.specs.Finished.{comes_before, finish, first_of_ids, group, shown_or_all}

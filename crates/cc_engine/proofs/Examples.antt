@@ -11,7 +11,7 @@ use Rattle.cc_arg.specs.PossibleValues.{new_possible_value}
 use Rattle.cc_arg.specs.Printed.{printed, printed_after_name, printed_names, printed_values}
 use Rattle.cc_base.specs.Sorting.{in_order, insert}
 use Rattle.cc_candidates.specs.declared.candidate.CompletionCandidate.{CompletionCandidate}
-use Rattle.cc_numbers.specs.declared.numbers.ArgValueCompleter.{ArgValueCompleter}
+use Rattle.cc_base.specs.declared.numbers.ArgValueCompleter.{ArgValueCompleter}
 use Rattle.cc_candidates.specs.Candidate.{new_candidate}
 use Rattle.cc_command.specs.Built.{built_tree}
 use Rattle.cc_command.specs.Generated.{help_argument}

@@ -8,7 +8,7 @@ use Rattle.cc_base.specs.declared.error.Error.TheVariants.{Memory, NoCompletion}
 use Rattle.cc_command.specs.Built.{built_tree}
 use Rattle.cc_candidates.specs.Beginning.{begins}
 use Rattle.cc_candidates.specs.declared.candidate.CompletionCandidate.{CompletionCandidate}
-use Rattle.cc_numbers.specs.declared.numbers.SubcommandCandidates.{SubcommandCandidates}
+use Rattle.cc_base.specs.declared.numbers.SubcommandCandidates.{SubcommandCandidates}
 use Rattle.cc_command.specs.declared.node.Node.{Node}
 use Rattle.cc_command.specs.Tree.{Tree}
 use Rattle.cc_gather.specs.Children.{subcommand_candidates}

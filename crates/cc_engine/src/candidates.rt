@@ -10,10 +10,10 @@ use crate::offered_lists::{children, options, positional_values};
 use crate::open_lists::OpenLists;
 use crate::sources::Sources;
 use cc_arg::{Arg, counted_range};
+use cc_base::CandidateSources;
 use cc_candidates::{Completers, CompletionCandidate};
 use cc_command::Command;
 use cc_gather::{PathSource, finish, finish_after};
-use cc_numbers::CandidateSources;
 use cc_walk::{Pending, State, positional_at};
 use std::alloc::{AllocError, Global};
 

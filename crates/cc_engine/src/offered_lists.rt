@@ -10,10 +10,10 @@ ghost use Rattle.cc_gather.specs.Values.{Allows, returned_by};
 
 use crate::sources::Sources;
 use cc_arg::Arg;
+use cc_base::CandidateSources;
 use cc_candidates::{Completers, CompletionCandidate};
 use cc_command::Command;
 use cc_gather::{OptionMatch, PathSource, all_with_prefix, match_options, subcommand_candidates};
-use cc_numbers::CandidateSources;
 use std::alloc::{AllocError, Global};
 
 /// The children that begin with the word, and what the list of other programs adds.

@@ -5,10 +5,10 @@ ghost use Rattle.cc_engine.specs.Completion.{children_question};
 ghost use Rattle.cc_gather.specs.Values.{Allows, ArgumentValues, returned_by};
 
 use cc_arg::Arg;
+use cc_base::CandidateSources;
 use cc_candidates::{Completers, CompletionCandidate};
 use cc_command::Command;
 use cc_gather::{PathSource, arg_values};
-use cc_numbers::CandidateSources;
 use std::alloc::{AllocError, Global};
 
 /// Completers and lists, and a source of paths. They fail only where memory runs out.

@@ -1,6 +1,6 @@
 -- How the whole call ends, outcome by outcome.
 use Rattle.std.proofs.Common.{◌≡◌, ◌++◌, ◌∙◌, ap, sym, subst, ℕ, Bool, true, List, Option, Some, None, Result, Ok, Err, find, map}
-use Rattle.cc_adapters.specs.Builtins.{CompleterSpec}
+use Rattle.cc_env.specs.Builtins.{CompleterSpec}
 use Rattle.cc_base.specs.Writes.{IsWrite, Writes}
 use Rattle.cc_base.specs.declared.error.Error.{Error}
 use Rattle.cc_base.specs.declared.error.Error.TheVariants.{Write}

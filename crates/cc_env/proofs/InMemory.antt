@@ -1,7 +1,7 @@
 -- What is written into memory.
 use Rattle.std.proofs.Common.{◌≡◌, ◌++◌, sym, ap, ◌∙◌, subst, ℕ, List, [], Result, Ok, Err}
-use Rattle.cc_adapters.specs.Builtins.{CompleterSpec}
-use Rattle.cc_adapters.specs.Replies.{IsReply, Replies}
+use Rattle.cc_env.specs.Builtins.{CompleterSpec}
+use Rattle.cc_env.specs.Replies.{IsReply, Replies}
 use Rattle.cc_base.specs.declared.error.Error.{Error}
 use Rattle.cc_base.specs.declared.error.Error.TheVariants.{Write}
 use Rattle.cc_base.specs.declared.failures.Failures.{Failures}

@@ -1,5 +1,8 @@
+mod AdapterExamples
 pub mod Ending
 mod Examples
 pub mod InMemory
 pub mod LastWords
+pub mod Replying
+pub mod SafeReplying
 pub mod Texts

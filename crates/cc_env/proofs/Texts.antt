@@ -2,7 +2,7 @@
 use Rattle.std.proofs.Common.{◌≡◌, ◌≢◌, ◌==◌, ◌⊎◌, inl, inr, sym, ap, ◌∙◌, subst, ℕ, true, false, List, [], ◌∷◌, length, map, Result, Ok, Err, IfErr, IfOk}
 use Rattle.std.proofs.lemmas.Bool.{eqb-true, eq-eqb}
 use Rattle.std.proofs.lemmas.List.{length-map, nil_from_length}
-use Rattle.cc_adapters.specs.Builtins.{CompleterSpec}
+use Rattle.cc_env.specs.Builtins.{CompleterSpec}
 use Rattle.cc_base.specs.Collected.{collected_bytes}
 use Rattle.cc_base.specs.declared.collected.Collected.{Collected}
 use Rattle.cc_base.specs.declared.error.Error.{Error}

@@ -1,3 +1,9 @@
 pub mod Arguments
+pub mod Builtins
+pub mod Replies
+pub mod SafeShells
+pub mod ShellNames
+pub mod Shells
 pub mod Steps
 pub mod Wanted
+pub mod WantedWords

@@ -1,8 +1,8 @@
 -- What a program does where its environment may want a completion.
 use Rattle.std.specs.Prelude.{◌≡◌, ◌≢◌, ◌++◌, ⊤, ℕ, Bool, true, false, List, [], ◌∷◌, map, Option, unwrap_or, Result, Ok, Err, IfErr, IfOk}
 use Rattle.std.specs.declared.io.ErrorKind.{ErrorKind}
-use Rattle.cc_adapters.specs.Builtins.{CompleterSpec}
-use Rattle.cc_adapters.specs.Replies.{WantsInRange, WantsOutOfRange, IsReply}
+use Rattle.cc_env.specs.Builtins.{CompleterSpec}
+use Rattle.cc_env.specs.Replies.{WantsInRange, WantsOutOfRange, IsReply}
 use Rattle.cc_base.specs.Collected.{collected_bytes}
 use Rattle.cc_base.specs.Sink.{add_failure}
 use Rattle.cc_base.specs.declared.collected.Collected.{Collected}

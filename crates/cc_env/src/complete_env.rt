@@ -2,8 +2,8 @@
 
 ghost use Rattle.std.specs.Prelude.{◌≡◌, Some, None, codes, map, string_bytes};
 ghost use Rattle.std.specs.Option.{option_copied};
-ghost use Rattle.cc_adapters.specs.Builtins.{all_builtins};
-ghost use Rattle.cc_adapters.specs.SafeShells.{all_safe};
+ghost use Rattle.cc_env.specs.Builtins.{all_builtins};
+ghost use Rattle.cc_env.specs.SafeShells.{all_safe};
 ghost use Rattle.cc_engine.specs.Completion.{Completes};
 ghost use Rattle.cc_engine.specs.Paths.{PathsOf};
 ghost use Rattle.cc_replies.specs.Environment.{value_of};
@@ -11,12 +11,14 @@ ghost use Rattle.cc_env.specs.Wanted.{wanted_name};
 ghost use Rattle.cc_env.specs.Steps.{MakesText, Tries, names_of};
 ghost use Rattle.cc_gather.specs.Values.{returned_by};
 
+use crate::builtin::Builtin;
+use crate::env_completer::EnvCompleter;
+use crate::safe_shell::SafeShell;
+use crate::shells::Shells;
 use crate::wanted::{known_shell, wanted_name};
-use cc_adapters::{Builtin, EnvCompleter, SafeShell, Shells};
-use cc_base::{Error, Sink, Text, put_all};
+use cc_base::{CandidateSources, Error, Sink, Text, put_all};
 use cc_candidates::Completers;
 use cc_command::Command;
-use cc_numbers::CandidateSources;
 use cc_paths::Folder;
 use cc_replies::EnvValues;
 use std::alloc::Global;

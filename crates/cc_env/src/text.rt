@@ -13,11 +13,10 @@ ghost use Rattle.cc_gather.specs.Values.{returned_by};
 
 use crate::arguments::{after_dashes, keep_last, program_path};
 use crate::complete_env::CompleteEnv;
-use cc_adapters::EnvCompleter;
-use cc_base::{Collected, Error, Text};
+use crate::env_completer::EnvCompleter;
+use cc_base::{CandidateSources, Collected, Error, Text};
 use cc_candidates::Completers;
 use cc_command::{Command, full_name};
-use cc_numbers::CandidateSources;
 use cc_paths::Folder;
 use cc_replies::EnvValues;
 use std::alloc::{AllocError, Global};

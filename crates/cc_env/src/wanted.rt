@@ -8,7 +8,8 @@ ghost use Rattle.cc_base.specs.Joined.{joined, separator};
 ghost use Rattle.cc_env.specs.Wanted.{wanted_name, wants_nothing, quoted_name, unknown_shell};
 ghost use Rattle.cc_env.specs.Wanted.{IsUnknownShell};
 
-use cc_adapters::{EnvCompleter, Shells};
+use crate::env_completer::EnvCompleter;
+use crate::shells::Shells;
 use cc_base::{Error, Text};
 use std::alloc::{AllocError, Global};
 use std::path::Path;

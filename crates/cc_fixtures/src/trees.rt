@@ -2,7 +2,7 @@
 
 use cc_base::Error;
 use cc_command::Command;
-use cc_tree_file::read_tree;
+use complgen_tree_file::read_tree;
 use std::alloc::{AllocError, Global};
 
 /// `app` with no arguments and no help flag.

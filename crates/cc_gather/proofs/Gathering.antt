@@ -9,8 +9,8 @@ use Rattle.cc_arg.specs.Arguments.{possible_values}
 use Rattle.cc_arg.specs.Printed.{printed}
 use Rattle.cc_candidates.specs.Beginning.{begins}
 use Rattle.cc_candidates.specs.declared.candidate.CompletionCandidate.{CompletionCandidate}
-use Rattle.cc_numbers.specs.declared.numbers.ArgValueCandidates.{ArgValueCandidates}
-use Rattle.cc_numbers.specs.declared.numbers.ArgValueCompleter.{ArgValueCompleter}
+use Rattle.cc_base.specs.declared.numbers.ArgValueCandidates.{ArgValueCandidates}
+use Rattle.cc_base.specs.declared.numbers.ArgValueCompleter.{ArgValueCompleter}
 use Rattle.cc_gather.specs.Parts.{front, part}
 use Rattle.cc_gather.specs.Values.{Allows, Gathers, MayReturn, ArgumentValues, as_value, gather, gathered_by, is_path, question, question_by, question_of_hint, sorted, value_candidate, values}
 

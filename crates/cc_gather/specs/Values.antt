@@ -11,8 +11,8 @@ use Rattle.cc_arg.specs.Printed.{printed}
 use Rattle.cc_candidates.specs.Beginning.{begins}
 use Rattle.cc_candidates.specs.declared.candidate.CompletionCandidate.{CompletionCandidate}
 use Rattle.cc_candidates.specs.Candidate.{comes_before, new_candidate}
-use Rattle.cc_numbers.specs.declared.numbers.ArgValueCandidates.{ArgValueCandidates}
-use Rattle.cc_numbers.specs.declared.numbers.ArgValueCompleter.{ArgValueCompleter}
+use Rattle.cc_base.specs.declared.numbers.ArgValueCandidates.{ArgValueCandidates}
+use Rattle.cc_base.specs.declared.numbers.ArgValueCompleter.{ArgValueCompleter}
 use Rattle.cc_gather.specs.Parts.{front, part}
 
 -- where a list of candidates comes from: nowhere, or from the completer of a number for the number

@@ -9,8 +9,8 @@ ghost use Rattle.cc_arg.specs.Printed.{printed};
 use crate::parts::split_at_delimiter;
 use crate::possible::candidates_beginning;
 use cc_arg::{Arg, ValueHint, possible_values};
+use cc_base::CandidateSources;
 use cc_candidates::{Completers, CompletionCandidate, retain_beginning_with, sort_candidates};
-use cc_numbers::CandidateSources;
 use std::alloc::{AllocError, Global};
 
 /// A source of paths: a folder, read from where a program runs. It fails only where memory runs

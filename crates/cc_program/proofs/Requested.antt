@@ -1,8 +1,8 @@
 -- What is completed for an environment.
 use Rattle.std.proofs.Common.{◌≡◌, ℕ, Bool, List, Option, None, Result, codes, subst}
 use Rattle.std.specs.declared.alloc.Global.{Global}
-use Rattle.cc_adapters.specs.SafeShells.{all_safe}
-use Rattle.cc_adapters.specs.declared.safe_shell.SafeShell.{SafeShell}
+use Rattle.cc_env.specs.SafeShells.{all_safe}
+use Rattle.cc_env.specs.declared.safe_shell.SafeShell.{SafeShell}
 use Rattle.cc_base.specs.declared.error.Error.{Error}
 use Rattle.cc_replies.specs.declared.environment.EnvValues.{EnvValues}
 use Rattle.cc_program.specs.Requests.{TriesSome, tried}

@@ -1,2 +1,3 @@
+pub mod Described
 pub mod Requests
 pub mod Statuses

@@ -1,8 +1,8 @@
 -- What a shell asks for, by an environment that is not known beforehand.
 use Rattle.std.specs.Prelude.{◌≡◌, ⊤, ℕ, Bool, List, Option, None, Result, Err, codes}
 use Rattle.std.specs.declared.alloc.Global.{Global}
-use Rattle.cc_adapters.specs.SafeShells.{all_safe}
-use Rattle.cc_adapters.specs.declared.safe_shell.SafeShell.{SafeShell}
+use Rattle.cc_env.specs.SafeShells.{all_safe}
+use Rattle.cc_env.specs.declared.safe_shell.SafeShell.{SafeShell}
 use Rattle.cc_base.specs.declared.error.Error.{Error}
 use Rattle.cc_base.specs.declared.error.Error.TheVariants.{Memory}
 use Rattle.cc_paths.specs.Folders.{FolderFacts}

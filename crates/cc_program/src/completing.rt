@@ -1,7 +1,7 @@
 //! Live completion, by what the environment says.
 
 ghost use Rattle.std.specs.Prelude.{map, string_bytes};
-ghost use Rattle.cc_adapters.specs.SafeShells.{safe_spec};
+ghost use Rattle.cc_env.specs.SafeShells.{safe_spec};
 ghost use Rattle.cc_engine.specs.Completion.{Completes};
 ghost use Rattle.cc_engine.specs.Paths.{PathsOf};
 ghost use Rattle.cc_env.specs.Steps.{MakesText, Tries, names_of};
@@ -10,11 +10,10 @@ ghost use Rattle.cc_program.specs.Requests.{TriesSome, system_facts};
 ghost use Rattle.cc_replies.specs.Environment.{value_of};
 ghost use Rattle.cc_gather.specs.Values.{returned_by};
 
-use cc_base::{Error, Sink};
+use cc_base::{CandidateSources, Error, Sink};
 use cc_candidates::Completers;
 use cc_command::Command;
 use cc_env::CompleteEnv;
-use cc_numbers::CandidateSources;
 use cc_paths::RealFolder;
 use cc_replies::{home, variables};
 use std::alloc::Global;

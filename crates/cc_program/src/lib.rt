@@ -1,13 +1,21 @@
-//! What a program does that completes its words, and parses them by the same tree.
+//! A program that completes its words and parses them by the same tree, and short forms of
+//! describing a command line: arguments and commands as most programs have them, each with its
+//! help text, and steps that pass a failure on.
 #![tactic(auto)]
 
+mod arguments;
+mod commands;
 mod completing;
+mod description;
 mod ending;
 mod failure;
 mod parsing;
 mod running;
 
+pub use crate::arguments::{arg, possible_values};
+pub use crate::commands::{command, group, with_alias, with_arg, with_child};
 pub use crate::completing::completes;
+pub use crate::description::{ArgDescription, flag, option, positional};
 pub use crate::ending::end;
 pub use crate::failure::Failure;
 pub use crate::running::run;

@@ -120,9 +120,9 @@ pub use Rattle.cc_candidates.specs.Beginning
 pub use Rattle.cc_candidates.specs.Candidate
 pub use Rattle.cc_candidates.specs.Sources as CandidateSources
 pub use Rattle.cc_candidates.specs.declared.candidate.CompletionCandidate
-pub use Rattle.cc_numbers.specs.declared.numbers.ArgValueCandidates
-pub use Rattle.cc_numbers.specs.declared.numbers.ArgValueCompleter
-pub use Rattle.cc_numbers.specs.declared.numbers.SubcommandCandidates
+pub use Rattle.cc_base.specs.declared.numbers.ArgValueCandidates
+pub use Rattle.cc_base.specs.declared.numbers.ArgValueCompleter
+pub use Rattle.cc_base.specs.declared.numbers.SubcommandCandidates
 pub use Rattle.cc_candidates.specs.declared.sources.Source as CandidateSource
 pub use Rattle.cc_paths.specs.Folders
 pub use Rattle.cc_paths.specs.InMemory
@@ -154,8 +154,8 @@ pub use Rattle.cc_engine.specs.Completion
 pub use Rattle.cc_engine.specs.OpenLists
 pub use Rattle.cc_engine.specs.Paths as HintPaths
 pub use Rattle.cc_agreement.specs.BashAgreement
-pub use Rattle.cc_describe.specs.Described
-pub use Rattle.cc_describe.specs.declared.description.ArgDescription
+pub use Rattle.cc_program.specs.Described
+pub use Rattle.cc_program.specs.declared.description.ArgDescription
 -- the parser of a tree
 pub use Rattle.cc_parser.specs.Arguments as ParsedArguments
 pub use Rattle.cc_parser.specs.Parsers
@@ -182,14 +182,14 @@ pub use Rattle.cc_replies.specs.PowershellWords as InsertedPowershellWords
 pub use Rattle.cc_replies.specs.SafeReplies
 pub use Rattle.cc_replies.specs.SafeValues
 pub use Rattle.cc_replies.specs.declared.bash_words.OpenQuote
-pub use Rattle.cc_adapters.specs.Wanted as WantedWords
-pub use Rattle.cc_adapters.specs.Builtins as BuiltinShells
-pub use Rattle.cc_adapters.specs.Replies as AdapterReplies
-pub use Rattle.cc_adapters.specs.SafeShells
-pub use Rattle.cc_adapters.specs.ShellNames
-pub use Rattle.cc_adapters.specs.Shells as OfferedShells
-pub use Rattle.cc_adapters.specs.declared.builtin.Builtin
-pub use Rattle.cc_adapters.specs.declared.safe_shell.SafeShell
+pub use Rattle.cc_env.specs.WantedWords as WantedWords
+pub use Rattle.cc_env.specs.Builtins as BuiltinShells
+pub use Rattle.cc_env.specs.Replies as AdapterReplies
+pub use Rattle.cc_env.specs.SafeShells
+pub use Rattle.cc_env.specs.ShellNames
+pub use Rattle.cc_env.specs.Shells as OfferedShells
+pub use Rattle.cc_env.specs.declared.builtin.Builtin
+pub use Rattle.cc_env.specs.declared.safe_shell.SafeShell
 pub use Rattle.cc_env.specs.Arguments as RequestArguments
 pub use Rattle.cc_env.specs.Wanted as WantedShell
 pub use Rattle.cc_env.specs.Steps as RequestSteps

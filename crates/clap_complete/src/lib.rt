@@ -31,10 +31,9 @@ pub mod program;
 pub mod quote;
 
 pub use cc_arg::ValueHint;
-pub use cc_base::Error;
+pub use cc_base::{ArgValueCandidates, ArgValueCompleter, Error};
 pub use cc_candidates::CompletionCandidate;
 pub use cc_env::CompleteEnv;
 pub use cc_generator::{Generator, generate};
-pub use cc_numbers::{ArgValueCandidates, ArgValueCompleter};
 pub use cc_paths::PathCompleter;
 pub use cc_shell::{Shell, generate_to};

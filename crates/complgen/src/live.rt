@@ -7,11 +7,11 @@ use cc_base::{Error, Sink};
 use cc_paths::{Folder, RealFolder};
 use cc_replies::{EnvValues, home, variables};
 use complgen_command_line::Refusal;
+use complgen_commands::error_refusal;
 use complgen_live::{
     OWN_TREE, command_name, known_names, reply, request_words, tree_folders, tree_paths,
     write_registrations,
 };
-use complgen_script::error_refusal;
 use std::alloc::{AllocError, Global};
 use std::convert::AsStr;
 use std::env::{self, Env};

@@ -3,9 +3,9 @@
 use crate::contents;
 use crate::output::{buffered, flush};
 use cc_base::Sink;
+use complgen_check::check;
 use complgen_command_line::{Refusal, ToolPlan, plan_tool};
-use complgen_script::scripts;
-use complgen_tools::check;
+use complgen_commands::scripts;
 use std::convert::AsStr;
 use std::rt::Files;
 

@@ -10,7 +10,7 @@ use Rattle.cc_replies.specs.declared.environment.EnvValues.{EnvValues}
 use Rattle.complgen_command_line.specs.Refusals.{IsOutOfMemory, IsRefusal}
 use Rattle.complgen_command_line.specs.declared.types.Refusal.{Refusal}
 use Rattle.complgen_live.specs.Replies.{EndsReply}
-use Rattle.complgen_script.specs.Refusals.{Reports}
+use Rattle.complgen_commands.specs.Refusals.{Reports}
 use Rattle.complgen_c.specs.Listings.{Listing, facts_of}
 use Rattle.complgen_c.specs.Requests.{HoldsVariables, NotUtf8Texts}
 use Rattle.complgen_c.specs.declared.outcome.Outcome.{Outcome}

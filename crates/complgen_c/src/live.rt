@@ -14,8 +14,8 @@ use crate::requests::{Request, read_request};
 use cc_base::{Collected, Error, Items, Text};
 use cc_replies::EnvValues;
 use complgen_command_line::Refusal;
+use complgen_commands::error_refusal;
 use complgen_live::reply;
-use complgen_script::error_refusal;
 use std::alloc::{AllocError, Global};
 
 // The variable with the path of the user's home folder.

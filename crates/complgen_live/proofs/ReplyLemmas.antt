@@ -2,8 +2,8 @@
 use Rattle.std.proofs.Common.{◌≡◌, ◌⊎◌, inl, inr, refl, sym, subst, ℕ, Bool, false, List, [], Option, Some, None, Result, Ok, Err}
 use Rattle.std.specs.Borrow.{Bor}
 use Rattle.std.specs.Option.{option_copied}
-use Rattle.cc_adapters.specs.SafeShells.{all_safe, safe_spec}
-use Rattle.cc_adapters.specs.declared.safe_shell.SafeShell.{SafeShell}
+use Rattle.cc_env.specs.SafeShells.{all_safe, safe_spec}
+use Rattle.cc_env.specs.declared.safe_shell.SafeShell.{SafeShell}
 use Rattle.cc_base.specs.declared.error.Error.{Error}
 use Rattle.cc_base.specs.declared.error.Error.TheVariants as error
 use Rattle.cc_base.specs.declared.failures.Failures.{Failures}
@@ -16,7 +16,7 @@ use Rattle.cc_env.specs.Wanted.{Wanted, wanted_name, known, nothing, unknown}
 use Rattle.cc_env.specs.Steps.{Ends, EndsAs, MakesText, Tries, factory_failed, names_of, no_arguments, nothing_written, out_of_memory, registered, replied, text_written, write_failed}
 use Rattle.cc_replies.specs.Environment.{value_of}
 use Rattle.cc_replies.specs.declared.environment.EnvValues.{EnvValues}
-use Rattle.cc_tree_file.specs.TreeFile.{Describes}
+use Rattle.complgen_tree_file.specs.TreeFile.{Describes}
 use Rattle.cc_gather.specs.Values.{MayReturn}
 use Rattle.complgen_live.specs.Replies.{EndsReply, MakesFor, Paths, paths_alone, requested, shell_names, variable}
 use Rattle.complgen_live.specs.Replies as outcome

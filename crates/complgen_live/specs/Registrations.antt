@@ -1,8 +1,8 @@
 -- The registration of programs, by which a shell runs this program for their candidates.
 use Rattle.std.specs.Prelude.{◌≡◌, ℕ, IsTrue, List, Result, Ok, IfErr, IfOk, OnOk}
 use Rattle.std.specs.List.{AllByRecursion}
-use Rattle.cc_adapters.specs.SafeShells.{SafeReads, safe_registration}
-use Rattle.cc_adapters.specs.declared.safe_shell.SafeShell.{SafeShell}
+use Rattle.cc_env.specs.SafeShells.{SafeReads, safe_registration}
+use Rattle.cc_env.specs.declared.safe_shell.SafeShell.{SafeShell}
 use Rattle.cc_base.specs.PlainName.{is_plain_name}
 use Rattle.cc_base.specs.Writes.{Writes}
 use Rattle.cc_base.specs.declared.error.Error.{Error}

@@ -1,8 +1,8 @@
 -- How replying to a request ends, over a tree file.
 use Rattle.std.specs.Prelude.{◌≡◌, ◌++◌, ℕ, Bool, true, false, List, [], map, Option, None, Some, Result, Ok, Err, codes}
 use Rattle.std.specs.declared.io.ErrorKind.{ErrorKind}
-use Rattle.cc_adapters.specs.SafeShells.{all_safe, safe_spec}
-use Rattle.cc_adapters.specs.declared.safe_shell.SafeShell.{SafeShell}
+use Rattle.cc_env.specs.SafeShells.{all_safe, safe_spec}
+use Rattle.cc_env.specs.declared.safe_shell.SafeShell.{SafeShell}
 use Rattle.cc_arg.specs.declared.value_hint.ValueHint.{ValueHint}
 use Rattle.cc_base.specs.Sink.{add_failure}
 use Rattle.cc_base.specs.declared.error.Error.{Error}
@@ -15,7 +15,7 @@ use Rattle.cc_env.specs.Wanted.{Wanted, IsUnknownShell, wanted_name, wanted_of, 
 use Rattle.cc_env.specs.Steps.{MakesText, names_of}
 use Rattle.cc_replies.specs.Environment.{value_of}
 use Rattle.cc_replies.specs.declared.environment.EnvValues.{EnvValues}
-use Rattle.cc_tree_file.specs.TreeFile.{Describes, SpellsNone}
+use Rattle.complgen_tree_file.specs.TreeFile.{Describes, SpellsNone}
 use Rattle.cc_gather.specs.Values.{MayReturn}
 use Rattle.complgen_live.specs.TreeErrors.{bad_form_text, not_json_text}
 

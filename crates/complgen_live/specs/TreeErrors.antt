@@ -3,8 +3,8 @@ use Rattle.std.specs.Prelude.{◌≡◌, ◌⊎◌, ⊤, ◌++◌, ℕ, List, No
 use Rattle.cc_base.specs.declared.error.Error.{Error}
 use Rattle.cc_base.specs.declared.error.Error.TheVariants.{InvalidVariant, Memory}
 use Rattle.cc_command.specs.Tree.{Tree}
-use Rattle.cc_shown.specs.Shown.{on_one_line}
-use Rattle.cc_tree_file.specs.TreeFile.{Describes, SpellsNone}
+use Rattle.cc_base.specs.Shown.{on_one_line}
+use Rattle.complgen_tree_file.specs.TreeFile.{Describes, SpellsNone}
 
 -- before what is wrong, for a path as it is shown
 unfoldable pub about_tree : List ℕ → List ℕ

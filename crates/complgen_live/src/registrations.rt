@@ -8,9 +8,8 @@ ghost use Rattle.complgen_live.specs.Registrations.{ArePlain, RegistersAll, Writ
 ghost use Rattle.complgen_live.specs.Replies.{requested};
 
 use crate::plain_names::PlainNames;
-use cc_adapters::{SafeShell, Shells};
 use cc_base::{Error, Sink};
-use cc_env::{known_shell, program_path, wanted_name};
+use cc_env::{SafeShell, Shells, known_shell, program_path, wanted_name};
 use cc_replies::EnvValues;
 use std::alloc::{AllocError, Global};
 

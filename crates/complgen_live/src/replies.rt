@@ -7,14 +7,13 @@ ghost use Rattle.complgen_live.specs.Replies.{EndsReply};
 ghost use Rattle.complgen_live.specs.TreeErrors.{DescribedBy, about_tree, bad_form_text};
 ghost use Rattle.complgen_live.specs.TreeErrors.{not_json_text};
 
-use cc_base::{Error, Sink, Text};
+use cc_base::{Error, Sink, Text, on_one_line};
 use cc_candidates::Completers;
 use cc_command::Command;
 use cc_env::CompleteEnv;
 use cc_paths::Folder;
 use cc_replies::EnvValues;
-use cc_shown::on_one_line;
-use cc_tree_file::{TreeError, read_tree};
+use complgen_tree_file::{TreeError, read_tree};
 use std::alloc::{AllocError, Global};
 
 /// Writes the reply to a request for candidates, over the bytes of the tree file at a path; without

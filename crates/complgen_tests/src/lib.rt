@@ -1,4 +1,4 @@
-//! Tests of what the program is made of that no case of `cc_cases` can say: what `Debug` shows, the
+//! Tests of what the program is made of that no case of `complgen_cases` can say: what `Debug` shows, the
 //! built-in tree, files that are no text or very large, memory, and writers that fail.
 #![tactic(auto)]
 
@@ -6,6 +6,8 @@
 mod checks;
 #[cfg(test)]
 mod debug;
+#[cfg(test)]
+mod import_names;
 #[cfg(test)]
 mod live;
 #[cfg(test)]

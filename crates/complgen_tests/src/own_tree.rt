@@ -3,9 +3,9 @@
 use cc_arg::Arg;
 use cc_command::Command;
 use cc_fixtures::words::to_strings;
-use cc_tree_file::read_tree;
 use complgen_command_line::{Refusal, names_tool, plan, plan_tool};
 use complgen_live::OWN_TREE;
+use complgen_tree_file::read_tree;
 use std::alloc::Global;
 use std::convert::AsStr;
 use std::process::Abort;

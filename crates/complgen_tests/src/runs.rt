@@ -5,7 +5,7 @@ use cc_base::Collected;
 use cc_fixtures::words::to_strings;
 use cc_paths::MemoryFolder;
 use complgen_command_line::{Plan, Refusal};
-use complgen_run::run;
+use complgen_commands::run;
 use std::alloc::{AllocError, Global};
 use std::convert::AsStr;
 use std::process::Abort;

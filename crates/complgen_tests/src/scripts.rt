@@ -5,7 +5,7 @@ use crate::runs::{fails, output_of, script};
 use cc_base::Collected;
 use cc_paths::MemoryFolder;
 use complgen_command_line::Refusal;
-use complgen_run::run;
+use complgen_commands::run;
 use std::alloc::{AllocError, Global};
 use std::convert::AsStr;
 

@@ -6,7 +6,7 @@ use cc_base::Counted;
 use cc_fixtures::writers::Narrow;
 use cc_paths::MemoryFolder;
 use complgen_command_line::{Plan, Refusal};
-use complgen_run::run;
+use complgen_commands::run;
 use std::alloc::{AllocError, Global};
 use std::convert::AsStr;
 use std::io::ErrorKind;

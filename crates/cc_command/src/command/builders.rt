@@ -7,8 +7,7 @@ ghost use Rattle.cc_command.specs.Made.{ordered_node, with_argument, with_child,
 use crate::command::Command;
 use crate::node::Node;
 use cc_arg::{Arg, fill_display_order};
-use cc_base::{Error, Text};
-use cc_numbers::SubcommandCandidates;
+use cc_base::{Error, SubcommandCandidates, Text};
 use std::alloc::AllocError;
 
 impl Command {

@@ -9,8 +9,7 @@ ghost use Rattle.cc_command.specs.Iterators.{arguments_left, names_left};
 
 use crate::command::{Arguments, Command, NameAndVisibleAliases};
 use cc_arg::Arg;
-use cc_base::Text;
-use cc_numbers::SubcommandCandidates;
+use cc_base::{SubcommandCandidates, Text};
 
 impl Command {
     /// The name.

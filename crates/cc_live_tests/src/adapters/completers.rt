@@ -2,8 +2,8 @@
 //! registrations.
 
 use crate::checks::same;
-use cc_adapters::{Builtin, EnvCompleter};
 use cc_base::{Collected, Error};
+use cc_env::{Builtin, EnvCompleter};
 use cc_fixtures::words::{after, word};
 use cc_quote::{
     bash_double_word, elvish_word, fish_double, fish_word, is_plain_path, posix_word,

@@ -1,6 +1,6 @@
 //! Names of shells.
 
-use cc_adapters::{Builtin, EnvCompleter, Shells};
+use cc_env::{Builtin, EnvCompleter, Shells};
 
 #[test]
 fn powershell_has_three_names(rt: HostRuntime) {

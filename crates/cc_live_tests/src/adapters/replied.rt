@@ -1,8 +1,8 @@
 //! Replies of adapters.
 
-use cc_adapters::EnvCompleter;
 use cc_base::{Collected, Error, Sink};
 use cc_candidates::Completers;
+use cc_env::EnvCompleter;
 use cc_fixtures::trees::read;
 use cc_fixtures::words::to_strings;
 use cc_paths::MemoryFolder;

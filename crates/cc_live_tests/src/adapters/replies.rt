@@ -1,7 +1,7 @@
 //! Replies where there is no word.
 
 use crate::adapters::replied::refuses;
-use cc_adapters::{Bash, Elvish, Fish, Powershell, Zsh};
+use cc_env::{Bash, Elvish, Fish, Powershell, Zsh};
 use cc_fixtures::trees::TESTED;
 
 #[test]

@@ -2,8 +2,8 @@
 
 use crate::adapters::replied::reply;
 use crate::checks::same;
-use cc_adapters::{EnvCompleter, Shells};
 use cc_base::{Collected, Counted, Error, Sink};
+use cc_env::{EnvCompleter, Shells};
 use cc_fixtures::writers::Narrow;
 use std::alloc::Global;
 use std::io::ErrorKind;

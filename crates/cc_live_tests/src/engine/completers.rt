@@ -8,10 +8,9 @@ use crate::engine::numbered::{
 use crate::engine::offered::text_of;
 use crate::engine::sources::{find_with_completers, find_without_memory, two_completers};
 use cc_arg::ValueRange;
-use cc_base::Error;
+use cc_base::{ArgValueCandidates, ArgValueCompleter, Error, SubcommandCandidates};
 use cc_candidates::CompletionCandidate;
 use cc_command::Command;
-use cc_numbers::{ArgValueCandidates, ArgValueCompleter, SubcommandCandidates};
 use std::alloc::AllocError;
 use std::process::Abort;
 

@@ -2,10 +2,9 @@
 //! keys.
 
 use cc_arg::{Arg, ValueRange};
-use cc_base::Error;
+use cc_base::{ArgValueCandidates, ArgValueCompleter, Error, SubcommandCandidates};
 use cc_command::Command;
 use cc_fixtures::trees::{BARE, read};
-use cc_numbers::{ArgValueCandidates, ArgValueCompleter, SubcommandCandidates};
 use std::alloc::Global;
 
 const APP: &str = r#"{"name": "app"}"#;

@@ -1,8 +1,8 @@
 //! What a candidate holds, and the order of candidates.
 
 use crate::checks::{is, same};
+use cc_base::{ArgValueCandidates, ArgValueCompleter, SubcommandCandidates};
 use cc_candidates::CompletionCandidate;
-use cc_numbers::{ArgValueCandidates, ArgValueCompleter, SubcommandCandidates};
 use std::alloc::{AllocError, Global};
 use std::process::Abort;
 

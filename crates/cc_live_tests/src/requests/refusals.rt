@@ -2,10 +2,9 @@
 
 use crate::checks::is;
 use crate::requests::tried::{end, test_command};
-use cc_adapters::{Builtin, Shells};
 use cc_base::Error;
 use cc_command::Command;
-use cc_env::CompleteEnv;
+use cc_env::{Builtin, CompleteEnv, Shells};
 use std::alloc::Global;
 use std::process::Abort;
 

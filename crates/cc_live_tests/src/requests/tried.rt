@@ -1,11 +1,10 @@
 //! What a program does whose environment may ask for a completion, as one text.
 
 use crate::checks::is;
-use cc_adapters::Builtin;
 use cc_base::{Collected, Error, Sink};
 use cc_candidates::Completers;
 use cc_command::Command;
-use cc_env::CompleteEnv;
+use cc_env::{Builtin, CompleteEnv};
 use cc_fixtures::trees::{TESTED, read};
 use cc_fixtures::words::to_strings;
 use cc_paths::MemoryFolder;

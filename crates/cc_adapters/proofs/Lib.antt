@@ -1,3 +1,0 @@
-mod Examples
-pub mod Replying
-pub mod SafeReplying

@@ -1,7 +1,0 @@
-use Rattle.std.proofs.Common.{◌≡◌, ℕ, List, take}
-use Rattle.cc_command_warnings.specs.PlacedNames.{owner_in, owner_with}
-use Rattle.cc_command_warnings.proofs.names.seen_of.Given as goal
-
--- the names that were passed over are kept
-abbrev pub invariant-loop-name : goal.invariant-loop-name
-invariant-loop-name l = (word : List ℕ) → owner_in l.seen word ≡ owner_with (take l.name-index l.names) word

@@ -1,9 +1,0 @@
-use Rattle.std.proofs.Common.{◌≡◌, ◌≤◌, drop, fold}
-use Rattle.cc_command_warnings.specs.PositionalWarnings.{counted_with}
-use Rattle.cc_command_warnings.proofs.positionals.count_positionals.Given as goal
-
--- with those that are left it is the number of all, and each adds one at most
-abbrev pub invariant-loop-argument : goal.invariant-loop-argument
-invariant-loop-argument l =
-    (fold counted_with l.count (drop l.argument-index l.arguments) ≡ fold counted_with 0 l.arguments)
-    × (l.count ≤ l.argument-index)

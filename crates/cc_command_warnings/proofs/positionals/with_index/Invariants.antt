@@ -1,9 +1,0 @@
-use Rattle.std.proofs.Common.{◌≡◌, ◌+◌, ◌≤◌, drop}
-use Rattle.cc_command_warnings.specs.PositionalWarnings.{with_index}
-use Rattle.cc_command_warnings.proofs.positionals.with_index.Given as goal
-
--- the one that is looked for is the first of those that are left
-abbrev pub invariant-loop-argument : goal.invariant-loop-argument
-invariant-loop-argument l =
-    (with_index l.wanted l.number (drop l.argument-index l.arguments) ≡ with_index l.wanted 1 l.arguments)
-    × (l.number ≤ l.argument-index + 1)

@@ -1,0 +1,38 @@
+-- What the replies of safe adapters are read as.
+use Rattle.std.proofs.Common.{ℕ, List, Bool, true, false}
+use Rattle.cc_env.specs.Builtins.{builtin_spec}
+use Rattle.cc_env.specs.SafeShells.{ReplyReadsWhen, SafeReplyReads}
+use Rattle.cc_env.specs.declared.builtin.Builtin.{Builtin}
+use Rattle.cc_env.specs.declared.builtin.Builtin.TheVariants.{Bash, Elvish, Fish}
+use Rattle.cc_env.specs.declared.builtin.Builtin.TheVariants.{Powershell, Zsh}
+use Rattle.cc_candidates.specs.declared.candidate.CompletionCandidate.{CompletionCandidate}
+use Rattle.cc_replies.proofs.ReplyReadings.{lines_back, values_back, zsh_back}
+use Rattle.cc_replies.proofs.BashReadings as bash
+use Rattle.cc_replies.proofs.PowershellReadings as powershell
+use Rattle.cc_replies.proofs.SafeReadings.{lines_read_back, values_read_back, zsh_read_back}
+use Rattle.cc_replies.specs.Environment.{kept_of, quote_of, separator_of}
+use Rattle.cc_replies.specs.declared.bash_words.OpenQuote.{OpenQuote}
+use Rattle.cc_replies.specs.declared.environment.EnvValues.{EnvValues}
+
+-- those of a safe registration's request
+safe_back : (shell : Builtin) (kept : List ℕ) (quote : OpenQuote) (found : List CompletionCandidate)
+    → SafeReplyReads shell kept quote found
+safe_back Bash kept quote found = bash.words_read_back kept quote found
+safe_back Elvish kept quote found = values_read_back found
+safe_back Fish kept quote found = lines_read_back found
+safe_back Powershell kept quote found = powershell.words_read_back found
+safe_back Zsh kept quote found = zsh_read_back found
+
+-- those of another request
+builtin_back : (shell : Builtin) (env : EnvValues) (found : List CompletionCandidate)
+    → (builtin_spec shell).ReplyReads env found
+builtin_back Bash env found = values_back (separator_of env) found
+builtin_back Elvish env found = values_back (separator_of env) found
+builtin_back Fish env found = lines_back found
+builtin_back Powershell env found = lines_back found
+builtin_back Zsh env found = zsh_back (separator_of env) found
+
+pub back_when : (safe : Bool) (shell : Builtin) (env : EnvValues)
+    (found : List CompletionCandidate) → ReplyReadsWhen safe shell env found
+back_when true shell env found = safe_back shell (kept_of env) (quote_of env) found
+back_when false shell env found = builtin_back shell env found

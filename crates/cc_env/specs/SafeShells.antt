@@ -1,0 +1,98 @@
+-- The safe adapters: their registrations evaluate nothing of a name, a candidate or a typed word,
+-- and their replies are inserted as what they mean.
+use Rattle.std.specs.Prelude.{ℕ, Bool, true, false, List, [], ◌∷◌, map}
+use Rattle.cc_env.specs.Builtins.{CompleterSpec, all_builtins, builtin_spec}
+use Rattle.cc_env.specs.WantedWords.{WantsAtLast}
+use Rattle.cc_env.specs.declared.builtin.Builtin.{Builtin}
+use Rattle.cc_env.specs.declared.builtin.Builtin.TheVariants.{Bash, Elvish, Fish}
+use Rattle.cc_env.specs.declared.builtin.Builtin.TheVariants.{Powershell, Zsh}
+use Rattle.cc_env.specs.declared.safe_shell.SafeShell.{SafeShell}
+use Rattle.cc_candidates.specs.declared.candidate.CompletionCandidate.{CompletionCandidate}
+use Rattle.cc_registrations.specs.SafeBash.{SafeBashReads, safe_bash}
+use Rattle.cc_registrations.specs.SafeElvish.{SafeElvishReads, safe_elvish}
+use Rattle.cc_registrations.specs.SafeFish.{SafeFishReads, safe_fish}
+use Rattle.cc_registrations.specs.SafePowershell.{SafePowershellReads, safe_powershell}
+use Rattle.cc_registrations.specs.SafeZsh.{SafeZshReads, safe_zsh}
+use Rattle.cc_replies.specs.BashWords.{BashWordsRead, bash_words_reply}
+use Rattle.cc_replies.specs.Environment.{asks_safely, kept_of, quote_of}
+use Rattle.cc_replies.specs.PowershellWords.{PowershellWordsRead, powershell_words_reply}
+use Rattle.cc_replies.specs.SafeReplies.{SafeLinesRead, SafeValuesRead, SafeZshRead}
+use Rattle.cc_replies.specs.SafeReplies.{safe_lines_reply, safe_values_reply, safe_zsh_reply}
+use Rattle.cc_replies.specs.declared.bash_words.OpenQuote.{OpenQuote}
+use Rattle.cc_replies.specs.declared.environment.EnvValues.{EnvValues}
+
+-- the safe adapter for a shell
+abbrev pub safe_of : Builtin → SafeShell
+safe_of shell = record { shell = shell }
+
+-- all of them, in the order of the built-in ones
+abbrev pub all_safe : List SafeShell
+all_safe = map safe_of all_builtins
+
+-- ---- registrations
+
+-- the registration of several programs, of a variable, a name, binaries and a completer
+abbrev pub safe_registration : Builtin → List ℕ → List ℕ → List (List ℕ) → List ℕ → List ℕ
+safe_registration Bash variable name bins completer = safe_bash variable name bins completer
+safe_registration Elvish variable name bins completer = safe_elvish variable name bins completer
+safe_registration Fish variable name bins completer = safe_fish variable name bins completer
+safe_registration Powershell variable name bins completer =
+    safe_powershell variable name bins completer
+safe_registration Zsh variable name bins completer = safe_zsh variable name bins completer
+
+-- what it is read as
+abbrev pub SafeReads : Builtin → List ℕ → List ℕ → List (List ℕ) → List ℕ → Type 0
+SafeReads Bash variable name bins completer = SafeBashReads variable name bins completer
+SafeReads Elvish variable name bins completer = SafeElvishReads variable name bins completer
+SafeReads Fish variable name bins completer = SafeFishReads variable name bins completer
+SafeReads Powershell variable name bins completer = SafePowershellReads variable name bins completer
+SafeReads Zsh variable name bins completer = SafeZshReads variable name bins completer
+
+-- ---- replies
+
+-- the reply of some candidates; bash has kept this text of the word, and this quote is open there
+abbrev pub safe_reply : Builtin → List ℕ → OpenQuote → List CompletionCandidate → List ℕ
+safe_reply Bash kept quote found = bash_words_reply kept quote found
+safe_reply Elvish kept quote found = safe_values_reply found
+safe_reply Fish kept quote found = safe_lines_reply found
+safe_reply Powershell kept quote found = powershell_words_reply found
+safe_reply Zsh kept quote found = safe_zsh_reply found
+
+-- what it is read as
+abbrev pub SafeReplyReads : Builtin → List ℕ → OpenQuote → List CompletionCandidate → Type 0
+SafeReplyReads Bash kept quote found = BashWordsRead kept quote found
+SafeReplyReads Elvish kept quote found = SafeValuesRead found
+SafeReplyReads Fish kept quote found = SafeLinesRead found
+SafeReplyReads Powershell kept quote found = PowershellWordsRead found
+SafeReplyReads Zsh kept quote found = SafeZshRead found
+
+-- ---- requests
+
+-- The words and the index that are wanted: the last word, where a safe registration asks; else what
+-- the built-in adapter wants, since its registration asks.
+abbrev pub wanted_when : Bool → Builtin → EnvValues → List (List ℕ) → List (List ℕ) → ℕ → Type 0
+wanted_when true shell env words wanted index = WantsAtLast words wanted index
+wanted_when false shell env words wanted index = (builtin_spec shell).Wants env words wanted index
+
+-- the reply, likewise
+abbrev pub reply_when : Bool → Builtin → EnvValues → List CompletionCandidate → List ℕ
+reply_when true shell env found = safe_reply shell (kept_of env) (quote_of env) found
+reply_when false shell env found = (builtin_spec shell).reply env found
+
+-- what the reply is read as, likewise
+abbrev pub ReplyReadsWhen : Bool → Builtin → EnvValues → List CompletionCandidate → Type 0
+ReplyReadsWhen true shell env found = SafeReplyReads shell (kept_of env) (quote_of env) found
+ReplyReadsWhen false shell env found = (builtin_spec shell).ReplyReads env found
+
+-- what is said of a safe adapter
+abbrev pub safe_spec : SafeShell → CompleterSpec
+safe_spec safe = record {
+  name = (builtin_spec safe.shell).name;
+  named = λ name. (builtin_spec safe.shell).named name;
+  registration = λ variable name bin completer.
+      safe_registration safe.shell variable name (bin ∷ []) completer;
+  Reads = λ variable name bin completer. SafeReads safe.shell variable name (bin ∷ []) completer;
+  Wants = λ env words wanted index. wanted_when (asks_safely env) safe.shell env words wanted index;
+  reply = λ env found. reply_when (asks_safely env) safe.shell env found;
+  ReplyReads = λ env found. ReplyReadsWhen (asks_safely env) safe.shell env found;
+}

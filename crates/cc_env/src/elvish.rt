@@ -1,0 +1,70 @@
+//! The adapter for Elvish.
+
+ghost use Rattle.cc_env.specs.Builtins.{elvish_spec};
+
+use crate::env_completer::EnvCompleter;
+use crate::reply::{Values, reply_at};
+use cc_base::{Error, Sink};
+use cc_candidates::Completers;
+use cc_command::Command;
+use cc_paths::Folder;
+use cc_registrations::write_elvish;
+use cc_replies::EnvValues;
+use std::alloc::Global;
+
+/// The adapter for Elvish.
+///
+/// Completes the word at `_CLAP_COMPLETE_INDEX`, and replies with the values, joined by
+/// `_CLAP_IFS`.
+#[derive(Clone, Copy, PartialEq, Eq, Debug)]
+pub struct Elvish;
+
+impl EnvCompleter for Elvish {
+    ghost spec = { λ _. elvish_spec };
+
+    fn name(&self) -> &'static str {
+        "elvish"
+    }
+
+    fn is(&self, name: &str) -> bool {
+        name == "elvish"
+    }
+
+    fn write_registration<W: Sink>(
+        &self,
+        alloc: Global,
+        variable: &str,
+        _name: &str,
+        bin: &str,
+        completer: &str,
+        sink: &mut W,
+    ) -> Result<(), Error> {
+        write_elvish(alloc, sink, variable, bin, completer)
+    }
+
+    #[tactic(auto, using(cc_replies::proofs::ReplyReadings::values_back))]
+    fn write_complete<D: Folder, W: Sink>(
+        &self,
+        alloc: Global,
+        command: &mut Command,
+        words: Vec<String>,
+        current_dir: Option<&str>,
+        env: &EnvValues,
+        folder: &D,
+        completers: &Completers,
+        sink: &mut W,
+    ) -> Result<(), Error> {
+        let index = env.index();
+        reply_at(
+            alloc,
+            command,
+            words,
+            index,
+            current_dir,
+            folder,
+            completers,
+            &Values(env.separator()),
+            sink,
+        )
+    }
+}

@@ -1,0 +1,197 @@
+//! The safe adapters: nothing of a name, a candidate or a typed word is evaluated by the shell.
+
+ghost use Rattle.std.specs.Prelude.{◌≡◌, map, string_bytes};
+ghost use Rattle.std.specs.Option.{option_copied};
+ghost use Rattle.cc_env.specs.Replies.{Replies};
+ghost use Rattle.cc_env.specs.SafeShells.{SafeReads, safe_of, safe_registration, safe_reply};
+ghost use Rattle.cc_env.specs.SafeShells.{safe_spec};
+ghost use Rattle.cc_env.specs.WantedWords.{WantsAtLast};
+ghost use Rattle.cc_base.specs.Writes.{Writes};
+ghost use Rattle.cc_engine.specs.Completion.{Completes};
+ghost use Rattle.cc_engine.specs.Paths.{PathsOf};
+ghost use Rattle.cc_gather.specs.Values.{returned_by};
+ghost use Rattle.cc_replies.specs.Environment.{kept_of, quote_of};
+
+use crate::builtin::Builtin;
+use crate::env_completer::EnvCompleter;
+use crate::reply::{SafeReply, last_index, reply_at};
+use cc_base::{CandidateSources, Error, Sink};
+use cc_candidates::Completers;
+use cc_command::Command;
+use cc_paths::Folder;
+use cc_registrations::{
+    write_safe_bash, write_safe_elvish, write_safe_fish, write_safe_powershell, write_safe_zsh,
+};
+use cc_replies::EnvValues;
+use std::alloc::Global;
+
+/// The safe adapter for a shell.
+///
+/// Its registration passes on the words up to the cursor without their quotes, and evaluates
+/// nothing of them. Its reply has each value as the shell takes it, and leaves out what the shell
+/// cannot take. A request of another registration, such as the built-in adapter's, is answered as
+/// the built-in adapter answers it.
+#[derive(Clone, Copy, PartialEq, Eq, Debug)]
+pub struct SafeShell {
+    shell: Builtin,
+}
+
+/// All of them, in the order of the built-in ones.
+pub(crate) const SAFE_SHELLS: &[SafeShell] = &[
+    SafeShell {
+        shell: Builtin::Bash,
+    },
+    SafeShell {
+        shell: Builtin::Elvish,
+    },
+    SafeShell {
+        shell: Builtin::Fish,
+    },
+    SafeShell {
+        shell: Builtin::Powershell,
+    },
+    SafeShell {
+        shell: Builtin::Zsh,
+    },
+];
+
+impl SafeShell {
+    /// Returns the safe adapter for a shell.
+    pub fn new(shell: Builtin) -> SafeShell
+        ensures { result ≡ safe_of shell }
+    {
+        SafeShell { shell }
+    }
+
+    /// Writes one registration for several programs, the binaries, with one function for all of
+    /// them, which is named after `name`. The other parameters are those of
+    /// `EnvCompleter::write_registration`.
+    ///
+    /// # Errors
+    ///
+    /// `Write` if the sink fails, and `Memory` if an allocation fails. The sink may then hold part
+    /// of the text.
+    pub fn write_registrations<W: Sink>(
+        &self,
+        alloc: Global,
+        variable: &str,
+        name: &str,
+        bins: &[&str],
+        completer: &str,
+        sink: &mut W,
+    ) -> Result<(), Error>
+        ensures written { Writes W.taken W.failed result sink.old sink.new
+            (safe_registration self.now.shell variable.now name.now
+            (map (λ bin. bin.now) bins.now) completer.now) }
+        ensures read_back { SafeReads self.now.shell variable.now name.now
+            (map (λ bin. bin.now) bins.now) completer.now }
+    {
+        match self.shell {
+            Builtin::Bash => write_safe_bash(alloc, sink, variable, name, bins, completer),
+            Builtin::Elvish => write_safe_elvish(alloc, sink, variable, name, bins, completer),
+            Builtin::Fish => write_safe_fish(alloc, sink, variable, name, bins, completer),
+            Builtin::Powershell => {
+                write_safe_powershell(alloc, sink, variable, name, bins, completer)
+            }
+            Builtin::Zsh => write_safe_zsh(alloc, sink, variable, name, bins, completer),
+        }
+    }
+
+    // Writes the candidates for the last word as the shell inserts them.
+    fn reply_safely<D: Folder, W: Sink>(
+        &self,
+        alloc: Global,
+        command: &mut Command,
+        words: Vec<String>,
+        current_dir: Option<&str>,
+        env: &EnvValues,
+        folder: &D,
+        completers: &Completers,
+        sink: &mut W,
+    ) -> Result<(), Error>
+        ensures { Replies W.taken W.failed result sink.old sink.new command.old command.new
+            (WantsAtLast (map string_bytes words.items)) (Completes (returned_by
+            ⟦<Completers as CandidateSources>⟧.may_complete
+            ⟦<Completers as CandidateSources>⟧.may_list completers.now
+            (PathsOf (D.facts folder.now) (option_copied current_dir.entry)))
+            command.new) (safe_reply self.now.shell (kept_of env.now) (quote_of env.now)) }
+    {
+        let index = last_index(&words);
+        let format = SafeReply {
+            shell: self.shell,
+            kept: env.kept(),
+            quote: env.open_quote(),
+        };
+        reply_at(
+            alloc,
+            command,
+            words,
+            index,
+            current_dir,
+            folder,
+            completers,
+            &format,
+            sink,
+        )
+    }
+}
+
+impl EnvCompleter for SafeShell {
+    ghost spec = { safe_spec };
+
+    fn name(&self) -> &'static str {
+        self.shell.name()
+    }
+
+    fn is(&self, name: &str) -> bool {
+        self.shell.is(name)
+    }
+
+    fn write_registration<W: Sink>(
+        &self,
+        alloc: Global,
+        variable: &str,
+        name: &str,
+        bin: &str,
+        completer: &str,
+        sink: &mut W,
+    ) -> Result<(), Error> {
+        self.write_registrations(alloc, variable, name, &[bin], completer, sink)
+    }
+
+    #[tactic(auto, using(crate::proofs::SafeReplying::back_when))]
+    fn write_complete<D: Folder, W: Sink>(
+        &self,
+        alloc: Global,
+        command: &mut Command,
+        words: Vec<String>,
+        current_dir: Option<&str>,
+        env: &EnvValues,
+        folder: &D,
+        completers: &Completers,
+        sink: &mut W,
+    ) -> Result<(), Error> {
+        if env.asks_safely() {
+            return self.reply_safely(
+                alloc,
+                command,
+                words,
+                current_dir,
+                env,
+                folder,
+                completers,
+                sink,
+            );
+        }
+        self.shell.write_complete(
+            alloc,
+            command,
+            words,
+            current_dir,
+            env,
+            folder,
+            completers,
+            sink,
+        )
+    }
+}

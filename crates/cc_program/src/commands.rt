@@ -1,0 +1,98 @@
+//! Commands, step by step.
+
+ghost use Rattle.std.specs.Prelude.{◌≡◌, IfErr, IfOk, map};
+ghost use Rattle.cc_command.specs.Made.{with_argument, with_child};
+ghost use Rattle.cc_program.specs.Described.{MadeOf, MadeWith, arg_of, command_of, group_of};
+ghost use Rattle.cc_program.specs.Described.{named_command, with_arguments, with_visible_alias};
+
+use crate::arguments::arg;
+use crate::description::ArgDescription;
+use cc_arg::Arg;
+use cc_base::Error;
+use cc_command::Command;
+use std::alloc::Global;
+
+/// A command with its name, what it says of itself, and these arguments in order. Fails with
+/// `Memory` alone.
+pub fn command(
+    alloc: Global,
+    name: &str,
+    about: &str,
+    args: &[ArgDescription<'_>],
+) -> Result<Command, Error>
+    ensures ok { IfOk result (λ command. command ≡ command_of name.now about.now args.now) }
+    ensures memory { IfErr result (λ error. error ≡ Error.Memory) }
+{
+    let command = named(alloc, name, about)?;
+    with_args(alloc, command, args)
+}
+
+/// A command that a subcommand has to follow, with its name, what it says of itself, and these
+/// arguments in order. Fails with `Memory` alone.
+pub fn group(
+    alloc: Global,
+    name: &str,
+    about: &str,
+    args: &[ArgDescription<'_>],
+) -> Result<Command, Error>
+    ensures ok { IfOk result (λ command. command ≡ group_of name.now about.now args.now) }
+    ensures memory { IfErr result (λ error. error ≡ Error.Memory) }
+{
+    let command = named(alloc, name, about)?.subcommand_required(true);
+    with_args(alloc, command, args)
+}
+
+fn named(alloc: Global, name: &str, about: &str) -> Result<Command, Error>
+    ensures ok { IfOk result (λ command. command ≡ named_command name.now about.now) }
+    ensures memory { IfErr result (λ error. error ≡ Error.Memory) }
+{
+    let name = String::from_str(alloc, name)?;
+    let about = String::from_str(alloc, about)?;
+    Ok(Command::new(alloc, name).about(about))
+}
+
+fn with_args(alloc: Global, command: Command, args: &[ArgDescription<'_>]) -> Result<Command, Error>
+    ensures ok { IfOk result (λ made. made ≡ with_arguments command (map arg_of args.now)) }
+    ensures memory { IfErr result (λ error. error ≡ Error.Memory) }
+{
+    let mut command = command;
+    for described in args {
+        command = command.arg(arg(alloc, described)?)?;
+    }
+    Ok(command)
+}
+
+/// The command with a further name that is shown. Fails as the command did, or with `Memory`.
+pub fn with_alias(
+    alloc: Global,
+    command: Result<Command, Error>,
+    alias: &str,
+) -> Result<Command, Error>
+    ensures { MadeWith (with_visible_alias alias.now) command result }
+{
+    let command = command?;
+    command.visible_alias(String::from_str(alloc, alias)?)
+}
+
+/// The command with a further argument, as `Command::arg` adds it. Fails as the command did, or as
+/// the argument did, or with `Memory`.
+pub fn with_arg(
+    command: Result<Command, Error>,
+    argument: Result<Arg, Error>,
+) -> Result<Command, Error>
+    ensures { MadeOf (λ tree arg. record tree { node = with_argument tree.node arg })
+        command argument result }
+{
+    command?.arg(argument?)
+}
+
+/// The command with a further child, as `Command::subcommand` adds it. Fails as the command did, or
+/// as the child did, or with `Memory`.
+pub fn with_child(
+    command: Result<Command, Error>,
+    child: Result<Command, Error>,
+) -> Result<Command, Error>
+    ensures { MadeOf with_child command child result }
+{
+    command?.subcommand(child?)
+}

@@ -1,0 +1,51 @@
+-- Where there are no warnings but notes, the premises hold.
+use Rattle.std.proofs.Common.{◌≡◌, ◌∙◌, sym, ap, subst, refl, ℕ, Bool, true, false, ◌&&◌, IsTrue, List, [], ◌++◌, Option, Some, None, unwrap_or, inl, inr}
+use Rattle.std.specs.List.{list_all}
+use Rattle.std.proofs.lemmas.Bool.{and_parts}
+use Rattle.cc_bash.specs.Labels.{shared_label}
+use Rattle.cc_command.specs.Escaped.{is_escaped_tree}
+use Rattle.cc_command.specs.Plain.{is_plain_argument, is_plain_forest, is_plain_node, is_plain_tree, passes_if_some, siblings_differ}
+use Rattle.cc_command.specs.Quiet.{is_quiet_tree}
+use Rattle.cc_command.specs.Tree.{Tree}
+use Rattle.cc_base.specs.PlainName.{is_plain_name}
+use Rattle.cc_command.proofs.EscapedBuilt.{escaped_built_under}
+use Rattle.complgen_lints.specs.CommandWarnings.{command_list}
+use Rattle.complgen_lints.specs.Notes.{are_notes}
+use Rattle.complgen_lints.specs.Premises.{holds_premises}
+use Rattle.complgen_lints.proofs.PremisesFound.{premises_hold as command_premises}
+use Rattle.complgen_lints.proofs.Walked.{notes_append}
+use Rattle.complgen_check.specs.Promises.{HoldPremises}
+use Rattle.complgen_check.specs.TreeWarnings.{built_as, called, label_list, warnings_of}
+
+no_label : (label : Option (List ℕ)) → IsTrue (are_notes (label_list label)) → label ≡ None
+no_label None h = refl
+no_label (Some label) h = cc
+
+-- the name by which a program is called is plain
+plain_called : (bin own : Option (List ℕ)) (name : List ℕ) → IsTrue (passes_if_some is_plain_name bin) →
+    IsTrue (passes_if_some is_plain_name own) → IsTrue (is_plain_name name) →
+    IsTrue (is_plain_name (unwrap_or bin (unwrap_or own name)))
+plain_called (Some bin) own name given owned named = given
+plain_called None (Some own) name given owned named = owned
+plain_called None None name given owned named = named
+
+pub premises_hold : (bin : Option (List ℕ)) (tree : Tree) → IsTrue (are_notes (warnings_of bin tree)) → HoldPremises bin tree
+premises_hold bin tree h =
+    let label = shared_label (built_as bin tree) in
+    let parts = and_parts (are_notes (command_list bin tree)) (are_notes (label_list label))
+    (subst IsTrue (notes_append (command_list bin tree) (label_list label)) h) in
+    let given = and_parts (passes_if_some is_plain_name bin) (is_plain_tree tree && (is_quiet_tree tree && is_escaped_tree tree))
+    (command_premises bin tree parts.0) in
+    let plain = and_parts (is_plain_tree tree) (is_quiet_tree tree && is_escaped_tree tree) given.1 in
+    let quiet = and_parts (is_quiet_tree tree) (is_escaped_tree tree) plain.1 in
+    let own = and_parts (passes_if_some is_plain_name tree.node.bin_name) (is_plain_node tree.node && (siblings_differ tree.children && is_plain_forest tree.children)) plain.0 in
+    let node = and_parts (is_plain_node tree.node) (siblings_differ tree.children && is_plain_forest tree.children) own.1 in
+    let named = and_parts (is_plain_name tree.node.name) (list_all is_plain_name tree.node.visible_aliases && (list_all is_plain_name tree.node.aliases && list_all is_plain_argument tree.node.arguments)) node.0 in
+    let name = plain_called bin tree.node.bin_name tree.node.name given.0 own.0 named.0 in
+    record {
+      plain = plain.0;
+      name = name;
+      quiet = quiet.0;
+      escaped = escaped_built_under (Some (called bin tree)) tree quiet.1;
+      label = no_label label parts.1;
+    }

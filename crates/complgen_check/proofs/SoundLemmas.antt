@@ -1,0 +1,131 @@
+-- Where nothing is found in a tree file but notes, its scripts are written and read back.
+use Rattle.std.proofs.Common.{◌≡◌, ◌∙◌, ◌++◌, ◌&&◌, Bool, IsTrue, List, None, Option, Some, [], ◌∷◌, ap, false, map, refl, subst, sym, true, ℕ}
+use Rattle.std.specs.List.{list_all}
+use Rattle.std.proofs.lemmas.Bool.{and_parts}
+use Rattle.std.proofs.lemmas.List.Elements.{All-head}
+use Rattle.cc_bash.proofs.PlainTable.{bash_plain_reads}
+use Rattle.cc_bash.specs.Labels.{shared_label}
+use Rattle.cc_command.proofs.BuiltAgain.{built_tree-again}
+use Rattle.cc_command.proofs.PlainBuilt.{plain_built_under}
+use Rattle.cc_command.specs.Built.{built_tree}
+use Rattle.cc_command.specs.Plain.{is_plain_tree}
+use Rattle.cc_command.specs.Tree.{Tree}
+use Rattle.complgen_lints.specs.Notes.{are_notes, is_note as is_note_kind}
+use Rattle.complgen_lints.specs.Texts.{level_of}
+use Rattle.complgen_lints.specs.declared.warning.Kind.{Kind}
+use Rattle.complgen_lints.specs.declared.warning.Kind.TheVariants.{HiddenArgument, HiddenCommand}
+use Rattle.complgen_lints.specs.declared.warning.Warning.{Warning}
+use Rattle.cc_fish.proofs.ScriptRead as fish
+use Rattle.cc_shell.specs.Shells.{shell_spec}
+use Rattle.cc_shell.specs.declared.shell.Shell.{Shell}
+use Rattle.cc_shell.specs.declared.shell.Shell.TheVariants.{Bash, Elvish, Fish, Nushell, PowerShell, Zsh}
+use Rattle.cc_tables.proofs.ElvishPlain.{elvish_plain_reads}
+use Rattle.cc_tables.proofs.NushellPlain.{nushell_plain_reads}
+use Rattle.cc_tables.proofs.PowershellFreeScripts.{powershell_plain_reads}
+use Rattle.complgen_tree_errors.specs.Findings.{AreErrors, IsError, Shown, shown_placed}
+use Rattle.complgen_tree_errors.specs.declared.finding.Level.{Level}
+use Rattle.complgen_tree_errors.specs.declared.finding.Level.TheVariants.{Error}
+use Rattle.complgen_tree_errors.specs.declared.finding.PlacedFinding.{PlacedFinding}
+use Rattle.complgen_tree_file.specs.Faults.{is_nil}
+use Rattle.complgen_check.proofs.NoWarnings.{premises_hold}
+use Rattle.complgen_check.specs.Promises.{HoldPremises}
+use Rattle.complgen_check.specs.TreeWarnings.{built_as, called, warnings_of}
+use Rattle.cc_zsh.proofs.ReadsBack as zsh
+use Rattle.complgen_check.specs.Checking.{AreSound, Finds, IsSafeFor, Warns, described, errors}
+use Rattle.complgen_check.specs.Checking.{finding_level, is_note, only_notes, shown_warning}
+
+-- ---- scripts
+
+-- the labels of the bash script are the only ones
+pub no_clash : (shell : Shell) (built : Tree) → shared_label built ≡ None
+    → (shell_spec shell).clash built ≡ None
+no_clash Bash built clear = clear
+no_clash Elvish built clear = refl
+no_clash Fish built clear = refl
+no_clash PowerShell built clear = refl
+no_clash Zsh built clear = refl
+no_clash Nushell built clear = refl
+
+reads_back : (built : Tree) → IsTrue (is_plain_tree built) → built_tree built ≡ built
+    → shared_label built ≡ None → (shell : Shell) → (shell_spec shell).Reads built
+reads_back built plain again clear Bash = bash_plain_reads built clear plain
+reads_back built plain again clear Elvish = elvish_plain_reads built plain
+reads_back built plain again clear Fish = fish.reads_back built plain
+reads_back built plain again clear PowerShell = powershell_plain_reads built plain
+reads_back built plain again clear Zsh = zsh.reads_back built plain again
+reads_back built plain again clear Nushell = nushell_plain_reads built plain
+
+-- the scripts of a tree for which the premises hold
+pub scripts_safe : (bin : Option (List ℕ)) (tree : Tree) → HoldPremises bin tree → (shell : Shell)
+    → IsSafeFor (built_as bin tree) shell
+scripts_safe bin tree holds shell = record {
+  unshared = no_clash shell (built_as bin tree) holds.label;
+  reads = reads_back (built_as bin tree)
+      (plain_built_under (Some (called bin tree)) tree holds.name holds.plain)
+      (built_tree-again (Some (called bin tree)) tree) holds.label shell;
+}
+
+-- ---- findings that are notes
+
+-- among errors there is none
+no_notes : (found : List PlacedFinding) → AreErrors found → IsTrue (only_notes found) → ⊥
+no_notes [] are clean = let none : true ≡ false = are.some in cc
+no_notes (finding ∷ more) are clean =
+    let first = (and_parts (is_note finding.level) (only_notes more) clean).0 in
+    let is : finding.level ≡ Error = All-head IsError finding more are.each in
+    let noted : false ≡ true = subst (λ (level : Level). IsTrue (is_note level)) is first in
+    cc
+
+-- a kind of a note is shown as one
+kind_shown : (kind : Kind) → is_note (finding_level (level_of kind)) ≡ is_note_kind kind
+kind_shown HiddenCommand = refl
+kind_shown HiddenArgument = refl
+kind_shown _ = refl
+
+-- whether all that is shown are notes
+notes_shown : List Shown → Bool
+notes_shown = list_all (λ shown. is_note shown.level)
+
+placed_notes : (found : List PlacedFinding) → notes_shown (map shown_placed found) ≡ only_notes found
+unfolding notes_shown
+placed_notes [] = refl
+placed_notes (finding ∷ more) = ap (λ notes. is_note finding.level && notes) (placed_notes more)
+
+warned_notes : (warnings : List Warning) → notes_shown (map shown_warning warnings) ≡ are_notes warnings
+unfolding notes_shown
+warned_notes [] = refl
+warned_notes (warning ∷ more) =
+    ap (λ note. note && notes_shown (map shown_warning more)) (kind_shown warning.kind)
+    ∙ ap (λ notes. is_note_kind warning.kind && notes) (warned_notes more)
+
+-- the last of some findings are notes, where all are
+last_notes : (first last : List PlacedFinding) → IsTrue (only_notes (first ++ last))
+    → IsTrue (only_notes last)
+last_notes [] last clean = clean
+last_notes (finding ∷ more) last clean =
+    last_notes more last (and_parts (is_note finding.level) (only_notes (more ++ last)) clean).1
+
+-- ---- the whole
+
+warned : (bin : Option (List ℕ)) (tree : Tree) (doubles found : List PlacedFinding)
+    → Warns bin tree doubles found → IsTrue (only_notes found)
+    → IsTrue (are_notes (warnings_of bin tree))
+warned bin tree doubles found warns clean =
+    let last : IsTrue (only_notes warns.warnings) = last_notes doubles warns.warnings
+    (subst (λ (found : List PlacedFinding). IsTrue (only_notes found)) warns.all clean) in
+    subst IsTrue (sym (placed_notes warns.warnings) ∙ ap notes_shown warns.each_warning
+    ∙ warned_notes (warnings_of bin tree)) last
+
+pub sound : (bin : Option (List ℕ)) (bytes : List ℕ) (found : List PlacedFinding)
+    → Finds bin bytes found → IsTrue (only_notes found) → AreSound bin (Some bytes)
+sound bin bytes found (errors none are) clean = absurd (no_notes found are clean)
+sound bin bytes found (described tree doubles describes each warns) clean =
+    let holds = premises_hold bin tree (warned bin tree doubles found warns clean) in
+    record {
+      bytes = bytes;
+      tree = tree;
+      is_file = refl;
+      described = describes;
+      premises = holds;
+      scripts = scripts_safe bin tree holds;
+    }

@@ -1,0 +1,134 @@
+-- What a check finds in a tree file, and how it ends.
+use Rattle.std.specs.Prelude.{◌≡◌, ◌++◌, ℕ, All, Bool, true, false, IsTrue, List, [], ◌∷◌, Option, Some, None, Result, Ok, Err, codes, map}
+use Rattle.std.specs.List.{flat_map, list_all}
+use Rattle.std.specs.declared.io.ErrorKind.{ErrorKind}
+use Rattle.cc_base.specs.Sink.{add_failure}
+use Rattle.cc_base.specs.declared.error.Error.TheVariants.{Write}
+use Rattle.cc_base.specs.declared.failures.Failures.{Failures}
+use Rattle.cc_command.specs.Tree.{Tree}
+use Rattle.complgen_lints.specs.Places.{key_text}
+use Rattle.complgen_lints.specs.Texts.{level_of, warning_text}
+use Rattle.complgen_lints.specs.declared.place.Key.{Key}
+use Rattle.complgen_lints.specs.declared.place.Place.{Place}
+use Rattle.complgen_lints.specs.declared.warning.Level.{Level as WarningLevel}
+use Rattle.complgen_lints.specs.declared.warning.Level.TheVariants as warning_level
+use Rattle.complgen_lints.specs.declared.warning.Warning.{Warning}
+use Rattle.cc_shell.specs.Shells.{shell_spec}
+use Rattle.cc_shell.specs.declared.shell.Shell.{Shell}
+use Rattle.cc_base.specs.Shown.{on_one_line}
+use Rattle.complgen_tree_errors.specs.Checks.{DescribesNone}
+use Rattle.complgen_tree_errors.specs.Findings.{AreErrors, IsDouble, Shown, shown_placed}
+use Rattle.complgen_tree_errors.specs.Places.{ShownStep, index, key, path_text}
+use Rattle.complgen_tree_errors.specs.declared.finding.Level.{Level}
+use Rattle.complgen_tree_errors.specs.declared.finding.Level.TheVariants as level
+use Rattle.complgen_tree_errors.specs.declared.finding.PlacedFinding.{PlacedFinding}
+use Rattle.complgen_tree_file.specs.TreeFile.{Describes}
+use Rattle.complgen_check.specs.Promises.{HoldPremises}
+use Rattle.complgen_check.specs.TreeWarnings.{built_as, warnings_of}
+use Rattle.complgen_command_line.specs.Refusals.{IsOutOfMemory, IsRefusal}
+use Rattle.complgen_command_line.specs.declared.types.Refusal.{Refusal}
+use Rattle.complgen_commands.specs.Refusals.{error_line, unreadable_line}
+use Rattle.complgen_commands.specs.Writing.{Untouched}
+use Rattle.complgen_check.specs.Lines.{finding_lines}
+
+-- ---- what is shown of a warning
+
+-- the level of a warning, as that of a finding
+abbrev pub finding_level : WarningLevel → Level
+finding_level warning_level.Warning = level.Warning
+finding_level warning_level.Note = level.Note
+
+-- the steps from the whole file to a command, which child of which child
+abbrev pub command_steps : List ℕ → List ShownStep
+command_steps children =
+    flat_map (λ child. key (codes "subcommands") ∷ index child ∷ []) children
+
+abbrev pub argument_steps : Option ℕ → List ShownStep
+argument_steps None = []
+argument_steps (Some argument) = key (codes "args") ∷ index argument ∷ []
+
+abbrev pub key_steps : Option Key → List ShownStep
+key_steps None = []
+key_steps (Some which) = key (key_text which) ∷ []
+
+abbrev pub item_steps : Option ℕ → List ShownStep
+item_steps None = []
+item_steps (Some item) = index item ∷ []
+
+-- the steps to a place in a tree: to the command, to its argument, to a key there and to an item
+abbrev pub place_steps : Place → List ShownStep
+place_steps place = ((command_steps place.command ++ argument_steps place.argument)
+    ++ key_steps place.key) ++ item_steps place.item
+
+-- what is shown of a warning
+abbrev pub shown_warning : Warning → Shown
+shown_warning warning = record {
+  level = finding_level (level_of warning.kind);
+  path = path_text (place_steps warning.place);
+  text = on_one_line (warning_text warning);
+}
+
+-- ---- what is found
+
+-- What is found in a file without errors: keys that stand twice, then each warning and note about
+-- the command, with its place.
+pub record Warns (bin : Option (List ℕ)) (tree : Tree) (doubles found : List PlacedFinding)
+    : Type 0 where
+  pub warnings : List PlacedFinding
+  pub all : found ≡ doubles ++ warnings
+  pub each_warning : map shown_placed warnings ≡ map shown_warning (warnings_of bin tree)
+
+-- What a check finds in the bytes of a tree file.
+pub data Finds (bin : Option (List ℕ)) (bytes : List ℕ) (found : List PlacedFinding) : Type 0 where
+  -- errors, at least one: the bytes describe no command
+  errors : DescribesNone bytes → AreErrors found → Finds bin bytes found
+  -- the bytes describe a command, and it is said which keys stand twice
+  described : (tree : Tree) (doubles : List PlacedFinding) → Describes bytes (Some tree)
+      → All IsDouble doubles → Warns bin tree doubles found → Finds bin bytes found
+
+-- whether a finding is neither an error nor a warning
+abbrev pub is_note : Level → Bool
+is_note level.Note = true
+is_note _ = false
+
+-- whether nothing is found but notes
+abbrev pub only_notes : List PlacedFinding → Bool
+only_notes found = list_all (λ finding. is_note finding.level) found
+
+-- ---- how a check ends
+
+-- How a check of a tree file ends, whose sink was so before and is so now.
+pub data EndsCheck {S : Type 0} (taken : S → List ℕ) (failed : S → Failures)
+    (bin : Option (List ℕ)) (old new : S) : Option (List ℕ) → Result Bool Refusal → Type 0 where
+  -- the file can't be read, and nothing is printed
+  unreadable : (refusal : Refusal) → IsRefusal unreadable_line refusal
+      → Untouched taken failed old new → EndsCheck taken failed bin old new None (Err refusal)
+  -- out of memory; some lines may be printed
+  out_of_memory : (bytes : List ℕ) (refusal : Refusal) → IsOutOfMemory refusal
+      → failed new ≡ failed old → EndsCheck taken failed bin old new (Some bytes) (Err refusal)
+  -- a write failed, which is counted with its kind; some lines may be printed
+  write_failed : (bytes : List ℕ) (kind : ErrorKind) (refusal : Refusal)
+      → IsRefusal (error_line (Write kind)) refusal → failed new ≡ add_failure kind (failed old)
+      → EndsCheck taken failed bin old new (Some bytes) (Err refusal)
+  -- each finding is printed, a line each, and it is told whether there are none but notes
+  printed : (bytes : List ℕ) (found : List PlacedFinding) → Finds bin bytes found
+      → taken new ≡ taken old ++ finding_lines bytes found → failed new ≡ failed old
+      → EndsCheck taken failed bin old new (Some bytes) (Ok (only_notes found))
+
+-- ---- what holds where nothing is found but notes
+
+-- No two commands of the built tree share a label that the script of this shell needs, so that
+-- writing it fails out of memory or by the writer alone; and the script reads back.
+pub record IsSafeFor (built : Tree) (shell : Shell) : Type 0 where
+  pub unshared : (shell_spec shell).clash built ≡ None
+  pub reads : (shell_spec shell).Reads built
+
+-- The bytes describe a command for which each premise of what scripts promise holds; so its script
+-- for each shell is safe.
+pub record AreSound (bin : Option (List ℕ)) (file : Option (List ℕ)) : Type 0 where
+  pub bytes : List ℕ
+  pub tree : Tree
+  pub is_file : file ≡ Some bytes
+  pub described : Describes bytes (Some tree)
+  pub premises : HoldPremises bin tree
+  pub scripts : (shell : Shell) → IsSafeFor (built_as bin tree) shell

@@ -1,0 +1,28 @@
+-- Findings as lines.
+use Rattle.std.specs.Prelude.{ℕ, List, ◌++◌, codes, decimal, string_bytes, take}
+use Rattle.std.specs.List.{flat_map}
+use Rattle.complgen_tree_errors.specs.Places.{column_after, line_after}
+use Rattle.complgen_tree_errors.specs.declared.finding.Level.{Level}
+use Rattle.complgen_tree_errors.specs.declared.finding.Level.TheVariants.{Error, Note, Warning}
+use Rattle.complgen_tree_errors.specs.declared.finding.PlacedFinding.{PlacedFinding}
+
+-- the name of a level
+abbrev pub level_text : Level → List ℕ
+level_text Note = codes "note"
+level_text Warning = codes "warning"
+level_text Error = codes "error"
+
+-- `LINE:COLUMN`, of the place after these bytes
+abbrev pub place_text : List ℕ → List ℕ
+place_text before = (decimal (line_after before) ++ codes ":") ++ decimal (column_after before)
+
+-- a finding in a file of these bytes as a line, `LINE:COLUMN: LEVEL: PATH: TEXT`
+abbrev pub finding_line : List ℕ → PlacedFinding → List ℕ
+finding_line bytes finding = place_text (take finding.offset bytes)
+    ++ codes ": " ++ level_text finding.level
+    ++ codes ": " ++ string_bytes finding.path
+    ++ codes ": " ++ string_bytes finding.text ++ codes "\n"
+
+-- findings, a line each
+abbrev pub finding_lines : List ℕ → List PlacedFinding → List ℕ
+finding_lines bytes found = flat_map (finding_line bytes) found

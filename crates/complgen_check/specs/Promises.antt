@@ -1,0 +1,21 @@
+-- What holds of a tree that has no warnings.
+use Rattle.std.specs.Prelude.{◌≡◌, ℕ, List, Option, Some, None, IsTrue, Result, Ok, Err}
+use Rattle.cc_base.specs.Writes.{IsMemoryOrWrite}
+use Rattle.cc_base.specs.declared.error.Error.{Error}
+use Rattle.cc_bash.specs.Labels.{shared_label}
+use Rattle.cc_command.specs.Escaped.{is_escaped_tree}
+use Rattle.cc_command.specs.Plain.{is_plain_tree}
+use Rattle.cc_command.specs.Quiet.{is_quiet_tree}
+use Rattle.cc_command.specs.Tree.{Tree}
+use Rattle.cc_base.specs.PlainName.{is_plain_name}
+use Rattle.complgen_check.specs.TreeWarnings.{built_as, called}
+
+-- Each premise of what scripts promise holds: the tree and the name by which it is called are
+-- plain, the possible values are quiet, no text of the built tree has a quote that PowerShell's
+-- script leaves as it is, and no two commands share a label.
+pub record HoldPremises (bin : Option (List ℕ)) (tree : Tree) : Type 0 where
+  pub plain : IsTrue (is_plain_tree tree)
+  pub name : IsTrue (is_plain_name (called bin tree))
+  pub quiet : IsTrue (is_quiet_tree tree)
+  pub escaped : IsTrue (is_escaped_tree (built_as bin tree))
+  pub label : shared_label (built_as bin tree) ≡ None

@@ -1,0 +1,29 @@
+-- The warnings about a tree that is called by a bin name.
+use Rattle.std.specs.Prelude.{ℕ, List, [], ◌∷◌, ◌++◌, Option, Some, None, unwrap_or}
+use Rattle.cc_bash.specs.Labels.{shared_label}
+use Rattle.cc_command.specs.Built.{built_under}
+use Rattle.cc_command.specs.Names.{full_name}
+use Rattle.cc_command.specs.Tree.{Tree}
+use Rattle.complgen_lints.specs.CommandWarnings.{command_list}
+use Rattle.complgen_lints.specs.declared.warning.Kind.TheVariants.{SharedLabel}
+use Rattle.complgen_lints.specs.declared.warning.Warning.{Warning}
+
+-- the name by which a program is called: the given one, else the tree's bin name, else its name
+abbrev pub called : Option (List ℕ) → Tree → List ℕ
+called bin tree = unwrap_or bin (full_name tree.node)
+
+-- the tree as it is built to be called so
+abbrev pub built_as : Option (List ℕ) → Tree → Tree
+built_as bin tree = built_under (Some (called bin tree)) tree
+
+-- a label that two commands share, where there is one; it has no place of its own
+abbrev pub label_list : Option (List ℕ) → List Warning
+label_list None = []
+label_list (Some label) = record {
+  place = record { command = []; argument = None; key = None; item = None };
+  kind = SharedLabel label;
+} ∷ []
+
+-- the warnings about the tree, then the one about a label of the built tree
+abbrev pub warnings_of : Option (List ℕ) → Tree → List Warning
+warnings_of bin tree = command_list bin tree ++ label_list (shared_label (built_as bin tree))

@@ -1,0 +1,97 @@
+//! The warnings about a described command, that of two commands with one label of bash included.
+
+ghost use Rattle.std.specs.Prelude.{◌≡◌, ◌⊎◌, ◌++◌, IfOk, IsTrue, OnErr, OnOk, Some};
+ghost use Rattle.std.specs.Option.{option_copied};
+ghost use Rattle.std.specs.String.{string_bytes};
+ghost use Rattle.cc_command.specs.Built.{built_tree};
+ghost use Rattle.cc_command.specs.Plain.{is_plain_tree};
+ghost use Rattle.complgen_lints.specs.Notes.{are_notes};
+ghost use Rattle.cc_bash.specs.Labels.{shared_label};
+ghost use Rattle.complgen_check.specs.Promises.{HoldPremises};
+ghost use Rattle.complgen_check.specs.TreeWarnings.{built_as, called, label_list, warnings_of};
+
+use cc_base::Items;
+use cc_bash::clashing_label;
+use cc_command::{Command, build_as, full_name};
+use complgen_lints::{Kind, Place, Warning, command_warnings};
+use std::alloc::{AllocError, Global};
+
+/// The warnings and notes about a command that is called by this bin name: that of the call, else
+/// the command's own, else its name. First come those of `command_warnings`, last the one about two
+/// commands that share a label of the bash script, which stands at the root.
+///
+/// Where there are none but notes, each premise of what scripts promise holds, and the script of
+/// each shell is written and reads back, but for memory that runs out and a failed write. The call
+/// leaves the command built under that name, as `generate` does. Where it fails, the command is
+/// built or as it was.
+///
+/// Fails where memory runs out.
+pub fn tree_warnings(
+    alloc: Global,
+    bin: Option<&str>,
+    command: &mut Command,
+) -> Result<Vec<Warning>, AllocError>
+    ensures list { IfOk result (λ found.
+        found.items ≡ warnings_of (option_copied bin.entry) command.old) }
+
+    // Where there are none but notes, the premises hold.
+    ensures premises { IfOk result (λ found. IsTrue (are_notes found.items) →
+        HoldPremises (option_copied bin.entry) command.old) }
+    ensures built { OnOk result (command.new ≡ built_as (option_copied bin.entry) command.old) }
+
+    // Building it again would change nothing, and a plain command stays plain.
+    ensures whole { OnOk result (built_tree command.new ≡ command.new) }
+    ensures plain { OnOk result (IsTrue (are_notes (warnings_of (option_copied bin.entry)
+        command.old)) → IsTrue (is_plain_tree command.new)) }
+    ensures err { OnErr result ((command.new ≡ command.old)
+        ⊎ (command.new ≡ built_as (option_copied bin.entry) command.old)) }
+{
+    let mut found = command_warnings(alloc, bin, command)?;
+    build_called(alloc, bin, command)?;
+    push_label(&mut found, alloc, command)?;
+    Ok(found)
+}
+
+// Builds the command under the name by which it is called.
+fn build_called(alloc: Global, bin: Option<&str>, command: &mut Command) -> Result<(), AllocError>
+    ensures built { OnOk result (command.new ≡ built_as (option_copied bin.entry) command.old) }
+    ensures whole { OnOk result (built_tree command.new ≡ command.new) }
+    ensures err { OnErr result (command.new ≡ command.old) }
+{
+    let name = called_name(alloc, bin, command)?;
+    match build_as(command, alloc, name) {
+        Ok(()) => Ok(()),
+        Err(_) => Err(AllocError),
+    }
+}
+
+fn called_name(alloc: Global, bin: Option<&str>, command: &Command) -> Result<String, AllocError>
+    ensures { IfOk result (λ name.
+        string_bytes name ≡ called (option_copied bin.entry) command.now) }
+{
+    match bin {
+        Some(bin) => String::from_str(alloc, bin),
+        None => String::from_str(alloc, full_name(command)),
+    }
+}
+
+// The label that two nodes of a built command share.
+fn push_label(found: &mut Vec<Warning>, alloc: Global, command: &Command) -> Result<(), AllocError>
+    ensures { OnOk result (found.new.items
+        ≡ found.old.items ++ label_list (shared_label command.now)) }
+{
+    let Some(label) = clashing_label(alloc, command)? else {
+        return Ok(());
+    };
+    let place = Place {
+        command: Items::new(alloc),
+        argument: None,
+        key: None,
+        item: None,
+    };
+    found.push(Warning {
+        place,
+        kind: Kind::SharedLabel(label),
+    })?;
+    Ok(())
+}

@@ -1,0 +1,64 @@
+//! A script that is written only where there are no warnings.
+
+ghost use Rattle.std.specs.Prelude.{◌≡◌, IfErr, IfOk, IsTrue, None, Some};
+ghost use Rattle.std.specs.String.{string_bytes};
+ghost use Rattle.cc_base.specs.Writes.{IsMemoryOrWrite};
+ghost use Rattle.cc_command.specs.Built.{built_under};
+ghost use Rattle.complgen_lints.specs.Notes.{are_notes};
+ghost use Rattle.cc_bash.specs.Labels.{shared_label};
+ghost use Rattle.cc_shell.specs.Shells.{shell_spec};
+ghost use Rattle.complgen_check.specs.TreeWarnings.{warnings_of};
+
+use crate::all_warnings::tree_warnings;
+use cc_base::{Error, Sink};
+use cc_command::Command;
+use cc_generator::{Generator, generate};
+use cc_shell::Shell;
+use complgen_lints::are_notes;
+use std::alloc::Global;
+
+/// Writes the script for a shell of a command that is called by this bin name, where
+/// `tree_warnings` finds none but notes, and returns whether it did: `Ok(false)` where it finds
+/// others, and then nothing is written. A script that is written reads back.
+///
+/// Fails with `Memory` and `Write` alone, whatever the shell.
+pub fn write_shell_if_no_warnings<W: Sink>(
+    alloc: Global,
+    shell: Shell,
+    command: &mut Command,
+    bin_name: String,
+    sink: &mut W,
+) -> Result<bool, Error>
+    ensures writes { IfOk result (λ done.
+        done ≡ are_notes (warnings_of (Some (string_bytes bin_name)) command.old)) }
+    ensures reads { IfOk result (λ done. IsTrue done →
+        (shell_spec shell).Reads (built_under (Some (string_bytes bin_name)) command.old)) }
+    ensures errors { IfErr result IsMemoryOrWrite }
+{
+    write_if_no_warnings(alloc, shell, command, bin_name, sink)
+}
+
+// The same for any generator, which fails with `Memory` and `Write` alone where it has no labels, or
+// those of the bash script.
+fn write_if_no_warnings<G: Generator + Drop, W: Sink>(
+    alloc: Global,
+    generator: G,
+    command: &mut Command,
+    bin_name: String,
+    sink: &mut W,
+) -> Result<bool, Error>
+    ensures writes { IfOk result (λ done.
+        done ≡ are_notes (warnings_of (Some (string_bytes bin_name)) command.old)) }
+    ensures reads { IfOk result (λ done. IsTrue done →
+        (G.spec generator).Reads (built_under (Some (string_bytes bin_name)) command.old)) }
+    ensures errors { (shared_label (built_under (Some (string_bytes bin_name)) command.old) ≡ None →
+        (G.spec generator).clash (built_under (Some (string_bytes bin_name)) command.old) ≡ None) →
+        IfErr result IsMemoryOrWrite }
+{
+    let found = tree_warnings(alloc, Some(bin_name.as_str()), command)?;
+    if !are_notes(&found) {
+        return Ok(false);
+    }
+    generate(alloc, generator, command, bin_name, sink)?;
+    Ok(true)
+}

@@ -1,0 +1,17 @@
+use Rattle.std.proofs.Common.{◌≡◌, ◌++◌, drop}
+use Rattle.std.specs.List.{AllByRecursion}
+use Rattle.complgen_commands.specs.AllScripts.{HasNoLabels, ReadsBack, path_lines}
+use Rattle.complgen_commands.proofs.all_scripts.write_each.Given as goal
+
+-- what was printed and the lines that are left make the whole; no write failed; the command is as it
+-- was; the shells that are left have no labels, and where their scripts read back, all do
+abbrev pub invariant-loop-shell : goal.invariant-loop-shell
+invariant-loop-shell g l = record {
+  whole : g.W.Sink.taken l.out ++ path_lines l.bin l.folder (drop l.shell-index l.shells)
+      ≡ g.W.Sink.taken l.initial.out ++ path_lines l.bin l.folder l.shells;
+  failures : g.W.Sink.failed l.out ≡ g.W.Sink.failed l.initial.out;
+  command : l.command ≡ l.initial.command;
+  no_labels : AllByRecursion HasNoLabels (drop l.shell-index l.shells);
+  reads : AllByRecursion (ReadsBack l.bin l.initial.command) (drop l.shell-index l.shells)
+      → AllByRecursion (ReadsBack l.bin l.initial.command) l.shells;
+}

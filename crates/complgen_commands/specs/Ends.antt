@@ -1,0 +1,41 @@
+-- How carrying out a plan ends.
+use Rattle.std.specs.Prelude.{⊤, ℕ, false, List, Option, Result, length, map, string_bytes}
+use Rattle.cc_base.specs.declared.failures.Failures.{Failures}
+use Rattle.complgen_command_line.specs.declared.types.Plan.{Plan}
+use Rattle.complgen_command_line.specs.declared.types.Plan.TheVariants.{Candidates, Register, Script}
+use Rattle.complgen_command_line.specs.declared.types.Refusal.{Refusal}
+use Rattle.complgen_commands.specs.Registrations.{Registers, RegistrationReads, no_registration_text}
+use Rattle.complgen_commands.specs.Registrations.{registration_for}
+use Rattle.complgen_commands.specs.Replies.{IsOutOfRange, IsReply, Paths}
+use Rattle.complgen_commands.specs.ScriptEnds.{EndsFor, EndsScript, NamedScriptReads}
+use Rattle.complgen_commands.specs.Writing.{Finishes}
+
+-- how writing a registration for the shell of this name ends
+abbrev pub EndsRegistration : {S : Type 0} → (S → List ℕ) → (S → Failures) → List ℕ → List ℕ
+    → Option (List ℕ) → S → S → Result (Unit {0}) Refusal → Type 0
+EndsRegistration taken failed name bin file old new result = EndsFor taken failed name old new
+    (λ shell. Registers taken failed (RegistrationReads shell) (no_registration_text shell) bin file
+    old new (registration_for shell)) result
+
+-- how writing the candidates for the word at an index ends
+abbrev pub EndsReply : {S : Type 0} → (S → List ℕ) → (S → Failures) → Paths → List (List ℕ) → ℕ
+    → Option (List ℕ) → S → S → Result (Unit {0}) Refusal → Type 0
+EndsReply taken failed Finds words index file old new result = Finishes taken failed false
+    (IsOutOfRange (length words) index) (IsReply Finds words index) old new file result
+
+-- how carrying out a plan ends, where these paths may be found
+abbrev pub Ends : {S : Type 0} → (S → List ℕ) → (S → Failures) → Paths → Plan → Option (List ℕ)
+    → S → S → Result (Unit {0}) Refusal → Type 0
+Ends taken failed Finds (Script shell bin tree) file old new result =
+    EndsScript taken failed (string_bytes shell) (string_bytes bin) file old new result
+Ends taken failed Finds (Register shell bin tree) file old new result =
+    EndsRegistration taken failed (string_bytes shell) (string_bytes bin) file old new result
+Ends taken failed Finds (Candidates index tree words) file old new result =
+    EndsReply taken failed Finds (map string_bytes words.items) index file old new result
+
+-- what a script is read as, once its plan is carried out; of a registration and of a reply the
+-- cases above say it
+abbrev pub ReadsBack : Plan → Option (List ℕ) → Type 0
+ReadsBack (Script shell bin tree) file =
+    NamedScriptReads (string_bytes shell) (string_bytes bin) file
+ReadsBack _ file = ⊤

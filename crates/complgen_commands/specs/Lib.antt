@@ -1,0 +1,9 @@
+pub mod AllScripts
+pub mod Ends
+pub mod Refusals
+pub mod Registrations
+pub mod Replies
+pub mod ScriptEnds
+pub mod Scripts
+pub mod TreeFiles
+pub mod Writing

@@ -1,0 +1,67 @@
+-- The registration for the command of a tree file, by which a shell asks a program for candidates.
+use Rattle.std.specs.Prelude.{◌≡◌, ℕ, true, List, Option, Some, None, Result, Err, codes, find, map, option_map}
+use Rattle.cc_env.specs.declared.builtin.Builtin.{Builtin}
+use Rattle.cc_env.specs.Builtins.{all_builtins, builtin_spec}
+use Rattle.cc_base.specs.declared.error.Error.TheVariants.{UnknownShell}
+use Rattle.cc_base.specs.declared.failures.Failures.{Failures}
+use Rattle.cc_env.specs.Wanted.{unknown_shell}
+use Rattle.cc_shell.specs.declared.shell.Shell.{Shell}
+use Rattle.cc_shell.specs.Shells.{shell_text}
+use Rattle.cc_command.specs.Tree.{Tree}
+use Rattle.complgen_command_line.specs.Refusals.{IsRefusal}
+use Rattle.complgen_command_line.specs.declared.types.Refusal.{Refusal}
+use Rattle.complgen_commands.specs.Refusals.{error_line}
+use Rattle.complgen_commands.specs.Writing.{Finishes, Untouched}
+
+-- the variable by which a shell asks
+abbrev pub variable : List ℕ
+variable = codes "COMPLETE"
+
+-- the adapter of a shell: the first that has its text as a name
+abbrev pub adapter_for : Shell → Option Builtin
+adapter_for shell = find (λ adapter. (builtin_spec adapter).named (shell_text shell)) all_builtins
+
+-- a registration of the name of a command and of the bin name, under which it is called and
+-- completes
+abbrev pub registration_by : Builtin → List ℕ → List ℕ → List ℕ
+registration_by adapter name bin = (builtin_spec adapter).registration variable name bin bin
+
+-- what it is read as, of the same names
+abbrev pub RegistrationReadsBy : Builtin → List ℕ → List ℕ → Type 0
+RegistrationReadsBy adapter name bin = (builtin_spec adapter).Reads variable name bin bin
+
+-- the registration for a shell; without an adapter there is none
+abbrev pub registration_for : Shell → Option (List ℕ → List ℕ → List ℕ)
+registration_for shell = option_map registration_by (adapter_for shell)
+
+-- what the registration by an adapter is read as; without one none is read
+abbrev pub AdapterReads : Option Builtin → List ℕ → List ℕ → Type 0
+AdapterReads None name bin = ⊥
+AdapterReads (Some adapter) name bin = RegistrationReadsBy adapter name bin
+
+abbrev pub RegistrationReads : Shell → List ℕ → List ℕ → Type 0
+RegistrationReads shell = AdapterReads (adapter_for shell)
+
+-- the message that there is none for a shell
+abbrev pub no_registration_text : Shell → List ℕ
+no_registration_text shell =
+    unknown_shell (map (λ adapter. (builtin_spec adapter).name) all_builtins) (shell_text shell)
+
+-- the registration of a command, and what it is read as holds
+pub record IsRegistration (registration : List ℕ → List ℕ → List ℕ)
+    (Reads : List ℕ → List ℕ → Type 0) (bin : List ℕ) (tree : Tree) (text : List ℕ) : Type 0 where
+  pub is : text ≡ registration tree.node.name bin
+  pub read_back : Reads tree.node.name bin
+
+-- How writing the registration for a shell ends, where it has this one or none, and one that it has
+-- is read so. That there is none is reported, by this message, before the file is looked at.
+pub data Registers {S : Type 0} (taken : S → List ℕ) (failed : S → Failures)
+    (Reads : List ℕ → List ℕ → Type 0) (message bin : List ℕ) (file : Option (List ℕ)) (old new : S)
+    : Option (List ℕ → List ℕ → List ℕ) → Result (Unit {0}) Refusal → Type 0 where
+  no_registration : (refusal : Refusal) → IsRefusal (error_line (UnknownShell message)) refusal
+      → Untouched taken failed old new
+      → Registers taken failed Reads message bin file old new None (Err refusal)
+  some_registration : (registration : List ℕ → List ℕ → List ℕ) (result : Result (Unit {0}) Refusal)
+      → Finishes taken failed true (λ tree refusal. ⊥) (IsRegistration registration Reads bin) old
+      new file result
+      → Registers taken failed Reads message bin file old new (Some registration) result

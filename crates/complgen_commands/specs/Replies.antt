@@ -1,0 +1,51 @@
+-- The candidates for a word of a command line, where there are no completers, and their reply.
+use Rattle.std.specs.Prelude.{⊤, ◌≡◌, ℕ, List, [], true, false, length}
+use Rattle.cc_gather.specs.Values.{MayReturn}
+use Rattle.cc_command.specs.Built.{built_tree}
+use Rattle.cc_engine.specs.Completion.{Completes, is_in_range}
+use Rattle.cc_candidates.specs.declared.candidate.CompletionCandidate.{CompletionCandidate}
+use Rattle.cc_base.specs.declared.error.Error.{Error}
+use Rattle.cc_base.specs.declared.error.Error.TheVariants.{Memory, NoCompletion}
+use Rattle.cc_command.specs.Tree.{Tree}
+use Rattle.cc_arg.specs.declared.value_hint.ValueHint.{ValueHint}
+use Rattle.complgen_command_line.specs.Refusals.{IsRefusal}
+use Rattle.complgen_command_line.specs.declared.types.Refusal.{Refusal}
+use Rattle.cc_replies.specs.Reply.{LinesRead, lines_reply}
+use Rattle.complgen_commands.specs.Refusals.{error_line}
+
+-- the paths that may be found for a value hint and a text
+abbrev pub Paths : Type 1
+Paths = ValueHint → List ℕ → List CompletionCandidate → Type 0
+
+-- there is no completer and no list, so that no number has candidates; paths are found
+abbrev pub only_paths : Paths → MayReturn
+only_paths Finds = record {
+  completes = λ which number text found. found ≡ [];
+  lists = λ which found. found ≡ [];
+  finds = Finds;
+}
+
+-- the candidates may be those for the word at the index, of the built command
+pub record AreFound (Finds : Paths) (words : List (List ℕ)) (index : ℕ) (tree : Tree)
+    (found : List CompletionCandidate) : Type 0 where
+  pub in_range : is_in_range (built_tree tree).node (length words) index ≡ true
+  pub completes : Completes (only_paths Finds) (built_tree tree) words index found
+
+-- why no candidates are found: out of memory; or no word is at the index
+abbrev pub FindsNone : ℕ → ℕ → Tree → Error → Type 0
+FindsNone count index tree Memory = ⊤
+FindsNone count index tree NoCompletion = is_in_range (built_tree tree).node count index ≡ false
+FindsNone count index tree _ = ⊥
+
+-- no word of the command line is at the index, and that is reported
+pub record IsOutOfRange (count index : ℕ) (tree : Tree) (refusal : Refusal) : Type 0 where
+  pub out_of_range : is_in_range (built_tree tree).node count index ≡ false
+  pub reported : IsRefusal (error_line NoCompletion) refusal
+
+-- the reply to fish of such candidates, and what it is read as holds
+pub record IsReply (Finds : Paths) (words : List (List ℕ)) (index : ℕ) (tree : Tree) (text : List ℕ)
+    : Type 0 where
+  pub found : List CompletionCandidate
+  pub are_found : AreFound Finds words index tree found
+  pub is : text ≡ lines_reply found
+  pub read_back : LinesRead found

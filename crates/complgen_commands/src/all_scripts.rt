@@ -1,0 +1,135 @@
+//! The scripts of all shells, each in a file.
+
+ghost use Rattle.std.specs.Prelude.{◌≡◌, IfOk, IsTrue, OnOk, Some};
+ghost use Rattle.std.specs.List.{AllByRecursion};
+ghost use Rattle.std.specs.Option.{option_copied};
+ghost use Rattle.std.specs.String.{string_bytes};
+ghost use Rattle.cc_command.specs.Built.{built_under};
+ghost use Rattle.cc_command.specs.Plain.{is_plain_tree};
+ghost use Rattle.cc_base.specs.PlainName.{is_plain_name};
+ghost use Rattle.cc_shell.specs.Shells.{shell_spec};
+ghost use Rattle.cc_shell.specs.declared.shell.Shell.{Shell};
+ghost use Rattle.complgen_commands.specs.Scripts.{ScriptReads};
+ghost use Rattle.complgen_commands.specs.AllScripts.{EndsFile, EndsFiles, EndsScripts, HasNoLabels};
+ghost use Rattle.complgen_commands.specs.AllScripts.{PrintsLine, ReadsBack, ReportsFile};
+ghost use Rattle.complgen_commands.specs.AllScripts.{folder_line, path_line, path_lines};
+ghost use Rattle.complgen_commands.specs.Refusals.{as_line};
+
+use crate::refusals::{as_line, error_refusal, text_refusal};
+use crate::tree_files::tree;
+use cc_base::{Error, Sink, on_one_line, put_piece};
+use cc_command::Command;
+use cc_shell::{Shell, generate_to};
+use complgen_command_line::{Refusal, WRITE_FAILED};
+use std::alloc::{AllocError, Global};
+use std::rt::Files;
+
+/// Writes the scripts of all shells for a tree file, each to the file that its shell looks for, in
+/// a folder, and prints the paths of these files, one a line, each control character as `?`. There
+/// are no bytes where the tree file can't be read.
+///
+/// Fails with status 1: where the tree file holds no tree, or two of its commands share a label of
+/// the bash script, before any file is made; where a file can't be made or written, as in a folder
+/// that isn't there; where a path can't be printed; and where memory runs out.
+pub fn scripts<R: Files, W: Sink>(
+    files: &R,
+    alloc: Global,
+    bin: &str,
+    folder: &str,
+    file: Option<&[u8]>,
+    out: &mut W,
+) -> Result<(), Refusal>
+    ensures ends { EndsScripts W.taken W.failed bin.now folder.now out.old out.new
+        (option_copied file.entry) result }
+    ensures read_back { OnOk result
+        ((shell : Shell) → ScriptReads shell bin.now (option_copied file.entry)) }
+{
+    let mut command = tree(alloc, file)?;
+    // In that of bash alone two commands may share a label: it comes before any file is made.
+    write_one(files, alloc, Shell::Bash, &mut command, bin, folder, out)?;
+    write_each(files, alloc, OTHERS, &mut command, bin, folder, out)
+}
+
+const OTHERS: &[Shell] = &[
+    Shell::Elvish,
+    Shell::Fish,
+    Shell::PowerShell,
+    Shell::Zsh,
+    Shell::Nushell,
+];
+
+// The labels were looked at before, so that no file is made where two commands share one.
+fn write_each<R: Files, W: Sink>(
+    files: &R,
+    alloc: Global,
+    shells: &[Shell],
+    command: &mut Command,
+    bin: &str,
+    folder: &str,
+    out: &mut W,
+) -> Result<(), Refusal>
+    requires built { built_under (Some bin.now) command.now ≡ command.now }
+    requires no_labels { AllByRecursion HasNoLabels shells.now }
+    ensures ends { EndsFiles W.taken W.failed folder.now (path_lines bin.now folder.now shells.now)
+        out.old out.new result }
+    ensures reads { OnOk result (AllByRecursion (ReadsBack bin.now command.old) shells.now) }
+{
+    for shell in shells {
+        write_one(files, alloc, *shell, command, bin, folder, out)?;
+    }
+    Ok(())
+}
+
+// Writes the script of a shell to its file, and the path of the file to the output.
+fn write_one<R: Files, W: Sink>(
+    files: &R,
+    alloc: Global,
+    shell: Shell,
+    command: &mut Command,
+    bin: &str,
+    folder: &str,
+    out: &mut W,
+) -> Result<(), Refusal>
+    ensures built { OnOk result (command.new ≡ built_under (Some bin.now) command.old) }
+    ensures ends { EndsFile W.taken W.failed
+        ((shell_spec shell).clash (built_under (Some bin.now) command.old)) folder.now
+        (path_line bin.now folder.now shell) out.old out.new result }
+    ensures reads { OnOk result (IsTrue (is_plain_tree command.old) → IsTrue (is_plain_name bin.now)
+        → (shell_spec shell).Reads (built_under (Some bin.now) command.old)) }
+{
+    let name = String::from_str(alloc, bin)?;
+    match generate_to(files, alloc, shell, command, name, folder) {
+        Ok(path) => put_path(alloc, out, path.as_str()),
+        Err(error) => Err(file_refusal(alloc, folder, &error)),
+    }
+}
+
+// Puts a path as a line, each control character as `?`.
+fn put_path<W: Sink>(alloc: Global, out: &mut W, path: &str) -> Result<(), Refusal>
+    ensures { PrintsLine W.taken W.failed (as_line path.now) out.old out.new result }
+{
+    let line = as_line(alloc, path)?;
+    match put_piece(out, line.as_str()) {
+        Ok(()) => Ok(()),
+        Err(_) => Err(Refusal::from_static(1, WRITE_FAILED)),
+    }
+}
+
+// What is printed where a script is not written to its file.
+fn file_refusal(alloc: Global, folder: &str, error: &Error) -> Refusal
+    ensures { ReportsFile folder.now error.now result }
+{
+    match error {
+        Error::Write(_) => text_refusal(folder_line(alloc, folder)),
+        error => error_refusal(alloc, error),
+    }
+}
+
+// The line that says that a file in this folder can't be made or written.
+fn folder_line(alloc: Global, folder: &str) -> Result<String, AllocError>
+    ensures { IfOk result (λ line. string_bytes line ≡ folder_line folder.now) }
+{
+    let mut line = on_one_line(alloc, folder)?;
+    line.push_str(": write failed\n")?;
+    Ok(line)
+}

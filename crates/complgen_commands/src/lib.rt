@@ -1,0 +1,19 @@
+//! Carries out what the command line asks for: reads a tree file, and writes a script, the scripts
+//! of all shells, a registration or candidates; and what is printed of an error.
+#![tactic(auto)]
+
+mod all_scripts;
+mod one_script;
+mod plans;
+mod refusals;
+mod registrations;
+mod replies;
+mod shells;
+mod tree_files;
+
+pub use crate::all_scripts::scripts;
+pub use crate::one_script::script;
+pub use crate::plans::run;
+pub use crate::refusals::{UNREADABLE, error_refusal};
+pub use crate::shells::shell_of;
+pub use crate::tree_files::tree;

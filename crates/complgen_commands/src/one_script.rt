@@ -1,0 +1,53 @@
+//! Writes a script.
+
+ghost use Rattle.std.specs.Prelude.{OnOk, true};
+ghost use Rattle.std.specs.Option.{option_copied};
+ghost use Rattle.complgen_commands.specs.ScriptEnds.{EndsScript, NamedScriptReads};
+ghost use Rattle.complgen_commands.specs.Scripts.{IsScript, ScriptReads, SharesLabel};
+ghost use Rattle.complgen_commands.specs.Writing.{Finishes};
+
+use crate::refusals::error_refusal;
+use crate::shells::shell_of;
+use crate::tree_files::tree;
+use cc_base::Sink;
+use cc_generator::generate;
+use cc_shell::Shell;
+use complgen_command_line::Refusal;
+use std::alloc::Global;
+
+/// Writes the script for the shell of this name.
+pub fn script<W: Sink>(
+    alloc: Global,
+    shell: &str,
+    bin: &str,
+    file: Option<&[u8]>,
+    out: &mut W,
+) -> Result<(), Refusal>
+    ensures ends { EndsScript W.taken W.failed shell.now bin.now (option_copied file.entry)
+        out.old out.new result }
+    ensures read_back { OnOk result
+        (NamedScriptReads shell.now bin.now (option_copied file.entry)) }
+{
+    let shell = shell_of(alloc, shell)?;
+    script_by(alloc, shell, bin, file, out)
+}
+
+// Writes the script for this shell of a tree file.
+fn script_by<W: Sink>(
+    alloc: Global,
+    shell: Shell,
+    bin: &str,
+    file: Option<&[u8]>,
+    out: &mut W,
+) -> Result<(), Refusal>
+    ensures ends { Finishes W.taken W.failed true (SharesLabel shell bin.now)
+        (IsScript shell bin.now) out.old out.new (option_copied file.entry) result }
+    ensures read_back { OnOk result (ScriptReads shell bin.now (option_copied file.entry)) }
+{
+    let mut command = tree(alloc, file)?;
+    let bin = String::from_str(alloc, bin)?;
+    match generate(alloc, shell, &mut command, bin, out) {
+        Ok(()) => Ok(()),
+        Err(error) => Err(error_refusal(alloc, &error)),
+    }
+}

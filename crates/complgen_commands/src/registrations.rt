@@ -1,0 +1,106 @@
+//! Writes a registration, by which a shell asks a program for candidates.
+
+ghost use Rattle.std.specs.Prelude.{◌≡◌, find, true};
+ghost use Rattle.std.specs.Option.{option_copied};
+ghost use Rattle.cc_env.specs.Builtins.{all_builtins, builtin_spec};
+ghost use Rattle.cc_base.specs.declared.error.Error.TheVariants.{UnknownShell};
+ghost use Rattle.cc_shell.specs.Shells.{shell_text};
+ghost use Rattle.complgen_commands.specs.Ends.{EndsRegistration};
+ghost use Rattle.complgen_commands.specs.Registrations.{IsRegistration, Registers, RegistrationReads};
+ghost use Rattle.complgen_commands.specs.Registrations.{RegistrationReadsBy, no_registration_text, registration_by};
+ghost use Rattle.complgen_commands.specs.Registrations.{registration_for};
+ghost use Rattle.complgen_commands.specs.Refusals.{error_line};
+ghost use Rattle.complgen_commands.specs.Writing.{Finishes};
+
+use crate::refusals::error_refusal;
+use crate::shells::shell_of;
+use crate::tree_files::tree;
+use cc_base::Sink;
+use cc_env::{Builtin, EnvCompleter, Shells};
+use cc_shell::{Shell, each_shell};
+use complgen_command_line::Refusal;
+use std::alloc::Global;
+
+// The variable by which a shell asks.
+const VARIABLE: &str = "COMPLETE";
+
+// What is printed of a shell that has no registration, with the names of those that have one.
+macro_rules! no_registration {
+    ([$shell:tt] $($variant:ident $text:literal $programs:tt,)*) => {
+        match $shell {
+            $(Shell::$variant => concat!(
+                "unknown shell `", $text,
+                "`, expected one of `bash`, `elvish`, `fish`, `powershell`, `zsh`\n"
+            ),)*
+        }
+    };
+}
+
+/// Writes the registration for the shell of this name.
+pub(crate) fn register<W: Sink>(
+    alloc: Global,
+    name: &str,
+    bin: &str,
+    file: Option<&[u8]>,
+    out: &mut W,
+) -> Result<(), Refusal>
+    ensures { EndsRegistration W.taken W.failed name.now bin.now (option_copied file.entry)
+        out.old out.new result }
+{
+    let shell = shell_of(alloc, name)?;
+    register_named(alloc, shell, name, bin, file, out)
+}
+
+// Writes the registration for this shell, which has this text, of a tree file, where it has one.
+fn register_named<W: Sink>(
+    alloc: Global,
+    shell: Shell,
+    name: &str,
+    bin: &str,
+    file: Option<&[u8]>,
+    out: &mut W,
+) -> Result<(), Refusal>
+    requires { name.now ≡ shell_text shell }
+    ensures { Registers W.taken W.failed (RegistrationReads shell) (no_registration_text shell)
+        bin.now (option_copied file.entry) out.old out.new (registration_for shell) result }
+{
+    match adapter_of(name) {
+        Some(adapter) => register_by(alloc, adapter, bin, file, out),
+        None => Err(Refusal::from_static(1, no_registration(shell))),
+    }
+}
+
+// The adapter of this name.
+fn adapter_of(name: &str) -> Option<Builtin>
+    ensures { result ≡ find (λ adapter. (builtin_spec adapter).named name.now) all_builtins }
+{
+    let shells = Shells::builtins();
+    shells.completer(name).copied()
+}
+
+// Writes the registration by this adapter of a tree file.
+fn register_by<W: Sink>(
+    alloc: Global,
+    adapter: Builtin,
+    bin: &str,
+    file: Option<&[u8]>,
+    out: &mut W,
+) -> Result<(), Refusal>
+    ensures { Finishes W.taken W.failed true (λ tree refusal. ⊥)
+        (IsRegistration (registration_by adapter) (RegistrationReadsBy adapter) bin.now)
+        out.old out.new (option_copied file.entry) result }
+{
+    let command = tree(alloc, file)?;
+    let name = command.get_name();
+    match adapter.write_registration(alloc, VARIABLE, name, bin, bin, out) {
+        Ok(()) => Ok(()),
+        Err(error) => Err(error_refusal(alloc, &error)),
+    }
+}
+
+// What is printed where a registration is wanted and this shell has none.
+fn no_registration(shell: Shell) -> &'static str
+    ensures { result.now ≡ error_line (UnknownShell (no_registration_text shell)) }
+{
+    each_shell!(no_registration! shell)
+}

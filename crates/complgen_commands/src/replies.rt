@@ -1,0 +1,78 @@
+//! Writes the candidates for a word of a command line.
+
+ghost use Rattle.std.specs.Prelude.{◌≡◌, IfErr, IfOk, Some, codes, length, map, string_bytes};
+ghost use Rattle.std.specs.Option.{option_copied};
+ghost use Rattle.cc_engine.specs.Paths.{PathsOf};
+ghost use Rattle.complgen_commands.specs.Ends.{EndsReply};
+ghost use Rattle.complgen_commands.specs.Replies.{AreFound, FindsNone};
+
+use crate::refusals::error_refusal;
+use crate::tree_files::tree;
+use cc_base::{Error, Sink};
+use cc_candidates::{Completers, CompletionCandidate};
+use cc_command::Command;
+use cc_engine::complete;
+use cc_paths::Folder;
+use cc_replies::write_lines;
+use complgen_command_line::Refusal;
+use std::alloc::{AllocError, Global};
+
+// The folder that relative paths start from.
+const CURRENT_DIR: &str = ".";
+
+/// Writes the candidates for the word at the index, as the reply to fish.
+pub(crate) fn reply<D: Folder, W: Sink>(
+    alloc: Global,
+    words: &[String],
+    index: usize,
+    file: Option<&[u8]>,
+    folder: &D,
+    out: &mut W,
+) -> Result<(), Refusal>
+    ensures { EndsReply W.taken W.failed (PathsOf (D.facts folder.now) (Some (codes ".")))
+        (map string_bytes words.now) index (option_copied file.entry) out.old out.new result }
+{
+    let command = tree(alloc, file)?;
+    let words = copies(alloc, words)?;
+    let found = match candidates(alloc, command, words, index, folder) {
+        Ok(found) => found,
+        Err(error) => return Err(error_refusal(alloc, &error)),
+    };
+    match write_lines(out, found.as_slice()) {
+        Ok(()) => Ok(()),
+        Err(error) => Err(error_refusal(alloc, &error)),
+    }
+}
+
+fn copies(alloc: Global, words: &[String]) -> Result<Vec<String>, AllocError>
+    ensures { IfOk result (λ copies. map string_bytes copies.items ≡ map string_bytes words.now) }
+{
+    let mut copies = Vec::new(alloc);
+    for word in words {
+        copies.push(String::from_str(alloc, word.as_str())?)?;
+    }
+    Ok(copies)
+}
+
+// The candidates for the word at the index, without completers.
+fn candidates<D: Folder>(
+    alloc: Global,
+    mut command: Command,
+    words: Vec<String>,
+    index: usize,
+    folder: &D,
+) -> Result<Vec<CompletionCandidate>, Error>
+    ensures ok { IfOk result (λ found. AreFound (PathsOf (D.facts folder.now) (Some (codes ".")))
+        (map string_bytes words.items) index command found.items) }
+    ensures err { IfErr result (FindsNone (length words.items) index command) }
+{
+    complete(
+        alloc,
+        &mut command,
+        words,
+        index,
+        Some(CURRENT_DIR),
+        folder,
+        &Completers::none(alloc),
+    )
+}

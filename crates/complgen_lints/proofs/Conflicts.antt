@@ -1,0 +1,52 @@
+-- Conflicts are warned about alike where the same ids are known.
+use Rattle.std.proofs.Common.{◌≡◌, ap, ap₂, refl, ℕ, suc, Bool, true, false, ◌||◌, List, [], ◌∷◌, ◌++◌, is_some, codes}
+use Rattle.std.specs.Borrow.{Bor}
+use Rattle.std.specs.BTreeMap.{BTreeMap}
+use Rattle.std.specs.Str.{bytes_eq}
+use Rattle.cc_arg.specs.declared.parts.ArgParts.{ArgParts as Arg}
+use Rattle.complgen_lints.specs.PlacedNames.{owner_in, owner_with}
+use Rattle.complgen_lints.specs.Scopes.{conflict_kind, conflict_list, conflicts_of, has_conflicts, have_conflicts, is_known, is_known_in}
+use Rattle.complgen_lints.specs.Walk.{each_from}
+use Rattle.complgen_lints.specs.declared.names.PlacedName.{PlacedName}
+
+each_same : {A B : Type 0} (f g : ℕ → A → List B) → ((index : ℕ) (thing : A) → f index thing ≡ g index thing) →
+    (index : ℕ) (things : List A) → each_from f index things ≡ each_from g index things
+each_same f g h index [] = refl
+each_same f g h index (thing ∷ things) = ap₂ (λ a b. a ++ b) (h index thing) (each_same f g h (suc index) things)
+
+known_same : (seen : BTreeMap (Bor (List ℕ)) (List ℕ)) (names : List PlacedName) →
+    ((word : List ℕ) → owner_in seen word ≡ owner_with names word) → (id : List ℕ) → is_known_in seen id ≡ is_known names id
+known_same seen names h id =
+    ap (λ found. is_some found || (bytes_eq id (codes "help") || bytes_eq id (codes "version"))) (h id)
+
+pub same_conflicts : (seen : BTreeMap (Bor (List ℕ)) (List ℕ)) (names : List PlacedName) →
+    ((word : List ℕ) → owner_in seen word ≡ owner_with names word) → (path : List ℕ) (arguments : List Arg) →
+    each_from (conflicts_of (is_known_in seen) path) 0 arguments ≡ each_from (conflicts_of (is_known names) path) 0 arguments
+same_conflicts seen names h path arguments =
+    each_same (conflicts_of (is_known_in seen) path) (conflicts_of (is_known names) path)
+    (λ index argument. each_same
+    (λ item id. conflict_list path index item (conflict_kind (is_known_in seen id) (bytes_eq id argument.id) id))
+    (λ item id. conflict_list path index item (conflict_kind (is_known names id) (bytes_eq id argument.id) id))
+    (λ item id. ap (λ known. conflict_list path index item (conflict_kind known (bytes_eq id argument.id) id)) (known_same seen names h id))
+    0 argument.conflicts)
+    0 arguments
+
+no_conflicts_of : (known : List ℕ → Bool) (path : List ℕ) (index : ℕ) (argument : Arg) (conflicts : List (List ℕ)) →
+    has_conflicts conflicts ≡ false →
+    each_from (λ item id. conflict_list path index item (conflict_kind (known id) (bytes_eq id argument.id) id)) 0 conflicts ≡ []
+no_conflicts_of known path index argument [] h = refl
+no_conflicts_of known path index argument (id ∷ ids) h = cc
+
+neither : (a b : Bool) → (a || b) ≡ false → (a ≡ false) × (b ≡ false)
+neither false false h = (refl, refl)
+neither false true h = cc
+neither true b h = cc
+
+-- without conflicts nothing is wrong with them
+pub none_of_none : (known : List ℕ → Bool) (path : List ℕ) (index : ℕ) (arguments : List Arg) → have_conflicts arguments ≡ false →
+    each_from (conflicts_of known path) index arguments ≡ []
+none_of_none known path index [] h = refl
+none_of_none known path index (argument ∷ arguments) h =
+    let each = neither (has_conflicts argument.conflicts) (have_conflicts arguments) h in
+    ap₂ (λ a b. a ++ b) (no_conflicts_of known path index argument argument.conflicts each.0)
+    (none_of_none known path (suc index) arguments each.1)

@@ -1,0 +1,11 @@
+use Rattle.std.proofs.Common.{◌≡◌, ◌++◌, ℕ, List, drop, take}
+use Rattle.complgen_lints.specs.PlacedNames.{owner_in, owner_with, taken_from}
+use Rattle.complgen_lints.proofs.names.push_taken.Given as goal
+
+-- the names that were passed over are kept, and what was found and what is left make the whole
+abbrev pub invariant-loop-name : goal.invariant-loop-name
+invariant-loop-name l = record {
+  kept : (word : List ℕ) → owner_in l.seen word ≡ owner_with (l.fn.others ++ take l.name-index l.names) word;
+  whole : l.found.items ++ taken_from l.owners l.at.path.now (l.fn.others ++ take l.name-index l.names) (drop l.name-index l.names)
+      ≡ l.initial.found.items ++ taken_from l.owners l.at.path.now l.fn.others l.names;
+}

@@ -1,0 +1,9 @@
+use Rattle.std.proofs.Common.{◌≡◌, ◌+◌, ◌≤◌, drop}
+use Rattle.complgen_lints.specs.PositionalWarnings.{with_index}
+use Rattle.complgen_lints.proofs.positionals.with_index.Given as goal
+
+-- the one that is looked for is the first of those that are left
+abbrev pub invariant-loop-argument : goal.invariant-loop-argument
+invariant-loop-argument l =
+    (with_index l.wanted l.number (drop l.argument-index l.arguments) ≡ with_index l.wanted 1 l.arguments)
+    × (l.number ≤ l.argument-index + 1)

@@ -1,0 +1,10 @@
+use Rattle.std.proofs.Common.{◌≡◌, ◌++◌, drop}
+use Rattle.complgen_lints.specs.Scopes.{conflicts_of, is_known_in}
+use Rattle.complgen_lints.specs.Walk.{each_from}
+use Rattle.complgen_lints.proofs.scopes.push_conflicts.Given as goal
+
+-- what was found and what is left make the whole
+abbrev pub invariant-loop-index : goal.invariant-loop-index
+invariant-loop-index l =
+    l.found.items ++ each_from (conflicts_of (is_known_in l.seen) l.at.path.now) l.index (drop l.index l.arguments)
+    ≡ l.initial.found.items ++ each_from (conflicts_of (is_known_in l.seen) l.at.path.now) 0 l.arguments

@@ -1,0 +1,39 @@
+-- The keys as they are written, and a warning at its place.
+use Rattle.std.specs.Prelude.{ℕ, List, Option, Some, codes}
+use Rattle.complgen_lints.specs.declared.place.Key.{Key}
+use Rattle.complgen_lints.specs.declared.place.Key.TheVariants.{Name, BinName, About, Aliases, VisibleAliases, Hide, Id, Short, Long, ShortAliases, VisibleShortAliases, Help, Action, NumArgs, ValueNames, PossibleValues, ValueHint, Index, ConflictsWith, Required, Last, Global}
+use Rattle.complgen_lints.specs.declared.warning.Kind.{Kind}
+use Rattle.complgen_lints.specs.declared.warning.Warning.{Warning}
+
+-- a key as it is written
+abbrev pub key_text : Key → List ℕ
+key_text Name = codes "name"
+key_text BinName = codes "bin_name"
+key_text About = codes "about"
+key_text Aliases = codes "aliases"
+key_text VisibleAliases = codes "visible_aliases"
+key_text Hide = codes "hide"
+key_text Id = codes "id"
+key_text Short = codes "short"
+key_text Long = codes "long"
+key_text ShortAliases = codes "short_aliases"
+key_text VisibleShortAliases = codes "visible_short_aliases"
+key_text Help = codes "help"
+key_text Action = codes "action"
+key_text NumArgs = codes "num_args"
+key_text ValueNames = codes "value_names"
+key_text PossibleValues = codes "possible_values"
+key_text ValueHint = codes "value_hint"
+key_text Index = codes "index"
+key_text ConflictsWith = codes "conflicts_with"
+key_text Required = codes "required"
+key_text Last = codes "last"
+key_text Global = codes "global"
+
+-- a warning of a kind about a key of the command at a path, or of an argument of that command, or
+-- about an item there
+abbrev pub warning : List ℕ → Option ℕ → Key → Option ℕ → Kind → Warning
+warning path argument key item kind = record {
+  place = record { command = path; argument = argument; key = Some key; item = item };
+  kind = kind;
+}

@@ -1,0 +1,95 @@
+-- The warnings about what clap refuses of the arguments of a command together, with the global ones
+-- of the commands above it.
+use Rattle.std.specs.Prelude.{ℕ, suc, Bool, true, false, not, ◌||◌, List, [], ◌∷◌, ◌++◌, codes, filter, is_some, Option, Some, None}
+use Rattle.std.specs.Borrow.{Bor}
+use Rattle.std.specs.BTreeMap.{BTreeMap}
+use Rattle.std.specs.List.{list_any}
+use Rattle.std.specs.Str.{bytes_eq}
+use Rattle.cc_arg.specs.declared.parts.ArgParts.{ArgParts as Arg}
+use Rattle.cc_command.specs.Built.{globals}
+use Rattle.cc_command.specs.Names.{has_id}
+use Rattle.cc_command.specs.Tree.{Forest, none, more, Tree}
+use Rattle.complgen_lints.specs.ArgumentNames.{all_names, taken_of}
+use Rattle.complgen_lints.specs.PlacedNames.{owner_in, owner_with}
+use Rattle.complgen_lints.specs.Places.{warning}
+use Rattle.complgen_lints.specs.Walk.{each_from}
+use Rattle.complgen_lints.specs.declared.names.PlacedName.{PlacedName}
+use Rattle.complgen_lints.specs.declared.names.Named.TheVariants as named
+use Rattle.complgen_lints.specs.declared.place.Key.TheVariants.{ConflictsWith}
+use Rattle.complgen_lints.specs.declared.warning.Kind.{Kind}
+use Rattle.complgen_lints.specs.declared.warning.Kind.TheVariants.{UnknownConflict, SelfConflict}
+use Rattle.complgen_lints.specs.declared.warning.Warning.{Warning}
+
+-- what a command with these arguments inherits: the others, but for those with an id of its own
+abbrev pub inherited_with : List Arg → List Arg → List Arg
+inherited_with arguments others = filter (λ other. not (has_id arguments other.id)) others
+
+-- what the children of a command with these arguments inherit, where it inherits these
+abbrev pub passed_on : List Arg → List Arg → List Arg
+passed_on inherited arguments = inherited ++ globals arguments
+
+-- what is wrong with an id in the list of conflicts of an argument, by whether an argument has it,
+-- and whether it is the argument itself
+abbrev pub conflict_kind : Bool → Bool → List ℕ → Option Kind
+conflict_kind false same id = Some (UnknownConflict id)
+conflict_kind true true id = Some SelfConflict
+conflict_kind true false id = None
+
+abbrev pub conflict_list : List ℕ → ℕ → ℕ → Option Kind → List Warning
+conflict_list path index item None = []
+conflict_list path index item (Some kind) =
+    warning path (Some index) ConflictsWith (Some item) kind ∷ []
+
+-- the conflicts of an argument, where these ids are known
+abbrev pub conflicts_of : (List ℕ → Bool) → List ℕ → ℕ → Arg → List Warning
+conflicts_of known path index argument = each_from (λ item id.
+    conflict_list path index item (conflict_kind (known id) (bytes_eq id argument.id) id))
+    0 argument.conflicts
+
+-- an argument has the id, or it is that of a flag that building may add
+abbrev pub is_known : List PlacedName → List ℕ → Bool
+is_known names id =
+    is_some (owner_with names id) || (bytes_eq id (codes "help") || bytes_eq id (codes "version"))
+
+-- the same of the names that a map holds
+abbrev pub is_known_in : BTreeMap (Bor (List ℕ)) (List ℕ) → List ℕ → Bool
+is_known_in seen id =
+    is_some (owner_in seen id) || (bytes_eq id (codes "help") || bytes_eq id (codes "version"))
+
+-- a list of conflicts is there, of one argument and of some
+abbrev pub has_conflicts : List (List ℕ) → Bool
+has_conflicts [] = false
+has_conflicts (id ∷ ids) = true
+
+abbrev pub have_conflicts : List Arg → Bool
+have_conflicts arguments = list_any (λ argument. has_conflicts argument.conflicts) arguments
+
+-- the conflicts of a command's arguments that no argument of the command has, and those of an
+-- argument with itself
+abbrev pub all_conflicts : List ℕ → List Arg → List Arg → List Warning
+all_conflicts path inherited arguments = each_from (conflicts_of
+    (is_known (all_names named.Id inherited ++ all_names named.Id arguments)) path) 0 arguments
+
+-- of the arguments of a command: ids that an earlier one has; longs, then shorts that an earlier
+-- one or an inherited one has; and conflicts
+abbrev pub together_list : List ℕ → List Arg → List Arg → List Warning
+together_list path inherited arguments = ((taken_of named.Id path [] arguments
+    ++ taken_of named.Long path inherited arguments)
+    ++ taken_of named.Short path inherited arguments)
+    ++ all_conflicts path inherited arguments
+
+-- of siblings that may inherit these arguments, from this index on, and of all below them
+abbrev pub scopes_list : List Arg → List ℕ → ℕ → Forest → List Warning
+scopes_list others path index none = []
+scopes_list others path index (more node below rest) =
+    (together_list (path ++ index ∷ []) (inherited_with node.arguments others) node.arguments
+    ++ scopes_list (passed_on (inherited_with node.arguments others) node.arguments)
+    (path ++ index ∷ []) 0 below)
+    ++ scopes_list others path (suc index) rest
+
+-- the same of a command
+abbrev pub scope_list : List Arg → List ℕ → Tree → List Warning
+scope_list others path tree =
+    together_list path (inherited_with tree.node.arguments others) tree.node.arguments
+    ++ scopes_list (passed_on (inherited_with tree.node.arguments others) tree.node.arguments)
+    path 0 tree.children

@@ -1,0 +1,50 @@
+//! Which values and names a shell may run, or a part of them.
+
+ghost use Rattle.std.specs.Prelude.{◌≡◌};
+ghost use Rattle.complgen_lints.specs.Running.{ends_with_backslash, holds_one_of};
+ghost use Rattle.complgen_lints.specs.Running.{is_one_of, is_word_byte, may_run_name};
+ghost use Rattle.complgen_lints.specs.Running.{may_run_value};
+
+/// Returns whether bash may run a possible value, or a part of it, when a user presses Tab: it
+/// holds a `$`, a backtick or a `"`, ends with a backslash, or holds a `(` and a `<` or `>`.
+pub(crate) fn may_run_value(value: &str) -> bool
+    ensures { result ≡ may_run_value value.now }
+{
+    let bytes = value.as_bytes();
+    holds_one_of(b"$`\"", bytes)
+        || ends_with_backslash(bytes)
+        || (holds_one_of(b"<>", bytes) && holds_one_of(b"(", bytes))
+}
+
+/// Returns whether a shell may run a name, or a part of it, where a script writes it bare: it holds
+/// something other than ASCII letters, digits, `+-./:@_,=%?*`, spaces and characters beyond ASCII.
+pub(crate) fn may_run_name(name: &str) -> bool
+    ensures { result ≡ may_run_name name.now }
+{
+    name.as_bytes().iter().any(|byte| !is_word_byte(*byte))
+}
+
+fn is_word_byte(byte: u8) -> bool
+    ensures { result ≡ is_word_byte byte }
+{
+    byte.is_ascii_alphanumeric() || is_one_of(b"+-./:@_,=%?* ", byte) || byte > 127
+}
+
+/// Returns whether a text holds one of some signs.
+pub(crate) fn holds_one_of(signs: &[u8], bytes: &[u8]) -> bool
+    ensures { result ≡ holds_one_of signs.now bytes.now }
+{
+    bytes.iter().any(|byte| is_one_of(signs, *byte))
+}
+
+fn is_one_of(signs: &[u8], byte: u8) -> bool
+    ensures { result ≡ is_one_of signs.now byte }
+{
+    signs.iter().any(|sign| byte == *sign)
+}
+
+fn ends_with_backslash(bytes: &[u8]) -> bool
+    ensures { result ≡ ends_with_backslash bytes.now }
+{
+    matches!(bytes.last(), Some(b'\\'))
+}

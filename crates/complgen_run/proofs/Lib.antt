@@ -1,2 +1,0 @@
-pub mod RegisterLemmas
-pub mod ReplyLemmas

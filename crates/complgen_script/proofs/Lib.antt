@@ -1,3 +1,0 @@
-mod FileLemmas
-pub mod ScriptLemmas
-pub mod WritingLemmas

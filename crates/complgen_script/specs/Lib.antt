@@ -1,6 +1,0 @@
-pub mod AllScripts
-pub mod Ends
-pub mod Refusals
-pub mod Scripts
-pub mod TreeFiles
-pub mod Writing

@@ -1,9 +1,0 @@
-use Rattle.std.proofs.Common.{◌≡◌, ◌++◌, drop, map}
-use Rattle.cc_tree_errors.specs.Places.{shown_step}
-use Rattle.complgen_tools.specs.Checking.{command_steps}
-use Rattle.complgen_tools.proofs.checking.command_steps.Given as goal
-
--- with the steps that are left it is the whole
-abbrev pub invariant-loop-index : goal.invariant-loop-index
-invariant-loop-index l = map shown_step l.steps.items
-    ++ command_steps (drop l.index-index l.children) ≡ command_steps l.children

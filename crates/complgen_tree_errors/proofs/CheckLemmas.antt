@@ -1,0 +1,49 @@
+-- What a check of a value says of the bytes that spell it.
+use Rattle.std.proofs.Common.{◌≡◌, ◌∙◌, ℕ, List, [], ◌∷◌, Some, None, false, ap, length, refl}
+use Rattle.std.specs.Str.{IsUtf8}
+use Rattle.serde_json.specs.Data.{Data}
+use Rattle.serde_json.specs.Read.{read}
+use Rattle.complgen_tree_file.specs.CommandForm.{command_of}
+use Rattle.complgen_tree_file.specs.Faults.{is_nil}
+use Rattle.complgen_tree_file.specs.TreeFile.{Spells}
+use Rattle.complgen_tree_errors.specs.Checks.{Checks, ChecksValue, DescribesNone, FindsErrors}
+use Rattle.complgen_tree_errors.specs.declared.checking.Checked.{Checked}
+use Rattle.complgen_tree_errors.specs.declared.checking.Checked.TheVariants.{Errors, Tree as Reads}
+
+pub nil_by_length : {A B : Type 0} (xs : List A) (ys : List B) → length xs ≡ length ys
+    → is_nil xs ≡ is_nil ys
+nil_by_length [] [] same = refl
+nil_by_length [] (y ∷ ys) same = absurd (cc same)
+nil_by_length (x ∷ xs) [] same = absurd (cc same)
+nil_by_length (x ∷ xs) (y ∷ ys) same = refl
+
+-- bytes spell one value at most
+same_value : (bytes : List ℕ) (d e : Data) → read bytes ≡ Some d → read bytes ≡ Some e → d ≡ e
+same_value bytes d e first second = cc
+
+pub no_text : (bytes : List ℕ) → (IsUtf8 bytes → ⊥) → DescribesNone bytes
+no_text bytes never command described = never described.1.0
+
+pub no_json : (bytes : List ℕ) → read bytes ≡ None → DescribesNone bytes
+no_json bytes none command described =
+    let there : read bytes ≡ Some described.0 = described.1.1 in
+    cc
+
+no_command : (bytes : List ℕ) (d : Data) → Spells bytes d → command_of d ≡ None
+    → DescribesNone bytes
+no_command bytes d spelled none command described =
+    let same : d ≡ described.0 = same_value bytes d described.0 spelled.1 described.1.1 in
+    let some : command_of described.0 ≡ Some command = described.2 in
+    let other : command_of d ≡ Some command = ap command_of same ∙ some in
+    cc
+
+-- a check of the value that bytes spell is one of the bytes
+pub checks_bytes : (bytes : List ℕ) (d : Data) (checked : Checked) → Spells bytes d
+    → ChecksValue d checked → Checks bytes checked
+checks_bytes bytes d (Reads command doubles) spelled is = ((d, spelled, is.0), is.1)
+checks_bytes bytes d (Errors errors) spelled is = (is.0, no_command bytes d spelled is.1)
+
+pub finds_errors : {A : Type 0} (bytes : List ℕ) (errors : List A) → is_nil errors ≡ false
+    → DescribesNone bytes → FindsErrors bytes errors
+finds_errors bytes [] some none = cc
+finds_errors bytes (error ∷ errors) some none = none

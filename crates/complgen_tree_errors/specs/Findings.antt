@@ -1,0 +1,60 @@
+-- What is shown of a finding.
+use Rattle.std.specs.Prelude.{◌≡◌, ℕ, ◌-◌, All, List, [], ◌++◌, Option, Some, codes, false, length, map, slice_get, string_bytes}
+use Rattle.complgen_tree_errors.specs.Places.{ShownStep, index, key, path_text, shown_step}
+use Rattle.complgen_tree_errors.specs.Shown.{shown_text}
+use Rattle.complgen_tree_errors.specs.declared.finding.Finding.{Finding}
+use Rattle.complgen_tree_errors.specs.declared.finding.Level.{Level}
+use Rattle.complgen_tree_errors.specs.declared.finding.Level.TheVariants.{Error, Warning}
+use Rattle.complgen_tree_errors.specs.declared.finding.PlacedFinding.{PlacedFinding}
+use Rattle.complgen_tree_file.specs.Faults.{is_nil}
+
+-- What is shown of a finding beside its line and column.
+pub record Shown : Type 0 where
+  pub level : Level
+  pub path : List ℕ
+  pub text : List ℕ
+
+-- what is shown of a finding before its place is known
+abbrev pub shown : Finding → Shown
+shown finding = record {
+  level = finding.level;
+  path = path_text (map shown_step finding.path.items);
+  text = string_bytes finding.text;
+}
+
+-- what is shown of one with its place
+abbrev pub shown_placed : PlacedFinding → Shown
+shown_placed finding = record {
+  level = finding.level;
+  path = string_bytes finding.path;
+  text = string_bytes finding.text;
+}
+
+-- the key of a step, where it has one
+abbrev pub key_of : Option ShownStep → List ℕ
+key_of (Some (key name)) = name
+key_of _ = []
+
+-- the key of the last step of a path; empty where that is an index
+abbrev pub last_key : List ShownStep → List ℕ
+last_key path = key_of (slice_get path (length path - 1))
+
+-- the text that a later member hides the one that a path leads to
+abbrev pub double_text : List ShownStep → List ℕ
+double_text path = (codes "the key `" ++ shown_text (last_key path))
+    ++ codes "` stands twice: the last one counts"
+
+-- a finding about the member that a path leads to: a later one hides it
+pub record IsDouble (finding : PlacedFinding) : Type 0 where
+  pub path : List ShownStep
+  pub says : shown_placed finding
+      ≡ record { level = Warning; path = path_text path; text = double_text path }
+
+-- a finding that is an error
+abbrev pub IsError : PlacedFinding → Type 0
+IsError finding = finding.level ≡ Error
+
+-- Errors, at least one.
+pub record AreErrors (found : List PlacedFinding) : Type 0 where
+  pub some : is_nil found ≡ false
+  pub each : All IsError found

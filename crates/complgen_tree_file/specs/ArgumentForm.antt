@@ -1,0 +1,102 @@
+-- The form of an argument in a tree file: what each of its keys sets.
+use Rattle.std.specs.Prelude.{ℕ, List, [], ◌∷◌, ◌++◌, Option, None, codes, if◌then◌else◌}
+use Rattle.serde_json.specs.Data.{Data}
+use Rattle.serde_json.specs.Find.{as_bool, as_str, get}
+use Rattle.cc_arg.specs.Arguments.{new_arg}
+use Rattle.cc_arg.specs.declared.parts.ArgParts.{ArgParts as Arg}
+use Rattle.complgen_json.specs.Keys.{has_only}
+use Rattle.complgen_tree_file.specs.PossibleValueForm.{possible_value_of}
+use Rattle.complgen_tree_file.specs.TreeForm.{◌>>=◌, Setting, action_of, character_of, given, hint_of}
+use Rattle.complgen_tree_file.specs.TreeForm.{keys_of, list_of, number_of, range_of, set_all, setting}
+
+-- the names
+abbrev pub names : List (Setting Arg)
+names =
+    setting (codes "short") (given character_of)
+    (λ arg. arg.short) (λ arg it. record arg { short = it })
+    ∷ setting (codes "long") (given as_str) (λ arg. arg.long) (λ arg it. record arg { long = it })
+    ∷ []
+
+-- the help and its heading
+abbrev pub texts : List (Setting Arg)
+texts =
+    setting (codes "help") (given as_str) (λ arg. arg.help) (λ arg it. record arg { help = it })
+    ∷ setting (codes "help_heading") (given as_str)
+    (λ arg. arg.help_heading) (λ arg it. record arg { help_heading = it }) ∷ []
+
+-- the values
+abbrev pub values : List (Setting Arg)
+values =
+    setting (codes "action") (given (λ d. as_str d >>= action_of))
+    (λ arg. arg.action) (λ arg it. record arg { action = it })
+    ∷ setting (codes "num_args") (given range_of)
+    (λ arg. arg.num_args) (λ arg it. record arg { num_args = it })
+    ∷ setting (codes "value_names") (list_of as_str)
+    (λ arg. arg.value_names) (λ arg it. record arg { value_names = it })
+    ∷ setting (codes "value_delimiter") (given character_of)
+    (λ arg. arg.value_delimiter) (λ arg it. record arg { value_delimiter = it })
+    ∷ setting (codes "possible_values") (given (list_of possible_value_of))
+    (λ arg. arg.possible_values) (λ arg it. record arg { possible_values = it })
+    ∷ setting (codes "value_hint") (λ d. as_str d >>= hint_of)
+    (λ arg. arg.value_hint) (λ arg it. record arg { value_hint = it })
+    ∷ setting (codes "default_value") (given as_str)
+    (λ arg. arg.default_value) (λ arg it. record arg { default_value = it }) ∷ []
+
+-- the index, the display order, the word that ends the values, and the arguments that exclude it
+abbrev pub surroundings : List (Setting Arg)
+surroundings =
+    setting (codes "index") (given number_of)
+    (λ arg. arg.index) (λ arg it. record arg { index = it })
+    ∷ setting (codes "display_order") (given number_of)
+    (λ arg. arg.display_order) (λ arg it. record arg { display_order = it })
+    ∷ setting (codes "value_terminator") (given as_str)
+    (λ arg. arg.value_terminator) (λ arg it. record arg { value_terminator = it })
+    ∷ setting (codes "conflicts_with") (list_of as_str)
+    (λ arg. arg.conflicts) (λ arg it. record arg { conflicts = it }) ∷ []
+
+-- whether it has to be given, only after `--`, also below; whether help texts leave it out;
+-- whether its values may begin with `-`
+abbrev pub flags : List (Setting Arg)
+flags =
+    setting (codes "required") as_bool
+    (λ arg. arg.required) (λ arg it. record arg { required = it })
+    ∷ setting (codes "last") as_bool (λ arg. arg.last) (λ arg it. record arg { last = it })
+    ∷ setting (codes "global") as_bool (λ arg. arg.global) (λ arg it. record arg { global = it })
+    ∷ setting (codes "hide") as_bool (λ arg. arg.hide) (λ arg it. record arg { hide = it })
+    ∷ setting (codes "allow_hyphen_values") as_bool
+    (λ arg. arg.allow_hyphen_values) (λ arg it. record arg { allow_hyphen_values = it }) ∷ []
+
+-- hidden aliases of the short and of the long
+abbrev pub hidden_aliases : List (Setting Arg)
+hidden_aliases =
+    setting (codes "short_aliases") (list_of character_of)
+    (λ arg. arg.short_aliases) (λ arg it. record arg { short_aliases = it })
+    ∷ setting (codes "aliases") (list_of as_str)
+    (λ arg. arg.aliases) (λ arg it. record arg { aliases = it }) ∷ []
+
+-- the aliases that are shown
+abbrev pub shown_aliases : List (Setting Arg)
+shown_aliases =
+    setting (codes "visible_short_aliases") (list_of character_of)
+    (λ arg. arg.visible_short_aliases) (λ arg it. record arg { visible_short_aliases = it })
+    ∷ setting (codes "visible_aliases") (list_of as_str)
+    (λ arg. arg.visible_aliases) (λ arg it. record arg { visible_aliases = it }) ∷ []
+
+-- the keys that an argument may have
+unfoldable pub argument_keys : List (List ℕ)
+argument_keys = codes "id" ∷ (((((keys_of names ++ keys_of texts) ++ keys_of values)
+    ++ keys_of surroundings) ++ keys_of flags) ++ keys_of hidden_aliases) ++ keys_of shown_aliases
+
+-- the id, of an object with no other keys than an argument's
+abbrev pub id_of : Data → Option (List ℕ)
+id_of d = if has_only argument_keys d then get (codes "id") d >>= as_str else None
+
+-- what the keys besides the id set
+abbrev pub with_rest : Data → Arg → Option Arg
+with_rest d argument = set_all names d argument >>= set_all texts d >>= set_all values d
+    >>= set_all surroundings d >>= set_all flags d >>= set_all hidden_aliases d
+    >>= set_all shown_aliases d
+
+-- the argument that an object describes
+unfoldable pub argument_of : Data → Option Arg
+argument_of d = id_of d >>= (λ id. with_rest d (new_arg id))

@@ -1,0 +1,45 @@
+-- What the bytes of a tree file are read as.
+use Rattle.std.specs.Prelude.{◌≡◌, ⊤, ℕ, List, Option, None, Some, Result, Ok, Err}
+use Rattle.std.specs.Str.{IsUtf8}
+use Rattle.std.specs.declared.alloc.Global.{Global}
+use Rattle.json.specs.declared.value.Value.{Value}
+use Rattle.serde_json.specs.Data.{Data}
+use Rattle.serde_json.specs.Read.{read}
+use Rattle.complgen_json.specs.Seen.{view}
+use Rattle.cc_command.specs.Tree.{Tree}
+use Rattle.complgen_tree_file.specs.CommandForm.{command_of}
+use Rattle.complgen_tree_file.specs.declared.error.TreeError.{TreeError}
+use Rattle.complgen_tree_file.specs.declared.error.TreeError.TheVariants.{BadForm, Memory, NotJson}
+
+-- the bytes spell this JSON
+abbrev pub Spells : List ℕ → Data → Type 0
+Spells bytes d = IsUtf8 bytes × (read bytes ≡ Some d)
+
+-- the bytes spell no JSON
+abbrev pub SpellsNone : List ℕ → Type 0
+SpellsNone bytes = IsUtf8 bytes → read bytes ≡ None
+
+-- reading bytes as JSON returns the value that they spell, and fails with `NotJson` where they
+-- spell none; it may be out of memory
+abbrev pub ReadsValue : List ℕ → Result (Value Global) TreeError → Type 0
+ReadsValue bytes (Ok value) = Spells bytes (view value)
+ReadsValue bytes (Err NotJson) = SpellsNone bytes
+ReadsValue bytes (Err BadForm) = ⊥
+ReadsValue bytes (Err Memory) = ⊤
+
+-- the bytes spell JSON, which describes this command, or none
+abbrev pub Describes : List ℕ → Option Tree → Type 0
+Describes bytes described = (d : Data) × Spells bytes d × (command_of d ≡ described)
+
+-- reading a tree file returns the command that the bytes describe, and fails with `NotJson` where
+-- they spell no JSON and with `BadForm` where it describes no command; it may be out of memory
+abbrev pub ReadsTree : List ℕ → Result Tree TreeError → Type 0
+ReadsTree bytes (Ok command) = Describes bytes (Some command)
+ReadsTree bytes (Err NotJson) = SpellsNone bytes
+ReadsTree bytes (Err BadForm) = Describes bytes None
+ReadsTree bytes (Err Memory) = ⊤
+
+-- the file can be read, and its bytes describe this command
+abbrev pub HoldsTree : Option (List ℕ) → Tree → Type 0
+HoldsTree None command = ⊥
+HoldsTree (Some bytes) command = Describes bytes (Some command)

@@ -1,0 +1,68 @@
+//! Reads a tree of commands from a JSON file.
+#![tactic(auto)]
+
+mod args;
+mod argument_check;
+mod check;
+mod command_check;
+mod commands;
+mod error;
+mod faults;
+mod keys;
+mod possible_values;
+mod values;
+
+ghost use Rattle.complgen_json.specs.Seen.{view};
+ghost use Rattle.complgen_tree_file.specs.CommandForm.{command_of};
+ghost use Rattle.complgen_tree_file.specs.TreeFile.{ReadsTree, ReadsValue};
+ghost use Rattle.complgen_tree_file.specs.TreeForm.{GivesSame};
+
+pub use crate::argument_check::argument_faults;
+pub use crate::command_check::command_faults;
+pub use crate::error::TreeError;
+pub use crate::faults::{Fault, FaultKind, Faults, ObjectKind, Step};
+pub use crate::possible_values::possible_value_faults;
+use cc_command::Command;
+use complgen_json::{JsonError, Scratch, Value, read_value};
+use std::alloc::Global;
+
+/// Returns the command that the bytes of a tree file describe. Fails with `NotJson` where the bytes
+/// are no UTF-8 or no JSON, are nested too deep or have a number out of range; with `BadForm` where
+/// the JSON describes no command; and with `Memory`.
+pub fn read_tree(alloc: Global, bytes: &[u8]) -> Result<Command, TreeError>
+    ensures { ReadsTree bytes.now result }
+{
+    match std::str::from_utf8(bytes) {
+        Ok(text) => read_command(alloc, text),
+        Err(_) => Err(TreeError::NotJson),
+    }
+}
+
+// The command that a text describes.
+fn read_command(alloc: Global, text: &str) -> Result<Command, TreeError>
+    ensures { ReadsTree text.now result }
+{
+    let mut scratch = Scratch::new(alloc);
+    let tree = value(alloc, text, &mut scratch)?;
+    commands::command(alloc, &tree)
+}
+
+/// Returns the command that a value describes. Fails with `BadForm` where it describes none, and
+/// with `Memory`.
+pub fn tree_of(alloc: Global, tree: &Value<'_>) -> Result<Command, TreeError>
+    ensures { GivesSame result (command_of (view tree.now)) }
+{
+    commands::command(alloc, tree)
+}
+
+// The value that a text spells. It borrows from the text and, where there are escapes, from
+// `scratch`.
+fn value<'t>(alloc: Global, text: &'t str, scratch: &'t mut Scratch) -> Result<Value<'t>, TreeError>
+    ensures { ReadsValue text.now result }
+{
+    match read_value(alloc, text, scratch) {
+        Ok(value) => Ok(value),
+        Err(JsonError::NotJson) => Err(TreeError::NotJson),
+        Err(JsonError::Memory) => Err(TreeError::Memory),
+    }
+}
