@@ -4,7 +4,7 @@ use Rattle.std.proofs.lemmas.Result.{IfOk-weaker}
 use Rattle.std.specs.String.{string_bytes}
 use Rattle.cc_base.specs.Shown.{HoldsNoControl, on_one_line, visible}
 use Rattle.cc_base.proofs.ShownLemmas.{shown_holds_none}
-use Rattle.cc_base.proofs.on_one_line.Goals as goal
+use Rattle.cc_base.proofs.shown.on_one_line.Goals as goal
 
 pub returns-clause-shown : goal.returns-clause-shown
 returns-clause-shown c = text_from_collect _ c.collect.ensures.ran
