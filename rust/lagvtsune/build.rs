@@ -1,5 +1,5 @@
-//! Links the archive of the proved library, which lies in `native/TARGET`, or in the folder that
-//! the variable `LAGVTSUNE_DIR` names.
+//! Links the archive of the proved library. It is in `native/TARGET`, or in the directory that the
+//! variable `LAGVTSUNE_DIR` names.
 
 use std::path::{Path, PathBuf};
 use std::{env, process};
@@ -20,12 +20,12 @@ fn main() {
     println!("cargo:rustc-link-lib=static=complgen_c");
 }
 
-/// A variable that cargo sets.
+/// Returns a variable that cargo sets.
 fn variable(name: &str) -> String {
     env::var(name).unwrap_or_else(|error| panic!("{name}: {error}"))
 }
 
-/// Says what to do where there is no archive.
+/// Explains what to do if there is no archive, and fails.
 fn refuse(archive: &Path, target: &str) -> ! {
     eprintln!(
         "lagvtsune: there is no {} for {target}.\n\

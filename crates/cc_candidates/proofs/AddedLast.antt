@@ -1,4 +1,4 @@
--- What is added after all has the next number, and no other number changes.
+-- A source that is added last gets the next number, and no other number changes.
 use Rattle.std.proofs.Common.{◌≡◌, ◌≢◌, ◌↔◌, ◌+◌, ◌-◌, ◌≤◌, ◌++◌, ℕ, suc, List, [], ◌∷◌, Option, Some, None, MatchOption, length, refl, ap, sym, ◌∙◌, subst, arith, zero}
 use Rattle.std.specs.Prelude.{slice_get}
 use Rattle.std.proofs.lemmas.Option.{MatchOption-at_none, MatchOption-at_some, slice_get_past}
@@ -6,7 +6,7 @@ use Rattle.cc_candidates.specs.declared.candidate.CompletionCandidate.{Completio
 use Rattle.cc_candidates.specs.declared.sources.Source.{Source}
 use Rattle.cc_candidates.specs.Sources.{Adds, ReturnsAt, SourceReturns}
 
--- the other items stay
+-- the other items stay the same
 others_stay : {X : Type 0} (xs : List X) (x : X) (n : ℕ) → n ≢ length xs
     → slice_get (xs ++ x ∷ []) n ≡ slice_get xs n
 others_stay [] x zero differs = absurd (differs refl)
@@ -14,24 +14,24 @@ others_stay [] x (suc n) differs = refl
 others_stay (y ∷ ys) x zero differs = refl
 others_stay (y ∷ ys) x (suc n) differs = others_stay ys x n (λ same. differs (ap suc same))
 
--- the last item is the one that was added
+-- the last item is the added one
 last_item : {X : Type 0} (xs : List X) (x : X) → slice_get (xs ++ x ∷ []) (length xs) ≡ Some x
 last_item [] x = refl
 last_item (y ∷ ys) x = last_item ys x
 
--- an item that is not there is past the end
+-- a missing item is past the end
 past_end : {X : Type 0} (xs : List X) (n : ℕ) → slice_get xs n ≡ None → length xs ≤ n
 past_end [] n none = omega arith
 past_end (x ∷ xs) zero none = cc
 past_end (x ∷ xs) (suc n) none = let shorter = past_end xs n none in omega (arith, shorter)
 
--- two that differ only where nothing is there
+-- two matches that differ only in the case without an item
 by_none : {X : Type 0} (o : Option X) (P P' : Type 0) (Q : X → Type 0) → (o ≡ None → P ↔ P')
     → MatchOption o P Q ↔ MatchOption o P' Q
 by_none None P P' Q same = same refl
 by_none (Some x) P P' Q same = (λ h. h, λ h. h)
 
--- a source that was added has the next number
+-- an added source has the next number
 at_next : {B C : Type 0} (Boxes : B → List CompletionCandidate → Type 0)
     (Closures : C → List CompletionCandidate → Type 0) (first : List B)
     (added : List (Source B C)) (source : Source B C) (number : ℕ)

@@ -1,4 +1,4 @@
--- Candidates that the order calls equal are one.
+-- Candidates that the order calls equal are the same.
 use Rattle.std.proofs.Common.{◌≡◌, ℕ, List, Bool, true, false, Option, Some, None, refl, ap, sym, ◌∙◌}
 use Rattle.std.specs.declared.cmp.Ordering.{Ordering}
 use Rattle.std.specs.declared.cmp.Ordering.TheVariants.{Less, Equal, Greater}
@@ -46,7 +46,7 @@ equal_is_one a b e =
     one : (a b : CompletionCandidate) → a.value ≡ b.value → a.help ≡ b.help → a.id ≡ b.id → a.tag ≡ b.tag → a.display_order ≡ b.display_order → a.hidden ≡ b.hidden → a ≡ b
     one a b v h d t o f = λ i. record { value = v i; help = h i; id = d i; tag = t i; display_order = o i; hidden = f i }
 
--- so equality is by value
+-- so equality of candidates means equality of all fields
 pub decides : (a b : CompletionCandidate) (r : Bool) → r ≡ eq_by_cmp candidate_cmp a b → Decides r (a ≡ b)
 decides a b r is = by (candidate_cmp a b) refl r is
   where

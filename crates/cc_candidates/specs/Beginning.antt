@@ -1,4 +1,4 @@
--- Which candidates begin with a text.
+-- Candidates that begin with a text.
 use Rattle.std.specs.Prelude.{ℕ, List, Bool, nat_eq}
 use Rattle.std.specs.List.{starts_with}
 use Rattle.cc_candidates.specs.declared.candidate.CompletionCandidate.{CompletionCandidate}

@@ -1,4 +1,4 @@
--- What a candidate is as it is made, and the order of candidates.
+-- New candidates and the order of candidates.
 use Rattle.std.specs.Prelude.{ℕ, List, Bool, false, Option, None}
 use Rattle.std.specs.declared.cmp.Ordering.{Ordering}
 use Rattle.std.specs.Cmp.{IsTotalOrder, on_total, then_total, nat_cmp_total, bool_cmp_total}
@@ -7,7 +7,7 @@ use Rattle.std.specs.Option.{option_cmp}
 use Rattle.std.specs.Ordering.{nat_cmp, bool_cmp, ordering_then, is_lt}
 use Rattle.cc_candidates.specs.declared.candidate.CompletionCandidate.{CompletionCandidate}
 
--- a candidate that holds its value alone
+-- a visible candidate that holds only its value
 abbrev pub new_candidate : List ℕ → CompletionCandidate
 new_candidate value = record {
   value = value;
@@ -18,11 +18,11 @@ new_candidate value = record {
   hidden = false;
 }
 
--- texts by their bytes; none comes before some
+-- texts by their bytes; a missing text comes first
 abbrev pub texts_cmp : Option (List ℕ) → Option (List ℕ) → Ordering
 texts_cmp = option_cmp (slice_cmp nat_cmp)
 
--- candidates by help, then by id, tag, display order and hidden mark
+-- candidates by help text, then by id, tag, display order and hidden mark
 abbrev pub besides_cmp : CompletionCandidate → CompletionCandidate → Ordering
 besides_cmp one other =
     ordering_then (ordering_then (ordering_then (ordering_then
@@ -32,7 +32,7 @@ besides_cmp one other =
     (option_cmp nat_cmp one.display_order other.display_order))
     (bool_cmp one.hidden other.hidden)
 
--- candidates by their value, then by help, id, tag, display order and hidden mark
+-- candidates by value, then by help text, id, tag, display order and hidden mark
 abbrev pub candidate_cmp : CompletionCandidate → CompletionCandidate → Ordering
 candidate_cmp one other =
     ordering_then (ordering_then (ordering_then (ordering_then (ordering_then

@@ -1,17 +1,18 @@
--- What completers and lists of candidates may return, by their numbers.
+-- The candidates that completers and lists may return, by number.
 use Rattle.std.specs.Prelude.{◌≡◌, ◌≢◌, ◌↔◌, ℕ, ◌-◌, List, [], length, MatchOption, slice_get}
 use Rattle.cc_candidates.specs.declared.candidate.CompletionCandidate.{CompletionCandidate}
 use Rattle.cc_candidates.specs.declared.sources.Source.{Source}
 use Rattle.cc_candidates.specs.declared.sources.Source.TheVariants.{Boxed, Closure}
 
--- the lists that a source may return, where relations say what a trait object and a closure may
+-- the candidates that a source may return, given relations for trait objects and for closures
 abbrev pub SourceReturns : {B C : Type 0} → (B → List CompletionCandidate → Type 0)
     → (C → List CompletionCandidate → Type 0) → Source B C → List CompletionCandidate → Type 0
 SourceReturns Boxes Closures (Boxed item) list = Boxes item list
 SourceReturns Boxes Closures (Closure item) list = Closures item list
 
--- the lists that the source of a number may return, where what was added has the numbers after the
--- trait objects that were there first; no candidates where there is no such source
+-- The candidates that the source with a number may return. Sources that were added later are
+-- numbered after the trait objects that were there first. A number without a source has no
+-- candidates.
 abbrev pub ReturnsAt : {B C : Type 0} → (B → List CompletionCandidate → Type 0)
     → (C → List CompletionCandidate → Type 0) → List B → List (Source B C) → ℕ
     → List CompletionCandidate → Type 0
@@ -21,8 +22,8 @@ ReturnsAt Boxes Closures first added number list =
     (λ source. SourceReturns Boxes Closures source list))
     (λ item. Boxes item list)
 
--- This number, at which no candidates were returned, is that of a source which may return the lists
--- of `Item`. What may be returned at every other number is as it was.
+-- The number, which had no candidates before, now belongs to a source that may return the lists of
+-- `Item`. Every other number may return the same lists as before.
 pub record Adds (before after : ℕ → List CompletionCandidate → Type 0) (number : ℕ)
     (Item : List CompletionCandidate → Type 0) : Type 0 where
   pub was_free : (list : List CompletionCandidate) → before number list → list ≡ []

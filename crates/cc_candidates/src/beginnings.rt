@@ -1,4 +1,4 @@
-//! Which candidates begin with a text.
+//! Selects the candidates that begin with a text.
 
 ghost use Rattle.std.specs.Prelude.{◌≡◌, filter, nat_eq};
 ghost use Rattle.std.specs.List.{starts_with};
@@ -6,7 +6,7 @@ ghost use Rattle.cc_candidates.specs.Beginning.{begins};
 
 use crate::candidate::CompletionCandidate;
 
-/// The candidates whose values begin with the text, in their order.
+/// Keeps the candidates whose values begin with `text`, in their order.
 pub fn retain_beginning_with(
     mut candidates: Vec<CompletionCandidate>,
     text: &str,
@@ -17,7 +17,7 @@ pub fn retain_beginning_with(
     candidates
 }
 
-/// Whether a value begins with the text.
+/// Returns whether `value` begins with `text`.
 pub fn begins_with(value: &str, text: &str) -> bool
     ensures { result ≡ starts_with nat_eq value.now text.now }
 {

@@ -1,4 +1,4 @@
-//! A candidate for a word.
+//! The candidate type and its order.
 
 ghost use Rattle.std.specs.Prelude.{◌≡◌, ◌++◌, Decides, None, Some, false, IfOk, IfErr, refl};
 ghost use Rattle.std.specs.Cmp.{partial_order_from_total, partial_equiv_from_equiv, eq_by_cmp_equiv};
@@ -11,7 +11,7 @@ use cc_base::{Error, Text};
 use std::alloc::{AllocError, Global};
 use std::cmp::Ordering;
 
-/// A candidate for a word.
+/// A value that a shell may insert for the word to complete, with what the shell shows or sorts by.
 #[derive(Drop, Debug)]
 pub struct CompletionCandidate {
     value: Text,
@@ -31,7 +31,7 @@ impl From<String> for CompletionCandidate {
 }
 
 impl CompletionCandidate {
-    /// A candidate with this value and nothing else.
+    /// Creates a visible candidate with `value`, without help text, id, tag and display order.
     pub fn new(value: String) -> CompletionCandidate
         ensures { result ≡ new_candidate (string_bytes value) }
     {
@@ -45,7 +45,7 @@ impl CompletionCandidate {
         }
     }
 
-    /// Sets the help.
+    /// Sets the help text, or removes it with `None`.
     pub fn help(mut self, help: Option<String>) -> CompletionCandidate
         ensures { result ≡ record self { help = option_map string_bytes help } }
     {
@@ -53,7 +53,8 @@ impl CompletionCandidate {
         self
     }
 
-    /// Sets the id. Of several candidates with one id the first is offered.
+    /// Sets the id, or removes it with `None`. If several candidates have the same id, the first is
+    /// offered.
     pub fn id(mut self, id: Option<String>) -> CompletionCandidate
         ensures { result ≡ record self { id = option_map string_bytes id } }
     {
@@ -61,7 +62,7 @@ impl CompletionCandidate {
         self
     }
 
-    /// Sets the tag. Candidates of one tag are offered together.
+    /// Sets the tag, or removes it with `None`. Candidates with the same tag are offered together.
     pub fn tag(mut self, tag: Option<String>) -> CompletionCandidate
         ensures { result ≡ record self { tag = option_map string_bytes tag } }
     {
@@ -69,7 +70,8 @@ impl CompletionCandidate {
         self
     }
 
-    /// Sets the display order among the candidates of one tag; those without one come first.
+    /// Sets the display order among the candidates with the same tag. Candidates without one come
+    /// first.
     pub fn display_order(mut self, order: Option<usize>) -> CompletionCandidate
         ensures { result ≡ record self { display_order = order } }
     {
@@ -77,7 +79,8 @@ impl CompletionCandidate {
         self
     }
 
-    /// Says whether the candidate is hidden: it is offered only where no visible one is.
+    /// Sets whether the candidate is hidden. Hidden candidates are offered only if no visible one
+    /// is.
     pub fn hide(mut self, hidden: bool) -> CompletionCandidate
         ensures { result ≡ record self { hidden = hidden } }
     {
@@ -85,7 +88,11 @@ impl CompletionCandidate {
         self
     }
 
-    /// Puts a text before the value. Fails with `Memory` alone, and then drops the candidate.
+    /// Puts `prefix` before the value.
+    ///
+    /// # Errors
+    ///
+    /// `Memory` if an allocation fails. The candidate is then dropped.
     pub fn add_prefix(self, alloc: Global, prefix: &str) -> Result<CompletionCandidate, Error>
         ensures ok { IfOk result (λ candidate.
             candidate ≡ record self { value = prefix.now ++ self.value }) }
@@ -94,8 +101,11 @@ impl CompletionCandidate {
         Ok(self.with_prefix(alloc, prefix)?)
     }
 
-    /// The same, for callers whose own error is that of the allocation. Fails where memory runs
-    /// out.
+    /// Puts `prefix` before the value, for callers that return `AllocError` themselves.
+    ///
+    /// # Errors
+    ///
+    /// `AllocError` if an allocation fails. The candidate is then dropped.
     pub fn with_prefix(
         mut self,
         alloc: Global,
@@ -108,42 +118,42 @@ impl CompletionCandidate {
         Ok(self)
     }
 
-    /// The value.
+    /// Returns the value.
     pub fn get_value(&self) -> &str
         ensures { result.now ≡ self.now.value }
     {
         self.value.as_str()
     }
 
-    /// The help.
+    /// Returns the help text, if there is one.
     pub fn get_help(&self) -> Option<&str>
         ensures { option_copied result ≡ self.now.help }
     {
         self.help.as_ref().map(|help| help.as_str())
     }
 
-    /// The id.
+    /// Returns the id, if there is one.
     pub fn get_id(&self) -> Option<&str>
         ensures { option_copied result ≡ self.now.id }
     {
         self.id.as_ref().map(|id| id.as_str())
     }
 
-    /// The tag.
+    /// Returns the tag, if there is one.
     pub fn get_tag(&self) -> Option<&str>
         ensures { option_copied result ≡ self.now.tag }
     {
         self.tag.as_ref().map(|tag| tag.as_str())
     }
 
-    /// The display order.
+    /// Returns the display order, if there is one.
     pub fn get_display_order(&self) -> Option<usize>
         ensures { result ≡ self.now.display_order }
     {
         self.display_order
     }
 
-    /// Whether the candidate is hidden.
+    /// Returns whether the candidate is hidden.
     pub fn is_hide_set(&self) -> bool
         ensures { result ≡ self.now.hidden }
     {
@@ -151,7 +161,7 @@ impl CompletionCandidate {
     }
 }
 
-// Compares by bytes; `None` comes first.
+// Compares two optional texts by their bytes. `None` comes first.
 fn cmp_texts(one: Option<&str>, other: Option<&str>) -> Ordering
     ensures { result ≡ texts_cmp (option_copied one.entry) (option_copied other.entry) }
 {
@@ -219,7 +229,8 @@ impl Ord for CompletionCandidate {
 }
 
 impl CompletionCandidate {
-    // By what is beside the value, which few candidates share.
+    // Compares everything except the values. Few candidates share a value, so this is rarely
+    // reached.
     fn cmp_besides(&self, other: &CompletionCandidate) -> Ordering
         ensures { result ≡ besides_cmp self.now other.now }
     {
@@ -231,7 +242,7 @@ impl CompletionCandidate {
     }
 }
 
-/// Whether two candidates are the same in every field.
+/// Returns whether two candidates are equal in every field.
 pub fn is_same(one: &CompletionCandidate, other: &CompletionCandidate) -> bool
     ensures { Decides result (one.now ≡ other.now) }
 {

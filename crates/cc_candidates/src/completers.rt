@@ -1,4 +1,4 @@
-//! Completers and lists of candidates, by number.
+//! The registry of completers and lists of candidates, by number.
 
 ghost use Rattle.std.specs.Prelude.{◌≡◌, ◌↔◌, ◌+◌, ℕ, List, [], MatchOption, length, slice_get, IfOk, OnErr};
 ghost use Rattle.cc_candidates.specs.declared.candidate.CompletionCandidate.{CompletionCandidate};
@@ -15,12 +15,12 @@ type Completer = Source<Box<dyn ValueCompleter>, FnCompleter>;
 
 type CandidateList = Source<Box<dyn ValueCandidates>, FnCandidates>;
 
-/// The completers of a program, numbered from 0 in the order in which they were added, and its
-/// lists of candidates, numbered so among themselves. A number without a completer, or a list, has
-/// no candidates.
+/// The completers and the lists of candidates of a program.
 ///
-/// What is added gets the next number, whether it is a trait object or a closure, and every number
-/// stays that of what it was returned for.
+/// Completers are numbered from 0 in the order in which they were added, and lists are numbered the
+/// same way on their own. A number without a completer or list has no candidates.
+///
+/// A trait object or closure that is added later gets the next number, and numbers never change.
 #[derive(Drop)]
 pub struct Completers {
     completers: Vec<Box<dyn ValueCompleter>>,
@@ -82,7 +82,7 @@ impl CandidateSources for Completers {
 }
 
 impl Completers {
-    /// These completers and these lists, each in the order of the numbers.
+    /// Creates a registry of these completers and lists, numbered in their order.
     pub fn new(
         alloc: Global,
         completers: Vec<Box<dyn ValueCompleter>>,
@@ -110,7 +110,7 @@ impl Completers {
         }
     }
 
-    /// No completers and no lists: every number is without candidates.
+    /// Creates a registry without completers and lists. Every number is without candidates.
     pub fn none(alloc: Global) -> Completers
         ensures completers { (result.completers.items ≡ []) × (result.added_completers.items ≡ []) }
         ensures lists { (result.lists.items ≡ []) × (result.added_lists.items ≡ []) }
@@ -118,8 +118,11 @@ impl Completers {
         Completers::new(alloc, Vec::new(alloc), Vec::new(alloc))
     }
 
-    /// Adds a completer, and returns its number. Fails where memory runs out: nothing is added
-    /// then, and the completer is dropped.
+    /// Adds `completer` and returns its number.
+    ///
+    /// # Errors
+    ///
+    /// `AllocError` if an allocation fails. Nothing is added, and the completer is dropped.
     pub fn add_completer(
         &mut self,
         completer: Box<dyn ValueCompleter>,
@@ -143,8 +146,11 @@ impl Completers {
         Ok(ArgValueCompleter::new(number))
     }
 
-    /// Adds a closure as a completer, and returns its number. Fails where memory runs out: nothing
-    /// is added then, and the closure is dropped.
+    /// Adds a closure as a completer and returns its number.
+    ///
+    /// # Errors
+    ///
+    /// `AllocError` if an allocation fails. Nothing is added, and the closure is dropped.
     pub fn add_completer_closure(
         &mut self,
         closure: FnCompleter,
@@ -167,9 +173,12 @@ impl Completers {
         Ok(ArgValueCompleter::new(number))
     }
 
-    /// Adds a list of candidates, and returns its number, for `ArgValueCandidates::new` or
-    /// `SubcommandCandidates::new`. Fails where memory runs out: nothing is added then, and the
-    /// list is dropped.
+    /// Adds a list of candidates and returns its number, for `ArgValueCandidates::new` or
+    /// `SubcommandCandidates::new`.
+    ///
+    /// # Errors
+    ///
+    /// `AllocError` if an allocation fails. Nothing is added, and the list is dropped.
     pub fn add_list(&mut self, list: Box<dyn ValueCandidates>) -> Result<usize, AllocError>
         ensures number { IfOk result (λ added. added
             ≡ length self.old.lists.items + length self.old.added_lists.items) }
@@ -187,8 +196,11 @@ impl Completers {
         Ok(number)
     }
 
-    /// Adds a closure as a list of candidates, and returns its number, as `add_list` does. Fails
-    /// where memory runs out: nothing is added then, and the closure is dropped.
+    /// Adds a closure as a list of candidates and returns its number, as `add_list` does.
+    ///
+    /// # Errors
+    ///
+    /// `AllocError` if an allocation fails. Nothing is added, and the closure is dropped.
     pub fn add_list_closure(&mut self, closure: FnCandidates) -> Result<usize, AllocError>
         ensures number { IfOk result (λ added. added
             ≡ length self.old.lists.items + length self.old.added_lists.items) }

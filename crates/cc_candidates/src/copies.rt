@@ -6,7 +6,11 @@ ghost use Rattle.std.specs.String.{string_bytes};
 
 use std::alloc::{AllocError, Global};
 
-/// A copy of a borrowed text, where there is one. Fails where memory runs out.
+/// Copies `text`, if there is one.
+///
+/// # Errors
+///
+/// `AllocError` if an allocation fails.
 pub fn copy_of_some(alloc: Global, text: Option<&str>) -> Result<Option<String>, AllocError>
     ensures { IfOk result (λ copy. option_map string_bytes copy ≡ option_copied text.entry) }
 {

@@ -1,4 +1,14 @@
-//! Candidates for a word, and completers and lists of candidates by number.
+//! Candidates for the word to complete, and the completers and lists that a program registers by
+//! number.
+//!
+//! ```rattle
+//! let mut candidates = Vec::new(alloc);
+//! candidates.push(CompletionCandidate::new(String::from_str(alloc, "run")?))?;
+//! candidates.push(CompletionCandidate::new(String::from_str(alloc, "rank")?))?;
+//! let mut found = retain_beginning_with(candidates, "r");
+//! sort_candidates(&mut found)?;
+//! assert!(rt; found[0].get_value() == "rank");
+//! ```
 #![tactic(auto)]
 
 mod beginnings;

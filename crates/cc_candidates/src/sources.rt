@@ -1,6 +1,6 @@
-//! Where the candidates of one number come from.
+//! The source of the candidates with one number.
 
-/// What stands at a number: a trait object, or a closure.
+/// A registered completer or list: a trait object or a closure.
 #[derive(Drop)]
 pub(crate) enum Source<B, C> {
     Boxed(B),

@@ -1,4 +1,4 @@
-//! Completers of values and lists of candidates.
+//! The traits of completers and of lists of candidates.
 
 ghost use Rattle.std.specs.Prelude.{ℕ, List, IfOk};
 ghost use Rattle.cc_candidates.specs.declared.candidate.CompletionCandidate.{CompletionCandidate};
@@ -6,14 +6,20 @@ ghost use Rattle.cc_candidates.specs.declared.candidate.CompletionCandidate.{Com
 use crate::candidate::CompletionCandidate;
 use std::alloc::{AllocError, Global};
 
-/// A completer of values. The candidates that it returns are offered as they are: it leaves out
-/// those that do not fit the text. It fails only where an allocation fails.
+/// Computes candidates for the text of a value.
+///
+/// Its candidates are offered unfiltered, so it must leave out those that do not fit the text. It
+/// fails only if an allocation fails.
 pub trait ValueCompleter: Drop {
-    // the lists that it may return, for the number of the value and the text to complete
+    // the lists that it may return, by the number of the value and the text to complete
     ghost completes: { Self → ℕ → List ℕ → List CompletionCandidate → Type 0 };
 
-    /// The candidates for a text that is the value of this number, counted from 0, in one use of an
-    /// argument.
+    /// Returns the candidates for `text`, the value with this `number` in one use of an argument.
+    /// The first value has the number 0.
+    ///
+    /// # Errors
+    ///
+    /// `AllocError` if an allocation fails.
     fn complete_at(
         &self,
         alloc: Global,
@@ -22,7 +28,11 @@ pub trait ValueCompleter: Drop {
     ) -> Result<Vec<CompletionCandidate>, AllocError>
         ensures { IfOk result (λ found. completes self.now number text.now found.items) };
 
-    /// The candidates for a text that is the first value.
+    /// Returns the candidates for `text` as the first value.
+    ///
+    /// # Errors
+    ///
+    /// `AllocError` if an allocation fails.
     fn complete(&self, alloc: Global, text: &str) -> Result<Vec<CompletionCandidate>, AllocError>
         ensures { IfOk result (λ found. completes self.now 0 text.now found.items) }
     {
@@ -30,13 +40,17 @@ pub trait ValueCompleter: Drop {
     }
 }
 
-/// A list of candidates that doesn't depend on a text; those that begin with the text are offered.
-/// It fails only where an allocation fails.
+/// Returns candidates that do not depend on the text to complete. Those that begin with the text
+/// are offered. It fails only if an allocation fails.
 pub trait ValueCandidates: Drop {
     // the lists that it may return
     ghost lists: { Self → List CompletionCandidate → Type 0 };
 
-    /// The candidates.
+    /// Returns all candidates.
+    ///
+    /// # Errors
+    ///
+    /// `AllocError` if an allocation fails.
     fn candidates(&self, alloc: Global) -> Result<Vec<CompletionCandidate>, AllocError>
         ensures { IfOk result (λ found. lists self.now found.items) };
 }

@@ -1,4 +1,9 @@
-//! What several crates of tests use: small trees, words, and a writer that fails.
+//! Fixtures for the tests of several crates: small trees, words, and a writer that fails.
+//!
+//! ```rattle
+//! let mut command = read(alloc, NESTED)?;
+//! command.build(alloc)?;
+//! ```
 #![tactic(auto)]
 
 pub mod trees;

@@ -1,11 +1,15 @@
-//! Words, and what was read of one.
+//! Words and texts for tests.
 
 ghost use Rattle.std.specs.Prelude.{◌≡◌, IfOk, map, string_bytes};
 
 use std::alloc::{AllocError, Global};
 use std::fmt::Debug;
 
-/// Copies of the words. Fails where memory runs out.
+/// Copies `words`.
+///
+/// # Errors
+///
+/// `AllocError` if an allocation fails.
 pub fn to_strings(alloc: Global, words: &[&str]) -> Result<Vec<String>, AllocError>
     ensures { IfOk result (λ copies.
         map string_bytes copies.items ≡ map (λ word. word.now) words.now) }
@@ -17,7 +21,8 @@ pub fn to_strings(alloc: Global, words: &[&str]) -> Result<Vec<String>, AllocErr
     Ok(copies)
 }
 
-/// What follows a mark where it occurs first; nothing where it occurs nowhere.
+/// Returns the text after the first occurrence of `mark`, or an empty text if there is no
+/// occurrence.
 pub fn after<'t>(text: &'t str, mark: &str) -> &'t str {
     match text.split_once(mark) {
         Some((_, rest)) => rest,
@@ -25,13 +30,17 @@ pub fn after<'t>(text: &'t str, mark: &str) -> &'t str {
     }
 }
 
-/// The word that was read, without what follows it.
+/// Returns the word in `read`, without the text after it.
 pub fn word(read: Option<(String, &str)>) -> Option<String> {
     let (word, _) = read?;
     Some(word)
 }
 
-/// What `Debug` shows of a value. Fails where memory runs out.
+/// Returns the `Debug` text of `value`.
+///
+/// # Errors
+///
+/// `AllocError` if an allocation fails.
 pub fn debug_text<T: Debug + Drop>(alloc: Global, value: T) -> Result<String, AllocError> {
     format!(in alloc; "{value:?}")
 }

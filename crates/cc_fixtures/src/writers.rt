@@ -3,18 +3,18 @@
 use std::alloc::Global;
 use std::io::{self, ErrorKind, Write};
 
-/// A writer that takes one byte a call, and fails once it holds `room` bytes; with no kind it then
-/// takes nothing.
+/// A writer that takes one byte per call, and fails once it holds `room` bytes. Without an error
+/// kind, it then takes nothing instead.
 #[derive(Drop)]
 pub struct Narrow {
-    /// What it took.
+    /// The bytes that it took.
     pub held: Vec<u8>,
     room: usize,
     kind: Option<ErrorKind>,
 }
 
 impl Narrow {
-    /// A writer that holds nothing yet.
+    /// Creates a writer that holds nothing yet.
     pub fn new(alloc: Global, room: usize, kind: Option<ErrorKind>) -> Narrow {
         let held = Vec::new(alloc);
         Narrow { held, room, kind }

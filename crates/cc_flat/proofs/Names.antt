@@ -1,4 +1,4 @@
--- Where words lead: to which child, and that it is the first that has the word as a name.
+-- The child that a word names is the first that has the word as a name.
 use Rattle.std.proofs.Common.{◌≡◌, ℕ, zero, suc, ◌+◌, ◌<◌, ◌≤◌, List, Bool, true, false, cond, ◌||◌, Option, Some, None, IfSome, is_some, refl, ap, ◌∙◌, sym, subst, arith}
 use Rattle.std.specs.List.{range_with_len}
 use Rattle.std.specs.Option.{option_map}
@@ -8,13 +8,13 @@ use Rattle.cc_flat.specs.Flat.{Entry, entry_at, tree_at, trees_at, numbers_betwe
 use Rattle.cc_flat.specs.Lookup.{find_from, find_at}
 use Rattle.cc_flat.proofs.Numbers.{numbers_between_first}
 
--- one more of the siblings
+-- one more sibling
 pub find_from-more : (flat : List Entry) (start end : ℕ) (word : List ℕ) → start < end →
     find_from start (forest_of (trees_at flat (numbers_between start end))) word
     ≡ cond (has_name (tree_at flat start).node word) (Some start) (find_from (start + 1) (forest_of (trees_at flat (numbers_between (start + 1) end))) word)
 find_from-more flat start end word low = ap (λ numbers. find_from start (forest_of (trees_at flat numbers)) word) (numbers_between_first start end low)
 
--- a sibling that has another name is passed over
+-- a sibling with another name is skipped
 pub sibling-passed : (flat : List Entry) (start end next last : ℕ) (word : List ℕ) (child : ℕ) (command : Tree) →
     start < end → child ≡ start → next ≡ start + 1 → last ≡ end → command ≡ tree_at flat child → has_name command.node word ≡ false →
     find_from next (forest_of (trees_at flat (numbers_between next last))) word
@@ -26,7 +26,7 @@ sibling-passed flat start end next last word child command low child_is next_is 
     ap (λ s. later s last) next_is ∙ ap (λ e. later (start + 1) e) last_is ∙
     sym (find_from-more flat start end word low ∙ ap (λ b. cond b (Some start) (later (start + 1) end)) named)
 
--- there is one where a sibling has the name
+-- a child is found exactly if a sibling has the name
 pub is_some-find_from : (number : ℕ) (forest : Forest) (word : List ℕ) → is_some (find_from number forest word) ≡ has_child forest word
 is_some-find_from number none word = refl
 is_some-find_from number (more node below rest) word =
@@ -37,13 +37,13 @@ is_some-find_from number (more node below rest) word =
     either true found later = refl
     either false found later = refl
 
--- it is the first sibling, or else a later one
+-- the first sibling, or else a later one
 first-tree : {A B : Type 0} (here : Bool) (f : A → B) (found : A) (tree : B) (later : Option A) (trees : Option B) → f found ≡ tree → option_map f later ≡ trees →
     option_map f (cond here (Some found) later) ≡ cond here (Some tree) trees
 first-tree true f found tree later trees first rest = ap Some first
 first-tree false f found tree later trees first rest = rest
 
--- it is the first that has the name
+-- the first that has the name
 pub tree-find_from : (flat : List Entry) (first count : ℕ) (word : List ℕ) →
     option_map (λ child. tree_at flat child) (find_from first (forest_of (trees_at flat (range_with_len first count))) word)
     ≡ find_child (forest_of (trees_at flat (range_with_len first count))) word
@@ -62,7 +62,7 @@ IfSome-map : (option : Option ℕ) (P Q : ℕ → Type 0) → ((found : ℕ) →
 IfSome-map None P Q f p = tt
 IfSome-map (Some found) P Q f p = f found p
 
--- its number is among the siblings'
+-- the number is among those of the siblings
 abbrev pub IsBetween : ℕ → ℕ → ℕ → Type 0
 IsBetween first count child = (first ≤ child) × (child < first + count)
 
@@ -76,7 +76,7 @@ child-find_from flat first (suc count) word =
     (IfSome-map (find_from (first + 1) (forest_of (trees_at flat (range_with_len (first + 1) count))) word) (IsBetween (first + 1) count) (IsBetween first (suc count))
     (λ found between. (omega (arith, between.0), omega (arith, between.1))) (child-find_from flat (first + 1) count word))
 
--- the child found from a node, by the trees of its children
+-- the child that is found at a node, by the trees of its children
 pub find_at-children : (flat : List Entry) (number : ℕ) (word : List ℕ) → HasItsChildren flat number →
     find_at flat number word ≡ find_from (entry_at flat number).first_child (forest_of (trees_at flat (children_at flat number))) word
 find_at-children flat number word its = ap (λ forest. find_from (entry_at flat number).first_child forest word) (sym its.forest)

@@ -1,4 +1,4 @@
--- What the numbering of a tree keeps, one node after another.
+-- The invariant of the numbering of a tree, which handles one node after another.
 use Rattle.std.proofs.Common.{◌≡◌, ◌≢◌, ℕ, ◌+◌, ◌-◌, ◌<◌, ◌≤◌, List, [], ◌∷◌, ◌++◌, length, map, get_or, set, drop, Option, Some, None, refl, ap, ◌∙◌, sym, arith, ⊎_elim, subst}
 use Rattle.std.specs.List.{range_with_len}
 use Rattle.std.proofs.lemmas.List.{get_or-map, map-set, map-append, length-map, length-set, length-append, get_or-set_same, get_or-set_other, get_or_append_left, get_or-append_right, drop_more, drop_all, drop-append-le, drop-set-lt}
@@ -11,7 +11,7 @@ use Rattle.cc_flat.specs.Numbered.{without_numbers, with_count, with_children}
 use Rattle.cc_flat.proofs.Numbers.{entry_at-stored, trees_at-agree, trees_at-appended}
 use Rattle.cc_flat.proofs.Trees.{forest_of-trees_of, forest_size-append}
 
--- a stored node that is given numbers says so
+-- the entry of a stored node after its children get numbers
 pub with_count-stored : (nodes : List FlatNode) (number : ℕ) (node : FlatNode) (first count : ℕ) →
     number < length nodes → node ≡ get_or nodes number node → first ≡ length nodes →
     entries_of (set nodes number (record node { first_child = first; child_count = count })) ≡ with_count (entries_of nodes) number count
@@ -31,12 +31,12 @@ tree_at-stored nodes number node inside is = ap (λ e. e.tree) (entry_at-stored 
 abbrev trees_from : ℕ → List Entry → List Tree
 trees_from number flat = map (λ entry. entry.tree) (drop number flat)
 
--- the node with a number is a child of a node before it, which has its numbers
+-- the node with a number is a child of an earlier node, whose children have numbers
 pub record HasDoneParent (flat : List Entry) (done number : ℕ) : Type 0 where
   pub parent : HasItsParent flat number
   pub is_done : parent.parent < done
 
--- the list is that of a tree, save that the nodes from a number on have no children yet
+-- the list is that of a tree, except that the nodes from a number on have no children yet
 pub record IsFlatUpTo (root : Tree) (done : ℕ) (flat : List Entry) : Type 0 where
   pub within : done ≤ length flat
   pub inhabited : 0 < length flat
@@ -59,13 +59,13 @@ IsFlat-whole root done flat up_to whole =
       parents = λ number low high. (up_to.parents number low high).parent;
     }
 
--- a longer list that says of the nodes of a shorter one what tree they are and who is their parent
+-- a longer list that keeps the tree and the parent of each node of a shorter one
 pub record Extends (xs ys : List Entry) : Type 0 where
   pub longer : length xs ≤ length ys
   pub tree : (number : ℕ) → number < length xs → tree_at ys number ≡ tree_at xs number
   pub parent : (number : ℕ) → number < length xs → (entry_at ys number).parent ≡ (entry_at xs number).parent
 
--- a node's children stay as they are where the list is extended and the node's numbers stay
+-- a node keeps its children if the list is extended and the node's numbers stay
 HasItsChildren-kept : (xs ys : List Entry) (number : ℕ) → Extends xs ys → number < length xs → entry_at ys number ≡ entry_at xs number → HasItsChildren xs number → HasItsChildren ys number
 HasItsChildren-kept xs ys number extends inside same its =
     let first : (entry_at ys number).first_child ≡ (entry_at xs number).first_child = ap (λ e. e.first_child) same in
@@ -105,7 +105,7 @@ module _ (flat : List Entry) (number : ℕ) (trees : List Tree) (inside : number
       get_or_append_left (with_count flat number (length trees)) (map (without_numbers (Some number)) trees) _ number (omega (arith, with_count-length)) ∙
       get_or-set_same flat number (record (entry_at flat number) { first_child = length flat; child_count = length trees }) _ inside
 
-  -- the others that were listed
+  -- the other nodes that were listed before
   with_children-other : (other : ℕ) → other < length flat → other ≢ number → entry_at (with_children flat number trees) other ≡ entry_at flat other
   with_children-other other low differs =
       get_or_append_left (with_count flat number (length trees)) (map (without_numbers (Some number)) trees) _ other (omega (arith, with_count-length)) ∙
@@ -148,7 +148,7 @@ module _ (flat : List Entry) (number : ℕ) (trees : List Tree) (inside : number
         parent = λ child is. with_children-child child (omega (arith, first, is.low)) (omega (arith, first, count, is.high));
       }
 
-  -- how much is left to be numbered
+  -- the number of nodes that are still without a number
   with_children-size : trees ≡ trees_of (tree_at flat number).children →
       number + 1 + forest_size (forest_of (trees_from (number + 1) (with_children flat number trees))) ≡ number + forest_size (forest_of (trees_from number flat))
   with_children-size theirs =
@@ -173,7 +173,7 @@ module _ (flat : List Entry) (number : ℕ) (trees : List Tree) (inside : number
         ap forest_size below,
       )
 
-  -- a node that was listed keeps its parent
+  -- a node that was listed before keeps its parent
   HasDoneParent-kept : (child : ℕ) → child < length flat → HasDoneParent flat number child → HasDoneParent (with_children flat number trees) (number + 1) child
   HasDoneParent-kept child listed known =
       let parent : ℕ = known.parent.parent in

@@ -32,7 +32,7 @@ trees_at-appended flat parent (tree ∷ trees) =
     ap (λ ts. tree ∷ ts) (ap (λ n. trees_at (flat ++ (first ∷ map (without_numbers parent) trees)) (range_with_len n (length trees))) (sym next) ∙
     ap (λ all. trees_at all (range_with_len (length longer) (length trees))) (sym regrouped) ∙ rest)
 
--- what a stored node says
+-- the facts that a stored node records
 pub entry_at-stored : (nodes : List FlatNode) (number : ℕ) (node : FlatNode) → number < length nodes → node ≡ get_or nodes number node → entry_at (entries_of nodes) number ≡ entry_of node
 entry_at-stored nodes number node inside is = get_or-map entry_of nodes number node no_entry inside ∙ ap entry_of (sym is)
 
@@ -41,7 +41,7 @@ pub numbers_between_first : (start end : ℕ) → start < end → numbers_betwee
 numbers_between_first start end low =
     let one_less : end - start ≡ suc (end - (start + 1)) = omega arith in ap (range_with_len start) one_less
 
--- every node but the root has a parent, which is before it and whose child it is
+-- every node except the root has a parent, which comes before it and has it as a child
 abbrev pub HasParentOrNone : List Entry → ℕ → Option ℕ → Type 0
 HasParentOrNone flat number None = number ≡ 0
 HasParentOrNone flat number (Some parent) = (0 < number) × ((parent < number) × IsChildAt flat parent number)
@@ -65,12 +65,12 @@ HasParentOrNone-stored flat nodes number node same is_flat inside is =
     let P : Option ℕ → Type 0 = HasParentOrNone flat number in
     subst P here (HasParentOrNone-at flat number (subst IsFlat same is_flat) inside)
 
--- the root alone has no parent
+-- only the root has no parent
 pub root-parent : (flat : List Entry) (number : ℕ) (parent : Option ℕ) → HasParentOrNone flat number parent → IsNone parent ↔ (number ≡ 0)
 root-parent flat number None first = ((λ _. first), (λ _. refl))
 root-parent flat number (Some parent) is = ((λ none. cc), (λ first. absurd (omega (arith, is.0))))
 
--- a parent is before its children
+-- a parent comes before its children
 pub before-parent : (flat : List Entry) (number : ℕ) (parent : Option ℕ) → HasParentOrNone flat number parent → IfSome parent (λ p. p < number)
 before-parent flat number None _ = tt
 before-parent flat number (Some parent) is = is.1.0

@@ -1,4 +1,4 @@
--- Which node comes after a position, and how far its level goes.
+-- The node after a position, and a bound on its level.
 use Rattle.std.proofs.Common.{◌≡◌, ℕ, zero, suc, ◌+◌, ◌-◌, ◌<◌, ◌≤◌, List, [], ◌∷◌, ◌++◌, length, Option, Some, None, unwrap_or, refl, ap, ◌∙◌, sym, subst, append_assoc, arith}
 use Rattle.std.specs.List.{range_with_len}
 use Rattle.std.specs.Option.{option_and_then}
@@ -28,7 +28,7 @@ level_low flat is_flat (suc (suc level)) number inside starts =
 abbrev position_at : ℕ → ℕ → Cursor
 position_at level number = record { number = number; level = level }
 
--- siblings from one of them on, then what comes after their parent
+-- the siblings from one on, then the nodes after their parent
 siblings_from : (flat : List Entry) (level number parent end : ℕ) →
     (entry_at flat number).parent ≡ Some parent → end ≡ children_end flat parent → number < end →
     preorder_at flat (suc (suc level)) (numbers_between number end)
@@ -73,7 +73,7 @@ first_child flat (suc level) below number start end below_is its first last numb
 
 module _ (flat : List Entry) (number parent : ℕ)
     (is : (entry_at flat number).parent ≡ Some parent) (before : parent < number) where
-  -- after a sibling that is not the last comes the next one
+  -- the next sibling comes after a sibling that is not the last
   pub later_sibling : (level : ℕ) → HasItsChildren flat parent → IsChildAt flat parent number →
       number + 1 < children_end flat parent → path_start flat level number ≡ Some 0 →
       BeginsAt flat (later_nodes flat level number) (Some (position_at level (number + 1)))
@@ -93,7 +93,7 @@ module _ (flat : List Entry) (number parent : ℕ)
             ∙ siblings_from flat level (number + 1) parent (children_end flat parent) next refl low,
       )
 
-  -- after the last sibling comes what comes after the parent
+  -- the nodes after the parent come after the last sibling
   pub later_above : (level up : ℕ) → up ≡ level - 1 → children_end flat parent ≤ number + 1 →
       path_start flat level number ≡ Some 0 →
       (path_start flat up parent ≡ Some 0)
@@ -113,7 +113,7 @@ module _ (flat : List Entry) (number parent : ℕ)
             ∙ sym (ap (λ p. later (children_end flat p - (number + 1)) p) (ap (λ p. unwrap_or p 0) is)),
       )
 
--- nothing comes after the root and all below it
+-- nothing comes after the root and everything below it
 pub none_later : (flat : List Entry) (level number : ℕ) → (entry_at flat number).parent ≡ None →
     path_start flat level number ≡ Some 0 → later_nodes flat level number ≡ []
 none_later flat (suc (suc level)) number root starts =

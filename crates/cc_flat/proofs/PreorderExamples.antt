@@ -14,7 +14,7 @@ app =
 abbrev shown : Levelled → List ℕ × ℕ
 shown node = (node.tree.node.name, node.level)
 
--- `run` with all that is below it, then `list`
+-- `run` with everything below it, then `list`
 below : map shown (preorder 2 app.children)
     ≡ (codes "run", 2) ∷ (codes "job", 3) ∷ (codes "list", 2) ∷ []
 below = refl

@@ -1,4 +1,4 @@
--- How an entry is stored, by which proofs tell entries apart.
+-- The representation of an entry, by which proofs decide whether entries are equal.
 use Rattle.std.specs.Prelude.{ℕ, List, Option, refl}
 use Rattle.std.specs.Coded.{Coded, code_by, coded×, coded_ℕ, coded_list, coded_option}
 use Rattle.cc_command.specs.Tree.{Tree}
@@ -19,6 +19,6 @@ entry_code =
     })
     (λ _. refl)
 
--- a list of entries is stored as theirs
+-- a list of entries is stored as the list of their representations
 abbrev pub entries_code : Coded (List Entry)
 entries_code = coded_list entry_code

@@ -1,4 +1,4 @@
--- A tree's nodes in one list, each under a number.
+-- The nodes of a tree in one list, each with a number.
 use Rattle.std.specs.Prelude.{◌≡◌, ℕ, ◌+◌, ◌-◌, ◌<◌, ◌≤◌, List, [], ◌∷◌, length, map, Option, Some, None, slice_index_or}
 use Rattle.std.specs.List.{range_with_len}
 use Rattle.cc_command.specs.Tree.{Forest, none, more, Tree, forest_of, forest_size}
@@ -10,18 +10,18 @@ abbrev pub trees_of : Forest → List Tree
 trees_of none = []
 trees_of (more node below rest) = (record { node = node; children = below }) ∷ trees_of rest
 
--- what the list says of a node
+-- the facts about one node
 pub record Entry : Type 0 where
-  -- the node with all that is below it
+  -- the node with everything below it
   pub tree : Tree
-  -- the number of the node whose child it is; the root has none
+  -- the number of its parent; the root has none
   pub parent : Option ℕ
   -- the number of its first child; the others have the numbers after it
   pub first_child : ℕ
-  -- how many children it has
+  -- the number of its children
   pub child_count : ℕ
 
--- what a stored node says
+-- the facts that a stored node records
 abbrev pub entry_of : FlatNode → Entry
 entry_of node = record {
   tree = node.command.now;
@@ -30,15 +30,15 @@ entry_of node = record {
   child_count = node.child_count;
 }
 
--- what stored nodes say, by number
+-- the facts that stored nodes record, by number
 abbrev pub entries_of : List FlatNode → List Entry
 entries_of nodes = map entry_of nodes
 
--- the entry of a number that no node has: an empty tree
+-- the entry for a number without a node: an empty tree
 unfoldable pub no_entry : Entry
 no_entry = record { tree = new_tree []; parent = None; first_child = 0; child_count = 0 }
 
--- what the list says of the node with a number
+-- the entry of the node with a number
 abbrev pub entry_at : List Entry → ℕ → Entry
 entry_at flat number = slice_index_or flat number no_entry
 
@@ -50,7 +50,7 @@ tree_at flat number = (entry_at flat number).tree
 abbrev pub trees_at : List Entry → List ℕ → List Tree
 trees_at flat numbers = map (tree_at flat) numbers
 
--- the numbers from one up to another, which is left out
+-- the numbers from `start` up to `end`, without `end`
 abbrev pub numbers_between : ℕ → ℕ → List ℕ
 numbers_between start end = range_with_len start (end - start)
 
@@ -59,13 +59,13 @@ abbrev pub children_at : List Entry → ℕ → List ℕ
 children_at flat number =
     range_with_len (entry_at flat number).first_child (entry_at flat number).child_count
 
--- a number is that of a child of a node
+-- the number is that of a child of a node
 pub record IsChildAt (flat : List Entry) (number child : ℕ) : Type 0 where
   pub low : (entry_at flat number).first_child ≤ child
   pub high : child < (entry_at flat number).first_child + (entry_at flat number).child_count
 
--- the children of the node with a number are those of its tree, in order; their numbers are in the
--- list and after its own, and it is their parent
+-- The children of the node with a number are those of its tree, in order. Their numbers are in the
+-- list, after its own number, and it is their parent.
 pub record HasItsChildren (flat : List Entry) (number : ℕ) : Type 0 where
   pub forest : forest_of (trees_at flat (children_at flat number)) ≡ (tree_at flat number).children
   pub after : number < (entry_at flat number).first_child
@@ -73,14 +73,14 @@ pub record HasItsChildren (flat : List Entry) (number : ℕ) : Type 0 where
   pub parent : (child : ℕ) → IsChildAt flat number child → (entry_at flat child).parent
       ≡ Some number
 
--- the node with a number is a child of a node before it
+-- the node with a number is a child of an earlier node
 pub record HasItsParent (flat : List Entry) (number : ℕ) : Type 0 where
   pub parent : ℕ
   pub is : (entry_at flat number).parent ≡ Some parent
   pub before : parent < number
   pub child : IsChildAt flat parent number
 
--- the list has each node of the tree at number 0 once
+-- the list contains each node of the tree at number 0 once
 pub record IsFlat (flat : List Entry) : Type 0 where
   pub root : (entry_at flat 0).parent ≡ None
   pub size : length flat ≡ 1 + forest_size (tree_at flat 0).children

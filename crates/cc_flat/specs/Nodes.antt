@@ -1,4 +1,4 @@
--- What the nodes of the code stand for.
+-- The meaning of the nodes in the code.
 use Rattle.std.specs.Prelude.{List}
 use Rattle.cc_flat.specs.Positions.{nodes_after}
 use Rattle.cc_flat.specs.Preorder.{Levelled}

@@ -1,4 +1,4 @@
--- One step of the numbering: a node's children get the numbers after all that are taken.
+-- One step of the numbering: the children of a node get the next free numbers.
 use Rattle.std.specs.Prelude.{ℕ, List, ◌++◌, length, map, Option, Some, slice_set}
 use Rattle.cc_command.specs.Tree.{Tree}
 use Rattle.cc_flat.specs.Flat.{Entry, entry_at}
@@ -8,7 +8,7 @@ abbrev pub without_numbers : Option ℕ → Tree → Entry
 without_numbers parent tree =
     record { tree = tree; parent = parent; first_child = 0; child_count = 0 }
 
--- the node with this number has so many children, listed after all other nodes
+-- the node with this number has `count` children, to be listed after all other nodes
 abbrev pub with_count : List Entry → ℕ → ℕ → List Entry
 with_count flat number count =
     slice_set flat number (record

@@ -2,12 +2,12 @@
 use Rattle.std.specs.Prelude.{ℕ, suc, List, [], ◌∷◌, ◌++◌}
 use Rattle.cc_command.specs.Tree.{Forest, none, more, Tree}
 
--- a node with everything below it, and how many names its path has, the root's included
+-- a node with everything below it, and the number of names in its path, including the root's name
 pub record Levelled : Type 0 where
   pub level : ℕ
   pub tree : Tree
 
--- siblings at this level: a node, all below it, then those after it
+-- siblings at this level: a node, everything below it, then the siblings after it
 abbrev pub preorder : ℕ → Forest → List Levelled
 preorder level none = []
 preorder level (more node below rest) =

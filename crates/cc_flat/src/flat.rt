@@ -1,4 +1,4 @@
-//! The nodes of a command tree in one numbered list.
+//! The numbered nodes of a command tree.
 
 ghost use Rattle.std.specs.Prelude.{◌≡◌, ◌<◌, ◌+◌, ◌↔◌, length, IfOk, IfSome, IsNone, OnOk, vec_len};
 ghost use Rattle.cc_flat.specs.Flat.{IsFlat, IsChildAt, HasItsChildren, entry_of, entries_of, entry_at, tree_at, trees_of, numbers_between, children_at};
@@ -9,10 +9,10 @@ use std::alloc::{AllocError, Global};
 use std::marker::Model;
 use std::ops::Range;
 
-/// The nodes of a command tree, each under a number: the root has number 0, the children of a node
-/// have consecutive numbers in their order, and every child has a greater number than its parent.
+/// The nodes of a command tree, each with a number. The root has number 0. The children of a node
+/// have consecutive numbers in their order, each greater than the number of their parent.
 ///
-/// A clause sees a list of entries, by number.
+/// Clauses see it as a list of entries, by number.
 #[derive(Drop)]
 pub struct Flat<'a> {
     nodes: Vec<FlatNode<'a>>,
@@ -42,8 +42,11 @@ impl<'a> Model for Flat<'a> {
 }
 
 impl<'a> Flat<'a> {
-    /// Numbers the nodes of a tree, in time and memory that grow with their count. Fails where it
-    /// is out of memory.
+    /// Numbers the nodes of the tree `root`. Time and memory grow with the number of nodes.
+    ///
+    /// # Errors
+    ///
+    /// `AllocError` if an allocation fails.
     pub fn new(alloc: Global, root: &'a Command) -> Result<Flat<'a>, AllocError>
         ensures root { IfOk result (λ flat. tree_at flat 0 ≡ root.now) }
         ensures flat { IfOk result IsFlat }
@@ -58,7 +61,7 @@ impl<'a> Flat<'a> {
         Ok(Flat { nodes })
     }
 
-    /// How many nodes there are.
+    /// Returns the number of nodes.
     pub fn len(&self) -> usize
         ensures len { result ≡ length self.now }
         ensures flat { IsFlat self.now }
@@ -66,7 +69,7 @@ impl<'a> Flat<'a> {
         self.nodes.len()
     }
 
-    /// The command with this number.
+    /// Returns the command with this `number`.
     pub fn command(&self, number: usize) -> &'a Command
         requires { number < length self.now }
         ensures { result.now ≡ tree_at self.now number }
@@ -74,7 +77,7 @@ impl<'a> Flat<'a> {
         self.nodes[number].command
     }
 
-    /// The number of the node whose child this one is; the root has none.
+    /// Returns the number of the parent of the node with this `number`, or `None` for the root.
     pub fn parent(&self, number: usize) -> Option<usize>
         requires { number < length self.now }
         ensures value { result ≡ (entry_at self.now number).parent }
@@ -85,7 +88,7 @@ impl<'a> Flat<'a> {
         self.nodes[number].parent
     }
 
-    /// The numbers of the children, in order.
+    /// Returns the numbers of the children of the node with this `number`, in order.
     pub fn children(&self, number: usize) -> Range<usize>
         requires { number < length self.now }
         ensures first { result.start ≡ (entry_at self.now number).first_child }
@@ -100,7 +103,7 @@ impl<'a> Flat<'a> {
 }
 
 impl<'a> FlatNode<'a> {
-    // A node whose children have no numbers yet.
+    // Creates a node whose children have no numbers yet.
     fn without_numbers(parent: Option<usize>, command: &'a Command) -> FlatNode<'a>
         ensures { entry_of result ≡ without_numbers parent command.now }
     {
@@ -113,7 +116,7 @@ impl<'a> FlatNode<'a> {
     }
 }
 
-// Lists the children of the node with this number after all others.
+// Adds the children of the node with this number to the end of the list.
 fn number_children(nodes: &mut Vec<FlatNode<'_>>, number: usize) -> Result<(), AllocError>
     requires { number < vec_len nodes.old }
     ensures { OnOk result (entries_of nodes.new.items

@@ -1,4 +1,14 @@
-//! The nodes of a command tree in one numbered list, so that a walk over them goes by number.
+//! Numbers the nodes of a command tree and lists them, so that a walk over the tree needs no
+//! recursion.
+//!
+//! ```rattle
+//! let app = Command::new(alloc, String::from_str(alloc, "app")?)
+//!     .subcommand(Command::new(alloc, String::from_str(alloc, "run")?))?;
+//! let flat = Flat::new(alloc, &app)?;
+//! assert!(rt; flat.len() == 2);
+//! assert!(rt; flat.find_child(0, "run") == Some(1));
+//! assert!(rt; flat.parent(1) == Some(0));
+//! ```
 #![tactic(auto)]
 
 mod flat;

@@ -1,4 +1,4 @@
-//! The child that a word leads to.
+//! Finds the child that a word names.
 
 ghost use Rattle.std.specs.Prelude.{◌≡◌, ◌<◌, ◌≤◌, length, IfSome, is_some};
 ghost use Rattle.std.specs.Option.{option_map};
@@ -12,8 +12,8 @@ use cc_command::has_name;
 use std::ops::Range;
 
 impl<'a> Flat<'a> {
-    /// The number of the first child of a node that has the word as its name, a visible or a hidden
-    /// alias; none where no child has.
+    /// Returns the number of the first child of the node `number` that has `word` as its name or as
+    /// a visible or hidden alias. Returns `None` if there is no such child.
     pub fn find_child(&self, number: usize, word: &str) -> Option<usize>
         requires { number < length self.now }
         ensures value { result ≡ find_at self.now number word.now }

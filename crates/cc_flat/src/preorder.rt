@@ -1,4 +1,4 @@
-//! The nodes of a tree in preorder.
+//! Visits the nodes of a tree in preorder.
 
 ghost use Rattle.std.specs.Prelude.{◌≡◌, ◌<◌, Some, length};
 ghost use Rattle.cc_flat.specs.Flat.{tree_at};
@@ -11,21 +11,21 @@ use cc_command::Command;
 /// A node below the root, with everything below it.
 #[derive(Clone, Copy)]
 pub struct LevelledNode<'a> {
-    /// How many names its path has, the root's included.
+    /// The number of names in its path, including the root's name.
     pub level: usize,
     /// The node.
     pub command: &'a Command,
 }
 
-// The number of a node, with how many names its path has.
+// The number of a node, with the number of names in its path.
 #[derive(Clone, Copy)]
 pub(crate) struct Cursor {
     pub number: usize,
     pub level: usize,
 }
 
-/// The nodes below the root that are still to come: a node, then all below each of its children in
-/// turn. The walk goes by numbers alone, allocates nothing and stays at its end.
+/// Iterates over the nodes below the root: each node comes before everything below it. The iterator
+/// allocates nothing, and after its end it returns only `None`.
 #[derive(Drop)]
 pub struct Preorder<'f, 'a> {
     flat: &'f Flat<'a>,
@@ -37,7 +37,7 @@ pub struct Preorder<'f, 'a> {
 impl<'a> Flat<'a> {
     ghost use Rattle.cc_flat.specs.Nodes.{nodes_left};
 
-    /// The nodes below the root: a node, then all below each of its children in turn.
+    /// Returns an iterator over the nodes below the root, each before everything below it.
     pub fn preorder<'f>(&'f self) -> Preorder<'f, 'a>
         requires { 0 < length self.now }
         ensures { nodes_left result ≡ preorder 2 (tree_at self.now 0).children }
@@ -74,7 +74,7 @@ impl<'f, 'a> Iterator for Preorder<'f, 'a> {
     }
 }
 
-// Where the node after this one is.
+// Returns the position of the node after this one.
 fn next_position(flat: &Flat<'_>, position: Cursor) -> Option<Cursor>
     requires { IsAt flat.now position }
     ensures { BeginsAt flat.now (nodes_after flat.now position.level position.number) result }
@@ -89,8 +89,8 @@ fn next_position(flat: &Flat<'_>, position: Cursor) -> Option<Cursor>
     later_position(flat, position)
 }
 
-// Where the node after this one and all below it is: the next sibling, or that of the nearest node
-// above it that has one.
+// Returns the position after this node and everything below it: the next sibling, or the next
+// sibling of the nearest node above it that has one.
 fn later_position(flat: &Flat<'_>, position: Cursor) -> Option<Cursor>
     requires { IsAt flat.now position }
     ensures { BeginsAt flat.now (later_nodes flat.now position.level position.number) result }

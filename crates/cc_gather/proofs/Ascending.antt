@@ -1,4 +1,4 @@
--- Candidates whose ids ascend share none.
+-- Candidates with ascending ids share none.
 use Rattle.std.proofs.Common.{◌≡◌, ◌∙◌, ℕ, true, false, List, [], ◌∷◌, Option, Some, None, ap, refl}
 use Rattle.std.proofs.Common.{Ordering, Less}
 use Rattle.std.specs.Cmp.{IsTotalOrder}

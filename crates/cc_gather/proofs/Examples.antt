@@ -1,4 +1,4 @@
--- Worked values of the definitions.
+-- Computed examples of the definitions.
 use Rattle.std.specs.Prelude.{◌≡◌, ℕ, true, false, List, [], ◌∷◌, map, Some, ⊤, codes, refl}
 use Rattle.std.specs.List.{list_all, list_any}
 use Rattle.cc_arg.specs.declared.parts.ArgParts.{ArgParts as Arg}
@@ -30,7 +30,7 @@ abbrev help : CompletionCandidate
 help = candidate (codes "--help") (codes "arg::help") (codes "Options") 999
 
 finished :
-    -- after an open option that shares an id with what follows: twice finished, and once
+    -- after an open option that shares an id with the options after it: made final twice, and once
     (map (λ c. c.value) (finish (auto ∷ finish (col ∷ port ∷ help ∷ []))) ≡ codes "auto" ∷ codes "--help" ∷ codes "--port" ∷ [])
     × (map (λ c. c.value) (finish (auto ∷ col ∷ port ∷ help ∷ [])) ≡ codes "auto" ∷ codes "--port" ∷ codes "--help" ∷ [])
 unfolding finish group shown_or_all in_order insert
@@ -51,12 +51,12 @@ verbose = record (new_arg (codes "verbose")) {
 abbrev arguments : List Arg
 arguments = color ∷ verbose ∷ []
 
--- the values of what is listed, or the texts of what is wanted
+-- the values of the listed candidates, or the texts of the request
 abbrev shape : OptionMatch → List (List ℕ)
 shape (Listed candidates) = map (λ c. c.value) candidates
 shape (ValuesOf wanted) = wanted.argument.id ∷ wanted.before ∷ wanted.text ∷ []
 
--- what opens each definition
+-- unfolds each definition
 unfoldable definitions : ⊤
 unfolding match_of longs shorts is_number chars lib.Utf8.encode
 definitions = tt
@@ -76,10 +76,11 @@ unfolding definitions
 matched = (refl, refl, refl, refl, refl, refl, refl, refl)
 
 numbers :
-    -- which texts are numbers
+    -- numbers
     (list_all is_number (codes "1" ∷ codes "1." ∷ codes "1.5" ∷ codes "1e5" ∷ codes "1.e5" ∷ codes "12.34e56" ∷ [])
     ≡ true)
-    -- no byte; a point or an `e` first, an `e` last, a point after it, two of either, a sign
+    -- texts that are no numbers: an empty one; a point or an `e` first, an `e` last, a point after
+    -- it, two of either, a sign
     × (list_any is_number ([] ∷ codes ".5" ∷ codes "e1" ∷ codes "1e" ∷ codes "1e5." ∷ codes "1e1e1" ∷ codes "1.2.3"
     ∷ codes "1e-5" ∷ []) ≡ false)
 unfolding is_number

@@ -14,7 +14,7 @@ filter_first p x xs = by (p x)
     by true = refl
     by false = refl
 
--- three pieces are added in turn
+-- three pieces are added one after another
 pub added : {X : Type 0} (p : X → Bool) (found one two three : List X) (x : X) (xs ys : List X) →
     one ≡ found ++ filter p (x ∷ []) → two ≡ one ++ filter p xs → three ≡ two ++ filter p ys →
     three ≡ found ++ filter p ((x ∷ xs) ++ ys)

@@ -1,4 +1,4 @@
--- The first of each id, of lists side by side.
+-- The first candidate of each id, in joined lists.
 use Rattle.std.proofs.Common.{◌≡◌, ℕ, List, [], ◌∷◌, ◌++◌, Bool, true, false, cond, not, Option, Some, None, inl, inr, refl, ap, sym, ◌∙◌}
 use Rattle.std.specs.Prelude.{filter}
 use Rattle.std.specs.List.{AllByRecursion}
@@ -18,12 +18,12 @@ kept_all : (c : CompletionCandidate) (ds : List CompletionCandidate) → SharesN
 kept_all c [] h = refl
 kept_all c (d ∷ ds) h = let e = h.0 in rw e (ap (λ r. d ∷ r) (kept_all c ds h.1))
 
--- what is so of each is so of each of the first of ids
+-- a property of all candidates holds for the first of each id
 pub all-first_of_ids : (P : CompletionCandidate → Type 0) (cs : List CompletionCandidate) → AllByRecursion P cs → AllByRecursion P (first_of_ids cs)
 all-first_of_ids P [] h = tt
 all-first_of_ids P (c ∷ cs) h = (h.0, AllByRecursion-filter P (λ d. not (share c.id d.id)) (first_of_ids cs) (all-first_of_ids P cs h.1))
 
--- where no two share an id, each list is thinned by itself
+-- if the two lists share no id, each is filtered by itself
 pub first_of_ids-append : (cs ds : List CompletionCandidate) → ShareNone cs ds →
     first_of_ids (cs ++ ds) ≡ first_of_ids cs ++ first_of_ids ds
 first_of_ids-append [] ds h = refl
@@ -52,12 +52,12 @@ pub first_of_ids-differ : (cs : List CompletionCandidate) → Differ (first_of_i
 first_of_ids-differ [] = tt
 first_of_ids-differ (c ∷ cs) = (none_left c (first_of_ids cs), differ_filter (λ d. not (share c.id d.id)) (first_of_ids cs) (first_of_ids-differ cs))
 
--- a list without repeated ids stays
+-- a list without repeated ids stays the same
 pub first_of_ids-stays : (cs : List CompletionCandidate) → Differ cs → first_of_ids cs ≡ cs
 first_of_ids-stays [] h = refl
 first_of_ids-stays (c ∷ cs) h = ap (λ r. c ∷ filter (λ d. not (share c.id d.id)) r) (first_of_ids-stays cs h.1) ∙ ap (λ r. c ∷ r) (kept_all c cs h.0)
 
--- an id is shared both ways
+-- sharing an id is symmetric
 share_back : (a b : Option (List ℕ)) → share a b ≡ false → share b a ≡ false
 share_back None None h = refl
 share_back (Some x) (Some y) h = elim (cases_Bool (bytes_eq y x)) [

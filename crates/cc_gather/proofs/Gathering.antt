@@ -1,4 +1,4 @@
--- What is made of the list that was returned, by what the argument has.
+-- The candidates that result from the returned list, by the properties of the argument.
 use Rattle.std.proofs.Common.{◌≡◌, ◌∙◌, ap, sym, refl, subst, ℕ, List, [], map, Bool, true, false, Option, Some, None}
 use Rattle.std.specs.Prelude.{filter}
 use Rattle.cc_base.specs.Sorting.{in_order}

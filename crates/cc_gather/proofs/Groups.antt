@@ -1,4 +1,4 @@
--- What sorting candidates with their ranks gives.
+-- The result of sorting candidates with their ranks.
 use Rattle.std.proofs.Common.{◌≡◌, ◌⊎◌, inl, inr, ℕ, List, [], ◌∷◌, map, refl, ◌∙◌, ap, sym}
 use Rattle.std.specs.Cmp.{IsStrictWeakOrder, on_total, then_total, nat_cmp_total}
 use Rattle.std.specs.Cmp.Lexicographic.{options_total}
@@ -32,7 +32,7 @@ ranks_end ranks cs (inl e) = ap (λ ps. with_ranks ps cs) e
 ranks_end [] cs (inr e) = refl
 ranks_end (p ∷ ps) cs (inr e) = ap (with_ranks (p ∷ ps)) e
 
--- what a stable sort of the ranked candidates gives
+-- the result of a stable sort of the ranked candidates
 pub grouped_from : (cs slice : List CompletionCandidate) (ranks : List ℕ) (ps qs : List Ranked) → slice ≡ cs →
     ranks ≡ map (λ c. rank_of slice c.tag) slice → ps ≡ with_ranks ranks cs
     → IsSortedBy ranked_before qs → IsStableBy ranked_before ps qs → map (λ p. p.candidate) qs ≡ group cs

@@ -1,4 +1,4 @@
--- More on lists in order: where two tests give one order, and what a filter makes of an order.
+-- More lemmas on sorted lists: when two tests sort alike, and how a filter affects the order.
 use Rattle.std.proofs.Common.{◌≡◌, Bool, true, false, cond, List, [], ◌∷◌, ◌++◌, filter, inl, inr, refl, sym, ap, ◌∙◌}
 use Rattle.std.specs.Cmp.{IsStrictWeakOrder}
 use Rattle.std.specs.List.{AllByRecursion}
@@ -9,14 +9,14 @@ use Rattle.cc_base.specs.Sorting.{insert, in_order}
 use Rattle.cc_base.proofs.Sorted.{AllByRecursion-in_order, up-in_order, stable-in_order, one_order}
 
 module _ {X : Type 0} (lt : X → X → Bool) (o : IsStrictWeakOrder lt) where
-  -- what is after a list may be sorted by another test first, where it keeps the order of ties
+  -- the list after another one may be sorted by another test first, if that keeps the order of ties
   pub sorted_after : (xs ys zs : List X) → ((z : X) → filter (ties lt z) ys ≡ filter (ties lt z) zs) → in_order lt (xs ++ ys) ≡ in_order lt (xs ++ zs)
   sorted_after xs ys zs same =
       one_order lt o (in_order lt (xs ++ ys)) (in_order lt (xs ++ zs)) (up-in_order lt o (xs ++ ys)) (up-in_order lt o (xs ++ zs))
       (λ z. stable-in_order lt o z (xs ++ ys) ∙ filter-append (ties lt z) xs ys ∙ ap (λ r. filter (ties lt z) xs ++ r) (same z)
       ∙ sym (filter-append (ties lt z) xs zs) ∙ sym (stable-in_order lt o z (xs ++ zs)))
 
--- two tests that are alike on the members give one order
+-- two tests that agree on the members sort alike
 module _ {X : Type 0} (P : X → Type 0) (lt by : X → X → Bool) (alike : (x y : X) → P x → P y → lt x y ≡ by x y) where
   insert-alike : (x : X) (ys : List X) → P x → AllByRecursion P ys → insert lt x ys ≡ insert by x ys
   unfolding insert
@@ -31,7 +31,7 @@ module _ {X : Type 0} (P : X → Type 0) (lt by : X → X → Bool) (alike : (x 
   in_order-alike (x ∷ xs) h =
       insert-alike x (in_order lt xs) h.0 (AllByRecursion-in_order lt P xs h.1) ∙ ap (insert by x) (in_order-alike xs h.1)
 
--- a filter does not see the order, where no two that it keeps are ordered
+-- a filter ignores the order if no two elements that it keeps are ordered
 module _ {X : Type 0} (P : X → Type 0) (by : X → X → Bool) (p : X → Bool)
     (alone : (x y : X) → P x → P y → by y x ≡ true → p x ≡ true → p y ≡ true → ⊥) where
   filter-insert : (x : X) (ys : List X) → P x → AllByRecursion P ys → filter p (insert by x ys) ≡ filter p (x ∷ ys)

@@ -1,4 +1,4 @@
--- Ids and tags that come one after another.
+-- Ids and tags that are read one after another.
 use Rattle.std.proofs.Common.{◌≡◌, ◌⊎◌, ℕ, suc, ◌+◌, ◌<◌, List, [], ◌∷◌, ◌++◌, Bool, true, false, cond, not, ◌&&◌, ◌||◌, Option, Some, None, length, take, drop, get_or, map, refl, ap, sym, ◌∙◌, inl, inr, arith, append_assoc}
 use Rattle.std.specs.Prelude.{filter, option_map}
 use Rattle.std.specs.Option.{option_eq, option_or, unwrap_or}
@@ -22,11 +22,11 @@ by_test : (b x : Bool) → cond b true x ≡ (x || b)
 by_test true x = sym (or-true x)
 by_test false x = sym (or-false x)
 
--- those whose ids are not seen
+-- the candidates whose ids are not seen
 abbrev unseen : BTreeSet (List ℕ) → List CompletionCandidate → List CompletionCandidate
 unseen seen cs = filter (λ d. not (is_seen seen d.id)) cs
 
--- an id that is kept is seen from then on
+-- a recorded id is seen from then on
 pub seen_more : (before after : BTreeSet (List ℕ)) (id : List ℕ) →
     ((q : List ℕ) → contains (slice_cmp nat_cmp) after q ≡ cond (is_eq (slice_cmp nat_cmp id q)) true (contains (slice_cmp nat_cmp) before q)) →
     (other : Option (List ℕ)) → is_seen after other ≡ (is_seen before other || share (Some id) other)
@@ -40,7 +40,7 @@ same_tag None None = refl
 same_tag (Some x) (Some y) = texts_ties x y
 same_tag a b = refl
 
--- a rank that is kept is found from then on, where the tag had none
+-- a recorded rank is found from then on, if the tag had none
 kept_by : (b : Bool) (was : Option ℕ) (next : ℕ) → (b ≡ true → was ≡ None) → cond b (Some next) was ≡ option_or was (cond b (Some next) None)
 kept_by true was next h = let e = h refl in rw e refl
 kept_by false None next h = refl
@@ -58,7 +58,7 @@ and_not : (a b : Bool) → (not a && not b) ≡ not (a || b)
 and_not true b = refl
 and_not false b = refl
 
--- the ids seen, with one more, leave out what a filter for that id does after them
+-- the seen ids with one more drop what a filter for that id drops after them
 pub unseen_more : (before after : BTreeSet (List ℕ)) (c : CompletionCandidate) (cs : List CompletionCandidate) →
     ((other : Option (List ℕ)) → is_seen after other ≡ (is_seen before other || share c.id other)) →
     filter (λ d. not (is_seen before d.id)) (filter (λ d. not (share c.id d.id)) cs) ≡ filter (λ d. not (is_seen after d.id)) cs
@@ -138,7 +138,7 @@ marks_on before after marks more cs i c new within is count h add e push =
     ∙ ap (λ r. select marks (take i cs) ++ r) (sym (next_unseen before after c (drop (i + 1) cs) add new e) ∙ ap (λ xs. unseen before (first_of_ids xs)) (sym (one_more cs i c c within is)))
     ∙ h
 
--- first ranks with one more candidate after
+-- first ranks with one more candidate at the end
 pub first_rank-push : (cs : List CompletionCandidate) (c : CompletionCandidate) (tag : Option (List ℕ)) →
     first_rank (cs ++ c ∷ []) tag ≡ option_or (first_rank cs tag) (cond (option_eq bytes_eq c.tag tag) (Some (length cs)) None)
 first_rank-push [] c tag = refl
@@ -159,7 +159,7 @@ rank_added before after tag next none updates other =
     updates other ∙ ap (λ b. cond b (Some next) (get texts_cmp before other)) (sym (same_tag tag other))
     ∙ kept_by (option_eq bytes_eq tag other) (get texts_cmp before other) next (λ t. ap (get texts_cmp before) (sym (same_tags tag other t)) ∙ none)
 
--- the rank that the whole list gives to a tag, from what is before its member
+-- the rank of a tag in the whole list, from the candidates before
 rank_is : (cs ds : List CompletionCandidate) (c : CompletionCandidate) →
     unwrap_or (first_rank cs c.tag) (length cs) ≡ rank_of (cs ++ c ∷ ds) c.tag
 rank_is [] ds c = let e = tag_itself c.tag in rw e refl

@@ -1,4 +1,4 @@
--- Where a search from the end finds a text.
+-- The position at which a search from the end finds a text.
 use Rattle.std.proofs.Common.{◌≡◌, ap, refl, ℕ, zero, suc, ◌+◌, ◌<◌, ◌≤◌, List, [], ◌∷◌, ◌++◌, length, drop, Bool, true, false, nat_eq, if◌then◌else◌, Some, None, arith, length-append}
 use Rattle.std.specs.Option.{option_map, option_or}
 use Rattle.std.specs.List.{starts_with}
@@ -7,7 +7,7 @@ use Rattle.std.proofs.lemmas.Slice.Eq.{starts_is}
 use Rattle.std.specs.Str.Pattern.{LacksTextAt, RFindsText}
 use Rattle.cc_gather.specs.Parts.{last_position, through}
 
--- a text begins with another exactly where it is the other followed by a rest
+-- a text that begins with another is the other followed by a rest
 pub begins_so : (text sought : List ℕ) → starts_with nat_eq text sought ≡ true → (rest : List ℕ) × (text ≡ sought ++ rest)
 begins_so text sought is = (drop (length sought) text, (starts_is Decides-eqb text sought (starts_with nat_eq text sought) refl).0 is)
 

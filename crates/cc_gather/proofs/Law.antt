@@ -1,4 +1,4 @@
--- Finishing what is finished already.
+-- A second `finish` of a final list changes nothing.
 use Rattle.std.proofs.Common.{◌≡◌, ◌<◌, ◌≤◌, ◌⊎◌, List, [], ◌∷◌, ◌++◌, Bool, true, false, not, ◌||◌, cond, filter, refl, inl, inr, ap, ◌∙◌, sym, subst, arith}
 use Rattle.std.specs.List.{AllByRecursion, list_any}
 use Rattle.std.specs.List.Sorted.{ties}
@@ -35,7 +35,7 @@ has_back a v t h = list_any-append (has_tag t) a v ∙ or_right (list_any (has_t
 has_front : (a v : Candidates) (t : Tag) → Has a t → Has (a ++ v) t
 has_front a v t h = list_any-append (has_tag t) a v ∙ or_left (list_any (has_tag t) a) (list_any (has_tag t) v) h
 
--- a test that passes in a list passes in the list in order
+-- a test that fails for each element passes for none
 none_any : {X : Type 0} (p : X → Bool) (xs : List X) → AllByRecursion (λ x. p x ≡ false) xs → list_any p xs ≡ false
 none_any p xs h = list_any_none p xs (All-from_recursion (λ x. p x ≡ false) xs h)
 
@@ -85,11 +85,11 @@ module _ (a v : Candidates) where
     ]
   ]
 
-  -- a tag that a lacks is in what follows
+  -- a tag that `a` lacks is in the list after it
   later_has : (t : Tag) → list_any (has_tag t) a ≡ false → Has whole t → Has v t
   later_has t lacks h = let e : (list_any (has_tag t) a || list_any (has_tag t) v) ≡ true = sym (list_any-append (has_tag t) a v) ∙ h in rw lacks at e
 
-  -- ranks rise after a as they do by themselves
+  -- ranks after `a` rise as they do in the list alone
   agree : (s t : Tag) → Has whole s → Has whole t → rank_of whole s < rank_of whole t → rank_of twice s < rank_of twice t
   agree s t hs ht less = elim (cases_Bool (list_any (has_tag s) a)) [
     | inl sa ↦ elim (cases_Bool (list_any (has_tag t) a)) [
@@ -106,7 +106,7 @@ module _ (a v : Candidates) where
     ]
   ]
 
-  -- so ranks compare alike
+  -- so ranks compare the same
   compare : (s t : Tag) → Has whole s → Has whole t → nat_cmp (rank_of twice s) (rank_of twice t) ≡ nat_cmp (rank_of whole s) (rank_of whole t)
   compare s t hs ht = elim (cases_order (rank_of whole s) (rank_of whole t)) [
     | inl e ↦ let same : s ≡ t = rank_tag whole s t hs e in
@@ -124,7 +124,7 @@ module _ (a v : Candidates) where
   members = AllByRecursion-append (λ c. Has whole c.tag) a sorted (all_have whole a (λ t h. has_front a v t h))
       (AllByRecursion-in_order (comes_before v) (λ c. Has whole c.tag) v (all_have whole v (λ t h. has_back a v t h)))
 
-  -- two members of which one order puts one first are not tied in the other
+  -- two candidates that one order ranks are not tied in the other
   decided : (x y : CompletionCandidate) → Has v x.tag → Has v y.tag → comes_before v y x ≡ true → (comes_before whole y x ≡ true) ⊎ (comes_before whole x y ≡ true)
   decided x y hx hy e = elim (cases_order (rank_of whole y.tag) (rank_of whole x.tag)) [
     | inl is ↦
@@ -170,7 +170,7 @@ dropped : {X : Type 0} (p : X → Bool) (xs : List X) → AllByRecursion (λ x. 
 dropped p [] h = refl
 dropped p (x ∷ xs) h = let e = h.0 in rw e (dropped p xs h.1)
 
--- of a list in which all are visible and one is there, the first of ids has a visible one
+-- if all candidates of a list are visible and there is one, a visible one keeps its id
 first_shown : (cs : Candidates) → AreShown cs → list_any is_shown cs ≡ true → list_any is_shown (first_of_ids cs) ≡ true
 first_shown [] all e = cc
 first_shown (c ∷ cs) all e = or_left (is_shown c) (list_any is_shown (filter (λ d. not (share c.id d.id)) (first_of_ids cs))) all.0
@@ -184,7 +184,7 @@ any_filter (c ∷ cs) e = by (is_shown c) refl e (any_filter cs)
     by true t e more = or_left (is_shown c) (list_any is_shown (filter is_shown cs)) t
     by false f e more = more e
 
--- what is finished of a list with a visible one
+-- the final list of a list with a visible candidate
 pub all-shown : (P : CompletionCandidate → Type 0) (cs : Candidates) → AllByRecursion P cs → AllByRecursion P (shown_or_all cs)
 all-shown P cs h = elim (cases_Bool (list_any is_shown cs)) [
   | inl t ↦ subst (AllByRecursion P) (sym (shown_true cs t)) (AllByRecursion-filter P is_shown cs h)
@@ -196,7 +196,7 @@ unfolding finish group
 all-finish P cs h =
     AllByRecursion-in_order (comes_before (first_of_ids (shown_or_all cs))) P (first_of_ids (shown_or_all cs)) (all-first_of_ids P (shown_or_all cs) h)
 
--- where a visible candidate was gathered, no hidden one is left
+-- if a visible candidate was gathered, no hidden one is left
 pub order : (cs : Candidates) → AreGrouped (first_of_ids (shown_or_all cs)) (finish cs)
 unfolding finish group
 order cs =
@@ -209,14 +209,14 @@ order cs =
 pub visible : (cs : Candidates) → list_any is_shown cs ≡ true → AreShown (finish cs)
 visible cs e = all-finish (λ c. is_shown c ≡ true) cs (subst AreShown (sym (shown_true cs e)) (passing is_shown cs))
 
--- a list with a visible one has one when it is finished
+-- a list with a visible candidate has one after `finish`
 pub some_visible : (b : Candidates) → list_any is_shown b ≡ true → list_any is_shown (finish b) ≡ true
 unfolding finish group
 some_visible b e = any-in_order is_shown (comes_before (first_of_ids (shown_or_all b))) (first_of_ids (shown_or_all b))
     (first_shown (shown_or_all b) (subst AreShown (sym (shown_true b e)) (passing is_shown b))
     (ap (list_any is_shown) (shown_true b e) ∙ any_filter b e))
 
--- no two of the candidates that are left share an id
+-- no two of the remaining candidates share an id
 pub differ : (cs : Candidates) → Differ (finish cs)
 unfolding finish group
 differ cs = differ-in_order (comes_before (first_of_ids (shown_or_all cs))) (first_of_ids (shown_or_all cs)) (first_of_ids-differ (shown_or_all cs))
@@ -245,7 +245,7 @@ module _ (a b : Candidates) (apart : ShareNone a b) where
   unfolding finish
   from f twice once = ap group twice ∙ grouped_twice f (first_of_ids (shown_or_all b)) ∙ ap group (sym once)
 
-  -- b has a visible one
+  -- `b` has a visible candidate
   after_visible : list_any is_shown b ≡ true → finish (a ++ finish b) ≡ finish (a ++ b)
   after_visible e =
       from (first_of_ids (filter is_shown a))
@@ -270,7 +270,7 @@ module _ (a b : Candidates) (apart : ShareNone a b) where
       (ap first_of_ids (shown_false (a ++ b) (any_both a b false false f e)) ∙ first_of_ids-append a b apart
       ∙ ap (λ s. first_of_ids a ++ first_of_ids s) (sym (shown_false b e)))
 
-  -- a alone has visible ones
+  -- only `a` has visible candidates
   front_visible : list_any is_shown a ≡ true → list_any is_shown b ≡ false → finish (a ++ finish b) ≡ finish (a ++ b)
   unfolding finish
   front_visible t e =

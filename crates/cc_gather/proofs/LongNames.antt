@@ -1,4 +1,4 @@
--- The longs that go on with a text.
+-- The longs that begin with a text.
 use Rattle.std.proofs.Common.{◌≡◌, ℕ, List, [], ◌∷◌, ◌++◌, Bool, true, filter, map, refl, ap, sym, ◌∙◌}
 use Rattle.std.specs.Prelude.{codes}
 use Rattle.std.specs.List.{flat_map}
@@ -32,7 +32,7 @@ each p f same [] = refl
 each p f same (x ∷ xs) =
     filter-append p (f x) (flat_map f xs) ∙ ap (λ r. r ++ filter p (flat_map f xs)) (same x) ∙ ap (λ r. f x ++ r) (each p f same xs)
 
--- every long begins with two dashes
+-- every long begins with two hyphens
 pub longs_begin : (arguments : List Arg) → filter (begins (codes "--")) (longs arguments) ≡ longs arguments
 unfolding longs
 longs_begin arguments =

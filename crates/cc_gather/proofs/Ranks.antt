@@ -1,4 +1,4 @@
--- The ranks of tags in lists side by side, and in a list in order.
+-- The ranks of tags in joined lists, and in a sorted list.
 use Rattle.std.proofs.Common.{◌≡◌, ◌<◌, ◌≤◌, ◌+◌, ℕ, suc, List, [], ◌∷◌, ◌++◌, length, true, false, Option, Some, None, refl, inl, inr, ap, ◌∙◌, sym, arith, zero-add}
 use Rattle.std.specs.List.{list_any}
 use Rattle.std.specs.Option.{option_eq, option_cmp}
@@ -28,7 +28,7 @@ pub tag_itself : (tag : Tag) → option_eq bytes_eq tag tag ≡ true
 tag_itself None = refl
 tag_itself (Some t) = texts_ties t t ∙ ap is_eq (tied_itself nat_list_cmp_total t)
 
--- some member has the tag
+-- some candidate has the tag
 abbrev pub Has : List CompletionCandidate → Tag → Type 0
 Has v tag = list_any (has_tag tag) v ≡ true
 
@@ -53,7 +53,7 @@ rank_below (x ∷ xs) tag h = elim (cases_Bool (has_tag tag x)) [
   | inr f ↦ rw f (let rest : rank_of xs tag < length xs = rank_below xs tag (rw f at h) in omega (arith, rest))
 ]
 
--- one rank, one tag
+-- equal ranks mean equal tags
 pub rank_tag : (xs : List CompletionCandidate) (s t : Tag) → Has xs s → rank_of xs s ≡ rank_of xs t → s ≡ t
 rank_tag [] s t h e = cc
 rank_tag (x ∷ xs) s t h e = elim (cases_Bool (has_tag s x)) [
@@ -67,7 +67,7 @@ rank_tag (x ∷ xs) s t h e = elim (cases_Bool (has_tag s x)) [
   ]
 ]
 
--- one that is not above has a rank that is no less
+-- a candidate that no other must precede has a rank that is not greater
 le_of : (v : List CompletionCandidate) (x y : CompletionCandidate) → comes_before v y x ≡ false → rank_of v x.tag ≤ rank_of v y.tag
 le_of v x y e = by (nat_cmp (rank_of v y.tag) (rank_of v x.tag)) refl
   where
@@ -90,7 +90,7 @@ not_before v x (y ∷ ys) tag all h = elim (cases_Bool (has_tag tag y)) [
     ap_le : {s : Tag} → s ≡ tag → rank_of v x.tag ≤ rank_of v s → rank_of v x.tag ≤ rank_of v tag
     ap_le is le = rw is at le
 
--- in a list in order first ranks are as in the list itself
+-- first ranks in a sorted list are ordered as in the list itself
 pub ranks_rise : (v r : List CompletionCandidate) (s t : Tag) → Up (comes_before v) r → Has r s → Has r t →
     rank_of r s < rank_of r t → rank_of v s ≤ rank_of v t
 ranks_rise v [] s t up hs ht below = cc
@@ -109,7 +109,7 @@ ranks_rise v (x ∷ xs) s t up hs ht below = elim (cases_Bool (has_tag s x)) [
     ap_le : {q : Tag} → q ≡ s → rank_of v q ≤ rank_of v t → rank_of v s ≤ rank_of v t
     ap_le is le = rw is at le
 
--- the order of a list's candidates is one
+-- the order of a list's candidates is a strict weak order
 pub below : (v : List CompletionCandidate) → IsStrictWeakOrder (comes_before v)
 below v = ranks_by (then_total (on_total (λ (c : CompletionCandidate). rank_of v c.tag) nat_cmp_total)
     (on_total (λ (c : CompletionCandidate). c.display_order) (options_total nat_cmp_total))) (λ c. c)

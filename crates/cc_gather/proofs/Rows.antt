@@ -1,4 +1,4 @@
--- Worked values.
+-- Computed examples.
 use Rattle.std.specs.Prelude.{◌≡◌, [], ◌∷◌, true, false, Some, None, refl, codes}
 use Rattle.std.specs.Char.{encode_utf8}
 use Rattle.cc_base.specs.Bytes.{comma}

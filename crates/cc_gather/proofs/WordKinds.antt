@@ -1,4 +1,4 @@
--- What a word wants of the options, from what the code's calls find.
+-- The match of a word with the options, from the results of the calls in the code.
 use Rattle.std.proofs.Common.{◌≡◌, ◌<◌, ◌-◌, ◌==◌, ◌++◌, ℕ, suc, List, [], ◌∷◌, length, take, get_or, true, false, eqb, Some, None, refl, ap, sym, subst, ◌∙◌, arith}
 use Rattle.std.specs.Prelude.{codes, filter, find, IsUtf8, if◌then◌else◌}
 use Rattle.std.specs.Str.{IsCharBoundary}

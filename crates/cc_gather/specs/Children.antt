@@ -1,4 +1,4 @@
--- The candidates that are children of a command.
+-- The subcommands of a command as candidates.
 use Rattle.std.specs.Prelude.{ℕ, List, [], ◌++◌, map, filter, Bool, true, Some, unwrap_or, codes, if◌then◌else◌}
 use Rattle.std.specs.List.{dedup}
 use Rattle.std.specs.Ordering.{eq_by_cmp}
@@ -10,7 +10,7 @@ use Rattle.cc_command.specs.Names.{visible_names}
 use Rattle.cc_candidates.specs.declared.candidate.CompletionCandidate.{CompletionCandidate}
 use Rattle.cc_candidates.specs.Candidate.{candidate_cmp, comes_before}
 
--- a name of a child; its id has the child's own name
+-- the candidate for a name of a child; its id contains the child's own name
 abbrev pub child_candidate : Node → Node → Bool → List ℕ → CompletionCandidate
 child_candidate parent node hidden name = record {
   value = name;
@@ -21,28 +21,28 @@ child_candidate parent node hidden name = record {
   hidden = hidden;
 }
 
--- a child's visible names, then its hidden aliases, hidden
+-- a child's visible names, then its hidden aliases as hidden candidates
 abbrev pub child_candidates : Node → Node → List CompletionCandidate
 child_candidates parent node =
     map (child_candidate parent node node.hide) (visible_names node)
     ++ map (child_candidate parent node true) node.aliases
 
--- those of all siblings
+-- the candidates of all siblings
 abbrev pub children_candidates : Node → Forest → List CompletionCandidate
 children_candidates parent none = []
 children_candidates parent (more node below rest) =
     child_candidates parent node ++ children_candidates parent rest
 
--- the list of other programs, where the node takes their names
+-- the list of other programs, if the node accepts external subcommands
 abbrev pub external : Node → List CompletionCandidate → List CompletionCandidate
 external node programs = if node.allow_external_subcommands then programs else []
 
--- in the order of candidates, equal ones once
+-- sorted, with equal candidates once
 unfoldable pub in_candidates_order : List CompletionCandidate → List CompletionCandidate
 in_candidates_order cs =
     dedup (eq_by_cmp candidate_cmp) (in_order comes_before cs)
 
--- the children's names and the other programs, those that begin with the word, in order
+-- the children's names and the other programs that begin with the word, sorted
 unfoldable pub subcommand_candidates : Tree → List CompletionCandidate → List ℕ
     → List CompletionCandidate
 subcommand_candidates tree programs word =

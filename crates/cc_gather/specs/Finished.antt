@@ -1,4 +1,4 @@
--- What is returned of the candidates that were gathered.
+-- The final list of the gathered candidates.
 use Rattle.std.specs.Prelude.{◌≡◌, ℕ, suc, List, [], ◌∷◌, Bool, true, false, not, Option, Some, None, filter, bytes_eq, if◌then◌else◌}
 use Rattle.std.specs.List.{list_any, AllByRecursion}
 use Rattle.std.specs.List.Sorted.{IsSortedBy, IsStableBy}
@@ -11,49 +11,49 @@ use Rattle.cc_candidates.specs.declared.candidate.CompletionCandidate.{Completio
 abbrev pub is_shown : CompletionCandidate → Bool
 is_shown c = not c.hidden
 
--- the visible ones, or all where none is
+-- the visible candidates, or all if none is visible
 unfoldable pub shown_or_all : List CompletionCandidate → List CompletionCandidate
 shown_or_all cs = if list_any is_shown cs then filter is_shown cs else cs
 
--- both are there and the same
+-- both exist and are equal
 abbrev pub share : Option (List ℕ) → Option (List ℕ) → Bool
 share (Some one) (Some other) = bytes_eq one other
 share (Some one) None = false
 share None other = false
 
--- those whose id no earlier one has
+-- the candidates whose id no earlier one has
 abbrev pub first_of_ids : List CompletionCandidate → List CompletionCandidate
 first_of_ids [] = []
 first_of_ids (c ∷ cs) = c ∷ filter (λ d. not (share c.id d.id)) (first_of_ids cs)
 
--- the candidate has the tag; to have none is a tag of its own
+-- the candidate has the tag; a missing tag counts as a tag of its own
 abbrev pub has_tag : Option (List ℕ) → CompletionCandidate → Bool
 has_tag tag c = option_eq bytes_eq c.tag tag
 
--- how many are before the first with the tag: the rank of the tag's first member
+-- the rank of a tag: the number of candidates before the first with the tag
 abbrev pub rank_of : List CompletionCandidate → Option (List ℕ) → ℕ
 rank_of [] tag = 0
 rank_of (c ∷ cs) tag = if has_tag tag c then 0 else suc (rank_of cs tag)
 
--- one comes before another: by the rank of its tag's first member, then by the display order,
--- none before some
+-- One comes before another: by the rank of the first candidate with its tag, then by display order,
+-- where a missing display order comes first.
 abbrev pub comes_before : List CompletionCandidate → CompletionCandidate → CompletionCandidate
     → Bool
 comes_before cs one other =
     is_lt (ordering_then (nat_cmp (rank_of cs one.tag) (rank_of cs other.tag))
     (option_cmp nat_cmp one.display_order other.display_order))
 
--- grouped by tags, and within one by display order; ties keep their order
+-- grouped by tag, and by display order in each group; ties keep their order
 unfoldable pub group : List CompletionCandidate → List CompletionCandidate
 group cs = in_order (comes_before cs) cs
 
--- a list is the other one grouped: no candidate comes before an earlier one, and of those that tie
--- with a candidate both lists have the same, in the same order
+-- One list is the other, grouped. No candidate comes before an earlier one, and for each candidate
+-- both lists have the same ties with it, in the same order.
 pub record AreGrouped (cs grouped : List CompletionCandidate) : Type 0 where
   pub sorted : IsSortedBy (comes_before cs) grouped
   pub stable : IsStableBy (comes_before cs) cs grouped
 
--- the visible ones if any is, of each id the first, grouped
+-- the visible candidates if there are any, the first of each id, grouped
 unfoldable pub finish : List CompletionCandidate → List CompletionCandidate
 finish cs = group (first_of_ids (shown_or_all cs))
 

@@ -1,13 +1,13 @@
--- Which texts are numbers.
+-- Texts that are numbers.
 use Rattle.std.specs.Prelude.{ℕ, List, [], ◌∷◌, Option, Some, None, ◌==◌, ◌&&◌, ◌||◌, nat_le, Bool, false, not}
 use Rattle.std.specs.Char.{is_ascii_digit}
 use Rattle.std.specs.List.{after_first, count_by, last_or, list_all, list_any}
 
--- `.`
+-- the byte `.`
 abbrev point : ℕ
 point = 46
 
--- `e`
+-- the byte `e`
 abbrev pub letter_e : ℕ
 letter_e = 101
 
@@ -17,22 +17,22 @@ is_point b = b == point
 abbrev pub is_e : ℕ → Bool
 is_e b = b == letter_e
 
--- what numbers are written with
+-- a byte that may occur in a number
 abbrev pub is_of_numbers : ℕ → Bool
 is_of_numbers b = is_ascii_digit b || is_point b || is_e b
 
--- whether the first byte is a digit
+-- the first byte is a digit
 abbrev pub begins_with_digit : List ℕ → Bool
 begins_with_digit [] = false
 begins_with_digit (b ∷ _) = is_ascii_digit b
 
--- whether there is a byte, and it is `e`
+-- there is a byte, and it is `e`
 abbrev pub is_some_e : Option ℕ → Bool
 is_some_e None = false
 is_some_e (Some b) = is_e b
 
--- digits, at most one `.`, at most one `e`, neither first, no `.` after the `e`, and the `e` not
--- last
+-- A number: digits, at most one `.` and at most one `e`. It begins with a digit, has no `.` after
+-- the `e`, and does not end in `e`.
 unfoldable pub is_number : List ℕ → Bool
 is_number bytes =
     begins_with_digit bytes

@@ -1,4 +1,4 @@
--- The candidates that are options.
+-- Options as candidates.
 use Rattle.std.specs.Prelude.{ℕ, List, ◌++◌, map, filter, Bool, true, Option, Some, unwrap_or, codes, encode_utf8}
 use Rattle.std.specs.List.{flat_map}
 use Rattle.std.specs.Option.{option_map, option_or}
@@ -30,7 +30,7 @@ long_candidates argument = map (long_candidate argument argument.hide) (shown_lo
 abbrev pub hidden_candidates : Arg → List CompletionCandidate
 hidden_candidates argument = map (long_candidate argument true) argument.aliases
 
--- the help; without one the long
+-- the help text, or else the long
 abbrev pub short_help : Arg → Option (List ℕ)
 short_help argument =
     option_or argument.help (option_map (λ long. codes "--" ++ long) argument.long)
@@ -39,22 +39,22 @@ abbrev pub short_candidate : List ℕ → Arg → ℕ → CompletionCandidate
 short_candidate before argument short =
     option_candidate argument (short_help argument) argument.hide (before ++ encode_utf8 short)
 
--- the short, then its visible aliases, with a text before each
+-- the short, then its visible aliases, after a text
 abbrev pub short_candidates : List ℕ → Arg → List CompletionCandidate
 short_candidates before argument = map (short_candidate before argument) (shown_shorts argument)
 
--- all longs and their visible aliases, then all hidden ones
+-- all longs and their visible aliases, then all hidden aliases
 unfoldable pub longs : List Arg → List CompletionCandidate
 longs arguments = flat_map long_candidates arguments ++ flat_map hidden_candidates arguments
 
--- all shorts and their visible aliases, with a text before each
+-- all shorts and their visible aliases, after a text
 unfoldable pub shorts : List ℕ → List Arg → List CompletionCandidate
 shorts before arguments = flat_map (short_candidates before) arguments
 
--- of an argument's own longs and visible aliases, those that go on so after the two dashes
+-- an argument's own long and visible aliases that begin with `--` and this text
 abbrev pub longs_beginning : List ℕ → Arg → List CompletionCandidate
 longs_beginning long argument = filter (begins (codes "--" ++ long)) (long_candidates argument)
 
--- of its hidden ones
+-- its hidden aliases that begin so
 abbrev pub hidden_beginning : List ℕ → Arg → List CompletionCandidate
 hidden_beginning long argument = filter (begins (codes "--" ++ long)) (hidden_candidates argument)

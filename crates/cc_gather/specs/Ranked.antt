@@ -13,7 +13,7 @@ with_ranks (rank ∷ ranks) [] = []
 with_ranks (rank ∷ ranks) (c ∷ cs) =
     (record { rank = rank; candidate = c }) ∷ with_ranks ranks cs
 
--- by the rank, then by the display order
+-- by rank, then by display order
 abbrev pub ranked_cmp : Ranked → Ranked → Ordering
 ranked_cmp one other =
     ordering_then (nat_cmp one.rank other.rank)

@@ -1,5 +1,5 @@
--- The values of an argument for a word: where they come from, what may be returned there, and what
--- is made of it.
+-- The values of an argument for a word: their source, the lists that it may return, and the
+-- candidates that result.
 use Rattle.std.specs.Prelude.{◌≡◌, ℕ, List, [], ◌++◌, map, filter, Bool, true, false, Option, Some, None, unwrap_or}
 use Rattle.cc_base.specs.Sorting.{in_order}
 use Rattle.cc_arg.specs.declared.parts.ArgParts.{ArgParts as Arg}
@@ -15,21 +15,21 @@ use Rattle.cc_base.specs.declared.numbers.ArgValueCandidates.{ArgValueCandidates
 use Rattle.cc_base.specs.declared.numbers.ArgValueCompleter.{ArgValueCompleter}
 use Rattle.cc_gather.specs.Parts.{front, part}
 
--- where a list of candidates comes from: nowhere, or from the completer of a number for the number
--- of the value and a text, from the list of a number, or from the paths of a kind for a text
+-- The source of a list of candidates. It is nothing; a completer, for the number of the value and a
+-- text; a list; or the paths of a kind, for a text. Completers and lists are given by number.
 pub data Question : Type 0 where
   nothing : Question
   completer : ℕ → ℕ → List ℕ → Question
   candidates : ℕ → Question
   paths : ValueHint → List ℕ → Question
 
--- what each may return
+-- the lists that each source may return
 pub record MayReturn : Type 1 where
   pub completes : ℕ → ℕ → List ℕ → List CompletionCandidate → Type 0
   pub lists : ℕ → List CompletionCandidate → Type 0
   pub finds : ValueHint → List ℕ → List CompletionCandidate → Type 0
 
--- what completers and lists, and a source of paths, may return
+-- the lists that completers, lists and a source of paths may return
 abbrev pub returned_by : {C : Type 0}
     → (C → ℕ → ℕ → List ℕ → List CompletionCandidate → Type 0)
     → (C → ℕ → List CompletionCandidate → Type 0) → C
@@ -40,14 +40,14 @@ returned_by may_complete may_list completers Finds = record {
   finds = Finds;
 }
 
--- a list that may be returned for a question; for none, no candidates
+-- a list that the source may return; nothing returns no candidates
 abbrev pub Allows : MayReturn → Question → List CompletionCandidate → Type 0
 Allows sources nothing list = list ≡ []
 Allows sources (completer which number text) list = sources.completes which number text list
 Allows sources (candidates which) list = sources.lists which list
 Allows sources (paths hint text) list = sources.finds hint text list
 
--- the values are paths of a kind
+-- the values are paths
 abbrev pub is_path : ValueHint → Bool
 is_path AnyPath = true
 is_path FilePath = true
@@ -55,13 +55,13 @@ is_path DirPath = true
 is_path ExecutablePath = true
 is_path _ = false
 
--- where the values of a hint come from
+-- the source for a hint
 abbrev pub question_of_hint : Bool → ValueHint → List ℕ → Question
 question_of_hint true hint text = paths hint text
 question_of_hint false hint text = nothing
 
--- where the values of an argument come from: its completer, else its list; nowhere else where it
--- has possible values, else as its hint says
+-- The source for an argument: its completer, or else its list. Otherwise, possible values need no
+-- source, and without them the hint decides.
 abbrev pub question_by : Option ArgValueCompleter → Option ArgValueCandidates
     → Option (List PossibleValue) → ValueHint → ℕ → List ℕ → Question
 question_by (Some which) list values hint number text = completer which.number number text
@@ -77,12 +77,12 @@ question arg number text =
 abbrev pub value_candidate : PossibleValue → CompletionCandidate
 value_candidate value = record (new_candidate value.name) { help = value.help; hidden = value.hide }
 
--- in the candidates' order
+-- in the order of candidates
 unfoldable pub sorted : List CompletionCandidate → List CompletionCandidate
 sorted = in_order comes_before
 
--- what is made of what was returned: a completer's stays, of a list and of the possible values
--- those stay that begin with the text, and paths are sorted as one list
+-- The candidates that result from a returned list. A completer's list stays as it is, a list and
+-- the possible values are filtered by the text, and paths are sorted as one list.
 abbrev pub gathered_by : Option ArgValueCompleter → Option ArgValueCandidates
     → Option (List PossibleValue) → List ℕ → List CompletionCandidate → List CompletionCandidate
 gathered_by (Some which) list values text returned = returned
@@ -95,13 +95,14 @@ unfoldable pub gather : Arg → List ℕ → List CompletionCandidate → List C
 gather arg text returned =
     gathered_by arg.completer arg.candidates (possible_values arg) text returned
 
--- what an argument offers for a text that holds no delimiter
+-- the candidates of an argument for a text without a delimiter
 abbrev pub Gathers : MayReturn → Arg → ℕ → List ℕ → List CompletionCandidate → Type 0
 Gathers sources arg number text result =
     (returned : List CompletionCandidate) × Allows sources (question arg number text) returned
     × (result ≡ gather arg text returned)
 
--- a candidate after the earlier values of its word; a missing tag is the printed form
+-- a candidate after the earlier values of its word; its default tag is the printed form of the
+-- argument
 abbrev pub as_value : List ℕ → List ℕ → CompletionCandidate → CompletionCandidate
 as_value before form candidate =
     record candidate {
@@ -110,12 +111,12 @@ as_value before form candidate =
           (unwrap_or candidate.tag form);
     }
 
--- the values of an argument for a word, where this list was returned for the question
+-- the values of an argument for a word, given the list that its source returned
 unfoldable pub values : Arg → List ℕ → List CompletionCandidate → List CompletionCandidate
 values arg word returned = map (as_value (front arg.value_delimiter word) (printed arg))
     (gather arg (part arg.value_delimiter word) returned)
 
--- the values of an argument for a word, as the value of this number
+-- the values of an argument for a word, as the value with this number
 abbrev pub ArgumentValues : MayReturn → Arg → List ℕ → ℕ → List CompletionCandidate → Type 0
 ArgumentValues sources arg word number result =
     (returned : List CompletionCandidate) × Allows sources

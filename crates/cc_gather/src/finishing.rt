@@ -1,4 +1,4 @@
-//! Finishing a list of candidates.
+//! Makes a list of candidates final.
 
 ghost use Rattle.std.specs.Prelude.{◌≡◌, ◌||◌, ◌++◌, not, ℕ, List, true, Option, Some, None, map, filter, IfOk, OnOk, if◌then◌else◌};
 ghost use Rattle.std.specs.BTreeMap.{get};
@@ -16,24 +16,31 @@ use std::alloc::{AllocError, Global};
 use std::cmp::Ordering;
 use std::collections::{BTreeMap, BTreeSet};
 
-/// The list as it is returned: hidden candidates are left out where one is visible; the first of
-/// each id stays; then by the rank of the tag's first member and the display order. To have no tag
-/// counts as a tag. Fails where memory runs out.
+/// Makes a list of candidates final:
+///
+/// - Hidden candidates are dropped if any candidate is visible.
+/// - Of several candidates with the same id, the first stays.
+/// - Candidates with the same tag are put together, where the first of them is, and sorted by
+///   display order. Candidates without a tag form a group of their own.
+///
+/// # Errors
+///
+/// `AllocError` if an allocation fails.
 pub fn finish(
     alloc: Global,
     candidates: Vec<CompletionCandidate>,
 ) -> Result<Vec<CompletionCandidate>, AllocError>
     ensures value { IfOk result (λ finished. finished.items ≡ finish candidates.items) }
 
-    // Where a visible candidate was gathered, no hidden one is returned.
+    // If a visible candidate was gathered, no hidden one is returned.
     ensures visible { IfOk result
         (λ finished. list_any is_shown candidates.items ≡ true → AreShown finished.items) }
 
-    // Two candidates that are returned never share an id.
+    // No two of the returned candidates share an id.
     ensures differ { IfOk result (λ finished. Differ finished.items) }
 
-    // They are sorted by the rank of the tag's first member and the display order; ties keep their
-    // order, and none is lost.
+    // They are sorted by the rank of the first candidate with the same tag, then by display order.
+    // Ties keep their order, and no candidate is lost.
     ensures order { IfOk result
         (λ finished. AreGrouped (first_of_ids (shown_or_all candidates.items)) finished.items) }
 {
@@ -51,8 +58,11 @@ fn group_first_of_ids(
     group(alloc, candidates)
 }
 
-/// The finished list of some candidates and, after them, the finished list of others. Fails where
-/// memory runs out.
+/// Makes `others` final, then the list of `candidates` followed by them.
+///
+/// # Errors
+///
+/// `AllocError` if an allocation fails.
 pub fn finish_after(
     alloc: Global,
     candidates: Vec<CompletionCandidate>,
@@ -61,7 +71,7 @@ pub fn finish_after(
     ensures value { IfOk result
         (λ finished. finished.items ≡ finish (candidates.items ++ finish others.items)) }
 
-    // Where the two share no id, that is one finishing of the whole.
+    // If the two lists share no id, this equals `finish` of the whole list.
     ensures once { IfOk result (λ finished. ShareNone candidates.items others.items →
         finished.items ≡ finish (candidates.items ++ others.items)) }
 {
@@ -71,7 +81,7 @@ pub fn finish_after(
     finish(alloc, all)
 }
 
-// The visible ones, or all where none is.
+// Returns the visible candidates, or all if none is visible.
 #[tactic(auto, unfolding(crate::specs::Finished::shown_or_all))]
 fn shown_or_all(candidates: Vec<CompletionCandidate>) -> Vec<CompletionCandidate>
     ensures { result.items ≡ shown_or_all candidates.items }
@@ -95,7 +105,7 @@ fn only_shown(mut candidates: Vec<CompletionCandidate>) -> Vec<CompletionCandida
     candidates
 }
 
-// Those whose id no earlier one has.
+// Drops each candidate whose id an earlier one has.
 #[tactic(auto, using(crate::proofs::Ascending::ascending_stay))]
 fn first_of_ids(
     alloc: Global,
@@ -110,8 +120,8 @@ fn first_of_ids(
     select(alloc, candidates, marks)
 }
 
-// Whether each id comes after the one before it, as those of children without aliases do. No two
-// are then the same, which takes one comparison for each candidate.
+// Returns whether each id is greater than the one before it, as the ids of children without aliases
+// are. Then no two ids are equal, which takes one comparison per candidate to find out.
 fn have_ascending_ids(candidates: &[CompletionCandidate]) -> bool
     ensures { result ≡ ascend_from None candidates.now }
 {
@@ -132,7 +142,7 @@ fn id_of<'a>(candidate: &'a CompletionCandidate) -> Option<TextRef<'a>>
     candidate.get_id().map(TextRef::new)
 }
 
-// Marks those whose id no earlier one has.
+// Marks each candidate whose id no earlier one has.
 fn new_ids(alloc: Global, candidates: &[CompletionCandidate]) -> Result<Vec<bool>, AllocError>
     ensures { IfOk result (λ marks. select marks.items candidates.now
         ≡ first_of_ids candidates.now) }
@@ -146,7 +156,7 @@ fn new_ids(alloc: Global, candidates: &[CompletionCandidate]) -> Result<Vec<bool
     Ok(marks)
 }
 
-// Keeps an id; whether it is a new one, or none.
+// Records an id. Returns whether it is new; a missing id always is.
 fn insert_id<'a>(
     seen: &mut BTreeSet<TextRef<'a>>,
     candidate: &'a CompletionCandidate,
@@ -161,7 +171,7 @@ fn insert_id<'a>(
     Ok(seen.insert(TextRef::new(id))?)
 }
 
-// The candidates with a mark.
+// Returns the candidates with a mark.
 fn select(
     alloc: Global,
     candidates: Vec<CompletionCandidate>,
@@ -186,7 +196,7 @@ struct Ranked {
     candidate: CompletionCandidate,
 }
 
-// By the rank, then by the display order.
+// Compares by rank, then by display order.
 fn compare(one: &Ranked, other: &Ranked) -> Ordering
     ensures { result ≡ ranked_cmp one.now other.now }
 {
@@ -197,7 +207,7 @@ fn compare(one: &Ranked, other: &Ranked) -> Ordering
     one.rank.cmp(&other.rank).then(orders)
 }
 
-// Grouped by tags, and within one by display order.
+// Groups candidates by tag, and sorts each group by display order.
 fn group(
     alloc: Global,
     candidates: Vec<CompletionCandidate>,
@@ -210,7 +220,7 @@ fn group(
     candidates_of(alloc, all)
 }
 
-// For each candidate the rank of its tag's first member.
+// Returns, for each candidate, the rank of the first candidate with its tag.
 fn ranks(alloc: Global, candidates: &[CompletionCandidate]) -> Result<Vec<usize>, AllocError>
     ensures { IfOk result (λ ranks. ranks.items ≡ map
         (λ c. rank_of candidates.now c.tag) candidates.now) }
@@ -224,7 +234,7 @@ fn ranks(alloc: Global, candidates: &[CompletionCandidate]) -> Result<Vec<usize>
     Ok(ranks)
 }
 
-// The rank of a tag; the next one, which is kept, where it has none.
+// Returns the rank of a tag. A tag without a rank gets `next`, which is recorded.
 fn rank_for<'a>(
     known: &mut BTreeMap<Option<TextRef<'a>>, usize>,
     candidate: &'a CompletionCandidate,
@@ -250,7 +260,7 @@ fn tag_of<'a>(candidate: &'a CompletionCandidate) -> Option<TextRef<'a>>
     candidate.get_tag().map(TextRef::new)
 }
 
-// Each candidate with its rank.
+// Pairs each candidate with its rank.
 fn with_ranks(
     alloc: Global,
     candidates: Vec<CompletionCandidate>,

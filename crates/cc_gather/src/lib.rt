@@ -1,5 +1,13 @@
-//! What completion gathers for a word: children, options, and the values of an argument; and how
-//! the list is finished.
+//! Gathers the candidates for a word: subcommands, options, and the values of an argument. `finish`
+//! then makes the list final.
+//!
+//! ```rattle
+//! let mut values = Vec::new(alloc);
+//! values.push(PossibleValue::new(String::from_str(alloc, "always")?))?;
+//! values.push(PossibleValue::new(String::from_str(alloc, "never")?))?;
+//! let found = finish(alloc, complete_possible_values(alloc, "al", values)?)?;
+//! assert!(rt; found[0].get_value() == "always");
+//! ```
 #![tactic(auto)]
 
 mod finishing;

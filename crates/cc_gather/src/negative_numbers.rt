@@ -1,12 +1,12 @@
-//! Which words are negative numbers.
+//! Recognizes negative numbers.
 
 ghost use Rattle.std.specs.Prelude.{◌≡◌, ◌==◌, None, nat_le};
 ghost use Rattle.std.specs.List.{after_first, count_by, last_or, list_all, list_any};
 ghost use Rattle.cc_gather.specs.Numbers.{begins_with_digit, is_e, is_number, is_of_numbers};
 ghost use Rattle.cc_gather.specs.Numbers.{is_point, is_some_e};
 
-/// Whether the text is a number: digits, at most one `.`, at most one `e`, neither first, no `.`
-/// after the `e`, and the `e` not last.
+/// Returns whether `text` is a number: digits, at most one `.` and at most one `e`. It begins with
+/// a digit, has no `.` after the `e`, and does not end in `e`.
 #[tactic(auto, unfolding(crate::specs::Numbers::is_number))]
 pub(crate) fn is_number(text: &str) -> bool
     ensures { result ≡ is_number text.now }
@@ -50,7 +50,7 @@ fn has_point(bytes: &[u8]) -> bool
     bytes.iter().any(|byte| *byte == b'.')
 }
 
-// What is after the first `e`; nothing where there is none.
+// Returns the text after the first `e`, or an empty text if there is none.
 fn after_e(text: &str) -> &str
     ensures { result.now ≡ after_first is_e text.now }
 {

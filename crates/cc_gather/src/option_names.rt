@@ -1,4 +1,4 @@
-//! The names of options, as candidates: longs, shorts and their aliases.
+//! The names of options as candidates: longs, shorts and their aliases.
 
 ghost use Rattle.std.specs.Prelude.{◌≡◌, ◌++◌, [], ◌∷◌, codes, filter, find, flat_map, map};
 ghost use Rattle.std.specs.Prelude.{IfOk, OnOk};
@@ -15,7 +15,7 @@ use cc_base::Text;
 use cc_candidates::{CompletionCandidate, begins_with, copy_of_some};
 use std::alloc::{AllocError, Global};
 
-// All longs and their visible aliases, then all hidden ones.
+// Returns the candidates for all longs and their visible aliases, then for all hidden aliases.
 #[tactic(auto, using(crate::proofs::LongNames::longs_begin))]
 pub(crate) fn longs(
     alloc: Global,
@@ -26,7 +26,7 @@ pub(crate) fn longs(
     longs_beginning(alloc, arguments, "")
 }
 
-// Those that start with `--` and this text.
+// Returns those candidates that begin with `--` and `long`.
 pub(crate) fn longs_beginning(
     alloc: Global,
     arguments: &[Arg],
@@ -71,7 +71,7 @@ fn push_hidden_longs(
     Ok(())
 }
 
-// Adds the long and its visible aliases that start with `--` and this text.
+// Adds the candidates for the long and its visible aliases that begin with `--` and `long`.
 fn push_own_longs(
     found: &mut Vec<CompletionCandidate>,
     alloc: Global,
@@ -96,7 +96,7 @@ fn push_own_longs(
     )
 }
 
-// Adds a candidate for each of the names that starts with this text.
+// Adds a candidate for each of the `names` that begins with `long`.
 #[tactic(auto, using(crate::proofs::Filters::filter_first))]
 fn push_names(
     found: &mut Vec<CompletionCandidate>,
@@ -116,7 +116,7 @@ fn push_names(
     Ok(())
 }
 
-// Adds the candidate for a name, if it starts with this text.
+// Adds the candidate for a name, if it begins with `long`.
 fn push_name(
     found: &mut Vec<CompletionCandidate>,
     alloc: Global,
@@ -150,7 +150,8 @@ fn long_candidate(
     option_candidate(alloc, argument, value, help, hidden)
 }
 
-// The shorts of all arguments and their visible aliases, with a text before each.
+// Returns the candidates for the shorts of all arguments and their visible aliases, after the text
+// `before`.
 #[tactic(auto, unfolding(crate::specs::Options::shorts))]
 pub(crate) fn shorts(
     alloc: Global,
@@ -231,7 +232,7 @@ fn short_candidate(
     option_candidate(alloc, argument, value, help, argument.is_hide_set())
 }
 
-// The help; without one the long.
+// Returns the help text, or else the long.
 fn short_help(alloc: Global, argument: &Arg) -> Result<Option<String>, AllocError>
     ensures { IfOk result (λ help. option_map string_bytes help ≡ short_help argument.now) }
 {
@@ -246,7 +247,7 @@ fn short_help(alloc: Global, argument: &Arg) -> Result<Option<String>, AllocErro
     Ok(Some(help))
 }
 
-// A candidate with this value and help; the other fields are the argument's.
+// Creates a candidate with this value and help text. Its other fields come from the argument.
 pub(crate) fn option_candidate(
     alloc: Global,
     argument: &Arg,
@@ -270,7 +271,7 @@ pub(crate) fn option_candidate(
     )
 }
 
-// The first argument with this long; aliases do not count.
+// Returns the first argument with this long, ignoring aliases.
 pub(crate) fn with_own_long<'a>(arguments: &'a [Arg], flag: &str) -> Option<&'a Arg>
     ensures { option_copied result ≡ find (has_own_long flag.now) arguments.now }
 {

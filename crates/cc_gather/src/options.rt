@@ -1,4 +1,4 @@
-//! What a word wants of the options.
+//! Matches a word against the options of a command.
 
 ghost use Rattle.std.specs.Prelude.{◌≡◌, ◌++◌, [], ◌==◌, map, codes, find, length, IfOk, if◌then◌else◌};
 ghost use Rattle.std.specs.String.{string_bytes};
@@ -15,27 +15,32 @@ use cc_candidates::CompletionCandidate;
 use cc_walk::{ArgRef, ValueCharacter, value_character};
 use std::alloc::{AllocError, Global};
 
-/// What a word wants of the options of a command.
+/// The result of matching a word against the options of a command.
 #[derive(Drop)]
 pub enum OptionMatch<'a> {
-    /// These candidates.
+    /// The candidates themselves.
     Listed(Items<CompletionCandidate>),
-    /// Values of an argument.
+    /// A request for the values of an argument.
     ValuesOf(ValueQuery<'a>),
 }
 
-/// Values that are wanted. A candidate for the word is a value with the text before it.
+/// A request for the values of an argument. A candidate for the word is a value after the text
+/// `before`.
 #[derive(Drop)]
 pub struct ValueQuery<'a> {
     /// The argument.
     pub argument: ArgRef<'a>,
-    /// What the word has before the value: a flag with its `=`, or a dash and shorts.
+    /// The part of the word before the value: a flag with its `=`, or a hyphen and shorts.
     pub before: Text,
     /// The text to complete.
     pub text: TextRef<'a>,
 }
 
-/// What a word wants of the options. Fails where memory runs out.
+/// Matches `word` against the options among the `arguments` of a command.
+///
+/// # Errors
+///
+/// `AllocError` if an allocation fails.
 pub fn match_options<'a>(
     alloc: Global,
     arguments: &'a [Arg],
@@ -58,7 +63,11 @@ pub fn match_options<'a>(
     long_options(alloc, arguments, long)
 }
 
-/// The candidates, with a text before the value of each. Fails where memory runs out.
+/// Puts the text `before` in front of the value of each candidate.
+///
+/// # Errors
+///
+/// `AllocError` if an allocation fails.
 pub fn all_with_prefix(
     alloc: Global,
     candidates: Vec<CompletionCandidate>,
@@ -112,7 +121,7 @@ fn shorts_then_longs(
     Ok(found)
 }
 
-// For a word `--x..`.
+// Matches a word that begins with `--`.
 fn long_options<'a>(
     alloc: Global,
     arguments: &'a [Arg],
@@ -156,7 +165,7 @@ fn flag_before(alloc: Global, flag: &str) -> Result<Text, AllocError>
     Ok(Text::from(before))
 }
 
-// For a word `-x..`.
+// Matches a word that begins with a single `-`.
 fn short_options<'a>(
     alloc: Global,
     arguments: &'a [Arg],
@@ -175,7 +184,7 @@ fn short_options<'a>(
     }
 }
 
-// The values that a value character of a word wants.
+// Requests the values of a character in the word whose argument takes values.
 fn character_values<'a>(
     alloc: Global,
     word: &str,
@@ -191,7 +200,7 @@ fn character_values<'a>(
     value_query_after(found.argument.get(), before, after)
 }
 
-// What is in a text before an end of it.
+// Returns the text without its ending `end`.
 fn without_end<'a>(text: &'a str, end: &str) -> &'a str
     requires { EndsWith text.now end.now }
     ensures { result.now ≡ without_end text.now end.now }
@@ -199,7 +208,7 @@ fn without_end<'a>(text: &'a str, end: &str) -> &'a str
     &text[..text.len() - end.len()]
 }
 
-// A `=` in front of a value belongs to what is before it.
+// Requests the values of the argument. A `=` in front of the value belongs to the text before it.
 fn value_query_after<'a>(
     argument: &'a Arg,
     mut before: String,

@@ -1,9 +1,9 @@
-//! A word of several values.
+//! Divides a word that contains several values.
 
 ghost use Rattle.std.specs.Prelude.{◌≡◌, ◌<◌, length, take, drop};
 ghost use Rattle.cc_gather.specs.Parts.{front, last_position, part, through};
 
-/// A word up to the end of its last delimiter, and what follows. Without a delimiter all follows.
+/// Divides `word` after its last delimiter. Without a delimiter, the first part is empty.
 #[tactic(auto, unfolding(crate::specs::Parts::front_length))]
 pub(crate) fn split_at_delimiter(word: &str, delimiter: Option<char>) -> (&str, &str)
     ensures front { result.0.now ≡ front delimiter word.now }
@@ -16,7 +16,7 @@ pub(crate) fn split_at_delimiter(word: &str, delimiter: Option<char>) -> (&str, 
     split_after_last(word, delimiter.encode_utf8(&mut buffer))
 }
 
-// A text up to the end of the last occurrence of another, and what follows.
+// Divides a text after the last occurrence of another.
 fn split_after_last<'a>(text: &'a str, sought: &str) -> (&'a str, &'a str)
     requires { 0 < length sought.now }
     ensures front { result.0.now

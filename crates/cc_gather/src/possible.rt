@@ -9,8 +9,12 @@ use cc_base::Error;
 use cc_candidates::{CompletionCandidate, begins_with, copy_of_some};
 use std::alloc::{AllocError, Global};
 
-/// A candidate for each value: its name, its help and whether it is hidden, in the values' order.
-/// Fails with `Memory` alone.
+/// Creates a candidate for each of the `values`, in their order, with its name, its help text, and
+/// whether it is hidden.
+///
+/// # Errors
+///
+/// `Memory` if an allocation fails.
 pub fn possible_value_candidates(
     alloc: Global,
     values: Vec<PossibleValue>,
@@ -21,8 +25,11 @@ pub fn possible_value_candidates(
     Ok(candidates_of(alloc, values.as_slice())?)
 }
 
-/// A candidate for each value whose name begins with the text, in the values' order. Fails with
-/// `Memory` alone.
+/// Creates a candidate for each of the `values` whose name begins with `text`, in their order.
+///
+/// # Errors
+///
+/// `Memory` if an allocation fails.
 pub fn complete_possible_values(
     alloc: Global,
     text: &str,
@@ -48,7 +55,8 @@ fn candidates_of(
     Ok(found)
 }
 
-/// A candidate for each value whose name begins with the text; nothing is copied for another.
+/// Creates a candidate for each of the `values` whose name begins with `text`. Copies nothing for
+/// the others.
 pub(crate) fn candidates_beginning(
     alloc: Global,
     values: &[PossibleValue],

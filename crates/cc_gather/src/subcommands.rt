@@ -1,4 +1,4 @@
-//! The candidates that are children of a command.
+//! The subcommands of a command as candidates.
 
 ghost use Rattle.std.specs.Prelude.{◌≡◌, ◌++◌, [], ◌∷◌, map, filter, IfOk, OnOk};
 ghost use Rattle.cc_candidates.specs.Beginning.{begins};
@@ -12,9 +12,13 @@ use cc_candidates::{
 use cc_command::Command;
 use std::alloc::{AllocError, Global};
 
-/// The candidates that are children: names, visible and hidden aliases, and where the command takes
-/// names of other programs these; those that begin with the word, in the order of candidates, equal
-/// ones once. Fails where memory runs out.
+/// Returns the candidates for the children of `command` that begin with `word`: their names,
+/// visible and hidden aliases, and `programs` if the command accepts external subcommands. They are
+/// sorted, and equal candidates appear once.
+///
+/// # Errors
+///
+/// `AllocError` if an allocation fails.
 #[tactic(auto, unfolding(crate::specs::Children::subcommand_candidates))]
 pub fn subcommand_candidates(
     alloc: Global,
@@ -32,7 +36,7 @@ pub fn subcommand_candidates(
     Ok(found)
 }
 
-// The list of other programs, where the command takes their names.
+// Returns the list of other programs, if the command accepts external subcommands.
 fn external(
     alloc: Global,
     command: &Command,
@@ -46,7 +50,7 @@ fn external(
     Vec::new(alloc)
 }
 
-// Sorts, and leaves equal neighbours out.
+// Sorts the candidates and removes duplicates.
 fn sort(candidates: &mut Vec<CompletionCandidate>) -> Result<(), AllocError>
     ensures { OnOk result (candidates.new.items ≡ in_candidates_order candidates.old.items) }
 {
@@ -87,7 +91,7 @@ fn push_children(
 }
 
 // Adds the candidates of a child that begin with the word: its name, its visible aliases, then its
-// hidden ones.
+// hidden aliases.
 fn push_child(
     found: &mut Vec<CompletionCandidate>,
     alloc: Global,
@@ -113,7 +117,7 @@ fn push_child(
     Ok(())
 }
 
-// Adds a candidate for each of the names that begin with the word.
+// Adds a candidate for each of the names that begins with the word.
 #[tactic(auto, using(crate::proofs::Filters::filter_first))]
 fn push_names(
     found: &mut Vec<CompletionCandidate>,
@@ -134,7 +138,7 @@ fn push_names(
     Ok(())
 }
 
-// Adds the candidate for a name, if that begins with the word.
+// Adds the candidate for a name, if the name begins with the word.
 fn push_name(
     found: &mut Vec<CompletionCandidate>,
     alloc: Global,
@@ -155,7 +159,7 @@ fn push_name(
     Ok(())
 }
 
-// The candidate for a name of a child.
+// Creates the candidate for a name of a child.
 fn child_candidate(
     alloc: Global,
     parent: &Command,

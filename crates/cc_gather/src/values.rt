@@ -1,4 +1,4 @@
-//! The values of an argument for a word.
+//! The values of an argument as candidates.
 
 ghost use Rattle.std.specs.Prelude.{◌≡◌, ◌++◌, ℕ, List, map, IfOk};
 ghost use Rattle.cc_arg.specs.declared.value_hint.ValueHint.{ValueHint};
@@ -13,13 +13,16 @@ use cc_base::CandidateSources;
 use cc_candidates::{Completers, CompletionCandidate, retain_beginning_with, sort_candidates};
 use std::alloc::{AllocError, Global};
 
-/// A source of paths: a folder, read from where a program runs. It fails only where memory runs
-/// out.
+/// A source of paths: the file system that the program reads. It fails only if an allocation fails.
 pub trait PathSource {
     // the lists that it may return, for a kind of paths and the text to complete
     ghost finds: { Self → ValueHint → List ℕ → List CompletionCandidate → Type 0 };
 
-    /// The paths of the kind that the hint names which complete the text, in any order.
+    /// Returns the paths that complete `text`, of the kind that `hint` names, in any order.
+    ///
+    /// # Errors
+    ///
+    /// `AllocError` if an allocation fails.
     fn find(
         &self,
         alloc: Global,
@@ -29,9 +32,15 @@ pub trait PathSource {
         ensures { IfOk result (λ found. finds self.now hint text.now found.items) };
 }
 
-/// The candidates for a word that is the value of this number, counted from 0, in one use of an
-/// argument. The text up to the last delimiter of the word stays before each value, and a
-/// candidate without a tag gets the printed form of the argument. Fails where memory runs out.
+/// Returns the candidates for `word` as the value with this `number` in one use of `argument`. The
+/// first value has the number 0.
+///
+/// The part of the word up to its last delimiter stays in front of each value. A candidate without
+/// a tag gets the printed form of the argument as its tag.
+///
+/// # Errors
+///
+/// `AllocError` if an allocation fails.
 pub fn arg_values<P: PathSource>(
     alloc: Global,
     argument: &Arg,
@@ -50,7 +59,7 @@ pub fn arg_values<P: PathSource>(
     as_values(alloc, argument, before, found)
 }
 
-// The candidates for a text without a delimiter.
+// Returns the candidates for a text without a delimiter.
 fn gather<P: PathSource>(
     alloc: Global,
     argument: &Arg,
@@ -81,7 +90,7 @@ fn gather<P: PathSource>(
     sorted_paths(alloc, paths, hint, part)
 }
 
-// Whether the values are paths of a kind.
+// Returns whether the values are paths.
 fn is_path(hint: ValueHint) -> bool
     ensures { result ≡ is_path hint }
 {
@@ -91,7 +100,7 @@ fn is_path(hint: ValueHint) -> bool
     )
 }
 
-// The paths, sorted as one list.
+// Returns the paths, sorted as one list.
 #[tactic(auto, unfolding(crate::specs::Values::sorted))]
 fn sorted_paths<P: PathSource>(
     alloc: Global,
@@ -107,7 +116,7 @@ fn sorted_paths<P: PathSource>(
     Ok(found)
 }
 
-// The candidates after the earlier values of the word, each with a tag.
+// Puts the earlier values of the word in front of each candidate, and gives it a tag.
 fn as_values(
     alloc: Global,
     argument: &Arg,
@@ -141,8 +150,8 @@ fn as_value(
     Ok(candidate.tag(Some(tag)))
 }
 
-// The candidate after the earlier values of its word. Mostly there are none, and then its value
-// isn't copied.
+// Puts the earlier values of the word in front of the candidate. Usually there are none, and then
+// the value is not copied.
 fn after_earlier_values(
     alloc: Global,
     before: &str,

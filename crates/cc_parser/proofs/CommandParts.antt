@@ -1,4 +1,4 @@
--- The parser as arguments and children are added to it.
+-- The parser while arguments and children are added to it.
 use Rattle.std.proofs.Common.{◌≡◌, ◌∙◌, ℕ, Bool, true, false, not, cond, ◌||◌, ◌&&◌, Option, is_some, List, [], ◌∷◌, ◌++◌, map, refl, sym, ap, ap₂, subst}
 use Rattle.std.proofs.Math.Bool.{and-true, or_assoc, or-false}
 use Rattle.std.proofs.lemmas.List.{map-append}
@@ -116,7 +116,7 @@ module _ (above here : Bool) (children : Forest) (tree : Tree) where
 pub no_children : (above here : Bool) (a : App) → a.subs ≡ [] → a.top.is_leaf ≡ true → AddsShapes above here none a a
 no_children above here a e leaf = (subst (AreShapesOf here none) (sym e) tt, ap (λ b. record a.top { is_leaf = b }) leaf)
 
--- ---- the whole
+-- ---- the whole command
 
 pub app_made : (above : Bool) (tree : Tree) (a b c : App) → a ≡ named_app tree.node tree.children → AddsArguments tree.node.arguments a b
     → AddsChildren above tree.children b c → IsShapeOf above tree.node tree.children c.top
@@ -181,7 +181,7 @@ with_settings c name is order hide no_name external disabled required or_help =
       arg_required_else_help = or_help;
     }) a) is plain
 
--- a command with its arguments alone has no children
+-- a command with only its arguments has no children
 pub is_leaf : (args : List Arg) (node : Node) (below : Forest) (a : App) → AddsArguments args (named_app node below) a → IsLeaf a
 is_leaf args node below a h = (ap (λ (x : App). x.subs) h.1, ap (λ (x : App). x.top.is_leaf) h.1)
 

@@ -1,4 +1,4 @@
--- A built tree with an option that has possible values and a flag, and the parser of it.
+-- A built tree with a flag and an option that has possible values, and its parser.
 use Rattle.std.proofs.Common.{◌≡◌, refl, true, false, [], ◌∷◌, Some, None, codes, map, option_map}
 use Rattle.cc_arg.specs.declared.parts.ArgParts.{ArgParts as Arg}
 use Rattle.cc_arg.specs.declared.action.ArgAction.TheVariants.{SetTrue}

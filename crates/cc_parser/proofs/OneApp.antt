@@ -1,4 +1,4 @@
--- The parser of a tree without possible values is one app.
+-- A tree without possible values has exactly one parser.
 use Rattle.std.proofs.Common.{◌≡◌, ◌∙◌, Bool, true, false, not, ◌&&◌, List, [], ◌∷◌, map, Option, Some, None, is_some, refl, ap, ap₂}
 use Rattle.cc_arg.specs.declared.parts.ArgParts.{ArgParts as Arg}
 use Rattle.cc_arg.specs.declared.possible_value.PossibleValue.{PossibleValue as Possible}

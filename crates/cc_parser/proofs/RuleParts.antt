@@ -1,4 +1,4 @@
--- What a rule says after the settings of an argument.
+-- The content of a rule after the settings of an argument.
 use Rattle.std.proofs.Common.{◌≡◌, ◌∙◌, ℕ, ◌+◌, ◌<◌, get_or, add-one, Bool, true, false, not, ◌&&◌, ◌==◌, List, [], ◌∷◌, ◌++◌, length, map, take, Option, Some, None, is_some, option_map, refl, sym, ap, ap₂, arith, eqb-true, true≢false}
 use Rattle.std.proofs.Math.Bool.{and-false, and-true}
 use Rattle.std.proofs.Math.Seq.{take-suc}
@@ -117,6 +117,6 @@ pub map_copied : {A : Type 0} (o : Option (Bor A)) → option_map (λ s. s.now) 
 map_copied None = refl
 map_copied (Some x) = refl
 
--- one more element is passed over
+-- one more element is skipped
 pub take_more : {X : Type 0} (xs : List X) (i : ℕ) (x : X) → i < length xs → x ≡ get_or xs i x → take (i + 1) xs ≡ take i xs ++ x ∷ []
 take_more xs i x lt is = rw add-one (take-suc xs i x lt ∙ ap (λ y. take i xs ++ y ∷ []) (sym is))

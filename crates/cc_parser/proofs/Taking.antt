@@ -1,4 +1,4 @@
--- What is offered of a built tree is taken by its parser.
+-- The parser of a built tree accepts what completion offers.
 use Rattle.std.proofs.Common.{◌≡◌, ◌∙◌, ℕ, Bool, true, false, not, cond, ◌&&◌, ◌||◌, ◌==◌, List, [], ◌∷◌, ◌++◌, map, Option, Some, None, is_some, option_map, unwrap_or, codes, refl, sym, ap, ap₂, subst, inl, inr, true≢false, eq-eqb, arith, length}
 use Rattle.std.specs.Prelude.{find, IfSome}
 use Rattle.std.specs.List.{list_all, list_any, AllByRecursion}
@@ -27,7 +27,7 @@ use Rattle.cc_parser.specs.Parsers.{AreShapesOf, IsAppOf, has_generated, is_disa
 use Rattle.cc_parser.specs.Taken.{KnowsChild, KnowsLong, KnowsShort, TakesAllValues, TakesNames, TakesOffered, TakesSiblings, TakesValues, answers_long, answers_short, are_help_if_generated, fits_parser, has_index_or_name, id_of_long, id_of_short, is_help_if_generated, parsed_long, parsed_short}
 use Rattle.cc_parser.proofs.OneApp.{both_true}
 
--- an argument with an index has no names, and one without has some
+-- an argument with an index has no names, and one without an index has some
 abbrev IsTidy : Arg → Type 0
 IsTidy arg = ((not (is_some arg.long) && not (is_some arg.short)) ≡ true → is_some arg.index ≡ true)
     × (is_some arg.index ≡ true → (arg.long ≡ None) × (arg.aliases ≡ []) × (arg.short ≡ None))
@@ -55,7 +55,7 @@ all_tidy (a ∷ args) h =
     let both = both_true (has_index_or_name a) (list_all has_index_or_name args) h in
     (is_tidy a.short a.long a.index a.aliases both.0, all_tidy args both.1)
 
--- one step of two searches that go alike
+-- one step of two parallel searches
 find_both : {X Y Z : Type 0} (p : X → Bool) (q : Y → Bool) (f : X → Z) (g : Y → Z) (x : X) (y : Y) (xs : List X) (ys : List Y)
     → p x ≡ q y → f x ≡ g y → option_map f (find p xs) ≡ option_map g (find q ys)
     → option_map f (find p (x ∷ xs)) ≡ option_map g (find q (y ∷ ys))
@@ -67,7 +67,7 @@ find_both {X} {Y} {Z} p q f g x y xs ys same here later = go (p x) (q y) same
     go true false e = cc
     go false true e = cc
 
--- an index is there after numbering where it was there before
+-- an index exists after the numbering if it existed before
 index_there : (is_positional : Bool) (index : Option ℕ) (n : ℕ) → (is_positional ≡ true → is_some index ≡ true)
     → is_some (cond (is_positional && not (is_some index)) (Some n) index) ≡ is_some index
 index_there true (Some i) n h = refl
@@ -139,7 +139,8 @@ module _ (tree : Tree) (app : App) (is : IsAppOf tree app) (tidy : AllByRecursio
   rules_of_parser = built_rules app (ap (λ (s : Shape). s.is_built) is.0.0) (ap (λ (s : Shape). s.disable_help_flag) is.0.0)
       (ap (λ (s : Shape). s.disable_version_flag) is.0.0)
 
-  -- THE PARSER TAKES A LONG AS THE TREE DOES: by it both find the argument of the same id, or none
+  -- A LONG MEANS THE SAME TO THE PARSER AND THE TREE: both find the argument with the same id, or
+  -- none
   pub same_long : (name : List ℕ) → parsed_long app name ≡ id_of_long name tree.node.arguments
   same_long name = ap (λ rules. option_map (λ r. r.id) (arg_by_long rules name)) rules_of_parser
       ∙ same_by_long name 1 tree.node.arguments app.top.rules is.0.1 tidy
@@ -148,7 +149,7 @@ module _ (tree : Tree) (app : App) (is : IsAppOf tree app) (tidy : AllByRecursio
   same_short c = ap (λ rules. option_map (λ r. r.id) (arg_by_short rules c)) rules_of_parser
       ∙ same_by_short c 1 tree.node.arguments app.top.rules is.0.1 tidy
 
--- ---- what is offered is found
+-- ---- the parser finds what is offered
 
 found_in : {X Y : Type 0} (q : X → Bool) (f : X → Y) (xs : List X) (x : X) → IsIn xs x → q x ≡ true → is_some (option_map f (find q xs)) ≡ true
 found_in q f [] x h e = absurd h
@@ -199,8 +200,8 @@ answers_shorts None (Some short) visible hidden tidy c (inl e) = ap (λ b. b || 
 answers_shorts None (Some short) visible hidden tidy c (inr k) =
     or_here (short == c) _ (any_in (λ alias. alias == c) (visible ++ hidden) c (IsIn-append_left visible hidden c k) (same_number c))
 
--- WHAT IS OFFERED IS TAKEN: the parser knows each long, each short and each alias of them that
--- completion offers of an argument of the tree
+-- THE PARSER ACCEPTS WHAT IS OFFERED: it knows each long, each short and each alias that completion
+-- offers for an argument of the tree
 pub takes_offered : (tree : Tree) (app : App) → IsAppOf tree app → AllByRecursion IsTidy tree.node.arguments
     → AllByRecursion (TakesNames app) tree.node.arguments
 takes_offered tree app is tidy = AllByRecursion-from_IsIn (TakesNames app) tree.node.arguments (λ a k.
@@ -228,7 +229,7 @@ labels_kept : (t : Shape) (subs : List Shape) → map label_of (map built_leaf (
 labels_kept t [] = refl
 labels_kept t (s ∷ subs) = ap₂ (λ x xs. x ∷ xs) (label_kept (inherited t s)) (labels_kept t subs)
 
--- the parser once it is built, but for its child `help` and for what its own build fills in
+-- the built parser without its child `help` and without the settings that its own build fills in
 abbrev before_help : App → App
 before_help a = on_top with_version_flag (on_top with_help_flag (with_inherited (on_top with_leaf_noted (on_top marked_built a))))
 
@@ -242,7 +243,7 @@ labels_longer : (xs ys : List Shape) → map label_of (map built_leaf (xs ++ ys)
 labels_longer [] ys = refl
 labels_longer (y ∷ xs) ys = ap (λ zs. label_of (built_leaf y) ∷ zs) (labels_longer xs ys)
 
--- a child of the parser keeps its names as it is built
+-- a child of the parser keeps its names when it is built
 child_stays : (a : App) → a.top.is_built ≡ false → (word : List ℕ) → list_any (answers_to word) (map label_of a.subs) ≡ true
     → list_any (answers_to word) (names_of (built a)) ≡ true
 child_stays a unbuilt word h = ap (list_any (answers_to word)) (names_built a unbuilt) ∙ go (a.top.is_leaf || a.top.disable_help_subcommand)
@@ -256,7 +257,7 @@ child_stays a unbuilt word h = ap (list_any (answers_to word)) (names_built a un
         ∙ list_any-append (answers_to word) (map label_of (map built_leaf (map (inherited t) a.subs))) (map label_of (map built_leaf (help_shape ∷ [])))
         ∙ ap (λ b. b || list_any (answers_to word) (map label_of (map built_leaf (help_shape ∷ [])))) (ap (list_any (answers_to word)) (labels_kept t a.subs) ∙ h)
 
--- the parser has its own child `help`, where that is not disabled
+-- the parser has its own child `help`, unless that is disabled
 help_there : (a : App) → a.top.is_built ≡ false → (a.top.is_leaf || a.top.disable_help_subcommand) ≡ false → KnowsChild a (codes "help")
 help_there a unbuilt there =
     let t : Shape = with_leaf_noted (marked_built a.top) in
@@ -284,7 +285,7 @@ takes_kept app unbuilt here (more node below rest) (s ∷ shapes) h inside = (
 takes_kept app unbuilt here none (s ∷ shapes) h inside = absurd h
 takes_kept app unbuilt here (more node below rest) [] h inside = absurd h
 
--- a node with the name `help` alone
+-- a node whose only name is `help`
 knows_help : (app : App) → KnowsChild app (codes "help") → (name : List ℕ) (visible hidden : List (List ℕ))
     → (bytes_eq name (codes "help") && (is_empty visible && is_empty hidden)) ≡ true → AllByRecursion (KnowsChild app) (name ∷ visible ++ hidden)
 knows_help app help name [] [] h =
@@ -294,7 +295,7 @@ knows_help app help name (x ∷ visible) hidden h =
 knows_help app help name [] (x ∷ hidden) h =
     absurd (true≢false (sym h ∙ ap (λ b. bytes_eq name (codes "help") && b) (not_empty x hidden) ∙ and-false (bytes_eq name (codes "help"))))
 
--- with the children that building made
+-- with the children that `build` added
 takes_siblings : (app : App) (forest : Forest) → TakesSiblings app (kept false forest) → are_help_if_generated forest ≡ true
     → (has_generated forest ≡ true → KnowsChild app (codes "help")) → TakesSiblings app forest
 takes_siblings app none t names help = tt
@@ -317,7 +318,7 @@ takes_siblings app (more node below rest) t names help =
         subst (λ b. TakesSiblings app (cond (b && true) (kept false rest) (more node below (kept false rest)))) is t in
         (both.0, later both.1 (λ e. help (or_here node.generated (has_generated rest) e)))
 
--- THE CHILDREN THAT ARE OFFERED ARE TAKEN
+-- THE PARSER ACCEPTS THE CHILDREN THAT ARE OFFERED
 pub takes_children : (tree : Tree) (app : App) → IsAppOf tree app → fits_parser tree ≡ true → TakesSiblings app tree.children
 takes_children tree app is fits =
     let children = (both_true (list_all has_index_or_name tree.node.arguments) _ fits).1 in
@@ -344,7 +345,7 @@ passes (x ∷ possible) (y ∷ values) h value (inr k) = or_here (possible_match
 passes [] (y ∷ values) h value k = absurd h
 passes (x ∷ possible) [] h value k = absurd h
 
--- THE POSSIBLE VALUES THAT ARE OFFERED PASS, by the rule as the parser's build leaves it
+-- THE POSSIBLE VALUES THAT ARE OFFERED PASS, by the rule after the parser's build
 takes_values : (n : ℕ) (arg : Arg) (rule : Rule) → IsRuleOf arg rule → TakesValues arg (with_index n (filled rule))
 takes_values n arg rule is = go (possible_values arg) rule.parser (ap (λ (r : Rule). r.ignore_case) is.0) is.1
   where
@@ -363,7 +364,7 @@ takes_all_values n (a ∷ args) (r ∷ rules) h = (takes_values n a r h.0, takes
 takes_all_values n [] (r ∷ rules) h = absurd h
 takes_all_values n (a ∷ args) [] h = absurd h
 
--- WHAT IS OFFERED OF THE ROOT IS TAKEN
+-- THE PARSER ACCEPTS WHAT IS OFFERED FOR THE ROOT
 pub takes_tree : (tree : Tree) (app : App) → IsAppOf tree app → fits_parser tree ≡ true → TakesOffered tree app
 takes_tree tree app is fits =
     let ok = all_tidy tree.node.arguments (both_true (list_all has_index_or_name tree.node.arguments) _ fits).0 in record {

@@ -1,4 +1,4 @@
--- What the parser reads of an argument.
+-- The rule by which the parser reads an argument.
 use Rattle.std.specs.Prelude.{◌≡◌, ℕ, List, [], ◌∷◌, ◌++◌, length, max, Bool, false, not, ◌&&◌, Option, Some, None, is_some, unwrap_or, option_map}
 use Rattle.std.specs.Borrow.{Bor}
 use Rattle.cc_arg.specs.declared.parts.ArgParts.{ArgParts as Arg}
@@ -30,22 +30,22 @@ abbrev pub parser_range : Range → ValueRange
 parser_range range =
     record { start_inclusive = range.least; end_inclusive = max range.greatest range.least }
 
--- the value where one was given, and else the other one
+-- the value if one was given, or else the other one
 abbrev pub given : {A : Type 0} → Option A → Option A → Option A
 given None other = other
 given (Some value) other = Some value
 
--- the default value where there is one, and else the other values
+-- the default value if there is one, or else the other values
 abbrev pub default_or : Option (List ℕ) → List (List ℕ) → List (List ℕ)
 default_or None others = others
 default_or (Some value) others = value ∷ []
 
--- none of the settings that change how the words are read
+-- none of the settings that change how words are read
 abbrev pub reads_simply : Arg → Bool
 reads_simply arg = not (is_some arg.value_delimiter) && (not (is_some arg.value_terminator)
     && (not arg.allow_hyphen_values && (not arg.last && not arg.global)))
 
--- what a parse reads of an argument, but for the list of its values
+-- the rule by which a parse reads an argument, without the list of its values
 abbrev pub rule_of_argument : Option ValueParser → Arg → Rule
 rule_of_argument parser arg = record {
   id = arg.id;
@@ -67,7 +67,7 @@ rule_of_argument parser arg = record {
   is_free = is_empty arg.conflicts;
 }
 
--- a possible value of clap's has the name and no alias
+-- a possible value for `clap` has the same name and no alias
 abbrev pub IsPossible : Possible → PossibleValue → Type 0
 IsPossible given value = (value.name.now ≡ given.name) × (value.aliases.now ≡ [])
 
@@ -76,7 +76,7 @@ ArePossible [] [] = Unit {0}
 ArePossible (x ∷ xs) (y ∷ ys) = IsPossible x y × ArePossible xs ys
 ArePossible _ _ = ⊥
 
--- the parser of the values takes the possible values, and any text where there are none
+-- the parser of the values accepts the possible values, or any text if there are none
 abbrev pub TakesPossible : Option (List Possible) → Option ValueParser → Type 0
 TakesPossible None parser = parser ≡ None
 TakesPossible (Some possible) parser =

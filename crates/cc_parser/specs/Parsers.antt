@@ -9,8 +9,8 @@ use Rattle.clap.specs.Walk.{Rule}
 use Rattle.clap.specs.Simple.{App, Shape, new_app, new_shape, on_top}
 use Rattle.cc_parser.specs.Arguments.{AreRulesOf, rule_of_argument}
 
--- the parser leaves the node out: building made it, and no command above its parent disables
--- `clap`'s own child `help`, which then takes its place
+-- The parser leaves the node out: `build` added it, and no command above its parent disables
+-- `clap`'s own `help`, which takes its place.
 abbrev pub is_left_out : Bool → Node → Bool
 is_left_out above node = node.generated && not above
 
@@ -20,13 +20,13 @@ kept above none = none
 kept above (more node below rest) =
     if is_left_out above node then kept above rest else more node below (kept above rest)
 
--- building made one of the siblings
+-- `build` added one of the siblings
 abbrev pub has_generated : Forest → Bool
 has_generated none = false
 has_generated (more node below rest) = node.generated || has_generated rest
 
--- `clap`'s own child `help` is disabled below a command with these children: by one above it, or
--- since building made none here
+-- `clap`'s own `help` is disabled below a command with these children: by a command above it, or
+-- because `build` added none here
 abbrev pub is_disabled_below : Bool → Forest → Bool
 is_disabled_below above children = above || not (has_generated children)
 
@@ -34,7 +34,7 @@ is_disabled_below above children = above || not (has_generated children)
 abbrev pub any_global : List Arg → Bool
 any_global arguments = list_any (λ argument. argument.global) arguments
 
--- an argument of the siblings that the parser has, or of those below them, is global
+-- an argument of the siblings that the parser has, or of a command below them, is global
 abbrev pub globals_in : Bool → Bool → Forest → Bool
 globals_in above here none = false
 globals_in above here (more node below rest) =
@@ -45,7 +45,7 @@ globals_in above here (more node below rest) =
 abbrev pub globals_below : Bool → Forest → Bool
 globals_below above children = globals_in above (is_disabled_below above children) children
 
--- an argument of the tree is global, where `clap`'s own child `help` is disabled above or not
+-- an argument of the tree is global, depending on whether `clap`'s own `help` is disabled above
 abbrev pub has_globals_under : Bool → Tree → Bool
 has_globals_under above tree =
     any_global tree.node.arguments || globals_below above tree.children
@@ -54,8 +54,8 @@ has_globals_under above tree =
 abbrev pub has_globals : Tree → Bool
 has_globals tree = has_globals_under false tree
 
--- what a parse reads of a command with these rules: its own child `help` is `clap`'s where building
--- made one, and no flag is added to its arguments
+-- The shape by which a parse reads a command with these rules. Its `help` is `clap`'s own if
+-- `build` added one, and no flag is added to its arguments.
 abbrev pub shape_of_node : Bool → Node → Forest → List Rule → Shape
 shape_of_node above node below rules = record (new_shape node.name) {
   aliases = node.visible_aliases ++ node.aliases;
@@ -71,7 +71,7 @@ shape_of_node above node below rules = record (new_shape node.name) {
   subcommand_required = node.subcommand_required;
 }
 
--- what a parse reads of a command is what the node says, with a rule for each of its arguments
+-- a parse reads the command as the node describes it, with a rule for each of its arguments
 abbrev pub IsShapeOf : Bool → Node → Forest → Shape → Type 0
 IsShapeOf above node below shape =
     (shape ≡ shape_of_node above node below shape.rules) × AreRulesOf node.arguments shape.rules
@@ -82,14 +82,14 @@ AreShapesOf above (more node below rest) (shape ∷ shapes) =
     IsShapeOf above node below shape × AreShapesOf above rest shapes
 AreShapesOf above _ _ = ⊥
 
--- what a parse reads of a command and its children is what the tree says
+-- a parse reads a command and its children as the tree describes them
 abbrev pub IsAppOf : Tree → App → Type 0
 IsAppOf tree app =
     IsShapeOf false tree.node tree.children app.top
     × AreShapesOf (is_disabled_below false tree.children) (kept false tree.children) app.subs
 
--- a command of this node alone, without arguments; its own child `help` is clap's where building
--- made one
+-- The command of this node alone, without arguments. Its `help` is `clap`'s own if `build` added
+-- one.
 abbrev pub named_app : Node → Forest → App
 named_app node below = on_top (λ top. record top {
   aliases = node.visible_aliases ++ node.aliases;
@@ -121,7 +121,7 @@ AddsChildren above children = AddsShapes above (is_disabled_below above children
 abbrev pub IsLeaf : App → Type 0
 IsLeaf app = (app.subs ≡ []) × (app.top.is_leaf ≡ true)
 
--- ---- trees without possible values, of which the parser is one app
+-- ---- trees without possible values, which have exactly one parser
 
 -- no argument has possible values
 abbrev pub has_no_values : List Arg → Bool

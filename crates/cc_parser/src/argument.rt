@@ -1,4 +1,4 @@
-//! One argument of the parser.
+//! Converts an argument for the parser.
 
 ghost use Rattle.std.specs.Prelude.{◌≡◌, ◌+◌, ◌++◌, ◌∷◌, [], Some, None, IfOk, true, is_some, length, map};
 ghost use Rattle.std.specs.Prelude.{option_map, unwrap_or};
@@ -12,7 +12,11 @@ use cc_arg::{Arg, ArgAction, PossibleValue, ValueRange, conflicting_ids, possibl
 use cc_base::Text;
 use std::alloc::{AllocError, Global};
 
-/// The argument as `clap` has it. Its lists are kept in `store`. Fails where memory runs out.
+/// Converts the argument for `clap`. Its lists are kept in `store`.
+///
+/// # Errors
+///
+/// `AllocError` if an allocation fails.
 pub(crate) fn argument<'a>(
     alloc: Global,
     store: &'a Bump,
@@ -32,7 +36,7 @@ pub(crate) fn argument<'a>(
     with_possible_values(arg, alloc, store, possible_values(argument))
 }
 
-// With what changes how words are read.
+// Adds the settings that change how words are read.
 fn with_settings<'a>(arg: clap::Arg<'a>, argument: &'a Arg) -> clap::Arg<'a>
     requires { (rule_of arg).is_simple ≡ true }
     ensures rule { rule_of result
@@ -66,7 +70,7 @@ fn with_terminator<'a>(arg: clap::Arg<'a>, terminator: Option<&'a str>) -> clap:
     }
 }
 
-// With what a use of it does, its place and the number of its values.
+// Adds the action, the position and the number of values.
 fn with_use<'a>(arg: clap::Arg<'a>, argument: &'a Arg) -> clap::Arg<'a>
     ensures rule { rule_of result ≡ record (rule_of arg.entry) {
       action = Some (parser_action (unwrap_or argument.now.action ArgAction.Set));
@@ -119,7 +123,7 @@ fn with_range<'a>(arg: clap::Arg<'a>, range: Option<ValueRange>) -> clap::Arg<'a
     }
 }
 
-// With the value that it has where it is left out.
+// Adds the default value, if there is one.
 fn with_default<'a>(arg: clap::Arg<'a>, default: Option<&'a str>) -> clap::Arg<'a>
     ensures rule { rule_of result ≡ record (rule_of arg.entry) {
       defaults = default_or (option_copied default.entry) (rule_of arg.entry).defaults;
@@ -132,7 +136,7 @@ fn with_default<'a>(arg: clap::Arg<'a>, default: Option<&'a str>) -> clap::Arg<'
     }
 }
 
-// With what help says of it.
+// Adds the help texts and display settings.
 fn with_texts<'a>(arg: clap::Arg<'a>, argument: &'a Arg) -> clap::Arg<'a>
     ensures rule { rule_of result ≡ rule_of arg.entry }
     ensures global { result.global ≡ arg.entry.global }
@@ -161,7 +165,7 @@ fn with_heading<'a>(arg: clap::Arg<'a>, heading: Option<&'a str>) -> clap::Arg<'
     }
 }
 
-// A positional has its place by its index.
+// Sets the display order of an option or a flag. The index of a positional decides its place.
 fn with_order<'a>(arg: clap::Arg<'a>, argument: &Arg) -> clap::Arg<'a>
     ensures rule { rule_of result ≡ rule_of arg.entry }
     ensures global { result.global ≡ arg.entry.global }
@@ -172,7 +176,7 @@ fn with_order<'a>(arg: clap::Arg<'a>, argument: &Arg) -> clap::Arg<'a>
     arg.display_order(argument.get_display_order())
 }
 
-// With the short and its aliases, first those that are shown.
+// Adds the short and its aliases, the visible ones first.
 fn with_shorts<'a>(arg: clap::Arg<'a>, argument: &'a Arg) -> Result<clap::Arg<'a>, AllocError>
     ensures rule { IfOk result (λ arg_with. rule_of arg_with ≡ record (rule_of arg.entry) {
       short = given argument.now.short (rule_of arg.entry).short;
@@ -229,7 +233,7 @@ fn with_short_alias<'a>(
     }
 }
 
-// With the long and its aliases, first those that are shown.
+// Adds the long and its aliases, the visible ones first.
 fn with_longs<'a>(arg: clap::Arg<'a>, argument: &'a Arg) -> Result<clap::Arg<'a>, AllocError>
     ensures rule { IfOk result (λ arg_with. rule_of arg_with ≡ record (rule_of arg.entry) {
       long = given argument.now.long (rule_of arg.entry).long;

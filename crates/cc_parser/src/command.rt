@@ -1,4 +1,4 @@
-//! A command of the parser.
+//! Converts a command for the parser.
 
 ghost use Rattle.std.specs.Prelude.{◌≡◌, ◌++◌, ◌∷◌, ◌&&◌, ◌||◌, [], IfOk, IsTrue, false, true, not, is_some};
 ghost use Rattle.std.specs.Option.{option_copied};
@@ -19,16 +19,21 @@ use cc_base::Text;
 use cc_command::Command;
 use std::alloc::{AllocError, Global};
 
-/// The parser of a built command: `clap`'s own command of the same tree, which borrows the tree's
-/// texts and keeps lists in `store`. All arguments of a command are as the tree has them, the flags
-/// `help` and `version` among them. A child `help` that building made is `clap`'s own, which prints
-/// a help text; where a command above has no such child, `clap` disables its own, and `help` is a
-/// child as any other.
+/// Converts the built `command` into a `clap` command for the same tree. The result borrows the
+/// texts of the tree and keeps its lists in `store`.
 ///
-/// Where no argument of the tree is global, a parse reads of the command and its children what the
-/// tree says. Where `fits_parser` is true besides, all that completion offers of the root is taken.
+/// Every argument of the tree is passed to `clap`, including the flags `help` and `version`. A
+/// subcommand `help` that `build` added is left to `clap`, whose own `help` prints a help text.
+/// Below a command without such a subcommand, `clap`'s own is disabled, and `help` is an ordinary
+/// subcommand.
 ///
-/// Fails where an allocation fails.
+/// If no argument of the tree is global, a parse follows the tree for the command and its
+/// subcommands. If `fits_parser` is also true, the parser accepts everything that completion offers
+/// for the root.
+///
+/// # Errors
+///
+/// `AllocError` if an allocation fails.
 pub fn parser<'a>(
     alloc: Global,
     store: &'a Bump,
@@ -63,7 +68,7 @@ fn parser_of<'a>(
     parser.bin_name(name)
 }
 
-// A command with its arguments, without its children.
+// Converts a command with its arguments, without its children.
 fn alone<'a>(
     alloc: Global,
     store: &'a Bump,
@@ -79,7 +84,7 @@ fn alone<'a>(
     with_arguments(parser, alloc, store, command.get_arguments())
 }
 
-// A command without its arguments and children.
+// Converts a command without its arguments and children.
 fn named<'a>(alloc: Global, command: &'a Command) -> Result<clap::Command<'a>, AllocError>
     ensures app { IfOk result (λ parser.
         app_of parser ≡ named_app command.now.node command.now.children) }
@@ -101,22 +106,22 @@ fn named<'a>(alloc: Global, command: &'a Command) -> Result<clap::Command<'a>, A
     with_aliases(parser, command.get_aliases(), false)
 }
 
-// Whether the parser leaves the command out: building made it, and no command above its parent
-// disables `clap`'s own child `help`.
+// Returns whether the parser leaves the command out: `build` added it, and no command above its
+// parent disables `clap`'s own `help`.
 fn is_left_out(command: &Command, above: bool) -> bool
     ensures { result ≡ is_left_out above command.now.node }
 {
     command.is_generated() && !above
 }
 
-// Whether `clap`'s own child `help` is disabled below a command with these children.
+// Returns whether `clap`'s own `help` is disabled below a command with these children.
 fn is_disabled_below(above: bool, children: &[Command]) -> bool
     ensures { result ≡ is_disabled_below above (forest_of children.now) }
 {
     above || !has_generated(children)
 }
 
-/// Whether building made one of the children.
+/// Returns whether `build` added one of the children.
 pub(crate) fn has_generated(children: &[Command]) -> bool
     ensures { result ≡ has_generated (forest_of children.now) }
 {
@@ -128,7 +133,7 @@ pub(crate) fn has_generated(children: &[Command]) -> bool
     false
 }
 
-// With what helps say of it.
+// Adds the texts for the help output.
 fn with_texts<'a>(parser: clap::Command<'a>, command: &'a Command) -> clap::Command<'a>
     ensures app { app_of result ≡ app_of parser.entry }
     ensures globals { (out-Command result).has_globals ≡ (out-Command parser.entry).has_globals }
@@ -244,9 +249,9 @@ fn with_arguments<'a>(
     Ok(parser)
 }
 
-// With its children, but for those that are left out. `above` says that a command above this one
-// disables `clap`'s own child `help`, which holds for all below: one that building made is then
-// a child as any other.
+// Adds the children, except for those that are left out. `above` tells whether a command above this
+// one disables `clap`'s own `help`. That holds for everything below, so a `help` that `build` added
+// there is an ordinary subcommand.
 fn with_children<'a>(
     parser: clap::Command<'a>,
     alloc: Global,

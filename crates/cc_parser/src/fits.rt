@@ -1,4 +1,4 @@
-//! Whether a tree fits its parser.
+//! Checks whether a tree fits its parser.
 
 ghost use Rattle.std.specs.Prelude.{◌≡◌, ◌&&◌, ◌||◌, false, not};
 ghost use Rattle.std.specs.List.{list_all};
@@ -11,12 +11,14 @@ use crate::command::has_generated;
 use cc_arg::Arg;
 use cc_command::Command;
 
-/// Whether each argument of a built command has an index or names, and not both: a positional has
-/// an index and no alias, an option or a flag no index. If so, and if no argument is global, the
-/// parser takes all that completion offers of the command. Of a tree by `Command`'s builders it
-/// is false only where an index was set on an option or a flag, or an alias on a positional.
+/// Returns whether each argument of the built `command` has an index or names, but not both: a
+/// positional has an index and no alias, an option or flag has no index.
 ///
-/// It looks at the child `help` that building made too. Allocates nothing.
+/// If so, and if no argument is global, the parser accepts everything that completion offers for
+/// the command. For a tree from the builders of `Command`, the result is false only if an index was
+/// set on an option or a flag, or an alias on a positional.
+///
+/// Also checks the subcommand `help` that `build` added. Allocates nothing.
 pub fn fits_parser(command: &Command) -> bool
     ensures { result ≡ fits_parser command.now }
 {
@@ -65,7 +67,7 @@ fn is_help_if_generated(command: &Command) -> bool
             && command.get_aliases().is_empty())
 }
 
-// Whether building did not make one of the children.
+// Returns whether one of the children was not added by `build`.
 fn has_others(children: &[Command]) -> bool
     ensures { result ≡ has_nodes (kept false (forest_of children.now)) }
 {

@@ -1,5 +1,12 @@
-//! The parser of a described command: a command of the crate `clap`, made from the tree that
-//! completes it.
+//! Turns a built command tree into a command of the crate `clap`, which parses the command line
+//! that the tree completes.
+//!
+//! ```rattle
+//! let store = Bump::new(alloc);
+//! app.build(alloc)?;
+//! let parser = parser(alloc, &store, &app)?;
+//! let accepts_completions = fits_parser(&app);
+//! ```
 #![tactic(auto)]
 
 mod argument;

@@ -1,4 +1,4 @@
--- The candidates of a folder that functions describe.
+-- Examples of the candidates in a file system that functions describe.
 use Rattle.std.proofs.Common.{◌≡◌, ◌++◌, ℕ, List, [], ◌∷◌, Bool, true, Option, Some, None, codes, refl}
 use Rattle.std.specs.Prelude.{◌||◌, if◌then◌else◌}
 use Rattle.std.specs.List.{list_any}
@@ -11,11 +11,12 @@ use Rattle.cc_paths.proofs.FixedFolder.{candidates_by}
 use Rattle.cc_paths.specs.PathTexts.{search_root, word_name, word_prefix}
 use Rattle.cc_candidates.specs.declared.candidate.CompletionCandidate.{CompletionCandidate}
 
--- the path is this one, a slash at its end or not
+-- the path is this one, with or without a slash at its end
 abbrev is_at : List ℕ → List ℕ → Bool
 is_at known path = bytes_eq path known || bytes_eq path (path_join known [])
 
--- `/w` holds `.git`, `a.txt` and `src`, of which `a.txt` is a file; `/home/u` holds the folder `src`
+-- `/w` contains the file `a.txt` and the directories `.git` and `src`; `/home/u` contains the
+-- directory `src`
 abbrev names : List ℕ → List (List ℕ)
 names path = if is_at (codes "/w") path
     then codes "src" ∷ codes ".git" ∷ codes "a.txt" ∷ []
@@ -57,7 +58,7 @@ found :
 unfolding groups in_order insert search_root word_name word_prefix path_file_name path_join path_parent rsplit_once split_last_component trim_trailing
 found = (refl, refl, refl, refl, refl)
 
--- a folder that holds the folder `foo` and the files `foobar` and `bar`
+-- a directory that contains the directory `foo` and the files `foobar` and `bar`
 abbrev other_names : List ℕ → List (List ℕ)
 other_names path =
     if is_at (codes "/o") path then codes "foobar" ∷ codes "foo" ∷ codes "bar" ∷ [] else []

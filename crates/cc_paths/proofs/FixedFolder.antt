@@ -1,4 +1,4 @@
--- The candidates of a folder and a test that always return the same for a path.
+-- The candidates if the directory and the test always return the same for a path.
 use Rattle.std.proofs.Common.{◌==◌, suc, length, false, ne_eqb, ◌≡◌, ◌∙◌, ap, ap₂, refl, ℕ, List, [], ◌∷◌, map, filter, Bool, Option, Some, None, MatchOption}
 use Rattle.std.specs.List.{AllByRecursion}
 use Rattle.std.specs.Option.{option_map_or}
@@ -19,7 +19,8 @@ entries_by is_dir passes root names =
       passes = passes (path_join root name);
     }) names
 
--- the candidates where functions return the names in a folder, and which paths are folders' and pass
+-- The candidates, given functions for the names in a directory, for which paths lead to
+-- directories, and for which paths pass.
 abbrev pub candidates_by : (List ℕ → List (List ℕ)) → (List ℕ → Bool) → (List ℕ → Bool)
     → Option (List ℕ) → Option (List ℕ) → List ℕ → List CompletionCandidate
 candidates_by names is_dir passes home current word =
@@ -29,7 +30,7 @@ candidates_by names is_dir passes home current word =
     (search_root home current (word_prefix word)) []
 
 module _ (names : List ℕ → List (List ℕ)) (is_dir passes : List ℕ → Bool) where
-  -- what may be returned for a path is what the function returns
+  -- a path has the result that the function returns
   abbrev Returns : (List ℕ → Bool) → List ℕ → Bool → Type 0
   Returns f path is = is ≡ f path
 
@@ -49,7 +50,7 @@ module _ (names : List ℕ → List (List ℕ)) (is_dir passes : List ℕ → Bo
   entries_are root (entry ∷ entries) is =
       ap₂ (λ e es. e ∷ es) (entry_is root entry is.0) (entries_are root entries is.1)
 
-  -- whether the root passes counts for the empty word alone
+  -- whether the root passes matters only for the empty word
   root_counts : (word root : List ℕ) (is : Bool) (entries : List Entry)
       → (word ≡ [] → is ≡ passes root)
       → grouped_candidates word is entries ≡ grouped_candidates word (passes root) entries
@@ -59,7 +60,7 @@ module _ (names : List ℕ → List (List ℕ)) (is_dir passes : List ℕ → Bo
       ne_eqb (length (byte ∷ word)) 0 (λ (e : suc (length word) ≡ 0). cc) in
       rw some
 
-  -- the folder of these functions
+  -- the file system that these functions describe
   abbrev Facts : Option (List ℕ) → FolderFacts
   Facts home = record {
     names = λ path listing. unwrap_or listing [] ≡ names path;

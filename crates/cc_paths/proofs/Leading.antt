@@ -1,4 +1,4 @@
--- The steps by which leading slashes and `.` pieces are passed.
+-- The steps that skip leading slashes and `.` components.
 use Rattle.std.proofs.Common.{◌≡◌, ◌+◌, ◌<◌, ◌≤◌, ◌&&◌, ◌||◌, eqb, ℕ, List, ◌∷◌, true, false, drop, length, get_or, get_or-drop, sym, ap, ap₂, ◌∙◌, ⊎_elim, eqb-true, add-one, arith}
 use Rattle.std.specs.Path.{dot, is_leading, slash}
 use Rattle.std.proofs.Math.Seq.{drop-cons}

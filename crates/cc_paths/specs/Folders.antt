@@ -1,9 +1,9 @@
--- What the calls of a folder may return.
+-- The results that a file system may return.
 use Rattle.std.specs.Prelude.{ℕ, Bool, List, Option}
 
--- What the call of the same name may return, by the path that it takes: the names in a folder, none
--- where it can't be read; whether the path is a folder's, a file's, an executable file's. The home
--- folder of the user is always the same.
+-- For each call, the results that it may return for a path: the names in a directory, or none if it
+-- is unreadable; whether the path leads to a directory, a file or an executable file. The home
+-- directory of the user is always the same.
 pub record FolderFacts : Type 1 where
   pub names : List ℕ → Option (List (List ℕ)) → Type 0
   pub is_dir : List ℕ → Bool → Type 0

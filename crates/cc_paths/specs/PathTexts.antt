@@ -1,4 +1,4 @@
--- Parts of a path's text, and the folder that the text of a word leads to.
+-- The parts of a path, and the directory in which a word is completed.
 use Rattle.std.specs.Prelude.{ℕ, List, [], ◌∷◌, length, slice_index, Bool, ◌||◌, ◌-◌, ◌==◌, if◌then◌else◌, Option, Some, None, is_none, unwrap_or, codes}
 use Rattle.std.specs.List.{after_first, before_first}
 use Rattle.std.specs.Option.{option_map, option_map_or}
@@ -17,36 +17,37 @@ is_absolute path = slice_index path 0 == slash
 abbrev pub ends_in_slash : List ℕ → Bool
 ends_in_slash path = slice_index path (length path - 1) == slash
 
--- the path after its leading slashes and `.` pieces
+-- the path after its leading slashes and `.` components
 abbrev pub past_leading : List ℕ → List ℕ
 past_leading [] = []
 past_leading (byte ∷ rest) =
     if is_leading (byte ∷ rest) 0 then past_leading rest else byte ∷ rest
 
--- the whole word names a folder: it is empty or ends in a slash, or its last piece is `.` or `..`
+-- The whole word names a directory: it is empty, ends in a slash, or its last component is `.` or
+-- `..`.
 abbrev pub is_folder_word : List ℕ → Bool
 is_folder_word word = ends_in_slash word || is_none (path_file_name word)
 
--- the folder that a word names, as it was written
+-- the part of the word that names a directory, as the user typed it
 unfoldable pub word_prefix : List ℕ → List ℕ
 word_prefix word = if is_folder_word word then word else unwrap_or (path_parent word) []
 
--- the start of a name in that folder
+-- the beginning of a name in that directory
 unfoldable pub word_name : List ℕ → List ℕ
 word_name word = if is_folder_word word then [] else unwrap_or (path_file_name word) []
 
--- what follows `~` as the first piece, and the slashes and `.` pieces next to it; none for a path
--- with another first piece
+-- The rest of a path whose first component is `~`, without leading slashes and `.` components.
+-- Other paths have none.
 abbrev pub below_home : List ℕ → Option (List ℕ)
 below_home path = if bytes_eq (before_first is_slash path) (codes "~")
     then Some (past_leading (after_first is_slash path)) else None
 
--- a path from a folder, where there is one
+-- the path joined to a directory, if there is one
 abbrev pub join_some : Option (List ℕ) → List ℕ → Option (List ℕ)
 join_some folder path = option_map (λ from. path_join from path) folder
 
--- the folder whose names are listed for a prefix, under a home folder and a current folder; none
--- where it needs one of them that is missing
+-- The directory to list for a prefix, given a home directory and a current directory. There is none
+-- if it needs one that is missing.
 unfoldable pub search_root : Option (List ℕ) → Option (List ℕ) → List ℕ → Option (List ℕ)
 search_root home current prefix =
     if is_absolute prefix then Some prefix

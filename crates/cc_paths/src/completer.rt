@@ -1,4 +1,4 @@
-//! A completer of paths.
+//! The completer of paths.
 
 ghost use Rattle.std.specs.Prelude.{◌≡◌, ◌++◌, IfOk, OnOk, None, Some, true, false, string_bytes};
 ghost use Rattle.cc_paths.specs.PathCandidates.{ArePathCandidates, WithStdio, stdio_candidate};
@@ -10,8 +10,10 @@ use cc_base::Text;
 use cc_candidates::{CompletionCandidate, ValueCompleter};
 use std::alloc::{AllocError, Global};
 
-/// A completer of the paths in a folder that pass a test. It returns the same for a value of every
-/// number. Without a current folder, relative words that don't begin with `~/` have no candidates.
+/// Completes paths that pass a test. The number of the value makes no difference to it.
+///
+/// Words that begin with `~/` need a home directory, other relative words a current directory.
+/// Without it, they have no candidates.
 #[derive(Drop)]
 pub struct PathCompleter<D, T> {
     folder: D,
@@ -21,7 +23,7 @@ pub struct PathCompleter<D, T> {
 }
 
 impl<D> PathCompleter<D, EveryPath> {
-    /// A completer of all paths.
+    /// Creates a completer of all paths in `folder`.
     pub fn any(folder: D) -> PathCompleter<D, EveryPath>
         ensures { result ≡ record {
           folder = folder;
@@ -35,7 +37,8 @@ impl<D> PathCompleter<D, EveryPath> {
 }
 
 impl<D> PathCompleter<D, IsFile> {
-    /// A completer of the paths of files; the folders, which may hold some, come after them.
+    /// Creates a completer of files in `folder`. Directories come after the files, because they may
+    /// contain some.
     pub fn file(folder: D) -> PathCompleter<D, IsFile>
         ensures { result ≡ record {
           folder = folder;
@@ -49,7 +52,7 @@ impl<D> PathCompleter<D, IsFile> {
 }
 
 impl<D> PathCompleter<D, IsDir> {
-    /// A completer of the paths of folders.
+    /// Creates a completer of directories in `folder`.
     pub fn dir(folder: D) -> PathCompleter<D, IsDir>
         ensures { result ≡ record {
           folder = folder;
@@ -63,8 +66,8 @@ impl<D> PathCompleter<D, IsDir> {
 }
 
 impl<D, T> PathCompleter<D, T> {
-    /// A completer of the paths that pass a test, which may be of a type of the caller's own. With
-    /// a test that holds no boxed closure it can be added to `Completers`.
+    /// Creates a completer of the paths in `folder` that pass `test`, which may have a type of your
+    /// own. Unless the test holds a boxed closure, you can add the completer to `Completers`.
     pub fn with_test(folder: D, test: T) -> PathCompleter<D, T>
         ensures { result ≡ record {
           folder = folder;
@@ -83,7 +86,7 @@ impl<D, T> PathCompleter<D, T> {
 }
 
 impl<D: Drop, T: Drop> PathCompleter<D, T> {
-    /// Offers `-` too, as the last candidate for an empty word: standard input or output.
+    /// Also offers `-`, for standard input or output, as the last candidate for an empty word.
     pub fn stdio(mut self) -> PathCompleter<D, T>
         ensures { result ≡ record self { stdio = true } }
     {
@@ -91,7 +94,7 @@ impl<D: Drop, T: Drop> PathCompleter<D, T> {
         self
     }
 
-    /// Sets the folder where relative paths begin.
+    /// Sets the directory to which relative paths refer.
     pub fn current_dir(mut self, path: String) -> PathCompleter<D, T>
         ensures { result ≡ record self { current_dir = Some (string_bytes path) } }
     {
@@ -99,12 +102,14 @@ impl<D: Drop, T: Drop> PathCompleter<D, T> {
         self
     }
 
-    /// Replaces the test by a closure, which may be called with any text. It is called with the
-    /// path of each listed name that begins as the word does, and for an empty word the current
-    /// folder's.
-    /// This is for calls of `complete` and `complete_at` themselves: no trait object is made of a
-    /// type that holds a boxed closure, so what is to be added to `Completers` is made by
-    /// `with_test`.
+    /// Replaces the test by the closure `test`, which must accept any text.
+    ///
+    /// The closure is called with the path of each listed name that begins like the word. For an
+    /// empty word it is also called with the path of the current directory.
+    ///
+    /// Call `complete` or `complete_at` of this completer directly. A type that holds a boxed
+    /// closure cannot become a trait object, so use `with_test` for a completer that you add to
+    /// `Completers`.
     pub fn filter(self, test: TextTest) -> PathCompleter<D, FnTest>
         requires { TextTest.IsAlwaysCallable test }
         ensures folder { result.folder ≡ self.folder }
@@ -140,7 +145,7 @@ impl<D: Folder + Drop, T: PathTest<D> + Drop> ValueCompleter for PathCompleter<D
     }
 }
 
-// Adds the candidate `-`, where it is offered and the word is empty.
+// Adds the candidate `-`, if `stdio` is set and the word is empty.
 fn push_stdio(
     found: &mut Vec<CompletionCandidate>,
     alloc: Global,

@@ -1,8 +1,8 @@
-//! A listed name with what is known of its path.
+//! A listed name and the facts about its path.
 
 use cc_base::Text;
 
-/// A listed name, whether its path is that of a folder, and whether the path passes the test.
+/// A listed name, whether its path leads to a directory, and whether the path passes the test.
 #[derive(Drop)]
 pub struct Entry {
     pub(crate) name: Text,

@@ -1,4 +1,4 @@
-//! Folders whose names can be listed.
+//! The trait of file systems whose directories can be listed.
 
 ghost use Rattle.std.specs.Prelude.{◌≡◌, map, string_bytes, Err, IfOk, Some, None};
 ghost use Rattle.std.specs.Option.{option_copied};
@@ -7,10 +7,10 @@ ghost use Rattle.cc_paths.specs.Folders.{FolderFacts};
 use std::alloc::{AllocError, AllocFailed, Global};
 use thiserror::Error as ThisError;
 
-/// Why the names of a folder can't be listed.
+/// The reason why a directory cannot be listed.
 #[derive(Debug, Drop, ThisError)]
 pub enum FolderError {
-    /// The path isn't that of a folder that can be read.
+    /// The path does not lead to a readable directory.
     #[error("unreadable")]
     Unreadable,
     /// An allocation failed.
@@ -38,35 +38,39 @@ impl<T: Drop> From<AllocFailed<T>> for FolderError {
     }
 }
 
-/// Files and folders by their paths.
+/// Lists directories and tells what a path leads to.
 ///
-/// What its calls return is stated by relations, since a file system may say something else of a
-/// path at each call.
+/// Relations state what its calls return, because a file system may answer each call for a path
+/// differently.
 pub trait Folder {
-    // what the calls may return
+    // the results that the calls may return
     ghost facts: { Self → FolderFacts };
 
-    /// The names in the folder at a path, in any order. Fails with `Unreadable` where the path
-    /// isn't that of a folder that can be read, and with `Memory` where memory runs out.
+    /// Returns the names in the directory at `path`, in any order.
+    ///
+    /// # Errors
+    ///
+    /// - `Unreadable` if `path` does not lead to a readable directory.
+    /// - `Memory` if an allocation fails.
     fn names(&self, alloc: Global, path: &str) -> Result<Vec<String>, FolderError>
         ensures ok { IfOk result
             (λ names. (facts self.now).names path.now (Some (map string_bytes names.items))) }
         ensures unreadable { result ≡ Err FolderError.Unreadable →
             (facts self.now).names path.now None };
 
-    /// Whether the path is that of a folder.
+    /// Returns whether `path` leads to a directory.
     fn is_dir(&self, path: &str) -> bool
         ensures { (facts self.now).is_dir path.now result };
 
-    /// Whether the path is that of a file.
+    /// Returns whether `path` leads to a file.
     fn is_file(&self, path: &str) -> bool
         ensures { (facts self.now).is_file path.now result };
 
-    /// Whether the path is that of a file that can be run.
+    /// Returns whether `path` leads to an executable file.
     fn is_executable(&self, path: &str) -> bool
         ensures { (facts self.now).is_executable path.now result };
 
-    /// The home folder of the user, where it is known.
+    /// Returns the home directory of the user, if it is known.
     fn home(&self) -> Option<&str>
         ensures { option_copied result ≡ (facts self.now).home };
 }

@@ -1,4 +1,4 @@
-//! The candidates that lead to the names in a folder.
+//! Lists the names in a directory as candidates.
 
 ghost use Rattle.std.specs.Prelude.{◌≡◌, ◌==◌, ◌++◌, [], Bool, map, filter, slice_index, string_bytes, IfOk, OnOk};
 ghost use Rattle.std.specs.List.{AllByRecursion};
@@ -16,16 +16,21 @@ use cc_base::Text;
 use cc_candidates::{CompletionCandidate, begins_with, sort_candidates};
 use std::alloc::{AllocError, Global};
 
-/// The candidates for a word that lead to paths which pass the test, sorted, then those for the
-/// other folders, sorted.
+/// Returns the candidates for `word`: the paths that pass `test`, sorted, then the other
+/// directories, sorted.
 ///
-/// The word is a folder, as it was written, and the start of a name in it. A word that begins with
-/// `~/` leads into the home folder, any other relative word into the current folder; without the
-/// one that it needs there are no candidates. The value of a folder ends in a slash; a name that
-/// begins with a dot is hidden. For an empty word `.` is a candidate where the current folder
-/// passes. A folder that can't be read has no names.
+/// The word consists of a directory, kept as the user typed it, and the beginning of a name in it.
 ///
-/// Fails where memory runs out.
+/// - A word that begins with `~/` refers to the home directory, any other relative word to
+///   `current_dir`. Without that directory, there are no candidates.
+/// - The value of a directory ends in a slash.
+/// - A name that begins with a dot is a hidden candidate.
+/// - For an empty word, `.` is a candidate if the current directory passes the test.
+/// - An unreadable directory has no names.
+///
+/// # Errors
+///
+/// `AllocError` if an allocation fails.
 pub fn path_candidates<D: Folder, T: PathTest<D>>(
     alloc: Global,
     folder: &D,
@@ -43,7 +48,7 @@ pub fn path_candidates<D: Folder, T: PathTest<D>>(
     }
 }
 
-// The candidates for a word from the names at the root.
+// Returns the candidates for a word from the names at the root.
 fn candidates_at<D: Folder, T: PathTest<D>>(
     alloc: Global,
     folder: &D,
@@ -60,7 +65,7 @@ fn candidates_at<D: Folder, T: PathTest<D>>(
     in_groups(alloc, dot, word_prefix(word), entries.as_slice())
 }
 
-// The names at the root; none where it can't be read.
+// Returns the names at the root, or none if the root is unreadable.
 fn names_at<D: Folder>(alloc: Global, folder: &D, root: &str) -> Result<Vec<String>, AllocError>
     ensures { IfOk result (λ names. MayList ((D.facts folder.now).names root.now)
         (map string_bytes names.items)) }
@@ -72,8 +77,8 @@ fn names_at<D: Folder>(alloc: Global, folder: &D, root: &str) -> Result<Vec<Stri
     }
 }
 
-// What the folder and the test return for the names that begin with the start, each of which is
-// looked at once, and no others.
+// Looks once at each name that begins with `start`, and at no others. Returns the answers of the
+// directory and of the test.
 fn inspect_all<D: Folder, T: PathTest<D>>(
     alloc: Global,
     folder: &D,
@@ -98,7 +103,7 @@ fn inspect_all<D: Folder, T: PathTest<D>>(
     Ok(entries)
 }
 
-// What the folder and the test return for a name.
+// Looks at one name. Returns the answers of the directory and of the test.
 fn inspect<D: Folder, T: PathTest<D>>(
     alloc: Global,
     folder: &D,
@@ -120,8 +125,8 @@ fn inspect<D: Folder, T: PathTest<D>>(
     })
 }
 
-// The candidate `.`, where the word is empty and the root passes. For another word the test isn't
-// called.
+// Returns the candidate `.`, if the word is empty and the root passes. For any other word, the test
+// is not called.
 fn dot_candidate<D: Folder, T: PathTest<D>>(
     alloc: Global,
     folder: &D,
@@ -141,8 +146,8 @@ fn dot_candidate<D: Folder, T: PathTest<D>>(
     Ok(found)
 }
 
-// These wanted candidates and those of the entries that pass, sorted, then those of the other
-// folders, sorted.
+// Returns the candidates in `wanted` and of the entries that pass, sorted, then those of the other
+// directories, sorted.
 #[tactic(auto, unfolding(crate::specs::PathCandidates::groups))]
 fn in_groups(
     alloc: Global,
@@ -180,7 +185,7 @@ fn push_wanted(
     Ok(())
 }
 
-// The candidates of the folders that don't pass.
+// Returns the candidates of the directories that do not pass.
 fn unwanted_folders(
     alloc: Global,
     prefix: &str,
@@ -199,7 +204,7 @@ fn unwanted_folders(
     Ok(found)
 }
 
-// The candidate of an entry, with the prefix that was written.
+// Returns the candidate of an entry, after the prefix that the user typed.
 fn path_candidate(
     alloc: Global,
     prefix: &str,
@@ -219,7 +224,7 @@ fn begins_with_dot(name: &str) -> bool
     name.as_bytes().first() == Some(&b'.')
 }
 
-// The path, with a slash at its end where it is a folder's.
+// Adds a slash to the path of a directory.
 fn mark_folder(mut path: String, is_folder: bool) -> Result<String, AllocError>
     ensures { IfOk result (λ marked. string_bytes marked
         ≡ string_bytes path ++ folder_mark is_folder) }

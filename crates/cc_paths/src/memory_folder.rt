@@ -1,4 +1,4 @@
-//! Files and folders in memory.
+//! Files and directories in memory.
 
 ghost use Rattle.std.specs.Prelude.{◌≡◌, string_bytes, map, IfOk, None, Some, true, false, is_some};
 ghost use Rattle.std.specs.Option.{option_copied, option_map};
@@ -8,8 +8,8 @@ use crate::folder::{Folder, FolderError};
 use crate::path_texts::ends_in_slash;
 use std::alloc::{AllocError, Global};
 
-/// Files and folders in memory, for tests. Every file counts as executable. One slash at the end of
-/// a path makes no difference, but in `/`, the path of the root.
+/// Files and directories in memory, for tests. Every file counts as executable. One slash at the
+/// end of a path is ignored, except in `/`, the path of the root.
 #[derive(Drop)]
 pub struct MemoryFolder {
     folders: &'static [(&'static str, &'static [&'static str])],
@@ -19,8 +19,8 @@ pub struct MemoryFolder {
 }
 
 impl MemoryFolder {
-    /// Folders, each by its path and with the names in it, and the paths of files. None of these
-    /// paths but `/` ends in a slash.
+    /// Creates a file system with `folders`, pairs of a path and the names in it, and the paths of
+    /// `files`. No path except `/` may end in a slash.
     pub fn new(
         folders: &'static [(&'static str, &'static [&'static str])],
         files: &'static [&'static str],
@@ -38,7 +38,7 @@ impl MemoryFolder {
         }
     }
 
-    /// Sets the home folder of the user.
+    /// Sets the home directory of the user.
     pub fn with_home(mut self, path: &'static str) -> MemoryFolder
         ensures folders { result.folders.now ≡ self.folders.now }
         ensures files { result.files.now ≡ self.files.now }
@@ -49,7 +49,7 @@ impl MemoryFolder {
         self
     }
 
-    /// Lets every call of `names` fail with `Memory`.
+    /// Makes every call of `names` fail with `Memory`.
     pub fn out_of_memory(mut self) -> MemoryFolder
         ensures { result ≡ record self { fails = true } }
     {
@@ -94,7 +94,7 @@ impl Folder for MemoryFolder {
     }
 }
 
-// The path without one slash at its end; `/` as it is.
+// Returns the path without one slash at its end, but `/` unchanged.
 fn without_slash(path: &str) -> &str
     ensures { result.now ≡ without_slash path.now }
 {
@@ -105,7 +105,7 @@ fn without_slash(path: &str) -> &str
     }
 }
 
-// The first folder with this path.
+// Returns the first directory with this path.
 fn folder_at(
     folders: &'static [(&'static str, &'static [&'static str])],
     path: &str,
@@ -120,7 +120,7 @@ fn folder_at(
     None
 }
 
-// Whether one of the files has this path.
+// Returns whether one of the files has this path.
 fn has_file(files: &[&str], path: &str) -> bool
     ensures { result ≡ has_file files.now path.now }
 {

@@ -1,21 +1,22 @@
-//! Tests that paths pass or fail.
+//! Tests that select paths.
 
 ghost use Rattle.std.specs.Prelude.{◌≡◌, ℕ, Bool, List, true};
 ghost use Rattle.std.specs.Fn.{FnReturnsAt};
 
 use crate::folder::Folder;
 
-/// A test of the paths in a folder.
+/// Selects paths.
 pub trait PathTest<D: Folder> {
-    // what may be returned for a path in the folder
+    // the results that may be returned for a path
     ghost may_return: { Self → D → List ℕ → Bool → Type 0 };
 
-    /// Whether a path passes.
+    /// Returns whether `path` passes.
     fn passes(&self, folder: &D, path: &str) -> bool
         ensures { may_return self.now folder.now path.now result };
 
-    /// Whether a path passes, where it is known whether the path is a folder's.
-    /// A test that needs nothing else returns `is_dir`, so that the folder isn't read twice.
+    /// Returns whether `path` passes, for a caller that knows in `is_dir` whether it leads to a
+    /// directory. A test that needs nothing else returns `is_dir`, so that the directory is not
+    /// read twice.
     fn passes_known(&self, folder: &D, path: &str, is_dir: bool) -> bool
         requires { (D.facts folder.now).is_dir path.now is_dir }
         ensures { may_return self.now folder.now path.now result }
@@ -24,7 +25,7 @@ pub trait PathTest<D: Folder> {
     }
 }
 
-/// Every path passes.
+/// Selects every path.
 #[derive(Drop)]
 pub struct EveryPath;
 
@@ -36,7 +37,7 @@ impl<D: Folder> PathTest<D> for EveryPath {
     }
 }
 
-/// The paths of files pass.
+/// Selects files.
 #[derive(Drop)]
 pub struct IsFile;
 
@@ -48,7 +49,7 @@ impl<D: Folder> PathTest<D> for IsFile {
     }
 }
 
-/// The paths of folders pass.
+/// Selects directories.
 #[derive(Drop)]
 pub struct IsDir;
 
@@ -64,7 +65,7 @@ impl<D: Folder> PathTest<D> for IsDir {
     }
 }
 
-/// The paths of files that can be run pass.
+/// Selects executable files.
 #[derive(Drop)]
 pub struct IsExecutable;
 
@@ -79,7 +80,7 @@ impl<D: Folder> PathTest<D> for IsExecutable {
 /// A boxed closure that returns whether a path passes.
 pub type TextTest = Box<dyn Fn(&str) -> bool>;
 
-/// The paths for which a closure returns `true` pass.
+/// Selects the paths for which a closure returns `true`.
 #[derive(Drop)]
 pub struct FnTest {
     test: TextTest,
@@ -87,7 +88,7 @@ pub struct FnTest {
 }
 
 impl FnTest {
-    /// The test by a closure that may be called with any text.
+    /// Creates a test that calls the closure `test`, which must accept any text.
     pub fn new(test: TextTest) -> FnTest
         requires { TextTest.IsAlwaysCallable test }
         ensures { result.test ≡ test }

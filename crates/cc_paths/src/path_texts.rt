@@ -1,4 +1,4 @@
-//! The parts of a path's text.
+//! The parts of a path.
 
 ghost use Rattle.std.specs.Prelude.{◌≡◌, ◌==◌, ◌<◌, length, IfOk, string_bytes};
 ghost use Rattle.std.specs.Option.{option_copied, option_map};
@@ -9,8 +9,8 @@ ghost use Rattle.cc_paths.specs.PathTexts.{search_root, word_name, word_prefix};
 use std::alloc::{AllocError, Global};
 use std::path::Path;
 
-/// The path without the slashes and the `.` pieces at its end. The first slash of an absolute path
-/// stays, and so does a `.` that is the whole path.
+/// Returns `path` without the slashes and the `.` components at its end. The first slash of an
+/// absolute path stays, and so does a `.` that is the whole path.
 pub fn trim_trailing(path: &str) -> &str
     ensures { result.now ≡ trim_trailing path.now }
 {
@@ -22,7 +22,7 @@ pub fn trim_trailing(path: &str) -> &str
     &path[..end]
 }
 
-// Whether the byte at `i` is a slash, or a `.` after one, and isn't the first byte.
+// Returns whether the byte at `i` is a slash, or a `.` after one, and is not the first byte.
 fn is_trailing(path: &[u8], i: usize) -> bool
     requires { i < length path.now }
     ensures { result ≡ is_trailing path.now i }
@@ -30,29 +30,33 @@ fn is_trailing(path: &[u8], i: usize) -> bool
     0 < i && (path[i] == b'/' || (path[i] == b'.' && path[i - 1] == b'/'))
 }
 
-/// A path from a base: the base, a slash unless the base is empty or ends in one, and the path. An
-/// absolute path is returned as it is. Fails where memory runs out.
+/// Joins `path` to `base`, with a slash between them unless the base is empty or ends in one. An
+/// absolute path is returned unchanged.
+///
+/// # Errors
+///
+/// `AllocError` if an allocation fails.
 pub fn join(alloc: Global, base: &str, path: &str) -> Result<String, AllocError>
     ensures { IfOk result (λ joined. string_bytes joined ≡ path_join base.now path.now) }
 {
     Ok(Path::new(base).join(alloc, path)?.into_string())
 }
 
-// Whether the text ends in a slash.
+// Returns whether the text ends in a slash.
 pub(crate) fn ends_in_slash(path: &str) -> bool
     ensures { result ≡ ends_in_slash path.now }
 {
     path.as_bytes().last() == Some(&b'/')
 }
 
-// Whether the whole word names a folder.
+// Returns whether the whole word names a directory.
 fn is_folder_word(word: &str) -> bool
     ensures { result ≡ is_folder_word word.now }
 {
     ends_in_slash(word) || Path::new(word).file_name().is_none()
 }
 
-// The folder that a word names, as it was written.
+// Returns the part of the word that names a directory, as the user typed it.
 #[tactic(auto, unfolding(crate::specs::PathTexts::word_prefix))]
 pub(crate) fn word_prefix(word: &str) -> &str
     ensures { result.now ≡ word_prefix word.now }
@@ -65,7 +69,7 @@ pub(crate) fn word_prefix(word: &str) -> &str
         .map_or("", |parent| parent.as_str())
 }
 
-// The start of a name in that folder.
+// Returns the beginning of a name in that directory.
 #[tactic(auto, unfolding(crate::specs::PathTexts::word_name))]
 pub(crate) fn word_name(word: &str) -> &str
     ensures { result.now ≡ word_name word.now }
@@ -76,7 +80,7 @@ pub(crate) fn word_name(word: &str) -> &str
     Path::new(word).file_name().unwrap_or("")
 }
 
-// The path after its leading slashes and `.` pieces.
+// Returns the path after its leading slashes and `.` components.
 fn past_leading(path: &str) -> &str
     ensures { result.now ≡ past_leading path.now }
 {
@@ -88,7 +92,7 @@ fn past_leading(path: &str) -> &str
     &path[start..]
 }
 
-// Whether the byte at `i` is a slash, or a `.` before a slash or the end.
+// Returns whether the byte at `i` is a slash, or a `.` before a slash or the end.
 fn is_leading(path: &[u8], i: usize) -> bool
     requires { i < length path.now }
     ensures { result ≡ is_leading path.now i }
@@ -96,7 +100,7 @@ fn is_leading(path: &[u8], i: usize) -> bool
     path[i] == b'/' || (path[i] == b'.' && (i + 1 == path.len() || path[i + 1] == b'/'))
 }
 
-// What follows `~` as the first piece.
+// Returns what follows `~` as the first component, if `~` is that component.
 fn below_home(path: &str) -> Option<&str>
     ensures { option_copied result ≡ below_home path.now }
 {
@@ -107,8 +111,8 @@ fn below_home(path: &str) -> Option<&str>
     }
 }
 
-// The folder whose names are listed for a prefix; `None` where it needs a home folder or a current
-// folder and there is none.
+// Returns the directory to list for a prefix. Returns `None` if that needs a home directory or a
+// current directory that is missing.
 #[tactic(auto, unfolding(crate::specs::PathTexts::search_root))]
 pub(crate) fn search_root(
     alloc: Global,
@@ -128,7 +132,7 @@ pub(crate) fn search_root(
     }
 }
 
-// The path from a base, where there is one.
+// Joins the path to the base, if there is one.
 fn join_some(alloc: Global, base: Option<&str>, path: &str) -> Result<Option<String>, AllocError>
     ensures { IfOk result (λ joined. option_map string_bytes joined
         ≡ join_some (option_copied base.entry) path.now) }

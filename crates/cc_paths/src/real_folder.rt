@@ -1,4 +1,4 @@
-//! The folders of the operating system.
+//! The file system of the operating system.
 
 ghost use Rattle.std.specs.Prelude.{◌≡◌, ⊤};
 ghost use Rattle.std.specs.Option.{option_map};
@@ -11,10 +11,11 @@ use std::path::Path;
 use std::rt::Files;
 use std::{fs, io};
 
-/// The files and folders of the operating system. Every file counts as executable. An entry that
-/// can't be read is left out of the names; a path of which the system says nothing is neither a
-/// folder nor a file. What the system says is not known beforehand, so of it the contracts of
-/// `Folder` say nothing here.
+/// The files and directories of the operating system. Every file counts as executable.
+///
+/// Names omit entries that cannot be read. A path about which the system returns an error is
+/// neither a directory nor a file. The contracts of `Folder` promise nothing about these answers,
+/// because they depend on the system.
 #[derive(Drop)]
 pub struct RealFolder<R> {
     files: R,
@@ -22,7 +23,7 @@ pub struct RealFolder<R> {
 }
 
 impl<R: Files + Drop> RealFolder<R> {
-    /// The files and folders of the system, with this home folder of the user.
+    /// Creates a file system over the handle `files`, with the home directory `home` of the user.
     pub fn new(files: R, home: Option<String>) -> RealFolder<R>
         ensures files { result.files ≡ files }
         ensures home { result.home ≡ option_map string_bytes home }
@@ -75,7 +76,7 @@ impl<R: Files + Drop> Folder for RealFolder<R> {
     }
 }
 
-// Why the names can't be listed.
+// Converts an error of the system into the reason why the directory cannot be listed.
 fn reason(error: &io::Error) -> FolderError {
     if error.kind() == io::ErrorKind::OutOfMemory {
         FolderError::Memory

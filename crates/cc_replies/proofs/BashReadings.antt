@@ -1,4 +1,4 @@
--- What bash reads from the lines of its reply.
+-- The text that bash reads from the lines of its reply.
 use Rattle.std.proofs.Common.{◌≡◌, ◌==◌, ◌||◌, ℕ, Bool, true, false, cond, not, List, [], ◌∷◌, ◌++◌, Option, Some, None, option_map, codes, inl, inr, refl, sym, ◌∙◌, ap, ap₂, subst, arith}
 use Rattle.std.proofs.lemmas.Bool.{and_parts, cases_Bool, ne_eqb}
 use Rattle.std.proofs.lemmas.Bool.Decides.{Decides-eqb, nat_tests}
@@ -19,7 +19,7 @@ use Rattle.cc_replies.proofs.SafeReadings.{IsUncontrolled, ReadsLine, lines_back
 
 -- ---- a text with backslashes
 
--- a byte that is marked may follow a backslash; one that is not stands for itself
+-- a marked byte may follow a backslash; any other byte represents itself
 pub record IsHeld (is_kept is_escaped is_marked : ℕ → Bool) (byte : ℕ) : Type 0 where
   pub marked : is_marked byte ≡ true → is_escaped byte ≡ true
   pub no_backslash : is_marked byte ≡ false → (byte == backslash) ≡ false
@@ -78,7 +78,7 @@ single_reads (byte ∷ text) h =
 
 -- ---- a bare word from its start
 
--- what follows a beginning, with it, is the text
+-- a beginning and the text after it make up the text
 follows : (front text rest : List ℕ) → after front text ≡ Some rest → text ≡ front ++ rest
 unfolding after
 follows [] text rest e = cc
@@ -92,7 +92,7 @@ all_right : {X : Type 0} (P : X → Type 0) → (xs ys : List X) → AllByRecurs
 all_right P [] ys h = h
 all_right P (x ∷ xs) ys h = all_right P xs ys h.1
 
--- no word that is written begins with `~/` but one that does
+-- an escaped word never begins with `~/`, because its `~` is escaped
 no_home : (word : List ℕ) → after home_start (marked is_bare_marked word) ≡ None
 unfolding after
 no_home [] = refl
@@ -132,7 +132,7 @@ start_reads word h = elim (option_cases (after home_start word)) [
       | None ↦ bare_read line
     ]
 
--- ---- what follows the part that bash keeps
+-- ---- the text after the part that bash keeps
 
 text_reads : (kept : List ℕ) (quote : OpenQuote) (rest : List ℕ) → IsUncontrolled rest → holds quote rest ≡ true → bash_line_word kept quote (bash_text kept quote rest) ≡ Some rest
 unfolding bash_line_word bash_text bare_text

@@ -1,4 +1,4 @@
--- What follows a beginning of a text.
+-- The text after a beginning.
 use Rattle.std.proofs.Common.{◌≡◌, ◌≢◌, ◌==◌, ◌+◌, ℕ, List, [], ◌∷◌, ◌++◌, Bor, Option, Some, None, drop, inl, inr, length, refl, sym, ◌∙◌, ap, ap₂}
 use Rattle.std.proofs.lemmas.Bool.{cases_Bool}
 use Rattle.std.proofs.lemmas.Bool.Decides.{Decides-eqb}
@@ -25,7 +25,7 @@ after-nothing (byte ∷ front) (first ∷ text) h = elim (cases_Bool (byte == fi
   | inr isnt ↦ ap (λ same. choose same (after front text) None) isnt
 ]
 
--- what `strip_prefix` gives
+-- the result of `strip_prefix`
 pub stripped : (front text : List ℕ) (found : Option (Bor (List ℕ)))
     → MatchOption found (FindsTextPrefix front text None) (λ x. (n : ℕ) × FindsTextPrefix front text (Some n) × (x.now ≡ drop n text) × (length x.now + n ≡ length text))
     → option_copied found ≡ after front text

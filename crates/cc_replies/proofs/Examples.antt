@@ -1,4 +1,4 @@
--- What indexes count as, and replies as shells are sent them.
+-- Examples of indexes and of replies as the shells receive them.
 use Rattle.std.proofs.Common.{◌≡◌, ◌++◌, ℕ, true, false, List, [], ◌∷◌, Some, None, arith, codes, refl}
 use Rattle.cc_candidates.specs.Candidate.{new_candidate}
 use Rattle.cc_candidates.specs.declared.candidate.CompletionCandidate.{CompletionCandidate}
@@ -25,7 +25,7 @@ empty_row = record { number = grind arith; other = λ _. refl }
 minus_row : IsIndex (Some (codes "-1")) 0
 minus_row = record { number = grind arith; other = λ _. refl }
 
--- 2 ^ 64, which no `usize` is
+-- 2 ^ 64 does not fit in a `usize`
 large_row : IsIndex (Some (codes "18446744073709551616")) 0
 large_row = record { number = grind arith; other = λ _. refl }
 
@@ -37,7 +37,7 @@ unset_row = refl
 
 -- ---- replies
 
--- a candidate with a help
+-- a candidate with a help text
 abbrev helped : List ℕ → List ℕ → CompletionCandidate
 helped value help = record (new_candidate value) { help = Some help }
 
@@ -49,7 +49,7 @@ replies :
     × (values_reply (codes "\n")
     (new_candidate (codes "t") ∷ new_candidate (codes "help") ∷ [])
     ≡ codes "t\nhelp")
-    -- a colon in a value and one in a help
+    -- a colon in a value, and one in a help text
     × (zsh_reply (codes "\n")
     (helped (codes "a:b") (codes "c:d\ne") ∷ new_candidate (codes "t") ∷ [])
     ≡ codes "a\\:b:c:d\nt")
@@ -59,7 +59,7 @@ replies :
 unfolding zsh_item colon_help after cut_at with_front first_line without_return shown_line tab_help
 replies = (refl, refl, refl, refl)
 
--- ---- the candidates of `app`, which has a child `test` shown as `t`, for an empty word
+-- ---- the candidates of `app` for an empty word; its child `test` is shown as `t`
 
 abbrev three : List CompletionCandidate
 three =
@@ -80,25 +80,25 @@ three_replies :
 unfolding zsh_item colon_help after cut_at with_front first_line without_return shown_line tab_help
 three_replies = (refl, refl, refl, refl, refl, refl)
 
--- a help with the separator in its first line, and a value with a tab
+-- a help text with the separator in its first line, and a value with a tab
 abbrev spread : List CompletionCandidate
 spread = helped (codes "a\tb") (codes "x" ++ 11 ∷ codes "y\nz") ∷ []
 
--- bash and Elvish are sent no help, and a tab is between no values
+-- bash and Elvish receive no help texts, and no values are separated by a tab
 spread_values_row : values_read 11 (values_reply (11 ∷ []) spread) ≡ codes "a\tb" ∷ []
 unfolding ValuesRead
 spread_values_row = values_back (11 ∷ []) spread 11 refl refl
 
 readable :
-    -- zsh is sent the help
+    -- zsh receives the help text
     (are_readable_zsh_items 11 spread ≡ false)
-    -- with a line feed between items that help is in one piece
+    -- with a line feed between items, that help text stays in one piece
     × (are_readable_zsh_items 10 spread ≡ true)
-    -- in a line a tab ends the value
+    -- in a line, a tab ends the value
     × (are_readable_lines spread ≡ false)
     -- items of zsh have colons and backslashes of their own
     × (are_readable_zsh_items 58 three ≡ false)
-    -- an empty value is none, but a line may be empty before its help
+    -- an empty value is not read back, but a line may be empty before its help text
     × (are_readable_values 10 (new_candidate [] ∷ []) ≡ false)
     × (are_readable_lines (helped [] (codes "Print") ∷ []) ≡ true)
 unfolding after cut_at with_front first_line without_return

@@ -23,19 +23,19 @@ no_return (byte ∷ []) h = elim (cases_Bool (byte == carriage_return)) [
 ]
 no_return (byte ∷ next ∷ line) h = ap (λ t. byte ∷ t) (no_return (next ∷ line) (λ front e. h (byte ∷ front) (ap (λ t. byte ∷ t) e)))
 
--- no byte of a text at any index
+-- a text without the byte at any index lacks the byte
 pub lacks_by_index : (special : ℕ) (text : List ℕ) → ((k : ℕ) → k < length text → get_or text k 0 ≢ special) → Lacks special text
 lacks_by_index special [] h = tt
 lacks_by_index special (byte ∷ text) h = (ne_eqb special byte (λ e. h 0 (omega arith) (sym e)), lacks_by_index special text (λ k l. h (suc k) (omega arith)))
 
--- before a line feed
+-- a text with a line feed
 pub line_cut : (line rest : List ℕ) → Lacks line_feed line → first_line (line ++ line_feed ∷ rest) ≡ without_return line
 unfolding first_line after with_front cut_at
 line_cut line rest h =
     ap (λ cut. elim cut [ Some (line, rest) ↦ without_return line | None ↦ line ++ line_feed ∷ rest ]) (past_lacking line_feed [] line (line_feed ∷ rest) h)
     ∙ ap without_return (append-nil line)
 
--- with none
+-- a text without a line feed
 pub whole_line : (text : List ℕ) → Lacks line_feed text → first_line text ≡ text
 unfolding first_line with_front cut_at
 whole_line text h =
@@ -44,16 +44,16 @@ whole_line text h =
 
 -- ---- a first line has no line feed
 
--- no byte of a text is this one
+-- no byte of the text is this one
 abbrev pub IsWithout : ℕ → List ℕ → Type 0
 IsWithout special text = AllByRecursion (λ byte. (byte == special) ≡ false) text
 
--- the other side of a test
+-- equality of numbers in the other direction
 pub other_side : (one other : ℕ) → (one == other) ≡ false → (other == one) ≡ false
 other_side one other e =
     ne_eqb other one (λ same. let both : true ≡ false = sym ((Decides-eqb one other).1 (sym same)) ∙ e in cc)
 
--- what is before a line feed, or all where there is none
+-- the text before a line feed, or the whole text without a line feed
 abbrev IsBeforeFeed : List ℕ → Cut → Type 0
 IsBeforeFeed text None = IsWithout line_feed text
 IsBeforeFeed text (Some (line, rest)) = IsWithout line_feed line

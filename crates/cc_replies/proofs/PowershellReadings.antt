@@ -1,4 +1,4 @@
--- What PowerShell reads from the lines of its reply.
+-- The text that PowerShell reads from the lines of its reply.
 use Rattle.std.proofs.Common.{◌≡◌, ◌==◌, ℕ, Bool, true, false, cond, not, List, [], ◌∷◌, ◌++◌, Some, None, option_map, codes, refl, sym, ◌∙◌, ap, append_assoc, append-nil}
 use Rattle.std.proofs.lemmas.Bool.{and_parts, ne_eqb}
 use Rattle.std.specs.List.{list_all}
@@ -18,7 +18,7 @@ use Rattle.cc_replies.proofs.FirstLines.{IsWithout}
 use Rattle.cc_replies.proofs.ReplyReadings.{false_not, lacks}
 use Rattle.cc_replies.proofs.SafeReadings.{ReadsLine, lines_back, listed_line, safe_without}
 
--- ---- the word has neither a tab nor a line feed
+-- ---- the word contains neither a tab nor a line feed
 
 escaped_without : (special : ℕ) → (single_quote == special) ≡ false → (space == special) ≡ false → (text : List ℕ) → IsWithout special text → IsWithout special (powershell_escaped text)
 escaped_without special e f [] h = tt
@@ -42,7 +42,7 @@ word_without special e f value h = by_test (is_powershell_bare value)
         AllByRecursion-append (λ b. (b == special) ≡ false) (codes "'" ++ powershell_escaped value) (codes "'")
         (e, escaped_without special e f value h) (e, tt)
 
--- ---- it says the value
+-- ---- the word is read as the value
 
 no_spaces : (text : List ℕ) → IsWithout line_feed text → line_feeds_as_spaces text ≡ text
 no_spaces [] h = refl
@@ -75,7 +75,7 @@ word_typed value h e = by_test (is_powershell_bare value) refl
 
 -- ---- a line
 
--- a word, a tab, and what is listed
+-- a word, a tab, and the entry to list
 typed_line : (word value listed : List ℕ) (item : Shown) → IsWithout tab word → powershell_typed word ≡ Some value → line_shown listed ≡ item
     → powershell_line_read (word ++ tab ∷ listed) ≡ Some (record { typed = value; listed = item })
 unfolding powershell_line_read inserted_from after cut_at with_front

@@ -1,4 +1,4 @@
--- A reply is read as the values and the first lines of the helps.
+-- A reply is read back as the values and the first lines of the help texts.
 use Rattle.cc_base.specs.Bytes.{backslash, colon, line_feed, tab}
 use Rattle.std.proofs.Common.{◌≡◌, ◌≢◌, ◌==◌, ℕ, Bool, true, false, cond, List, [], ◌∷◌, ◌++◌, Option, Some, None, map, option_map, codes, refl, sym, ◌∙◌, ap, ap₂, append_assoc, append-nil}
 use Rattle.std.proofs.Common.{inl, inr}
@@ -21,7 +21,7 @@ use Rattle.cc_replies.proofs.FirstLines.{IsWithout, first_line_without, other_si
 use Rattle.cc_candidates.specs.declared.candidate.CompletionCandidate.{CompletionCandidate}
 use Rattle.cc_base.proofs.Finding.{Lacks, past_lacking}
 
--- ---- what the tests say
+-- ---- the meaning of the tests
 
 pub false_not : (test : Bool) → not test ≡ true → test ≡ false
 false_not true e = cc
@@ -53,7 +53,7 @@ value_parts separator value e =
     let parts = and_parts (not (length value == 0)) (is_without separator value) e in
     (has_byte value parts.0, without separator value parts.1)
 
--- what is so of each candidate that passes is so of each text made of it
+-- a property of each candidate that passes holds for each text made from it
 each_text : (test : Shown → Bool) (P : List ℕ → Type 0) (f : Shown → List ℕ) → ((item : Shown) → test item ≡ true → P (f item))
     → (candidates : List CompletionCandidate) → list_all (λ candidate. test (shown candidate)) candidates ≡ true
     → AllByRecursion P (map (λ candidate. f (shown candidate)) candidates)
@@ -64,7 +64,7 @@ each_text test P f p (candidate ∷ candidates) e =
 
 -- ---- pieces
 
--- a piece goes on
+-- a piece continues
 piece_on : (separator : ℕ) (piece text rest : List ℕ) → IsWithout separator text → pieces_from separator piece (text ++ rest) ≡ pieces_from separator (piece ++ text) rest
 piece_on separator piece [] rest h = ap (λ p. pieces_from separator p rest) (sym (append-nil piece))
 piece_on separator piece (byte ∷ text) rest h =
@@ -72,7 +72,7 @@ piece_on separator piece (byte ∷ text) rest h =
     ∙ piece_on separator (piece ++ byte ∷ []) text rest h.1
     ∙ ap (λ p. pieces_from separator p rest) (append_assoc piece (byte ∷ []) text)
 
--- it ends
+-- a piece ends
 piece_ends : (separator : ℕ) (piece rest : List ℕ) → pieces_from separator piece (separator ∷ rest) ≡ piece ∷ pieces_from separator [] rest
 piece_ends separator piece rest = ap (λ b. choose b (piece ∷ pieces_from separator [] rest) (pieces_from separator (piece ++ separator ∷ []) rest)) ((Decides-eqb separator separator).1 refl)
 
@@ -85,7 +85,7 @@ joined_pieces separator first (text ∷ texts) h k =
     ∙ piece_ends separator first (text ++ joined_after (separator ∷ []) true texts)
     ∙ ap (λ pieces. first ∷ pieces) (joined_pieces separator text texts k.0 k.1)
 
--- so of a whole reply, whose first text has a byte
+-- so is a whole reply, whose first text has a byte
 joined_read : (separator : ℕ) (texts : List (List ℕ)) → AllByRecursion (IsWithout separator) texts → AllByRecursion HasByte texts
     → values_read separator (joined_after (separator ∷ []) false texts) ≡ texts
 unfolding values_read
@@ -111,11 +111,11 @@ line_on line (byte ∷ text) rest h =
     ∙ line_on (line ++ byte ∷ []) text rest h.1
     ∙ ap (λ p. lines_from p rest) (append_assoc line (byte ∷ []) text)
 
--- without its line feed
+-- a line without its line feed
 abbrev pub line_body : Shown → List ℕ
 line_body item = item.value ++ tab_help item.help
 
--- the help is a first line
+-- the help text is one line
 help_one_line : (help : Option (List ℕ)) → IsWithout line_feed (tab_help (option_map first_line help))
 unfolding tab_help
 help_one_line None = tt
@@ -125,7 +125,7 @@ body_one_line : (candidate : CompletionCandidate) → IsWithout line_feed candid
 body_one_line candidate h =
     AllByRecursion-append (λ byte. (byte == line_feed) ≡ false) candidate.value (tab_help (shown candidate).help) h (help_one_line candidate.help)
 
--- the other side of each test
+-- the comparisons of each test in the other direction
 pub lacks : (special : ℕ) (text : List ℕ) → IsWithout special text → Lacks special text
 lacks special text h = AllByRecursion-weaker (λ byte. (byte == special) ≡ false) (λ byte. (special == byte) ≡ false) (λ byte e. other_side byte special e) text h
 
@@ -156,7 +156,7 @@ lines_back (candidate ∷ candidates) e =
 
 -- ---- zsh
 
--- a backslash is no separator
+-- a backslash is not a separator
 pub marked_without : (separator : ℕ) (is_marked : ℕ → Bool) (text : List ℕ) → (backslash == separator) ≡ false → IsWithout separator text → IsWithout separator (marked is_marked text)
 marked_without separator is_marked [] e h = tt
 marked_without separator is_marked (byte ∷ text) e h =
@@ -192,7 +192,7 @@ item_some separator item r =
     by_value [] n = absurd (n refl)
     by_value (byte ∷ value) n = by_test byte (zsh_replied_value value) (is_reply_value_marked byte)
 
--- the value is read up to what follows it
+-- the value is read up to the text after it
 value_on : (value word : List ℕ) (rest : List Mark) → shown_from word (map (mark_of is_reply_value_marked) value ++ rest) ≡ shown_from (word ++ value) rest
 unfolding shown_from
 value_on [] word rest = ap (λ w. shown_from w rest) (sym (append-nil word))

@@ -1,4 +1,4 @@
--- The safe replies of hostile values, and what the shells read from their lines.
+-- The safe replies for hostile values, and how the shells read their lines.
 use Rattle.std.proofs.Common.{◌≡◌, ℕ, true, false, List, [], ◌∷◌, Some, None, codes, refl}
 use Rattle.cc_base.specs.Found.{after, cut_at, with_front}
 use Rattle.cc_candidates.specs.Candidate.{new_candidate}
@@ -11,11 +11,11 @@ use Rattle.cc_replies.specs.Reply.{colon_help, first_line, line_shown, shown_lin
 use Rattle.cc_replies.specs.SafeReplies.{is_fish_insertable, safe_lines_reply, safe_values_reply, safe_zsh_reply}
 use Rattle.cc_replies.specs.SafeValues.{is_safe_text, safe_help}
 
--- a candidate with a help
+-- a candidate with a help text
 abbrev helped : List ℕ → List ℕ → CompletionCandidate
 helped value help = record (new_candidate value) { help = Some help }
 
--- ---- which values are left out
+-- ---- the values that are left out
 
 safe_row :
     (is_safe_text (codes "x$(touch hit)") ≡ true)
@@ -46,7 +46,7 @@ insertable_row :
     × (is_bash_insertable [] Double (codes "!bang") ≡ false)
     × (is_bash_insertable (codes "img:") Bare (codes "img:1.2") ≡ true)
     × (is_bash_insertable (codes "img:") Bare (codes "im:1.2") ≡ false)
-    -- what is kept is written already: the quote that is open has to hold only the rest
+    -- the kept part is in the line already, so the open quote has to hold only the rest
     × (is_bash_insertable (codes "it's:") Single (codes "it's:1") ≡ true)
     × (is_fish_insertable (codes "~/x") ≡ true)
     × (is_fish_insertable (codes "~root") ≡ false)
@@ -79,7 +79,7 @@ bash_replies :
     ≡ codes "x$(touch hit)\na b\n!bang\n~/x y\n~root\n-dash\n")
     × (bash_words_reply [] Double hostile
     ≡ codes "x\\$(touch hit)\na b\nit's\n~/x y\n~root\n-dash\n")
-    -- what bash keeps is not written again
+    -- the part that bash keeps is not written again
     × (bash_words_reply (codes "img:") Bare
     (new_candidate (codes "img:1.2") ∷ new_candidate (codes "img:~/x") ∷ new_candidate (codes "other") ∷ [])
     ≡ codes "1.2\n\\~/x\n")
@@ -112,7 +112,7 @@ bash_reads :
 unfolding bash_line_word bare_word_read bare_read double_read single_read word_read after
 bash_reads = (refl, refl, refl, refl, refl, refl, refl, refl, refl, refl, refl, refl, refl, refl, refl, refl, refl, refl, refl, refl, refl)
 
--- ---- helps, and shells that quote by themselves
+-- ---- help texts, and shells that quote by themselves
 
 abbrev shown_ones : List CompletionCandidate
 shown_ones =

@@ -1,4 +1,4 @@
--- The lines of a safe reply are read as what they were written for.
+-- The lines of a safe reply are read back as the items for which they were written.
 use Rattle.std.proofs.Common.{◌≡◌, ◌==◌, ◌&&◌, ℕ, Bool, true, false, cond, not, List, [], ◌∷◌, ◌++◌, Option, Some, None, map, filter, flat_map, codes, refl, sym, ◌∙◌, ap, ap₂, append_assoc}
 use Rattle.std.proofs.lemmas.Bool.{and_parts, ne_eqb, or_parts}
 use Rattle.std.proofs.lemmas.List.{map-id}
@@ -18,7 +18,7 @@ use Rattle.cc_replies.proofs.ReplyReadings.{IsHelpWithout, body_read, colon_help
 
 -- ---- a reply of lines
 
--- a line, without its line feed, is read as something
+-- a line without its line feed, and what it is read as
 pub record ReadsLine {A : Type 0} (read : List ℕ → A) (line : List ℕ) (says : A) : Type 0 where
   pub body : List ℕ
   pub whole : line ≡ body ++ codes "\n"
@@ -26,7 +26,7 @@ pub record ReadsLine {A : Type 0} (read : List ℕ → A) (line : List ℕ) (say
   pub reads : read body ≡ says
 
 module _ {A C : Type 0} (read : List ℕ → A) (says : C → A) (test : C → Bool) (line : C → List ℕ) (each : (item : C) → test item ≡ true → ReadsLine read (line item) (says item)) where
-  -- so a line for each item that passes is
+  -- so there is a line for each item that passes
   pub lines_back : (items : List C) → map read (lines_from [] (flat_map line (filter test items))) ≡ map says (filter test items)
   unfolding lines_from
   lines_back [] = refl
@@ -68,7 +68,7 @@ uncontrolled_without special is text h =
 pub safe_without : (special : ℕ) → is_ascii_control special ≡ true → (text : List ℕ) → is_safe_text text ≡ true → IsWithout special text
 safe_without special is text e = uncontrolled_without special is text (safe_uncontrolled text e)
 
--- the help that is shown is one line
+-- the help text that is shown is one line
 pub safe_help_without : (help : Option (List ℕ)) → IsHelpWithout line_feed (safe_help help)
 unfolding safe_help
 safe_help_without None = tt
@@ -95,7 +95,7 @@ unfolding tab_help
 tab_help_without None h = tt
 tab_help_without (Some help) h = (refl, h)
 
--- what is listed of a candidate with a safe value
+-- the entry to list for a candidate with a safe value
 pub listed_line : (candidate : CompletionCandidate) → is_safe_text candidate.value ≡ true → ReadsLine line_shown (safe_line candidate) (safe_shown candidate)
 unfolding shown_line
 listed_line candidate e = record {

@@ -1,4 +1,4 @@
--- What bash inserts into its line, and how bash reads it there.
+-- The text that bash inserts into its line, and how bash reads it there.
 use Rattle.std.specs.Prelude.{◌≡◌, ℕ, Bool, true, false, not, ◌&&◌, ◌||◌, ◌==◌, List, [], ◌∷◌, ◌++◌, Option, Some, None, bytes_eq, codes, filter, flat_map, if◌then◌else◌, map, option_map}
 use Rattle.std.specs.Char.{is_ascii, is_ascii_alphanumeric}
 use Rattle.std.specs.List.{list_any}
@@ -12,31 +12,32 @@ use Rattle.cc_replies.specs.SafeValues.{is_safe_text}
 pub use Rattle.cc_replies.specs.declared.bash_words.OpenQuote.{OpenQuote}
 pub use Rattle.cc_replies.specs.declared.bash_words.OpenQuote.TheVariants.{Bare, Single, Double}
 
--- `!`
+-- the byte `!`
 abbrev pub exclamation : ℕ
 exclamation = 33
 
--- the quote of this text: `'`, `"`, or none
+-- the quote that the text names: `'`, `"`, or none
 abbrev pub open_quote : List ℕ → OpenQuote
 open_quote text =
     if bytes_eq text (codes "'") then Single
     else (if bytes_eq text (codes "\"") then Double else Bare)
 
--- the home folder, at the start of a word
+-- the home directory, at the start of a word
 abbrev pub home_start : List ℕ
 home_start = codes "~/"
 
--- ---- how bash reads what follows the part that it keeps
+-- ---- how bash reads the text after the part that it keeps
 
--- bash takes the byte as itself in a bare word: an ASCII letter or digit, one of these, or a byte
--- of a character that is not ASCII
+-- In a bare word, bash reads the byte as itself: an ASCII letter or digit, one of these, or a byte
+-- of a character that is not ASCII.
 abbrev pub is_bare_byte : ℕ → Bool
 is_bare_byte byte =
     is_ascii_alphanumeric byte || list_any (λ plain. byte == plain) (codes "_./:@%+=,-")
     || not (is_ascii byte)
 
--- a word, after a backslash or after none: which bytes stand for themselves, and which may follow a
--- backslash; none where another byte occurs, or where a backslash is last
+-- The word that a text spells, given whether a backslash precedes it, which bytes stand for
+-- themselves, and which may follow a backslash. There is none if another byte occurs, or if a
+-- backslash is last.
 unfoldable pub word_read : (ℕ → Bool) → (ℕ → Bool) → Bool → List ℕ → Option (List ℕ)
 word_read is_kept is_escaped false [] = Some []
 word_read is_kept is_escaped true [] = None
@@ -52,28 +53,28 @@ word_read is_kept is_escaped false (byte ∷ line) = elim (byte == ascii.backsla
   ]
 ]
 
--- bare: a backslash and a line feed are nothing to bash
+-- bare: bash removes a backslash together with the line feed after it
 abbrev pub is_bare_escaped : ℕ → Bool
 is_bare_escaped byte = not (byte == ascii.line_feed)
 
 unfoldable pub bare_read : List ℕ → Option (List ℕ)
 bare_read line = word_read is_bare_byte is_bare_escaped false line
 
--- a bare word from its start, where `~/` is itself
+-- a bare word from its start, where `~/` stands for itself
 unfoldable pub bare_word_read : List ℕ → Option (List ℕ)
 bare_word_read line = elim (after home_start line) [
   | Some rest ↦ option_map (λ word. home_start ++ word) (bare_read rest)
   | None ↦ bare_read line
 ]
 
--- between `"`: neither a `"` nor what bash replaces there
+-- between `"`: neither a `"` nor a byte that bash replaces there
 abbrev pub is_double_kept : ℕ → Bool
 is_double_kept byte = not (is_double_marked byte || byte == exclamation)
 
 unfoldable pub double_read : List ℕ → Option (List ℕ)
 double_read line = word_read is_double_kept is_double_marked false line
 
--- between `'`: any byte but a `'`
+-- between `'`: any byte except `'`
 unfoldable pub single_read : List ℕ → Option (List ℕ)
 single_read [] = Some []
 single_read (byte ∷ line) = elim (byte == ascii.single_quote) [
@@ -81,17 +82,17 @@ single_read (byte ∷ line) = elim (byte == ascii.single_quote) [
   | false ↦ option_map (λ word. byte ∷ word) (single_read line)
 ]
 
--- what bash reads from a line that it inserts after the part that it keeps, in the quote that is
--- open there; none where it would take a byte for anything but a part of the word
+-- The text that bash reads from a line after the part that it keeps, in the quote that is open
+-- there. There is none if bash would read a byte as anything but a part of the word.
 unfoldable pub bash_line_word : List ℕ → OpenQuote → List ℕ → Option (List ℕ)
 bash_line_word kept Single line = single_read line
 bash_line_word kept Double line = double_read line
 bash_line_word [] Bare line = bare_word_read line
 bash_line_word (_ ∷ _) Bare line = bare_read line
 
--- ---- what is written
+-- ---- the text that is written
 
--- what is after a backslash in a bare word
+-- a byte that follows a backslash in a bare word
 abbrev pub is_bare_marked : ℕ → Bool
 is_bare_marked byte = list_any (λ special. byte == special) (codes " !\"#$&'()*;<>?[\\]^`{|}~")
 
@@ -102,12 +103,12 @@ start_text word = elim (after home_start word) [
   | None ↦ marked is_bare_marked word
 ]
 
--- what follows the part that bash keeps, in a bare word
+-- the text after the part that bash keeps, in a bare word
 unfoldable pub bare_text : List ℕ → List ℕ → List ℕ
 bare_text [] rest = start_text rest
 bare_text (_ ∷ _) rest = marked is_bare_marked rest
 
--- what follows the part that bash keeps, in the quote that is open there
+-- the text after the part that bash keeps, in the quote that is open there
 unfoldable pub bash_text : List ℕ → OpenQuote → List ℕ → List ℕ
 bash_text kept Bare rest = bare_text kept rest
 bash_text kept Single rest = rest
@@ -120,8 +121,8 @@ bash_word_line kept quote value = elim (after kept value) [
   | None ↦ []
 ]
 
--- the text can be written in the quote that is open: `'` ends `'`, and between `"` nothing keeps
--- bash from replacing `!`
+-- The text can be written in the open quote: a `'` would end `'`, and between `"` nothing keeps
+-- bash from replacing `!`.
 abbrev pub holds : OpenQuote → List ℕ → Bool
 holds Bare rest = true
 holds Single rest = is_without ascii.single_quote rest
@@ -131,8 +132,8 @@ abbrev pub holds_rest : OpenQuote → Option (List ℕ) → Bool
 holds_rest quote None = false
 holds_rest quote (Some rest) = holds quote rest
 
--- the value has a byte, no control character, begins with the part that bash keeps, and what
--- follows that can be written in the quote that is open
+-- The value has a byte and no control character, and begins with the part that bash keeps. The text
+-- after that part can be written in the open quote.
 abbrev pub is_bash_insertable : List ℕ → OpenQuote → List ℕ → Bool
 is_bash_insertable kept quote value = is_safe_text value && holds_rest quote (after kept value)
 
@@ -144,7 +145,7 @@ bash_words_reply kept quote candidates =
 
 -- ---- the law
 
--- what bash keeps, and what it reads from each line after that, is each such value
+-- the part that bash keeps and the text that it reads from each line are together each such value
 unfoldable pub BashWordsRead : List ℕ → OpenQuote → List CompletionCandidate → Type 0
 BashWordsRead kept quote candidates =
     map (λ line. option_map (λ rest. kept ++ rest) (bash_line_word kept quote line))

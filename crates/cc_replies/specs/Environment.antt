@@ -1,4 +1,4 @@
--- Values of environment variables, the index of a word, and the separator of a reply.
+-- Environment variables, the index of a word, and the separator of a reply.
 use Rattle.std.specs.Prelude.{◌≡◌, ◌<◌, ◌^◌, ℕ, List, Option, Some, None}
 use Rattle.std.specs.Prelude.{Bool, codes, find, is_some, option_map, unwrap_or}
 use Rattle.std.specs.String.{string_bytes}
@@ -8,7 +8,7 @@ use Rattle.cc_replies.specs.BashWords.{open_quote}
 use Rattle.cc_replies.specs.declared.bash_words.OpenQuote.{OpenQuote}
 pub use Rattle.cc_replies.specs.declared.environment.EnvValues.{EnvValues}
 
--- the value of the first variable of a name
+-- the value of the first variable with a name
 abbrev pub value_of : List ℕ → EnvValues → Option (List ℕ)
 value_of name env =
     option_map (λ v. string_bytes v.1) (find (λ v. bytes_eq (string_bytes v.0) name) env.variables)
@@ -18,34 +18,34 @@ value_of name env =
 abbrev pub index_name : List ℕ
 index_name = codes "_CLAP_COMPLETE_INDEX"
 
--- digits, with one `+` before them at most, that write a `usize`
+-- digits after at most one `+`, whose number fits in a `usize`
 abbrev pub WritesIndex : List ℕ → Type 0
 WritesIndex text = IsNumeral 10 (without_leading_plus text)
     × (digits_value 10 (without_leading_plus text) < 2 ^ 64)
 
--- the number that a text writes, and 0 where it writes none
+-- the number that a text spells, or 0 if it spells none
 pub record IsNumberOf (text : List ℕ) (index : ℕ) : Type 0 where
   pub number : WritesIndex text → index ≡ digits_value 10 (without_leading_plus text)
   pub other : (WritesIndex text → ⊥) → index ≡ 0
 
--- the same of a value that may be missing
+-- the same for a value that may be missing
 abbrev pub IsIndex : Option (List ℕ) → ℕ → Type 0
 IsIndex None index = index ≡ 0
 IsIndex (Some text) index = IsNumberOf text index
 
 -- ---- the separator
 
--- what is between values
+-- the text between values
 abbrev pub separator_of : EnvValues → List ℕ
 separator_of env = unwrap_or (value_of (codes "_CLAP_IFS") env) (codes "\n")
 
--- ---- what the safe registrations pass on
+-- ---- the variables that the safe registrations set
 
--- whether one of them asks
+-- the request comes from one of them
 abbrev pub asks_safely : EnvValues → Bool
 asks_safely env = is_some (value_of (codes "_COMPLGEN_VALUES") env)
 
--- what bash keeps of the word
+-- the part of the word that bash keeps
 abbrev pub kept_of : EnvValues → List ℕ
 kept_of env = unwrap_or (value_of (codes "_COMPLGEN_KEPT") env) (codes "")
 

@@ -1,4 +1,5 @@
--- The reply to PowerShell: what it inserts into its line, and how it reads it there.
+-- The reply to PowerShell: the text that it inserts into its line, and how it reads that text
+-- there.
 use Rattle.std.specs.Prelude.{◌≡◌, ℕ, Bool, true, false, not, ◌&&◌, ◌||◌, ◌==◌, List, [], ◌∷◌, ◌++◌, Option, Some, None, codes, filter, flat_map, map, option_map}
 use Rattle.std.specs.Char.{is_ascii_alphanumeric}
 use Rattle.std.specs.List.{list_all, list_any}
@@ -11,35 +12,36 @@ use Rattle.cc_replies.specs.SafeValues.{is_found, is_safe_text, safe_shown}
 
 -- ---- how PowerShell reads a word
 
--- PowerShell takes the byte as itself in a bare word: an ASCII letter or digit, or one of these
+-- in a bare word, PowerShell reads the byte as itself: an ASCII letter or digit, or one of these
 abbrev pub is_powershell_byte : ℕ → Bool
 is_powershell_byte byte =
     is_ascii_alphanumeric byte || list_any (λ plain. byte == plain) (codes "_-/=:+.")
 
--- a parameter's name ends before a `.` or a `:`
+-- the name of a parameter ends before a `.` or a `:`
 abbrev pub is_splitting : ℕ → Bool
 is_splitting byte = byte == 46 || byte == colon
 
--- the word is taken for a parameter and its argument
+-- PowerShell takes the word for a parameter with its argument
 abbrev pub is_split_parameter : List ℕ → Bool
 is_split_parameter [] = false
 is_split_parameter (byte ∷ rest) = byte == dash && list_any is_splitting rest
 
--- a bare word: some bytes that are themselves, and no parameter that is taken apart
+-- a bare word: at least one byte, all of which stand for themselves, and no parameter with its
+-- argument
 abbrev pub is_powershell_bare : List ℕ → Bool
 is_powershell_bare [] = false
 is_powershell_bare (byte ∷ word) =
     list_all is_powershell_byte (byte ∷ word) && not (is_split_parameter (byte ∷ word))
 
--- U+2018, U+201A or U+201B begins, which PowerShell takes for a `'` too: three bytes, of which the
--- first two are those of U+2019
+-- U+2018, U+201A or U+201B begins here, which PowerShell treats as `'` too: three bytes, the first
+-- two as in U+2019
 abbrev pub begins_other_quote : ℕ → List ℕ → Bool
 begins_other_quote byte (second ∷ third ∷ rest) =
     byte == right_quote_first && second == right_quote_second
     && (third == 152 || third == 154 || third == 155)
 begins_other_quote byte _ = false
 
--- what a word between quotes says, where nothing is after it, and none of these is in it
+-- the text of a quoted word, if nothing follows it and none of these characters is in it
 unfoldable pub quoted_whole : Option (List ℕ × List ℕ) → Option (List ℕ)
 quoted_whole (Some (value, [])) = elim (is_found begins_other_quote value) [
   | true ↦ None
@@ -47,8 +49,8 @@ quoted_whole (Some (value, [])) = elim (is_found begins_other_quote value) [
 ]
 quoted_whole _ = None
 
--- what a word of the line says: one between quotes, or a bare one; none where PowerShell would take
--- a byte for anything but a part of the word
+-- The text of a word in the line, quoted or bare. There is none if PowerShell would read a byte as
+-- anything but a part of the word.
 unfoldable pub powershell_typed : List ℕ → Option (List ℕ)
 powershell_typed [] = None
 powershell_typed (byte ∷ word) = elim (byte == single_quote) [
@@ -59,7 +61,8 @@ powershell_typed (byte ∷ word) = elim (byte == single_quote) [
   ]
 ]
 
--- what is read from a line of the reply: what the word up to the first tab says, and what is listed
+-- the content of a line of the reply: the text of the word before the first tab, and the entry to
+-- list
 pub record Inserted : Type 0 where
   pub typed : List ℕ
   pub listed : Shown
@@ -72,16 +75,16 @@ inserted_from (Some (word, rest)) =
 unfoldable pub powershell_line_read : List ℕ → Option Inserted
 powershell_line_read line = inserted_from (cut_at (tab ∷ []) line)
 
--- ---- what is written
+-- ---- the text that is written
 
--- a value as a word: bare, or between quotes
+-- a value as a word, bare or quoted
 unfoldable pub powershell_word : List ℕ → List ℕ
 powershell_word value = elim (is_powershell_bare value) [
   | true ↦ value
   | false ↦ codes "'" ++ powershell_escaped value ++ codes "'"
 ]
 
--- the word, and what is listed
+-- the word, and the entry to list
 unfoldable pub powershell_line : Shown → List ℕ
 powershell_line item = powershell_word item.value ++ codes "\t" ++ shown_line item
 
@@ -97,7 +100,8 @@ powershell_words_reply candidates =
 
 -- ---- the law
 
--- what is inserted and listed of each such candidate is its value, and what is shown of it
+-- PowerShell inserts the value of each such candidate, and lists the value with the help that is
+-- shown
 abbrev pub inserted : CompletionCandidate → Inserted
 inserted candidate = record { typed = candidate.value; listed = safe_shown candidate }
 

@@ -1,4 +1,4 @@
--- Replies: the candidates as a shell reads them, and how a reply is read.
+-- Replies: the candidates as the shells read them, and how a reply is read.
 use Rattle.std.specs.Prelude.{◌≡◌, ◌&&◌, ℕ, Bool, true, false, not, IsTrue, List, [], ◌∷◌, ◌++◌, ◌==◌, Option, Some, None, length, map, flat_map, option_map, codes}
 use Rattle.std.specs.List.{list_all}
 use Rattle.cc_base.specs.Bytes.{backslash, colon, line_feed, tab}
@@ -18,15 +18,15 @@ without_return [] = []
 without_return (byte ∷ []) = elim (byte == carriage_return) [ true ↦ [] | false ↦ byte ∷ [] ]
 without_return (byte ∷ next ∷ line) = byte ∷ without_return (next ∷ line)
 
--- what is before the first line feed, and before a carriage return right before it; all, where
--- there is no line feed
+-- The text before the first line feed, without a carriage return directly before that. Without a
+-- line feed, the whole text.
 unfoldable pub first_line : List ℕ → List ℕ
 first_line text = elim (cut_at (line_feed ∷ []) text) [
   | Some (line, rest) ↦ without_return line
   | None ↦ text
 ]
 
--- what a reply has of a candidate: its value and the first line of its help
+-- the part of a candidate that is in a reply: its value and the first line of its help text
 pub record Shown : Type 0 where
   pub value : List ℕ
   pub help : Option (List ℕ)
@@ -36,16 +36,16 @@ shown candidate = record { value = candidate.value; help = option_map first_line
 
 -- ---- the texts
 
--- values alone, joined
+-- only the values, joined
 abbrev pub values_reply : List ℕ → List CompletionCandidate → List ℕ
 values_reply between candidates = joined between (map (λ candidate. candidate.value) candidates)
 
--- a help after a colon
+-- a help text after a colon
 unfoldable pub colon_help : Option (List ℕ) → List ℕ
 colon_help None = []
 colon_help (Some help) = codes ":" ++ zsh_replied_help help
 
--- a value, and its help after a colon
+-- a value, and its help text after a colon
 unfoldable pub zsh_item : Shown → List ℕ
 zsh_item item = zsh_replied_value item.value ++ colon_help item.help
 
@@ -54,12 +54,12 @@ abbrev pub zsh_reply : List ℕ → List CompletionCandidate → List ℕ
 zsh_reply between candidates =
     joined between (map (λ candidate. zsh_item (shown candidate)) candidates)
 
--- a help after a tab
+-- a help text after a tab
 unfoldable pub tab_help : Option (List ℕ) → List ℕ
 tab_help None = []
 tab_help (Some help) = codes "\t" ++ help
 
--- a line of a value, and its help after a tab
+-- a line with a value, and its help text after a tab
 unfoldable pub shown_line : Shown → List ℕ
 shown_line item = item.value ++ tab_help item.help ++ codes "\n"
 
@@ -77,8 +77,8 @@ unfoldable pub values_read : ℕ → List ℕ → List (List ℕ)
 values_read separator [] = []
 values_read separator (byte ∷ text) = pieces_from separator [] (byte ∷ text)
 
--- a value, up to the first colon that no backslash escapes, and a help after it; without the
--- backslashes
+-- A value, up to the first colon without a backslash before it, and a help text after that colon,
+-- both without the backslashes.
 unfoldable pub shown_from : List ℕ → List Mark → Option Shown
 shown_from value [] = Some (record { value = value; help = None })
 shown_from value (unended ∷ rest) = None
@@ -88,11 +88,11 @@ shown_from value (kept byte ∷ rest) = elim (byte == colon) [
   | false ↦ shown_from (value ++ byte ∷ []) rest
 ]
 
--- what is read from a reply to zsh, piece by piece
+-- the items of a reply to zsh, piece by piece
 unfoldable pub zsh_read : ℕ → List ℕ → List (Option Shown)
 zsh_read separator text = map (λ piece. shown_from [] (marks piece)) (values_read separator text)
 
--- the lines that end in a line feed, after the one that is begun
+-- the lines that end in a line feed, where `line` is the line so far
 unfoldable pub lines_from : List ℕ → List ℕ → List (List ℕ)
 lines_from line [] = []
 lines_from line (byte ∷ text) = elim (byte == line_feed) [
@@ -100,20 +100,20 @@ lines_from line (byte ∷ text) = elim (byte == line_feed) [
   | false ↦ lines_from (line ++ byte ∷ []) text
 ]
 
--- a value, up to the first tab, and a help after it
+-- a value, up to the first tab, and a help text after it
 unfoldable pub line_shown : List ℕ → Shown
 line_shown line = elim (cut_at (tab ∷ []) line) [
   | Some (value, help) ↦ record { value = value; help = Some help }
   | None ↦ record { value = line; help = None }
 ]
 
--- what is read from a reply to fish or PowerShell, line by line
+-- the items of a reply to fish or PowerShell, line by line
 unfoldable pub lines_read : List ℕ → List Shown
 lines_read text = map line_shown (lines_from [] text)
 
--- ---- what replies are read as
+-- ---- conditions under which replies are read back
 
--- none of a text's bytes is this one
+-- the text does not contain this byte
 abbrev pub is_without : ℕ → List ℕ → Bool
 is_without special text = list_all (λ byte. not (byte == special)) text
 
@@ -121,44 +121,45 @@ abbrev pub is_help_without : ℕ → Option (List ℕ) → Bool
 is_help_without special None = true
 is_help_without special (Some help) = is_without special help
 
--- the value has a byte, and none that is the separator
+-- the value has a byte, and does not contain the separator
 abbrev pub is_readable_value : ℕ → List ℕ → Bool
 is_readable_value separator value = not (length value == 0) && is_without separator value
 
--- so has each of these
+-- each value is such
 abbrev pub are_readable_values : ℕ → List CompletionCandidate → Bool
 are_readable_values separator candidates =
     list_all (λ candidate. is_readable_value separator candidate.value) candidates
 
--- so has the value, and the first line of the help does not have the separator
+-- the value is such, and the first line of the help text does not contain the separator
 abbrev pub is_readable_zsh_item : ℕ → Shown → Bool
 is_readable_zsh_item separator item =
     is_readable_value separator item.value && is_help_without separator item.help
 
--- the separator is neither the colon nor the backslash of such items, and each of these is so
+-- the separator is neither the colon nor the backslash of such items, and each item is such
 abbrev pub are_readable_zsh_items : ℕ → List CompletionCandidate → Bool
 are_readable_zsh_items separator candidates =
     not (separator == colon) && not (separator == backslash)
     && list_all (λ candidate. is_readable_zsh_item separator (shown candidate)) candidates
 
--- the value has neither a line feed nor a tab
+-- the value contains neither a line feed nor a tab
 abbrev pub is_readable_line : List ℕ → Bool
 is_readable_line value = is_without line_feed value && is_without tab value
 
--- so it is of each of these
+-- each value is such
 abbrev pub are_readable_lines : List CompletionCandidate → Bool
 are_readable_lines candidates = list_all (λ candidate. is_readable_line candidate.value) candidates
 
 -- ---- the laws
 
--- with one byte between values, the reply is read as the values
+-- with one byte between values, the reply is read back as the values
 unfoldable pub ValuesRead : List ℕ → List CompletionCandidate → Type 0
 ValuesRead between candidates =
     (separator : ℕ) → between ≡ separator ∷ [] → IsTrue (are_readable_values separator candidates)
     → values_read separator (values_reply between candidates)
     ≡ map (λ candidate. candidate.value) candidates
 
--- with one byte between items, the reply is read as the values and the first lines of the helps
+-- with one byte between items, the reply is read back as the values and the first lines of the help
+-- texts
 unfoldable pub ZshReplyRead : List ℕ → List CompletionCandidate → Type 0
 ZshReplyRead between candidates =
     (separator : ℕ) → between ≡ separator ∷ []

@@ -1,5 +1,5 @@
--- The replies to shells that quote what they insert: lines, without what the shell would take for
--- anything else.
+-- The replies to shells that quote what they insert: lines without anything that the shell would
+-- interpret.
 use Rattle.std.specs.Prelude.{◌≡◌, ℕ, Bool, true, false, not, ◌&&◌, ◌||◌, ◌==◌, List, [], ◌∷◌, ◌++◌, Some, codes, filter, flat_map, map}
 use Rattle.cc_candidates.specs.declared.candidate.CompletionCandidate.{CompletionCandidate}
 use Rattle.cc_quote.specs.ZshQuote.{marks}
@@ -22,10 +22,10 @@ SafeValuesRead candidates =
     ≡ map (λ candidate. candidate.value)
     (filter (λ candidate. is_safe_text candidate.value) candidates)
 
--- ---- fish: values, each with its help after a tab
+-- ---- fish: values, each with its help text after a tab
 
--- what follows a `~` that a value begins with is a `/`; fish quotes no `~` there, and reads `~root`
--- as the home folder of `root`
+-- A `/` follows the `~` at the start of a value. fish does not quote that `~`, and reads `~root` as
+-- the home directory of `root`.
 abbrev pub begins_slash : List ℕ → Bool
 begins_slash [] = false
 begins_slash (byte ∷ rest) = byte == 47
@@ -45,13 +45,13 @@ abbrev pub safe_lines_reply : List CompletionCandidate → List ℕ
 safe_lines_reply candidates =
     flat_map safe_line (filter (λ candidate. is_fish_insertable candidate.value) candidates)
 
--- it is read as those values and their helps
+-- it is read back as those values and their help texts
 unfoldable pub SafeLinesRead : List CompletionCandidate → Type 0
 SafeLinesRead candidates =
     lines_read (safe_lines_reply candidates)
     ≡ map safe_shown (filter (λ candidate. is_fish_insertable candidate.value) candidates)
 
--- ---- zsh: values, each with its help after a colon
+-- ---- zsh: values, each with its help text after a colon
 
 abbrev pub safe_zsh_line : CompletionCandidate → List ℕ
 safe_zsh_line candidate = zsh_item (safe_shown candidate) ++ codes "\n"
@@ -60,7 +60,7 @@ abbrev pub safe_zsh_reply : List CompletionCandidate → List ℕ
 safe_zsh_reply candidates =
     flat_map safe_zsh_line (filter (λ candidate. is_safe_text candidate.value) candidates)
 
--- each of its lines is read as such a value and its help
+-- each of its lines is read back as such a value and its help text
 unfoldable pub SafeZshRead : List CompletionCandidate → Type 0
 SafeZshRead candidates =
     map (λ line. shown_from [] (marks line)) (lines_from [] (safe_zsh_reply candidates))

@@ -1,11 +1,11 @@
--- What a line of a reply can hold: texts without control characters.
+-- The texts that a line of a reply can contain: those without control characters.
 use Rattle.std.specs.Prelude.{ℕ, Bool, false, not, ◌&&◌, ◌||◌, ◌==◌, List, [], ◌∷◌, Option, Some, None, length, if◌then◌else◌}
 use Rattle.std.specs.Char.{is_ascii_control}
 use Rattle.std.specs.Int.{is_in_range}
 use Rattle.cc_candidates.specs.declared.candidate.CompletionCandidate.{CompletionCandidate}
 use Rattle.cc_replies.specs.Reply.{Shown, first_line}
 
--- whether something begins at a byte of a text, as a test of that byte and of what follows it says
+-- something begins at one byte of the text, by a test of that byte and of the text after it
 abbrev pub is_found : (ℕ → List ℕ → Bool) → List ℕ → Bool
 is_found begins [] = false
 is_found begins (byte ∷ rest) = begins byte rest || is_found begins rest
@@ -15,19 +15,19 @@ abbrev pub ends_control : List ℕ → Bool
 ends_control [] = false
 ends_control (byte ∷ rest) = is_in_range 128 159 byte
 
--- a control character begins: below U+0020, U+007F, or from U+0080 to U+009F
+-- a control character begins here: below U+0020, U+007F, or from U+0080 to U+009F
 abbrev pub begins_control : ℕ → List ℕ → Bool
 begins_control byte rest = is_ascii_control byte || byte == 194 && ends_control rest
 
--- it has a byte, and no control character
+-- the text has a byte, and no control character
 abbrev pub is_safe_text : List ℕ → Bool
 is_safe_text text = not (length text == 0) && not (is_found begins_control text)
 
--- the help that is shown: the first line, where that is such a text
+-- the help text that is shown: its first line, if that is such a text
 unfoldable pub safe_help : Option (List ℕ) → Option (List ℕ)
 safe_help None = None
 safe_help (Some help) = if is_safe_text (first_line help) then Some (first_line help) else None
 
--- what a reply has of a candidate: its value and that help
+-- the part of a candidate that is in a safe reply: its value and that line
 abbrev pub safe_shown : CompletionCandidate → Shown
 safe_shown candidate = record { value = candidate.value; help = safe_help candidate.help }

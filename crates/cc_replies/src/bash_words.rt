@@ -1,4 +1,4 @@
-//! The reply to bash: values as bash's line takes them. bash inserts what it is passed as it is.
+//! The reply to bash: values as they appear in bash's line. bash inserts each of them unchanged.
 
 ghost use Rattle.std.specs.Prelude.{◌≡◌, IfErr};
 ghost use Rattle.std.specs.Option.{option_copied};
@@ -16,7 +16,7 @@ use cc_candidates::CompletionCandidate;
 use cc_quote::{BashDouble, ByteEscape, put_escaped};
 use std::io::ErrorKind;
 
-/// The quote that is open in bash's line where a word is completed.
+/// The quote that is open in bash's line where the word is completed.
 #[derive(Clone, Copy, PartialEq, Eq, Debug)]
 pub enum OpenQuote {
     /// No quote is open.
@@ -28,7 +28,7 @@ pub enum OpenQuote {
 }
 
 impl OpenQuote {
-    /// Returns the quote of this text, which is `'` or `"`. For any other text, no quote is open.
+    /// Returns the quote that `text` names, `'` or `"`. For any other text, no quote is open.
     pub fn of(text: &str) -> OpenQuote
         ensures { result ≡ open_quote text.now }
     {
@@ -40,8 +40,8 @@ impl OpenQuote {
     }
 }
 
-/// Writes a line for each value that bash can insert: what follows the part that bash keeps,
-/// escaped for the quote that is open.
+/// Writes a line for each value that bash can insert. The line contains the value without the part
+/// `kept`, which bash keeps, escaped for the open `quote`.
 ///
 /// Leaves out a value that is empty, has a control character, does not begin with the part that
 /// bash keeps, or cannot be written in the open quote: a `'` after `'`, a `!` after `"`.
@@ -107,7 +107,7 @@ fn holds(quote: OpenQuote, rest: &str) -> bool
     }
 }
 
-// What follows this beginning of a text; `None` where the text begins otherwise.
+// Returns the text after `beginning`, or `None` if the text does not begin with it.
 fn rest_after<'a>(beginning: &str, text: &'a str) -> Option<&'a str>
     ensures { option_copied result ≡ after beginning.now text.now }
 {
@@ -159,7 +159,7 @@ fn put_bare<W: Sink>(sink: &mut W, kept: &str, rest: &str) -> Result<(), ErrorKi
     put_escaped(sink, &BashBare, rest)
 }
 
-// A word from its start, where bash takes `~/` for the home folder.
+// Writes a word from its start, where bash reads `~/` as the home directory.
 #[tactic(auto, unfolding(crate::specs::BashWords::start_text))]
 fn put_word_start<W: Sink>(sink: &mut W, word: &str) -> Result<(), ErrorKind>
     ensures { Writes W.taken W.failed (as_write result) sink.old sink.new
@@ -172,8 +172,8 @@ fn put_word_start<W: Sink>(sink: &mut W, word: &str) -> Result<(), ErrorKind>
     put_escaped(sink, &BashBare, below)
 }
 
-// A backslash before each byte that bash does not take as itself in a bare word, but for control
-// characters, which no value has here.
+// Puts a backslash before each byte that bash does not read as itself in a bare word. Control
+// characters get none, because no value has them here.
 struct BashBare;
 
 impl ByteEscape for BashBare {

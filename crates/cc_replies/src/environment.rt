@@ -1,4 +1,4 @@
-//! Values of environment variables, as the caller passes them.
+//! Environment variables as the program receives them.
 
 ghost use Rattle.std.specs.Prelude.{◌≡◌};
 ghost use Rattle.std.specs.Option.{option_copied};
@@ -11,14 +11,14 @@ ghost use Rattle.cc_replies.specs.Environment.{separator_of, value_of, IsIndex, 
 use crate::bash_words::OpenQuote;
 use cc_base::Items;
 
-/// Values of environment variables.
+/// The names and values of environment variables.
 #[derive(Drop, Debug)]
 pub struct EnvValues {
     variables: Items<(String, String)>,
 }
 
 impl EnvValues {
-    /// These variables, each a name and a value.
+    /// Creates the values from `variables`, pairs of a name and a value.
     pub fn new(variables: Vec<(String, String)>) -> EnvValues
         ensures { result.variables ≡ variables.items }
     {
@@ -27,7 +27,7 @@ impl EnvValues {
         }
     }
 
-    /// The value of the first variable of this name.
+    /// Returns the value of the first variable with this `name`.
     pub fn get(&self, name: &str) -> Option<&str>
         ensures { option_copied result ≡ value_of name.now self.now }
     {
@@ -45,8 +45,9 @@ impl EnvValues {
             .find(|variable| is_named(variable, name))
     }
 
-    /// The index of the word to complete, the value of `_CLAP_COMPLETE_INDEX`: digits, with one `+`
-    /// in front at most, that write a `usize`; else 0.
+    /// Returns the index of the word to complete: the number in `_CLAP_COMPLETE_INDEX`, which
+    /// consists of digits after at most one `+`. Returns 0 if there is no such number, or if it
+    /// does not fit in a `usize`.
     pub fn index(&self) -> usize
         ensures { IsIndex (value_of index_name self.now) result }
     {
@@ -56,29 +57,31 @@ impl EnvValues {
         number(text)
     }
 
-    /// What is between the values of a reply: that of `_CLAP_IFS`, else a line feed.
+    /// Returns the separator between the values of a reply: the value of `_CLAP_IFS`, or else a
+    /// line feed.
     pub fn separator(&self) -> &str
         ensures { result.now ≡ separator_of self.now }
     {
         self.get("_CLAP_IFS").unwrap_or("\n")
     }
 
-    /// Whether a safe registration asks, which sets `_COMPLGEN_VALUES`.
+    /// Returns whether the request comes from a safe registration, which sets `_COMPLGEN_VALUES`.
     pub fn asks_safely(&self) -> bool
         ensures { result ≡ asks_safely self.now }
     {
         self.get("_COMPLGEN_VALUES").is_some()
     }
 
-    /// Returns the part of the word that bash keeps: the value of `_COMPLGEN_KEPT`, else nothing.
+    /// Returns the part of the word that bash keeps: the value of `_COMPLGEN_KEPT`, or else an
+    /// empty text.
     pub fn kept(&self) -> &str
         ensures { result.now ≡ kept_of self.now }
     {
         self.get("_COMPLGEN_KEPT").unwrap_or("")
     }
 
-    /// Returns the quote that is open in bash's line, by the value of `_COMPLGEN_QUOTE`. No quote
-    /// is open if it is not set.
+    /// Returns the quote that is open in bash's line, by the value of `_COMPLGEN_QUOTE`. If the
+    /// variable is not set, no quote is open.
     pub fn open_quote(&self) -> OpenQuote
         ensures { result ≡ quote_of self.now }
     {
@@ -92,7 +95,7 @@ fn is_named(variable: &(String, String), name: &str) -> bool
     variable.0.as_str() == name
 }
 
-// The number that a text writes, and 0 where it writes none.
+// Returns the number that the text spells, or 0 if it spells none.
 fn number(text: &str) -> usize
     ensures { IsNumberOf text.now result }
 {

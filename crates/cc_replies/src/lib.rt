@@ -1,5 +1,15 @@
-//! Live completion: what a program asks of its system, values of environment variables, and the
-//! replies to shells.
+//! Talks to shells and to the system: the words and environment variables of a request, and the
+//! replies.
+//!
+//! ```rattle
+//! let mut candidates = Vec::new(alloc);
+//! candidates.push(CompletionCandidate::new(String::from_str(alloc, "run")?))?;
+//! let mut sink = Collected::new(alloc);
+//! write_safe_values(&mut sink, &candidates)?;
+//! let reply = sink.into_vec();
+//! ```
+//!
+//! The reply is now `run` and a line feed.
 #![tactic(auto)]
 
 mod bash_words;

@@ -1,5 +1,5 @@
-//! The reply to PowerShell: the word to insert, and what is listed. PowerShell inserts a word as it
-//! is passed.
+//! The reply to PowerShell: the word to insert and the entry to list. PowerShell inserts the word
+//! unchanged.
 
 ghost use Rattle.std.specs.Prelude.{◌≡◌, ◌<◌, ◌+◌, IfErr, drop, length, slice_index};
 ghost use Rattle.std.specs.List.{list_all, list_any};
@@ -20,11 +20,11 @@ use cc_quote::{PowershellEscape, put_escaped};
 use std::io::ErrorKind;
 
 /// Writes a line for each value that PowerShell can insert: the word to insert, a tab and the
-/// value. A second tab and the first line of the help follow, if that line is not empty and has no
-/// control character.
+/// value. If the first line of the help text is not empty and has no control character, a second
+/// tab and that line follow.
 ///
 /// Leaves out a value that is empty, has a control character, or contains U+2018, U+201A or U+201B,
-/// which PowerShell takes for quotes.
+/// which PowerShell treats as quotes.
 ///
 /// # Errors
 ///
@@ -101,7 +101,7 @@ fn has_other_quote(text: &[u8]) -> bool
     false
 }
 
-// Whether U+2018, U+201A or U+201B begins at the index.
+// Returns whether U+2018, U+201A or U+201B begins at the index.
 fn begins_other_quote_at(text: &[u8], at: usize) -> bool
     requires { at < length text.now }
     ensures { result ≡ begins_other_quote (slice_index text.now at) (drop (at + 1) text.now) }
@@ -127,7 +127,7 @@ fn is_powershell_byte(byte: u8) -> bool
     byte.is_ascii_alphanumeric() || matches!(byte, b'_' | b'-' | b'/' | b'=' | b':' | b'+' | b'.')
 }
 
-// Whether PowerShell takes the word for a parameter and its argument.
+// Returns whether PowerShell takes the word for a parameter with its argument.
 fn is_split_parameter(word: &[u8]) -> bool
     ensures { result ≡ is_split_parameter word.now }
 {
@@ -137,7 +137,7 @@ fn is_split_parameter(word: &[u8]) -> bool
     }
 }
 
-// Whether one of the bytes ends a parameter's name.
+// Returns whether one of the bytes ends the name of a parameter.
 fn has_splitting(bytes: &[u8]) -> bool
     ensures { result ≡ list_any is_splitting bytes.now }
 {

@@ -1,4 +1,4 @@
-//! Whether a reply is sure to be read as the candidates of which it is made.
+//! Checks whether a shell certainly reads a reply back as the candidates in it.
 
 ghost use Rattle.std.specs.Prelude.{◌≡◌, option_map};
 ghost use Rattle.std.specs.Option.{option_copied};
@@ -11,25 +11,25 @@ ghost use Rattle.cc_replies.specs.Reply.{is_without, shown};
 use crate::reply::first_line;
 use cc_candidates::CompletionCandidate;
 
-/// Whether each value has a byte, and none has the separator. A reply to bash or Elvish with this
-/// separator is then read as the values.
+/// Returns whether each value has a byte, and none contains the `separator`. bash and Elvish then
+/// read a reply with this separator back as the values.
 pub fn are_readable_values(candidates: &[CompletionCandidate], separator: u8) -> bool
     ensures { result ≡ are_readable_values separator candidates.now }
 {
     candidates.iter().all(|candidate| is_readable_value(candidate.get_value(), separator))
 }
 
-/// Whether each value has a byte, neither a value nor the first line of a help has the separator,
-/// and that is neither a colon nor a backslash. A reply to zsh with this separator is then read as
-/// the values and the first lines of the helps.
+/// Returns whether zsh reads a reply with this `separator` back as the values and the first lines
+/// of the help texts: the separator is neither a colon nor a backslash, each value has a byte, and
+/// no value and no such line contains the separator.
 pub fn are_readable_zsh_items(candidates: &[CompletionCandidate], separator: u8) -> bool
     ensures { result ≡ are_readable_zsh_items separator candidates.now }
 {
     separator != b':' && separator != b'\\' && is_each_readable(candidates, separator)
 }
 
-/// Whether no value has a line feed or a tab. A reply to fish or PowerShell is then read as the
-/// values and the first lines of the helps.
+/// Returns whether no value contains a line feed or a tab. fish and PowerShell then read a reply
+/// back as the values and the first lines of the help texts.
 pub fn are_readable_lines(candidates: &[CompletionCandidate]) -> bool
     ensures { result ≡ are_readable_lines candidates.now }
 {
@@ -66,7 +66,7 @@ fn is_readable_line(value: &str) -> bool
     is_without(value, b'\n') && is_without(value, b'\t')
 }
 
-// The first line of the help, where there is one, does not have the byte.
+// Returns whether the first line of the help text, if there is one, does not contain the byte.
 fn is_help_without(help: Option<&str>, special: u8) -> bool
     ensures { result
         ≡ is_help_without special (option_map first_line (option_copied help.entry)) }

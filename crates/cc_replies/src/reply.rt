@@ -1,4 +1,4 @@
-//! Replies: candidates as the shells read them.
+//! The replies of the original, each as its shell reads it.
 
 ghost use Rattle.std.specs.Prelude.{◌≡◌, IfErr, option_map};
 ghost use Rattle.std.specs.Option.{option_copied};
@@ -12,8 +12,11 @@ use cc_candidates::CompletionCandidate;
 use cc_quote::{ZshReplyHelp, ZshReplyValue, put_escaped};
 use std::io::ErrorKind;
 
-/// Writes the values, with a separator before each but the first: the reply to bash and Elvish.
-/// Fails with `Write` alone, where the sink fails.
+/// Writes the values, with the text `between` between two of them: the reply to bash and Elvish.
+///
+/// # Errors
+///
+/// `Write` if the sink fails.
 #[tactic(auto, using(crate::proofs::ReplyReadings::values_back))]
 pub fn write_values<W: Sink>(
     sink: &mut W,
@@ -28,8 +31,12 @@ pub fn write_values<W: Sink>(
     Ok(put_values(sink, between, candidates)?)
 }
 
-/// Writes the values, each with the first line of its help after a colon, with a separator before
-/// each but the first: the reply to zsh. Fails with `Write` alone, where the sink fails.
+/// Writes the values, each with the first line of its help text after a colon, and with the text
+/// `between` between two of them: the reply to zsh.
+///
+/// # Errors
+///
+/// `Write` if the sink fails.
 #[tactic(auto, using(crate::proofs::ReplyReadings::zsh_back))]
 pub fn write_zsh_items<W: Sink>(
     sink: &mut W,
@@ -44,8 +51,12 @@ pub fn write_zsh_items<W: Sink>(
     Ok(put_zsh_items(sink, between, candidates)?)
 }
 
-/// Writes a line for each candidate: its value, and the first line of its help after a tab. It is
-/// the reply to fish and PowerShell. Fails with `Write` alone, where the sink fails.
+/// Writes a line for each candidate: its value, a tab, and the first line of its help text. fish
+/// and PowerShell get this reply.
+///
+/// # Errors
+///
+/// `Write` if the sink fails.
 #[tactic(auto, using(crate::proofs::ReplyReadings::lines_back))]
 pub fn write_lines<W: Sink>(sink: &mut W, candidates: &[CompletionCandidate]) -> Result<(), Error>
     ensures written { Writes W.taken W.failed result sink.old sink.new
@@ -141,7 +152,7 @@ fn put_tab_help<W: Sink>(sink: &mut W, help: Option<&str>) -> Result<(), ErrorKi
     put_piece(sink, first_line(help))
 }
 
-// What is before the first line feed, and before a carriage return right before it.
+// Returns the text before the first line feed, and without a carriage return directly before that.
 pub(crate) fn first_line(text: &str) -> &str
     ensures { result.now ≡ first_line text.now }
 {

@@ -1,5 +1,5 @@
-//! Texts that can stand in a line of a reply. A control character could end the line, or be a
-//! command to the terminal.
+//! Texts that fit into a line of a reply. A control character could end the line, or be a command
+//! to the terminal.
 
 ghost use Rattle.std.specs.Prelude.{◌≡◌, ◌<◌, drop, length, slice_index, ◌+◌};
 ghost use Rattle.std.specs.Option.{option_copied};
@@ -7,15 +7,15 @@ ghost use Rattle.cc_replies.specs.SafeValues.{begins_control, is_found, is_safe_
 
 use crate::reply::first_line;
 
-/// Whether the text is not empty and has no control character: none below U+0020, no U+007F, and
-/// none from U+0080 to U+009F.
+/// Returns whether the text is not empty and has no control character: none below U+0020, no
+/// U+007F, and none from U+0080 to U+009F.
 pub(crate) fn is_safe_text(text: &str) -> bool
     ensures { result ≡ is_safe_text text.now }
 {
     !text.is_empty() && !has_control(text.as_bytes())
 }
 
-/// Returns the first line of the help, unless that is empty or has a control character.
+/// Returns the first line of the help text, unless that line is empty or has a control character.
 #[tactic(auto, unfolding(crate::specs::SafeValues::safe_help))]
 pub(crate) fn safe_help(help: Option<&str>) -> Option<&str>
     ensures { option_copied result ≡ safe_help (option_copied help.entry) }

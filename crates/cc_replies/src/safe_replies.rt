@@ -36,10 +36,11 @@ pub fn write_safe_values<W: Sink>(
     Ok(put_safe_values(sink, candidates)?)
 }
 
-/// Writes the reply to fish: a line for each value, with the first line of its help after a tab.
+/// Writes the reply to fish: a line for each value, with the first line of its help text after a
+/// tab.
 ///
 /// Leaves out a value that is empty, has a control character, or begins with `~` but not with `~/`.
-/// Leaves out a first line of a help that is empty or has a control character.
+/// Leaves out the first line of a help text if it is empty or has a control character.
 ///
 /// # Errors
 ///
@@ -57,9 +58,10 @@ pub fn write_safe_lines<W: Sink>(
     Ok(put_safe_lines(sink, candidates)?)
 }
 
-/// Writes the reply to zsh: a line for each value, with the first line of its help after a colon.
+/// Writes the reply to zsh: a line for each value, with the first line of its help text after a
+/// colon.
 ///
-/// Leaves out a value, or a first line of a help, that is empty or has a control character.
+/// Leaves out a value, or the first line of a help text, that is empty or has a control character.
 ///
 /// # Errors
 ///
@@ -123,7 +125,8 @@ fn is_fish_insertable(value: &str) -> bool
     is_safe_text(value) && is_tilde_plain(value.as_bytes())
 }
 
-// fish takes `~name` for the home folder of a user, and quotes no `~` there.
+// Returns whether the value begins with no `~`, or with `~/`. fish reads `~name` as the home
+// directory of a user, and does not quote that `~`.
 fn is_tilde_plain(value: &[u8]) -> bool
     ensures { result ≡ is_tilde_plain value.now }
 {

@@ -1,4 +1,4 @@
-//! What a program asks of its system.
+//! Asks the system for the words and environment variables of the program.
 
 ghost use Rattle.std.specs.Prelude.{◌≡◌, IfOk, IfSome, map, string_bytes};
 ghost use Rattle.cc_replies.specs.Variables.{AreNamed};
@@ -9,15 +9,21 @@ use std::env::{self, Env, VarError};
 use std::io;
 use std::path::PathBuf;
 
-/// The words of the command line; the first is the program's name.
+/// Returns the words of the command line. The first is the program's name.
 ///
-/// Fails where memory runs out, and with `InvalidData` where one of them is not UTF-8.
+/// # Errors
+///
+/// - `OutOfMemory` if an allocation fails.
+/// - `InvalidData` if a word is not UTF-8.
 pub fn words<R: Env + AllocGlobal>(rt: &R) -> io::Result<Vec<String>> {
     Ok(env::args(rt)?.collect(rt.alloc())?)
 }
 
-/// The values of those of these environment variables that are set and UTF-8. Fails where memory
-/// runs out.
+/// Returns the values of these environment variables, without those that are not set or not UTF-8.
+///
+/// # Errors
+///
+/// `AllocError` if an allocation fails.
 pub fn variables<R: Env + AllocGlobal>(rt: &R, names: &[&str]) -> Result<EnvValues, AllocError>
     ensures { IfOk result (λ values. AreNamed (map (λ name. name.now) names.now) values) }
 {
@@ -31,7 +37,7 @@ pub fn variables<R: Env + AllocGlobal>(rt: &R, names: &[&str]) -> Result<EnvValu
     Ok(EnvValues::new(found))
 }
 
-// A variable with its name.
+// Returns the name and the value of one variable, if it is set and UTF-8.
 fn variable<R: Env + AllocGlobal>(
     rt: &R,
     name: &str,
@@ -45,8 +51,12 @@ fn variable<R: Env + AllocGlobal>(
     }
 }
 
-/// The home folder of the user, where the environment names one in UTF-8 that is not empty. Fails
-/// where memory runs out.
+/// Returns the home directory of the user, if the environment names one that is UTF-8 and not
+/// empty.
+///
+/// # Errors
+///
+/// `AllocError` if an allocation fails.
 pub fn home<R: Env + AllocGlobal>(rt: &R) -> Result<Option<String>, AllocError> {
     match env::home_dir(rt) {
         Ok(home) => Ok(home.map(PathBuf::into_string)),

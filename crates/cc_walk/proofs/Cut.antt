@@ -18,7 +18,7 @@ use Rattle.cc_walk.proofs.Opens.{Opens-takes}
 open_follows : (arguments : List Arg) (position : ℕ) (a : Arg) (value : ℕ) (class : WordClass) → follows a class ≡ true → open_step arguments position a value class ≡ option_state position a (suc value)
 open_follows arguments position a value class e = rw e refl
 
--- and is left by any other word
+-- any other word closes it
 open_leaves : (arguments : List Arg) (position : ℕ) (a : Arg) (value : ℕ) (class : WordClass) → follows a class ≡ false → open_step arguments position a value class ≡ closed_step arguments position 0 class
 open_leaves arguments position a value class e = rw e refl
 
@@ -70,7 +70,7 @@ fresh_option : (arguments : List Arg) (position : ℕ) (a : Arg) (value : ℕ) (
 fresh_option arguments position a value [] h = tt
 fresh_option arguments position a value (word ∷ words) h = open_leaves arguments position a value (class_of arguments word) h
 
--- after a run that is not full are words that are no values
+-- the words after an incomplete run do not begin with values
 fresh_run : (arguments : List Arg) (position : ℕ) (escaped : Bool) (values : ℕ) (bs : List Block) → BeginsWithNoValues arguments bs → AreBlocks arguments position escaped bs → Fresh arguments position escaped (PositionalRun values) (join bs)
 fresh_run arguments position escaped values [] none are = tt
 fresh_run arguments position escaped values (Dashes word ∷ bs) none (unescaped, class, are) = rw (unescaped, class) refl
@@ -107,7 +107,7 @@ fresh_values arguments position escaped first more bs next are = elim (cases_Boo
     fresh_full arguments position true words = fresh_moved arguments (position + 1) true words
     fresh_full arguments position false words = fresh_nothing arguments (position + 1) false words
 
--- the machine gives the state after the blocks
+-- the machine returns the state after the blocks
 pub run_blocks : (arguments : List Arg) (bs : List Block) (position : ℕ) (escaped : Bool) (pending : Pending) → AreBlocks arguments position escaped bs → Fresh arguments position escaped pending (join bs)
     → run arguments (record { position = position; escaped = escaped; pending = pending }) (join bs) ≡ state_after arguments (record { position = position; escaped = escaped; pending = pending }) bs
 run_blocks arguments [] position escaped pending are fresh = refl

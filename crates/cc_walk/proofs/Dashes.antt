@@ -1,4 +1,4 @@
--- `--` is the one word with the class of an escape.
+-- `--` is the only word with the class of an escape.
 use Rattle.std.proofs.Common.{◌≡◌, ◌&&◌, ℕ, List, [], ◌∷◌, Bool, true, false, eqb, Option, Some, None, refl, inl, inr, not, codes}
 use Rattle.std.specs.Prelude.{bytes_eq, find, chars}
 use Rattle.std.proofs.lemmas.Bool.{cases_Bool}

@@ -1,4 +1,4 @@
--- Every list of words has a cut into blocks.
+-- Every list of words can be divided into blocks.
 use Rattle.std.proofs.Common.{◌≡◌, ◌<◌, ◌≤◌, ◌+◌, ℕ, suc, List, [], ◌∷◌, ◌++◌, length, Bool, true, false, max, Some, None, refl, inl, inr, ap, sym, subst, arith, add-zero, zero-add, one-add}
 use Rattle.std.specs.List.{All}
 use Rattle.std.proofs.lemmas.Bool.{cases_Bool, cases_lt, lt-ltb}
@@ -20,11 +20,11 @@ record Cut (arguments : List Arg) (position : ℕ) (escaped : Bool) (words : Lis
   are : AreBlocks arguments position escaped blocks
   spell : join blocks ≡ words
 
--- the same, where the first block is none of values
+-- the same, but the first block does not consist of values
 abbrev OtherCut : List Arg → ℕ → Bool → List (List ℕ) → Type 0
 OtherCut arguments position escaped words = (cut : Cut arguments position escaped words) × BeginsWithNoValues arguments cut.blocks
 
--- the values that are still taken, where k are and `most` may be, and the blocks after them
+-- The values that are still taken, after k values out of at most `most`, and the blocks after them.
 record Taken (IsTaken : List ℕ → Type 0) (most : ℕ) (Ends : List Block → Type 0) (Are : ℕ → List Block → Type 0) (k : ℕ) (words : List (List ℕ)) : Type 0 where
   values : List (List ℕ)
   blocks : List Block

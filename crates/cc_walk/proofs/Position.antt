@@ -1,4 +1,4 @@
--- A step moves the position by one at most.
+-- A step moves the position by at most one.
 use Rattle.std.proofs.Common.{◌≤◌, ◌+◌, ℕ, suc, Bool, true, false, ltb, inl, inr, arith, List, Option, Some, None}
 use Rattle.std.proofs.lemmas.Bool.{cases_Bool}
 use Rattle.cc_arg.specs.declared.parts.ArgParts.{ArgParts as Arg}
@@ -34,6 +34,6 @@ entered_position here word (Some child) bound within = omega arith
 entered_position here word None bound within =
     let more = step_position here.tree.node.arguments here.state.position here.state.escaped here.state.pending (class_of here.tree.node.arguments word) in omega (arith, within, more)
 
--- after so many words the position is at most one more
+-- each word raises the bound on the position by one
 pub node_state_position : (here : NodeState) (word : List ℕ) (bound : ℕ) → here.state.position ≤ bound + 1 → (node_state_step here word).state.position ≤ bound + 1 + 1
 node_state_position here word bound within = entered_position here word (find_child here.tree.children word) bound within

@@ -1,4 +1,5 @@
--- Where no word is a hidden alias the walk by all names and that by visible names reach one node.
+-- If no word is a hidden alias, the walk by all names and the walk by visible names reach the same
+-- node.
 use Rattle.std.proofs.Common.{◌≡◌, ℕ, List, [], ◌∷◌, Bool, true, false, cond, ◌||◌, Option, Some, None, refl, ap, ◌∙◌, sym}
 use Rattle.std.specs.Prelude.{unwrap_or}
 use Rattle.std.proofs.lemmas.Bool.{and_parts}
@@ -7,7 +8,7 @@ use Rattle.cc_command.specs.Names.{contains_name, find_child, visible_child, vis
 use Rattle.cc_walk.specs.Machine.{NodeState, entered, walk}
 use Rattle.cc_walk.specs.Visible.{HasNoHiddenAlias, has_no_hidden_alias, shows, visible_end}
 
--- a child that shows the word is found by both
+-- both walks find a child that shows the word
 child_same : (forest : Forest) (word : List ℕ) → shows (find_child forest word) word ≡ true → find_child forest word ≡ visible_child forest word
 child_same none word e = refl
 child_same (more node below rest) word e =

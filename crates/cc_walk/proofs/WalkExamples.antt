@@ -1,4 +1,4 @@
--- Where words lead, on small trees.
+-- Examples of the destination of words, on small trees.
 use Rattle.std.proofs.Common.{◌≡◌, ℕ, List, [], ◌∷◌, Some, codes, true, false, refl}
 use Rattle.std.specs.Str.{chars}
 use Rattle.cc_arg.specs.declared.parts.ArgParts.{ArgParts as Arg}
@@ -38,14 +38,14 @@ to_children :
     -- no words, and `--` alone
     (walked app [] ≡ node_state app 1 Nothing)
     × (walked app (codes "--" ∷ []) ≡ escaped_node_state app 1 Nothing)
-    -- a child is found by each of its names, also after `--`
+    -- each name of a child leads to it, even after `--`
     × (walked app (codes "t" ∷ []) ≡ node_state test 1 Nothing)
     × (walked app (codes "tst" ∷ []) ≡ node_state test 1 Nothing)
     × (walked app (codes "--" ∷ codes "test" ∷ []) ≡ escaped_node_state test 1 Nothing)
 unfolding class_of
 to_children = (refl, refl, refl, refl, refl)
 
--- `--opt` with one value, and two positionals, the first of which takes words with hyphens
+-- `--opt` with one value, and two positionals, the first of which accepts words with hyphens
 abbrev opt : Arg
 opt = option (codes "opt")
 
@@ -81,7 +81,7 @@ option_opened :
 unfolding class_of chars lib.Utf8.encode
 option_opened = (refl, refl, refl, refl, refl, refl)
 
--- a positional of two values, and one that takes none
+-- a positional with two values, and one without values
 abbrev two : Tree
 two = with (with (new_tree (codes "app")) (record (positional 1) { num_args = Some (exactly 2) })) (record (positional 2) { num_args = Some (exactly 0) })
 
@@ -94,7 +94,7 @@ runs :
 unfolding class_of capacity_at positional_at
 runs = (refl, refl, refl, refl, refl)
 
--- an option that takes words with hyphens leaves `--` alone
+-- an option that accepts words with hyphens does not take `--`
 abbrev greedy : Tree
 greedy = with (new_tree (codes "app")) (record (option (codes "o")) { allow_hyphen_values = true })
 

@@ -1,4 +1,4 @@
--- The way down and the machine agree.
+-- The path down the tree and the machine agree.
 use Rattle.std.proofs.Common.{◌≡◌, ℕ, suc, List, [], ◌∷◌, ◌++◌, Bool, true, false, ltb, ◌||◌, Some, None, refl, inl, inr, ap, ◌∙◌, sym}
 use Rattle.std.specs.List.{All}
 use Rattle.std.proofs.lemmas.Bool.{cases_Bool}
@@ -81,7 +81,7 @@ walk_reach {tree} {last} {words} {tail} (Descend {child = child} {before = befor
     ∙ walk_reach way (escaped || contains_name skipped (codes "--"))
     ∙ ap (λ e. record { tree = last; state = run last.node.arguments (start e) tail }) (or_assoc escaped (contains_name skipped (codes "--")) before)
 
--- the theorem: the cut of the whole list has the walk's state
+-- the theorem: the division of the whole list has the state of the walk
 pub walk_is : (root tree : Tree) (words tail : List (List ℕ)) (before : Bool) (bs : List Block)
     → Reach root words tree tail before
     → AreBlocks tree.node.arguments 1 before bs

@@ -1,4 +1,4 @@
--- The cut and the machine are one.
+-- The division into blocks and the machine agree on the whole list of words.
 use Rattle.std.proofs.Common.{◌≡◌, ℕ, List, [], false, refl, ap, ◌∙◌, sym, subst}
 use Rattle.cc_command.specs.Tree.{Tree}
 use Rattle.cc_walk.specs.Blocks.{start}
@@ -13,7 +13,7 @@ use Rattle.cc_walk.proofs.Exists.{blocks_exist}
 abbrev pub walked : Tree → List (List ℕ) → NodeState
 walked root words = walk (record { tree = root; state = start false }) words
 
--- the machine ends where the words lead
+-- the machine ends at the destination of the words
 pub walked_is : (root : Tree) (words : List (List ℕ)) → WordsLeadTo root words (walked root words).tree (walked root words).state
 walked_is root words =
     let (last, tail, before, reach) = reach_exists root words in
@@ -30,7 +30,8 @@ walked_only root words other elsewhere leads =
     ∙ sym (walk_is root other words leads.tail leads.before leads.blocks leads.reach leads.are leads.joined) in
     (ap (λ s. s.tree) is, ap (λ s. s.state) is)
 
--- so do the node and the state from which no word is left, and the visible names lead to this node too
+-- A node and a state from which no word is left are the destination too, and the visible names lead
+-- to the same node.
 pub there : (node_state : NodeState) (root : Tree) (words rest : List (List ℕ)) → rest ≡ [] → walk node_state rest ≡ walked root words →
     WordsLeadTo root words node_state.tree node_state.state × WordsLeadOnlyTo root words node_state.tree node_state.state
     × (HasNoHiddenAlias root words → node_state.tree ≡ visible_end root words)

@@ -1,4 +1,5 @@
--- The blocks: a cut of the words after the last descent, and what is pending after them.
+-- The blocks: a division of the words after the last descent, and the option or positional that may
+-- take more values after them.
 use Rattle.std.specs.Prelude.{ℕ, suc, List, [], ◌∷◌, ◌++◌, ◌≡◌, ◌+◌, ◌<◌, ◌≤◌, ◌||◌, ◌⊎◌, length, Bool, true, false, nat_lt, if◌then◌else◌}
 use Rattle.std.specs.List.{All}
 use Rattle.cc_arg.specs.declared.parts.ArgParts.{ArgParts as Arg}
@@ -9,7 +10,7 @@ use Rattle.cc_walk.specs.declared.state.State.{State}
 use Rattle.cc_walk.specs.Lookup.{max_values, capacity_at, allows_hyphens_at}
 use Rattle.cc_walk.specs.WordClasses.{class_of}
 
--- a word that an open option takes
+-- an open option takes the word
 abbrev pub follows : Arg → WordClass → Bool
 follows option Escape = false
 follows option Plain = true
@@ -17,7 +18,7 @@ follows option (Opens other) = option.allow_hyphen_values
 follows option Unknown = option.allow_hyphen_values
 follows option Closed = option.allow_hyphen_values
 
--- an unescaped word that is a positional value, by whether the position allows hyphens
+-- an unescaped word is a positional value, depending on whether the position allows hyphens
 abbrev pub is_value : Bool → WordClass → Bool
 is_value hyphens Plain = true
 is_value hyphens Unknown = hyphens
@@ -54,7 +55,7 @@ module _ (arguments : List Arg) where
   abbrev pub IsValueAt : ℕ → Bool → List ℕ → Type 0
   IsValueAt position escaped word = is_value_at position escaped word ≡ true
 
-  -- the next of the words, if there is one, is none that the option takes
+  -- the option does not take the next word, if there is one
   abbrev pub BeginsWithNoFollower : Arg → List (List ℕ) → Type 0
   BeginsWithNoFollower option [] = Unit {0}
   BeginsWithNoFollower option (word ∷ words) = follows option (class_of arguments word) ≡ false
@@ -68,7 +69,7 @@ module _ (arguments : List Arg) where
   position_after position k =
       if nat_lt k (capacity_at arguments position) then position else position + 1
 
-  -- the blocks are side by side, from this position on
+  -- the blocks follow each other, from this position on
   abbrev pub AreBlocks : ℕ → Bool → List Block → Type 0
   AreBlocks position escaped [] = Unit {0}
   AreBlocks position escaped (Dashes word ∷ bs) =
@@ -94,7 +95,7 @@ module _ (arguments : List Arg) where
       ((class_of arguments word ≡ Unknown) × (allows_hyphens_at arguments position ≡ false)))
       × AreBlocks position false bs
 
--- where a node's words begin
+-- the state before the first word at a node
 abbrev pub start : Bool → State
 start escaped = record { position = 1; escaped = escaped; pending = Nothing }
 
@@ -117,7 +118,7 @@ after_block arguments position escaped (Values first more) = record {
 after_block arguments position escaped (Flag word) =
     record { position = position; escaped = escaped; pending = Nothing }
 
--- the last block says what is pending
+-- the state after all blocks; the last block decides what is pending
 abbrev pub state_after : List Arg → State → List Block → State
 state_after arguments state [] = state
 state_after arguments state (b ∷ bs) =

@@ -1,12 +1,12 @@
--- Where words lead.
+-- The destination of words.
 use Rattle.std.specs.Prelude.{ℕ, List, Bool, ◌≡◌}
 use Rattle.cc_command.specs.Tree.{Tree}
 use Rattle.cc_walk.specs.declared.state.State.{State}
 use Rattle.cc_walk.specs.Reach.{Reach}
 use Rattle.cc_walk.specs.Blocks.{Block, AreBlocks, join, start, state_after}
 
--- the words lead from the root to this tree, and what is after the last descent is the join of
--- blocks that lead to the state there
+-- The words lead from the root to this tree. The words after the last descent consist of blocks
+-- that lead to the state there.
 pub record WordsLeadTo (root : Tree) (words : List (List ℕ)) (tree : Tree) (state : State)
     : Type 0 where
   pub tail : List (List ℕ)

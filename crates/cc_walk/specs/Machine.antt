@@ -12,12 +12,12 @@ use Rattle.cc_walk.specs.Lookup.{max_values, capacity_at, allows_hyphens_at}
 use Rattle.cc_walk.specs.WordClasses.{class_of}
 use Rattle.cc_walk.specs.Blocks.{follows, start}
 
--- how many values the run has
+-- the number of values in the run
 abbrev pub run_length : Pending → ℕ
 run_length (PositionalRun values) = values
 run_length _ = 0
 
--- one more value at the position, after a run of so many
+-- one more value at the position, after a run of `values` values
 abbrev pub value_state : List Arg → ℕ → Bool → ℕ → State
 value_state arguments position escaped values =
     if nat_lt (suc values) (capacity_at arguments position)
@@ -29,7 +29,7 @@ value_state arguments position escaped values =
           else Nothing;
     }
 
--- after so many values of an open option
+-- the state after `values` values of an open option
 abbrev pub option_state : ℕ → Arg → ℕ → State
 option_state position option values =
     record {
@@ -58,7 +58,7 @@ open_step arguments position option values class =
     if follows option class then option_state position option (suc values)
     else closed_step arguments position 0 class
 
--- one word further at a node
+-- one more word at a node
 abbrev pub step : List Arg → ℕ → Bool → Pending → WordClass → State
 step arguments position true pending class =
     value_state arguments position true (run_length pending)
@@ -88,7 +88,7 @@ entered here word None =
           here.state.pending (class_of here.tree.node.arguments word);
     }
 
--- a word that names a child leads down, whatever is pending
+-- a word that names a child leads to it, whatever is pending
 abbrev pub node_state_step : NodeState → List ℕ → NodeState
 node_state_step here word = entered here word (find_child here.tree.children word)
 

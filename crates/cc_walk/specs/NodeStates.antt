@@ -1,4 +1,4 @@
--- The node and the state that the words lead to, as a tree.
+-- The node and the state to which the words lead, with the node as a tree.
 use Rattle.std.specs.Prelude.{List}
 use Rattle.cc_flat.specs.Flat.{Entry, tree_at}
 use Rattle.cc_walk.specs.declared.walked.Walked.{Walked}

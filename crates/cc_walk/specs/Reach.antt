@@ -1,4 +1,4 @@
--- The way down the tree: a cut of the whole list of words.
+-- The path down the tree: a division of the whole list of words.
 use Rattle.std.specs.Prelude.{ℕ, List, ◌∷◌, ◌++◌, ◌≡◌, ◌||◌, Bool, false, Some, None, codes}
 use Rattle.std.specs.List.{All}
 use Rattle.cc_command.specs.Tree.{Tree}
@@ -8,8 +8,8 @@ use Rattle.cc_command.specs.Names.{contains_name, find_child}
 abbrev pub NamesNoChild : Tree → List ℕ → Type 0
 NamesNoChild tree word = find_child tree.children word ≡ None
 
--- From a tree the words lead to a last one: `tail` is what is after the last descent, and
--- `before` says that `--` is among the words before it that name no child.
+-- The words lead from a tree to a last one. `tail` contains the words after the last descent, and
+-- `before` tells whether `--` is among the earlier words that name no child.
 pub data Reach : Tree → List (List ℕ) → Tree → List (List ℕ) → Bool → Type 0 where
   Stay : {tree : Tree} {words : List (List ℕ)} → All (NamesNoChild tree) words
       → Reach tree words tree words false

@@ -1,4 +1,4 @@
--- What a word is to a node with these arguments, whatever is before it.
+-- The class of a word at a node with these arguments, whatever precedes the word.
 use Rattle.std.specs.Prelude.{ℕ, List, [], ◌∷◌, ◌&&◌, Bool, not, Option, Some, None, find, encode_utf8_all, if◌then◌else◌}
 use Rattle.cc_arg.specs.declared.parts.ArgParts.{ArgParts as Arg}
 use Rattle.cc_arg.specs.Arguments.{takes_values}
@@ -12,11 +12,11 @@ abbrev pub if_taking : Option Arg → Option Arg
 if_taking None = None
 if_taking (Some argument) = if takes_values argument then Some argument else None
 
--- the first argument with this short, where it takes values
+-- the first argument with this short, if it takes values
 abbrev pub value_argument : List Arg → ℕ → Option Arg
 value_argument arguments character = if_taking (find (has_short character) arguments)
 
--- a character whose argument takes values ends the search; the others go on
+-- a character whose argument takes values ends the search; otherwise it continues
 abbrev pub character_value : Option Arg → List ℕ → Option ValueCharacter → Option ValueCharacter
 character_value None after others = others
 character_value (Some argument) after others =
@@ -28,7 +28,7 @@ value_character arguments [] = None
 value_character arguments (c ∷ cs) =
     character_value (value_argument arguments c) cs (value_character arguments cs)
 
--- an option is opened where its character is last
+-- an option is opened if its character is the last one
 abbrev pub last_class : Arg → List ℕ → WordClass
 last_class argument [] = Opens argument
 last_class argument (b ∷ bs) = Closed

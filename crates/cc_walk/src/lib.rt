@@ -1,5 +1,12 @@
-//! The walk over the words before the one that is completed: which command they lead to, which
-//! positional comes next, and which option still takes values.
+//! Walks over the words before the one to complete. The result is the command to which they lead,
+//! the next positional, and the option that may still take values.
+//!
+//! ```rattle
+//! let flat = Flat::new(alloc, &app)?;
+//! let walked = walk(&flat, &words);
+//! let command = flat.command(walked.node);
+//! let next = positional_at(command.get_arguments(), walked.state.position);
+//! ```
 #![tactic(auto)]
 
 mod lookup;

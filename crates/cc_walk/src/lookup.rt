@@ -1,4 +1,4 @@
-//! Arguments of a node, found by a long, a short or a position.
+//! Finds the arguments of a node by a long, a short or a position.
 
 ghost use Rattle.std.specs.Prelude.{◌≡◌, ◌<◌, find, ◌==◌};
 ghost use Rattle.std.specs.Option.{option_copied};
@@ -17,8 +17,8 @@ fn contains_char(characters: &[char], character: char) -> bool
     characters.iter().any(|c| *c == character)
 }
 
-/// Whether the flag is the argument's long or a visible alias of it. An argument without a long has
-/// none of these.
+/// Returns whether `flag` is the long of `argument` or a visible alias of it. An argument without a
+/// long has none.
 pub fn has_long(argument: &Arg, flag: &str) -> bool
     ensures { result ≡ has_long flag.now argument.now }
 {
@@ -27,8 +27,8 @@ pub fn has_long(argument: &Arg, flag: &str) -> bool
     })
 }
 
-/// Whether the character is the argument's short or a visible alias of it. An argument without a
-/// short has none of these.
+/// Returns whether `character` is the short of `argument` or a visible alias of it. An argument
+/// without a short has none.
 pub fn has_short(argument: &Arg, character: char) -> bool
     ensures { result ≡ has_short character argument.now }
 {
@@ -43,7 +43,7 @@ fn is_at(argument: &Arg, position: usize) -> bool
     argument.is_positional() && argument.get_index() == Some(position)
 }
 
-/// The first argument with this long or with a visible alias of its long.
+/// Returns the first of the `arguments` whose long, or a visible alias of it, is `flag`.
 pub fn with_long<'a>(arguments: &'a [Arg], flag: &str) -> Option<&'a Arg>
     ensures { option_copied result ≡ find (has_long flag.now) arguments.now }
 {
@@ -58,21 +58,22 @@ fn with_short(arguments: &[Arg], character: char) -> Option<&Arg>
         .find(|argument| has_short(argument, character))
 }
 
-/// The first argument with this short or with a visible alias of its short, where it takes values.
+/// Returns the first argument with this short or a visible alias of it, if that argument takes
+/// values.
 pub(crate) fn value_argument(arguments: &[Arg], character: char) -> Option<&Arg>
     ensures { option_copied result ≡ value_argument arguments.now character }
 {
     with_short(arguments, character).filter(|argument| argument.takes_values())
 }
 
-/// The most values that one use of the argument takes.
+/// Returns the maximum number of values in one use of the argument.
 pub(crate) fn max_values(argument: &Arg) -> usize
     ensures { result ≡ max_values argument.now }
 {
     counted_range(argument).max_values()
 }
 
-/// The first positional with this index.
+/// Returns the first positional of `arguments` whose index is `position`.
 #[tactic(auto, unfolding(crate::specs::Lookup::positional_at))]
 pub fn positional_at(arguments: &[Arg], position: usize) -> Option<&Arg>
     ensures { option_copied result ≡ positional_at arguments.now position }
@@ -80,7 +81,7 @@ pub fn positional_at(arguments: &[Arg], position: usize) -> Option<&Arg>
     arguments.iter().find(|argument| is_at(argument, position))
 }
 
-/// How many values the position holds.
+/// Returns the number of values that the position holds.
 #[tactic(auto, unfolding(crate::specs::Lookup::capacity_at))]
 pub(crate) fn capacity_at(arguments: &[Arg], position: usize) -> usize
     ensures value { result ≡ capacity_at arguments.now position }
@@ -89,7 +90,7 @@ pub(crate) fn capacity_at(arguments: &[Arg], position: usize) -> usize
     positional_at(arguments, position).map_or(1, |argument| max_values(argument).max(1))
 }
 
-/// Whether the positional at the position takes words that begin with a hyphen.
+/// Returns whether the positional at the position accepts words that begin with a hyphen.
 #[tactic(auto, unfolding(crate::specs::Lookup::allows_hyphens_at))]
 pub(crate) fn allows_hyphens_at(arguments: &[Arg], position: usize) -> bool
     ensures { result ≡ allows_hyphens_at arguments.now position }

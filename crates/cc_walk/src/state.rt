@@ -9,27 +9,27 @@ use crate::lookup::{allows_hyphens_at, capacity_at, max_values};
 use crate::word_class::{ArgRef, WordClass, class_of};
 use cc_arg::Arg;
 
-/// What may take more values after the words read so far.
+/// The option or positional that may take more values after the words read so far.
 #[derive(Drop)]
 pub enum Pending<'a> {
-    /// No option takes more values, and no run of values has begun.
+    /// No option takes more values, and no run of values has started.
     Nothing,
-    /// The option has got so many values, and takes more.
+    /// The option has this many values, and takes more.
     OptionOpen(ArgRef<'a>, usize),
-    /// The positional at the position has got so many values in a row, and takes more.
+    /// The positional at the position has this many values in a row, and takes more.
     PositionalRun(usize),
-    /// After `--`, the positional before the position has just got its last value.
+    /// After `--`, the positional before the position has just received its last value.
     PositionMoved,
 }
 
-/// What the words at a node, which follow the last descent, lead to.
+/// The effect of the words at a node, which are the words after the last descent.
 #[derive(Drop)]
 pub struct State<'a> {
-    /// The index, from 1 on, of the positional that the next positional value belongs to.
+    /// The index, from 1 on, of the positional to which the next positional value belongs.
     pub position: usize,
-    /// Whether `--` has been read, at this node or one above it.
+    /// Whether `--` has been read, at this node or at one above it.
     pub escaped: bool,
-    /// What may take more values.
+    /// The option or positional that may take more values.
     pub pending: Pending<'a>,
 }
 
@@ -45,7 +45,7 @@ impl<'a> Pending<'a> {
 }
 
 impl<'a> State<'a> {
-    /// Where a node's words begin.
+    /// Returns the state before the first word at a node.
     pub(crate) fn start(escaped: bool) -> State<'a>
         ensures { result ≡ start escaped }
     {
@@ -56,7 +56,7 @@ impl<'a> State<'a> {
         }
     }
 
-    // One more value at the position, after a run of so many.
+    // Reads one more value at the position, after a run of `values` values.
     fn after_value(arguments: &[Arg], position: usize, escaped: bool, values: usize) -> State<'a>
         requires { position < usize.MAX }
         ensures { result ≡ value_state arguments.now position escaped values }
@@ -81,7 +81,7 @@ impl<'a> State<'a> {
         }
     }
 
-    // One more value of an open option, after so many.
+    // Reads one more value of an open option, which has `values` values already.
     fn after_option(position: usize, option: ArgRef<'a>, values: usize) -> State<'a>
         ensures { result ≡ option_state position option.entry (suc values) }
     {
@@ -98,7 +98,7 @@ impl<'a> State<'a> {
         }
     }
 
-    // After an unescaped word that no option takes, where a run of so many values comes before.
+    // Reads an unescaped word that no option takes, after a run of `values` values.
     fn after_other(
         arguments: &[Arg],
         position: usize,
@@ -127,7 +127,7 @@ impl<'a> State<'a> {
         }
     }
 
-    /// One word further at a node with these arguments, none of whose children the word names.
+    /// Reads a word at a node with these arguments. The word names no child of the node.
     pub(crate) fn step(self, arguments: &'a [Arg], word: &str) -> State<'a>
         requires { self.position < usize.MAX }
         ensures { result ≡ step arguments.now self.entry.position self.entry.escaped

@@ -1,4 +1,4 @@
-//! The node that words lead to, and the state at it.
+//! The node to which words lead, and the state there.
 
 ghost use Rattle.std.specs.Prelude.{◌≡◌, ◌<◌, length, map, string_bytes};
 ghost use Rattle.cc_flat.specs.Flat.{IsFlat, tree_at};
@@ -10,21 +10,22 @@ ghost use Rattle.cc_walk.specs.Visible.{HasNoHiddenAlias, visible_end};
 use crate::state::State;
 use cc_flat::Flat;
 
-/// The node that words lead to, and the state at it.
+/// The node to which words lead, and the state there.
 #[derive(Drop)]
 pub struct Walked<'a> {
     /// The number of the node.
     pub node: usize,
-    /// What the words after the last descent leave there.
+    /// The state after the words that follow the last descent.
     pub state: State<'a>,
 }
 
-/// Where the words lead from the root of the tree.
+/// Follows `words` from the root of the tree `flat`.
 ///
-/// A word that names a child, by its name or an alias, leads to the child, whatever is before
-/// it. All other words after the last such word belong to the node that is reached. Allocates
-/// nothing; a word takes time that grows with the names of the node's children and with the count
-/// of its arguments.
+/// A word that names a child, by its name or an alias, leads to the child, whatever precedes it.
+/// The words after the last such word belong to the node that is reached.
+///
+/// Allocates nothing. The time for a word grows with the number of names of the node's children and
+/// with the number of its arguments.
 pub fn walk<'a>(flat: &Flat<'a>, words: &[String]) -> Walked<'a>
     requires { IsFlat flat.now }
     ensures within { result.node < length flat.now }
@@ -33,8 +34,8 @@ pub fn walk<'a>(flat: &Flat<'a>, words: &[String]) -> Walked<'a>
     ensures only { WordsLeadOnlyTo (tree_at flat.now 0) (map string_bytes words.now)
         (tree_at flat.now result.node) result.state }
 
-    // Where no word is a hidden alias of a child of the node at which it is read, the visible
-    // names lead to the same node.
+    // If no word is a hidden alias of a child of the node at which it is read, the visible names
+    // lead to the same node.
     ensures visible { HasNoHiddenAlias (tree_at flat.now 0) (map string_bytes words.now) →
         tree_at flat.now result.node
         ≡ visible_end (tree_at flat.now 0) (map string_bytes words.now) }
@@ -50,8 +51,8 @@ pub fn walk<'a>(flat: &Flat<'a>, words: &[String]) -> Walked<'a>
 }
 
 impl<'a> Walked<'a> {
-    /// Where one more word leads. A word that names a child leads to it, even where an option is
-    /// open or `--` has been read.
+    /// Follows one more word. A word that names a child leads to it, even if an option is open or
+    /// `--` has been read.
     fn advance(self, flat: &Flat<'a>, word: &str) -> Walked<'a>
         requires flat { IsFlat flat.now }
         requires node { self.node < length flat.now }

@@ -1,4 +1,4 @@
-//! The class of a word: what it is to a node's arguments, whatever is before it.
+//! Classifies a word by the arguments of a node, whatever precedes the word.
 
 ghost use Rattle.std.specs.Prelude.{◌≡◌, chars, IfSome};
 ghost use Rattle.cc_walk.specs.Blocks.{follows};
@@ -10,8 +10,8 @@ use cc_arg::Arg;
 use cc_base::TextRef;
 use std::marker::Model;
 
-/// A borrowed argument as the type of a field. A clause sees the argument alone, so that an enum
-/// that holds it is the same type in code and in definitions.
+/// A borrowed argument, as the type of a field. Clauses see only the argument, so an enum that
+/// contains it is the same type in code and in definitions.
 #[derive(Drop)]
 pub struct ArgRef<'a> {
     argument: &'a Arg,
@@ -26,14 +26,14 @@ impl<'a> Model for ArgRef<'a> {
 }
 
 impl<'a> ArgRef<'a> {
-    /// A borrowed argument.
+    /// Wraps the borrowed `argument`.
     pub fn new(argument: &'a Arg) -> ArgRef<'a>
         ensures { result ≡ argument.now }
     {
         ArgRef { argument }
     }
 
-    /// The argument that is borrowed.
+    /// Returns the borrowed argument.
     pub fn get(&self) -> &'a Arg
         ensures { result.now ≡ self.now }
     {
@@ -41,23 +41,23 @@ impl<'a> ArgRef<'a> {
     }
 }
 
-/// The class of a word: what it is to a node's arguments, whatever is before it.
+/// The class of a word, by the arguments of a node, whatever precedes the word.
 #[derive(Drop)]
 pub enum WordClass<'a> {
-    /// `--`.
+    /// The word `--`.
     Escape,
     /// A long word without `=`, or a short word that ends in the short of this option.
     Opens(ArgRef<'a>),
-    /// A long word of an unknown flag, or a short word without an option.
+    /// A long word with an unknown flag, or a short word without an option.
     Unknown,
-    /// Any other long or short word: an option with a value of its own, or a flag.
+    /// Any other long or short word: a flag, or an option with its value.
     Closed,
     /// Any other word.
     Plain,
 }
 
 impl<'a> WordClass<'a> {
-    /// Whether an open option takes the word.
+    /// Returns whether an open option takes the word.
     pub(crate) fn follows(&self, option: &Arg) -> bool
         ensures { result ≡ follows option.now self.now }
     {
@@ -75,14 +75,14 @@ impl<'a> WordClass<'a> {
 pub struct ValueCharacter<'a, 'w> {
     /// The argument that has the character as a short.
     pub argument: ArgRef<'a>,
-    /// What follows the character in the word, maybe with a `=` at its head.
+    /// The rest of the word after the character. It may begin with `=`.
     pub after: TextRef<'w>,
 }
 
-/// The first character of a short word, given without its hyphen, whose argument takes values.
+/// Finds the first of `characters`, a short word without its hyphen, whose argument takes values.
 ///
-/// The first argument that has the character as a short decides: where it takes no values, the
-/// search goes on with the next character.
+/// The first argument that has the character as a short decides. If it takes no values, the search
+/// continues with the next character.
 pub fn value_character<'a, 'w>(
     arguments: &'a [Arg],
     characters: &'w str,
@@ -133,7 +133,7 @@ fn flag_class<'a>(arguments: &'a [Arg], flag: &str, with_equals: bool) -> WordCl
     }
 }
 
-/// What the word is to a node with these arguments.
+/// Returns the class of the word at a node with these arguments.
 pub(crate) fn class_of<'a>(arguments: &'a [Arg], word: &str) -> WordClass<'a>
     ensures { result ≡ class_of arguments.now word.now }
 {

@@ -1,23 +1,23 @@
 //! A document with cases: Markdown with trees and command lines in fenced blocks.
 //!
-//! - A block that begins with ```` ```json NAME ```` is a tree file of that name.
-//! - A block that begins with ```` ```console ```` has cases: a line `$ COMMAND`, perhaps a line
-//!   `? STATUS`, and then what is printed. A line `...` stands for any lines, `[..]` for any text,
-//!   and a last line `(no-eol)` says that the line before it has no line feed.
+//! - A block that begins with ```` ```json NAME ```` is a tree file with that name.
+//! - A block that begins with ```` ```console ```` contains cases: a line `$ COMMAND`, perhaps a
+//!   line `? STATUS`, and then the expected output. A line `...` matches any lines, `[..]` matches
+//!   any text, and a last line `(no-eol)` means that no line feed ends the line before it.
 //! - A line that begins with `#` outside blocks is the title of the cases after it.
 //!
-//! Other blocks, lines of a block of cases before its first command, and a second tree of one name
-//! are not read, and are kept as strays.
+//! Other blocks, lines of a block of cases before its first command, and a second tree with the
+//! same name are not read. They are kept as strays.
 
 use std::alloc::{AllocError, Global};
 
-/// What a document holds.
+/// The content of a document.
 #[derive(Drop)]
 pub(crate) struct Document {
     alloc: Global,
     title: String,
     place: Place,
-    /// Lines that stand where nothing can be read of them.
+    /// The lines that cannot be read where they are.
     pub strays: Vec<String>,
     /// The tree files, in order.
     pub trees: Vec<TreeFile>,
@@ -30,11 +30,11 @@ pub(crate) struct Document {
 pub(crate) struct TreeFile {
     /// Its name on command lines.
     pub name: String,
-    /// What it holds.
+    /// Its content.
     pub text: String,
 }
 
-/// A command line, and what it has to print.
+/// A command line and its expected output.
 #[derive(Drop)]
 pub(crate) struct Case {
     /// The title above it.
@@ -43,11 +43,12 @@ pub(crate) struct Case {
     pub command: String,
     /// The exit status.
     pub status: u8,
-    /// What is printed, each line with a line feed on both sides, cut where any text may stand.
+    /// The expected output, with a line feed before and after each line, split where any text may
+    /// appear.
     pub wanted: Vec<String>,
 }
 
-// Where a line of a document stands.
+// The place of a line in a document.
 #[derive(Clone, Copy, PartialEq, Eq)]
 enum Place {
     Prose,
@@ -58,7 +59,11 @@ enum Place {
 }
 
 impl Document {
-    /// Reads a document. Fails where memory runs out.
+    /// Reads the document `text`.
+    ///
+    /// # Errors
+    ///
+    /// `AllocError` if an allocation fails.
     pub(crate) fn read(alloc: Global, text: &str) -> Result<Document, AllocError> {
         let mut document = Document {
             alloc,
@@ -74,7 +79,7 @@ impl Document {
         Ok(document)
     }
 
-    /// The bytes of the tree file of this name, if there is one.
+    /// Returns the bytes of the tree file with this name, if there is one.
     pub(crate) fn tree(&self, name: &str) -> Option<&[u8]> {
         for tree in &self.trees {
             if tree.name.as_str() == name {
@@ -160,7 +165,7 @@ impl Document {
 }
 
 impl Case {
-    // A case that wants nothing printed.
+    // Creates a case that expects no output.
     fn new(alloc: Global, title: &str, command: &str) -> Result<Case, AllocError> {
         let mut wanted = Vec::new(alloc);
         wanted.push(String::new(alloc))?;
@@ -193,7 +198,7 @@ impl Case {
         self.push_text("\n")
     }
 
-    // Adds a text to the last piece of what is wanted.
+    // Adds a text to the last piece of the expected output.
     fn push_text(&mut self, text: &str) -> Result<(), AllocError> {
         match self.wanted.last_mut() {
             Some(piece) => piece.push_str(text),

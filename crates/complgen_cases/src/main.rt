@@ -1,8 +1,8 @@
-//! Runs the cases that documents hold: a command line, and what it has to print.
+//! Runs the cases in documents: command lines and their expected output.
 //!
-//! The arguments are the names of documents. Printed is, for each document, how many of its cases
-//! there are and how many failed, and before that what each that failed has printed instead. The
-//! status is 0 where none failed.
+//! The arguments are the names of documents. For each document, the program prints the actual
+//! output of each failed case, and then the number of cases and of failed cases. The exit status is
+//! 0 if none failed.
 #![tactic(auto)]
 
 mod document;
@@ -25,7 +25,7 @@ fn main(rt: HostRuntime) -> ExitCode {
     }
 }
 
-// Runs the cases of each document that an argument names, and returns how many failed.
+// Runs the cases of each document that an argument names, and returns the number of failed cases.
 fn failures<R: Env + Files + Print + AllocGlobal>(rt: &R) -> io::Result<usize> {
     let mut all = 0;
     for name in env::args(rt)?.skip(1) {
@@ -34,8 +34,8 @@ fn failures<R: Env + Files + Print + AllocGlobal>(rt: &R) -> io::Result<usize> {
     Ok(all)
 }
 
-// Runs the cases of the document of this name, prints how many there are and how many failed, and
-// returns the latter.
+// Runs the cases of the document with this name, prints the number of cases and of failed cases,
+// and returns the latter.
 fn failures_of<R: Files + Print + AllocGlobal>(rt: &R, name: &str) -> io::Result<usize> {
     let text = fs::read_to_string(rt, name)?;
     let document = Document::read(rt.alloc(), text.as_str())?;
@@ -45,7 +45,8 @@ fn failures_of<R: Files + Print + AllocGlobal>(rt: &R, name: &str) -> io::Result
     Ok(failed)
 }
 
-// Runs the cases of a document, and returns how many failed, with the lines that are not read.
+// Runs the cases of a document. Returns the number of failed cases, plus one for each line that is
+// not read.
 fn failures_in<R: Print + AllocGlobal>(rt: &R, document: &Document) -> io::Result<usize> {
     for line in &document.strays {
         println!(rt; "not read: {line}")?;
@@ -59,7 +60,7 @@ fn failures_in<R: Print + AllocGlobal>(rt: &R, document: &Document) -> io::Resul
     Ok(failed)
 }
 
-// Runs a case, prints what was printed instead where it fails, and returns whether it did not.
+// Runs a case, and prints the actual output if it fails. Returns whether it passed.
 fn is_kept<R: Print + AllocGlobal>(rt: &R, document: &Document, case: &Case) -> io::Result<bool> {
     let alloc = rt.alloc();
     let Ok(outcome) = run_line(alloc, document, case.command.as_str()) else {

@@ -1,25 +1,29 @@
-//! Whether what was printed is what was wanted.
+//! Compares the actual output with the expected output.
 
 use std::alloc::{AllocError, Global};
 
-/// The last line of what was printed where that does not end with a line feed.
+/// The last line of an output that does not end with a line feed.
 const NO_LINE_FEED: &str = "(no-eol)";
 
-// Appends a line with a line feed on both sides, so that lines can be looked for as texts.
+// Appends a line with a line feed before and after it, so that lines can be searched as texts.
 fn push_line(text: &mut String, line: &str) -> Result<(), AllocError> {
     text.push('\n')?;
     text.push_str(line)?;
     text.push('\n')
 }
 
-/// Whether a text, each of whose lines has a line feed on both sides, is made of these pieces, in
-/// order, with any text, also of several lines, between two of them. Fails where memory runs out.
+/// Returns whether `text` consists of these `pieces`, in order, with any text between two of them,
+/// even several lines. Each line has a line feed before and after it.
+///
+/// # Errors
+///
+/// `AllocError` if an allocation fails.
 pub(crate) fn holds(alloc: Global, pieces: &[String], text: &str) -> Result<bool, AllocError> {
     let marked = marked(alloc, text)?;
     Ok(is_made_of(marked.as_str(), pieces))
 }
 
-// The text with a line feed on both sides of each line.
+// Returns the text with a line feed before and after each line.
 fn marked(alloc: Global, text: &str) -> Result<String, AllocError> {
     let mut marked = String::new(alloc);
     let Some(lines) = text.strip_suffix('\n') else {
@@ -56,7 +60,7 @@ fn is_made_of(text: &str, pieces: &[String]) -> bool {
     }
 }
 
-// What follows these pieces, each taken where it occurs first.
+// Returns the text after these pieces, each at its first occurrence.
 fn after<'t>(text: &'t str, pieces: &[String]) -> Option<&'t str> {
     let mut rest = text;
     for piece in pieces {

@@ -15,22 +15,22 @@ use complgen_tree_file::read_tree;
 use std::alloc::{AllocError, Global};
 use std::convert::AsStr;
 
-/// What a command line printed, on either output, and its exit status.
+/// The output of a command line, on stdout and stderr, and its exit status.
 #[derive(Drop)]
 pub(crate) struct Outcome {
     /// The exit status.
     pub status: u8,
-    /// The text.
+    /// The output.
     pub text: String,
 }
 
-/// Runs a command line: words quoted as for a shell, after variables as `NAME=VALUE`. Trees are
-/// those of the document.
+/// Runs a command line: words quoted as for a shell, after variables such as `NAME=VALUE`. The
+/// trees are those of the document.
 ///
-/// `complgen` is the program of that name. Any other program completes itself: the variable `TREE`
-/// names the tree of its command, `PWD` is its current folder, `BIN` and `COMPLETER` are what its
-/// registration names, and with `SAFE` it completes itself by the safe adapters. If it is not called
-/// for a completion it prints `(goes on)`.
+/// `complgen` is the program with that name. Any other program completes itself. The variable
+/// `TREE` names the tree of its command, `PWD` is its current directory, and `BIN` and `COMPLETER`
+/// are the names in its registration. With `SAFE`, it uses the safe adapters. If it is not called
+/// for a completion, it prints `(goes on)`.
 ///
 /// # Errors
 ///
@@ -51,8 +51,8 @@ pub(crate) fn run_line(
     completed(alloc, document, &variables, words)
 }
 
-// The words of a command line. What is no word, as after a quote that is not closed, is one as it
-// stands.
+// Splits a command line into words. Text that is not a word, such as the text after an unclosed
+// quote, becomes one word unchanged.
 fn words(alloc: Global, command: &str) -> Result<Vec<String>, Error> {
     let mut words = Vec::new(alloc);
     let mut rest = command;
@@ -69,7 +69,7 @@ fn words(alloc: Global, command: &str) -> Result<Vec<String>, Error> {
     Ok(words)
 }
 
-// The variables before the words, and the words.
+// Separates the variables before the words from the words.
 fn apart(alloc: Global, all: Vec<String>) -> Result<(EnvValues, Vec<String>), AllocError> {
     let mut variables = Vec::new(alloc);
     let mut words: Vec<String> = Vec::new(alloc);
@@ -86,7 +86,7 @@ fn apart(alloc: Global, all: Vec<String>) -> Result<(EnvValues, Vec<String>), Al
     Ok((EnvValues::new(variables), words))
 }
 
-// The name and the value, where the word is `NAME=VALUE`.
+// Returns the name and the value, if the word is `NAME=VALUE`.
 fn variable(alloc: Global, word: &str) -> Result<Option<(String, String)>, AllocError> {
     let Some((name, value)) = word.split_once("=") else {
         return Ok(None);
@@ -96,7 +96,7 @@ fn variable(alloc: Global, word: &str) -> Result<Option<(String, String)>, Alloc
     Ok(Some((name, value)))
 }
 
-// What `complgen` prints for these words.
+// Returns the output of `complgen` for these words.
 fn complgen(alloc: Global, document: &Document, words: &[String]) -> Result<Outcome, AllocError> {
     let mut out = Collected::new(alloc);
     let carried_out = carry_out(alloc, document, words, &mut out);
@@ -111,7 +111,7 @@ fn complgen(alloc: Global, document: &Document, words: &[String]) -> Result<Outc
     }
 }
 
-// Does what the words want, and returns the exit status.
+// Does what the words request, and returns the exit status.
 fn carry_out(
     alloc: Global,
     document: &Document,
@@ -144,7 +144,7 @@ fn checked(
     }
 }
 
-// What a program prints that completes itself.
+// Returns the output of a program that completes itself.
 fn completed(
     alloc: Global,
     document: &Document,
@@ -162,7 +162,7 @@ fn completed(
     completed_by(alloc, CompleteEnv::with_factory(factory), variables, words)
 }
 
-// What a program prints that completes itself so.
+// Returns the output of a program that completes itself with these adapters.
 fn completed_by<F, E>(
     alloc: Global,
     program: CompleteEnv<'_, F, E>,
@@ -194,7 +194,8 @@ where
     ended(alloc, done, out.as_slice())
 }
 
-// What was written, and what a program prints after it that completes itself.
+// Returns the text that was written, and the text that a program which completes itself prints
+// after it.
 fn ended(alloc: Global, done: Result<bool, Error>, written: &[u8]) -> Result<Outcome, Error> {
     let mut text = String::from_utf8_lossy(alloc, written)?;
     match done {
@@ -218,8 +219,9 @@ fn command(alloc: Global, tree: &[u8]) -> Result<Command, Error> {
     }
 }
 
-// The folders that there are: `/w` with a file and two folders, one of them hidden, `/o` and the
-// current folder of `complgen` with two files and a folder, and a home folder with a folder.
+// The directories in memory: `/w` with a file and two directories, one of them hidden; `/o` and the
+// current directory of `complgen`, with two files and a directory; and a home directory with a
+// directory.
 fn folders() -> MemoryFolder {
     MemoryFolder::new(
         &[

@@ -1,4 +1,4 @@
--- What is in a list is in a longer one.
+-- A member of a list is a member of a longer list.
 use Rattle.std.proofs.Common.{List, [], ◌∷◌, ◌++◌, inl, inr}
 use Rattle.complgen_import.specs.Lines.{IsAmong}
 

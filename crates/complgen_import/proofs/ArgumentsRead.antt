@@ -17,7 +17,7 @@ use Rattle.complgen_import.proofs.KeptNames.{once_kept, only_kept}
 use Rattle.complgen_import.proofs.LinesRead.{are_of_form, has_each}
 use Rattle.complgen_import.proofs.NamesRead.{each_kept}
 
--- ---- two vectors side by side
+-- ---- two vectors in parallel
 
 -- one of them has nothing left
 pub zip_end : {X Y Z : Type 0} (a : IntoIter X Z) (b : IntoIter Y Z) →
@@ -63,7 +63,7 @@ has_each_name text arguments are form name is here says =
     let P : List (List ℕ) → Type 0 = λ names. IsAmong name names in
     subst P (sym (names_kept text arguments are)) (each_kept are.0 (kept_by are.0) refl form name (has_each text are.0 are.1 form is here) says)
 
--- what each member has
+-- a property of each member
 member : {A : Type 0} (P : A → Type 0) (xs : List A) (x : A) → AllByRecursion P xs → IsAmong x xs → P x
 unfolding IsAmong
 member P [] x all here = absurd here

@@ -1,4 +1,4 @@
--- Which classes of bytes are in others, and which bytes are in none.
+-- Classes of bytes that contain others, and bytes that are in none of them.
 use Rattle.std.proofs.lemmas.Bool.{cases_Bool}
 use Rattle.std.proofs.Common.{◌≡◌, ◌≢◌, ◌==◌, ◌||◌, ℕ, Bool, true, false, cond, List, [], ◌∷◌, None, ◌⊎◌, inl, inr, refl, sym, ◌∙◌, ap, map, arith}
 use Rattle.std.proofs.lemmas.Bool.Decides.{eqb_tells, nat_tests}
@@ -44,7 +44,7 @@ pub small_in : (byte : ℕ) → in_class Small byte ≡ true → in_class SmallB
 unfolding in_class
 small_in byte h = or_left (is_ascii_alphanumeric byte) _ (lower_alnum byte h)
 
--- a letter or digit, or one of the marks of names, as a byte of values
+-- a letter, a digit or a mark of names is a byte of values
 alnum_value : (byte : ℕ) → is_ascii_alphanumeric byte ≡ true → in_class ValueByte byte ≡ true
 unfolding in_class
 alnum_value byte h = or_left (is_name_byte byte) _ (or_left (is_ascii_alphanumeric byte) _ h)
@@ -91,12 +91,12 @@ small_value byte h = elim (or_cases (is_ascii_alphanumeric byte) ((((byte == 95 
   ]
 ]
 
--- a small letter is no capital
+-- a small letter is not a capital
 pub small_not_capital : (byte : ℕ) → in_class Small byte ≡ true → in_class Capital byte ≡ false
 unfolding in_class
 small_not_capital byte h = grind (arith, nat_tests)
 
--- what does not go on with a class does not go on with one that is within it
+-- a text that does not continue a class does not continue a smaller class
 pub clear_within : (part whole : Class) → ((byte : ℕ) → in_class part byte ≡ true → in_class whole byte ≡ true) → (text : List ℕ) → begins whole text ≡ false → begins part text ≡ false
 unfolding begins
 clear_within part whole within [] h = refl
@@ -105,23 +105,23 @@ clear_within part whole within (byte ∷ text) h = elim (cases_Bool (in_class pa
   | inr out ↦ out
 ]
 
--- ---- bytes that are in no such class
+-- ---- bytes outside such classes
 
--- a byte of a class is none that is not in it
+-- a byte of a class differs from a byte outside it
 pub differs : (class : Class) (special byte : ℕ) → in_class class byte ≡ true → in_class class special ≡ false → (special == byte) ≡ false
 differs class special byte h k = elim (eqb_tells special byte) [
   | inl same ↦ absurd (let both : false ≡ true = sym k ∙ ap (in_class class) same.1 ∙ h in cc)
   | inr other ↦ other.0
 ]
 
--- so a text that begins with one does not begin otherwise
+-- so a text that begins with a byte of the class does not begin with another byte
 pub begins_not : (class : Class) (special byte : ℕ) (front text : List ℕ) → in_class class byte ≡ true → in_class class special ≡ false → after (special ∷ front) (byte ∷ text) ≡ None
 begins_not class special byte front text h k = after_cons special byte front text false (differs class special byte h k)
 
 pub small_begins_not : (special byte : ℕ) (front text : List ℕ) → in_class Small byte ≡ true → in_class Small special ≡ false → after (special ∷ front) (byte ∷ text) ≡ None
 small_begins_not special byte front text h k = begins_not Small special byte front text h k
 
--- nor does one that begins with a letter or digit
+-- neither does a text that begins with a letter or digit
 pub alnum_not : (special byte : ℕ) (front text : List ℕ) → is_ascii_alphanumeric byte ≡ true → is_ascii_alphanumeric special ≡ false → after (special ∷ front) (byte ∷ text) ≡ None
 alnum_not special byte front text h k = elim (eqb_tells special byte) [
   | inl same ↦ absurd (let both : false ≡ true = sym k ∙ ap is_ascii_alphanumeric same.1 ∙ h in cc)
@@ -148,7 +148,7 @@ known_byte byte known = by_tests (is_ascii_alphanumeric byte) (byte == 45) (byte
     by_tests false false false true colon plus k = refl
     by_tests false false false false colon plus k = absurd (k refl)
 
--- each byte of a word is a byte of names
+-- each byte of a word is a name byte
 pub word_in : (word : List ℕ) → is_word word ≡ true → AreIn NameByte word
 unfolding is_word_with
 word_in word h = each word (joined_known (map (word_byte true) word) h)

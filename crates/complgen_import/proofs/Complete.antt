@@ -1,4 +1,4 @@
--- What has the form is read again, before a text that does not go on with it.
+-- A text that has the form is read back, if the text after it does not continue it.
 use Rattle.std.specs.Prelude.{codes}
 use Rattle.std.specs.Char.{is_ascii_alphanumeric}
 use Rattle.std.specs.List.{flat_map}
@@ -42,11 +42,11 @@ run_all class (byte ∷ text) rest each clear =
     let more = run_all class text rest each.1 clear in
     (run-cons class byte (text ++ rest) true each.0 ∙ ap (λ t. byte ∷ t) more.0, past-cons class byte (text ++ rest) true each.0 ∙ more.1)
 
--- something where a test holds
+-- a value if a test holds
 abbrev when : {A : Type 0} → Bool → A → Option A
 when b x = elim b [ true ↦ Some x | false ↦ None ]
 
--- something before a text
+-- a value before a text
 abbrev before : {A : Type 0} → Option A → List ℕ → Read A
 before found text = elim found [ Some x ↦ Some (x, text) | None ↦ None ]
 
@@ -177,7 +177,7 @@ spaced_full value rest is clear =
 
 -- ---- pieces
 
--- a text that goes on with nothing that leads to this stage
+-- the text does not continue a head that is in this stage
 abbrev pub Clear : Stage → List ℕ → Type 0
 Clear Start rest = Unit {0}
 Clear Named rest = begins NameByte rest ≡ false
@@ -191,7 +191,7 @@ name_begins (Short letter) rest = (letter ∷ rest, refl)
 name_begins (Long word) rest = (codes "-" ++ (word ++ rest), refl)
 name_begins (Negatable word) rest = (codes "-[no-]" ++ (word ++ rest), refl)
 
--- a separator before a dash
+-- a separator before a hyphen
 among_full : (separator : Separator) (text : List ℕ) → separator_among separators (separator_text separator ++ (45 ∷ text)) ≡ Some (separator, 45 ∷ text)
 unfolding separator_among separator_text after
 among_full CommaBlank text = refl
@@ -299,7 +299,7 @@ optional_argument value rest is =
     (ap (λ t. read_as Optional (option_and_then closed_at (value_at ValueByte ValueByte t))) (append_assoc (value_text value) (codes "]") rest)
     ∙ ap (λ o. read_as Optional (option_and_then closed_at o)) (joined_full value (codes "]" ++ rest) is refl))))
 
--- what `more_at` reads where no value behind a `=` is
+-- the result of `more_at`, if no value after a `=` is there
 more_argument : (text : List ℕ) (read : Piece × List ℕ) → joined_at text ≡ None → optional_at text ≡ None → more_at text ≡ Some read → argument_at text ≡ Some read
 unfolding argument_at
 more_argument text read joined optional h =
@@ -338,7 +338,7 @@ group_argument : (held rest : List ℕ) → AreIn InSquares held → argument_at
 unfolding joined_at optional_at piece_text after
 group_argument held rest is = more_argument (codes " [" ++ ((held ++ codes "]") ++ rest)) (Group held, rest) refl refl (more_group held rest is)
 
--- each piece that may stand there is read
+-- each piece that may come next is read
 pub piece_full : (stage : Stage) (piece : Piece) (rest : List ℕ) → may_follow stage piece ≡ true → IsPiece piece → Clear (stage_after piece) rest → piece_at stage (piece_text piece ++ rest) ≡ Some (piece, rest)
 unfolding may_follow may_separate IsPiece stage_after
 piece_full Start (First name) rest may is clear = first_full name rest is clear
@@ -375,7 +375,7 @@ tail_cases (byte ∷ next ∷ text) h =
     let second : next ≡ 32 = eqb-true next 32 blanks.1 in
     inr (text, cc)
 
--- nothing is read of a tail
+-- nothing is read from a tail
 no_piece_of_none : (stage : Stage) → may_end stage ≡ true → piece_at stage [] ≡ None
 unfolding may_end piece_at argument_at joined_at optional_at more_at spaced_at group_at lower_at next_at separator_among separator_text after
 no_piece_of_none Start may = cc
@@ -422,7 +422,7 @@ tail_clear stage tail is =
       | inr blanks ↦ subst P (sym blanks.1) (clear_of_blanks stage blanks.0)
     ]
 
--- a further name goes on with nothing before it
+-- a further name does not continue the pieces before it
 next_clear : (stage : Stage) (separator : Separator) (name : Name) (rest : List ℕ) → may_separate stage separator ≡ true → Clear stage (piece_text (Next separator name) ++ rest)
 unfolding may_separate piece_text separator_text name_text begins in_class ends_lower is_tail after
 next_clear Start separator name rest may = tt
@@ -470,7 +470,7 @@ piece_clear Closed piece rest may = cc
 piece_clear Lowered (Next separator name) rest may = next_clear Lowered separator name rest may
 piece_clear Lowered piece rest may = cc
 
--- pieces and a tail go on with nothing before them
+-- pieces and a tail do not continue the pieces before them
 pub head_clear : (stage : Stage) (pieces : List Piece) (tail : List ℕ) → IsHead stage pieces tail → Clear stage (flat_map piece_text pieces ++ tail)
 unfolding IsHead
 head_clear stage [] tail h = tail_clear stage tail h.1
@@ -490,7 +490,7 @@ head_full stage (piece ∷ pieces) tail h =
       head_full (stage_after piece) pieces tail h.2,
     )
 
--- a text is read in one way
+-- a text has exactly one reading
 pub one_reading : (stage : Stage) (text : List ℕ) (pieces others : List Piece) (rest other : List ℕ) → ReadsAs stage text pieces rest → ReadsAs stage text others other → (pieces ≡ others) × (rest ≡ other)
 unfolding ReadsAs
 one_reading stage text [] [] rest other h k = (refl, h.1 ∙ sym k.1)

@@ -1,4 +1,4 @@
--- What a text begins with.
+-- The beginning of a text.
 use Rattle.std.specs.Cmp.Lexicographic.{pointwise}
 use Rattle.std.specs.Borrow.{Bor}
 use Rattle.std.specs.Option.{MatchOption, option_copied}
@@ -13,7 +13,7 @@ use Rattle.cc_base.specs.Found.{after}
 use Rattle.complgen_import.specs.declared.class.Class.{Class}
 use Rattle.complgen_import.specs.Classes.{in_class, run, past}
 
--- ---- a given front
+-- ---- a given beginning
 
 pub after_cons : (byte first : ℕ) (front text : List ℕ) (b : Bool) → (byte == first) ≡ b → after (byte ∷ front) (first ∷ text) ≡ cond b (after front text) None
 unfolding after
@@ -48,7 +48,7 @@ after_stripped front text r h = stripped_by front text r (strip_prefix_is Decide
 
 -- ---- a run of a class
 
--- one byte more at the front
+-- one more byte at the beginning
 pub run-cons : (class : Class) (byte : ℕ) (text : List ℕ) (b : Bool) → in_class class byte ≡ b → run class (byte ∷ text) ≡ cond b (byte ∷ run class text) []
 unfolding run
 run-cons class byte text true e = rw (run, e) refl
@@ -75,7 +75,7 @@ drop_run class (byte ∷ text) = elim (cases_Bool (in_class class byte)) [
   | inr out ↦ rw (run-cons class byte text false out, past-cons class byte text false out) refl
 ]
 
--- how long the run is, counted up to here
+-- the length of the run, counted up to here
 abbrev pub Counted : Class → List ℕ → ℕ → Type 0
 Counted class text i = length (run class text) ≡ i + length (run class (drop i text))
 

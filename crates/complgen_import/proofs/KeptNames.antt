@@ -1,4 +1,4 @@
--- Which names are kept: only those of lines, and none twice.
+-- Only names of lines are kept, and none twice.
 use Rattle.std.specs.List.{AllByRecursion, flat_map}
 use Rattle.std.specs.Str.{bytes_eq}
 use Rattle.std.proofs.lemmas.Bool.{cases_Bool}
@@ -18,7 +18,7 @@ among_split x (y ∷ front) rest (inr later) = elim (among_split x front rest la
   | inr behind ↦ inr behind
 ]
 
--- what holds of each member
+-- a property of each member
 all_among : {A : Type 0} (P : A → Type 0) (xs : List A) → ((x : A) → IsAmong x xs → P x) → AllByRecursion P xs
 unfolding IsAmong
 all_among P [] each = tt
@@ -74,7 +74,7 @@ only_kept lines kept is name h =
     let Q : List (List ℕ) → Type 0 = λ ns. IsAmong name ns in
     (l.0, l.1, subst Q l.2 k.2)
 
--- ---- none twice
+-- ---- no name twice
 
 new_unsaid : (said names : List (List ℕ)) (name : List ℕ) → IsAmong name (new_names said names) → is_said said name ≡ false
 unfolding IsAmong new_names is_said
@@ -86,7 +86,7 @@ new_unsaid said (other ∷ names) name h = elim (among_split name (if_new (is_sa
   | inr later ↦ (neither (bytes_eq other name) (is_said said name) (new_unsaid (other ∷ said) names name later)).1
 ]
 
--- what is not said after more names is not said before them
+-- a name that is not among more earlier names is not among fewer
 unsaid_before : (said names : List (List ℕ)) (name : List ℕ) → is_said (said_after said names) name ≡ false → is_said said name ≡ false
 unfolding said_after is_said
 unsaid_before said [] name h = h
@@ -95,7 +95,7 @@ unsaid_before said (other ∷ names) name h = (neither (bytes_eq other name) (is
 abbrev Differ : List (List ℕ) → Type 0
 Differ names = AllDifferBy (λ name. name) names
 
--- a name is none that is not said where it is
+-- a name differs from one that is not among the names with it
 is_none_of : (said : List (List ℕ)) (name other : List ℕ) → is_said (name ∷ said) other ≡ false → name ≢ other
 unfolding is_said
 is_none_of said name other unsaid = λ same.

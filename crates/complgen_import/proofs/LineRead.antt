@@ -17,9 +17,9 @@ use Rattle.complgen_import.specs.Reading.{piece_at, ReadsAs}
 use Rattle.complgen_import.proofs.Complete.{head_full, one_reading, run_all}
 use Rattle.complgen_import.proofs.Sound.{run_in, run_past, sound_piece}
 
--- ---- one piece more
+-- ---- one more piece
 
--- what is read from here on ends what was read from the start
+-- the pieces read from here on complete those read from the start
 abbrev pub Continues : List ℕ → Stage → List ℕ → List Piece → Type 0
 Continues text stage rest done = (pieces : List Piece) (end : List ℕ) → ReadsAs stage rest pieces end → ReadsAs Start text (done ++ pieces) end
 
@@ -58,7 +58,7 @@ piece_begins (Spaced value) = (_, _, refl)
 piece_begins (Group held) = (_, _, refl)
 piece_begins (Lower word) = (_, _, refl)
 
--- each piece takes a byte at least
+-- each piece takes at least one byte
 pub shorter : (stage : Stage) (text : List ℕ) (piece : Piece) (next : List ℕ) → piece_at stage text ≡ Some (piece, next) → length next < length text
 shorter stage text piece next is =
     let spelled = (sound_piece stage text (piece, next) is).1 in
@@ -67,7 +67,7 @@ shorter stage text piece next is =
     let long : length text ≡ 1 + (length b.1 + length next) = ap length cut ∙ omega (arith, length-append b.1 next) in
     omega arith
 
--- ---- what is read has the form
+-- ---- the result has the form
 
 head_text : (stage : Stage) (text : List ℕ) (pieces : List Piece) (tail : List ℕ) → ReadsAs stage text pieces tail → text ≡ flat_map piece_text pieces ++ tail
 unfolding ReadsAs
@@ -94,7 +94,7 @@ head_form stage text (piece ∷ pieces) tail h is ends =
     let s = sound_piece stage text (piece, h.0) h.1 in
     (s.0.0, s.0.1, head_form (stage_after piece) h.0 pieces tail h.2 is (λ _. after_ends piece))
 
--- the line of an indent, pieces and a tail
+-- the line with an indent, pieces and a tail
 abbrev pub line_of : List ℕ → List Piece → List ℕ → OptionLine
 line_of indent pieces tail = record { indent = indent; pieces = pieces; tail = tail }
 
@@ -106,7 +106,7 @@ line_sound line pieces tail h some is = (
   sym (run_past BlankByte line ∙ ap (λ t. run BlankByte line ++ t) (head_text Start (past BlankByte line) pieces tail h)),
 )
 
--- ---- what has the form is read
+-- ---- a line that has the form is read
 
 head_dash : (pieces : List Piece) (tail : List ℕ) → IsHead Start pieces tail → begins BlankByte (flat_map piece_text pieces ++ tail) ≡ false
 unfolding IsHead may_end may_follow may_separate piece_text name_text begins in_class

@@ -1,4 +1,4 @@
--- The lines of a text, and what is read of them.
+-- The lines of a text, and the results for them.
 use Rattle.std.specs.Prelude.{codes}
 use Rattle.std.specs.List.{AllByRecursion}
 use Rattle.std.specs.Option.{option_to_list}
@@ -56,7 +56,7 @@ lines_split text line rest first later =
 
 -- ---- line by line
 
--- what is read of the lines left ends what is read of all
+-- the results for the remaining lines complete those for all lines
 abbrev pub LinesContinue : List (List ℕ) → List (List ℕ) → List OptionLine → Type 0
 LinesContinue all left done = (forms : List OptionLine) → AreOptionLines left forms → AreOptionLines all (done ++ forms)
 
@@ -73,9 +73,9 @@ lines_end all done before =
     let P : List OptionLine → Type 0 = λ fs. AreOptionLines all fs in
     subst P (append-nil done) (before [] refl)
 
--- ---- no other, and each
+-- ---- only option lines, and each of them
 
--- what is among some of them is among all
+-- a member of some of the lines is a member of all
 weaker : (line : List ℕ) (lines : List (List ℕ)) (forms : List OptionLine) →
     AllByRecursion (λ form. IsForm form × IsAmong (line_text form) lines) forms → AllByRecursion (λ form. IsForm form × IsAmong (line_text form) (line ∷ lines)) forms
 unfolding IsAmong

@@ -1,4 +1,4 @@
--- Which names are new, and that each is kept.
+-- The names that are new, and that each is kept.
 use Rattle.std.specs.BTreeSet.{BTreeSet, contains}
 use Rattle.std.specs.Cmp.Lexicographic.{slice_cmp, texts_ties}
 use Rattle.std.specs.List.{flat_map}
@@ -44,7 +44,7 @@ holds_none seen none name = rw none refl
 
 -- ---- the new names of a line, one after another
 
--- what is kept so far and what is left to keep are the new names
+-- the names kept so far and those still to keep are the new names
 pub record Keeping (said : List (List ℕ)) (names : List (List ℕ)) (seen : BTreeSet (List ℕ)) (kept left : List (List ℕ)) : Type 0 where
   pub so_far : List (List ℕ)
   pub held : Holds seen so_far
@@ -54,7 +54,7 @@ pub record Keeping (said : List (List ℕ)) (names : List (List ℕ)) (seen : BT
 pub keeping_start : (said names : List (List ℕ)) (seen : BTreeSet (List ℕ)) → Holds seen said → Keeping said names seen [] names
 keeping_start said names seen held = record { so_far = said; held = held; all = refl; after = refl }
 
--- a name that was said is passed over
+-- a name that appeared before is skipped
 pub keeping_old : (said names : List (List ℕ)) (seen next : BTreeSet (List ℕ)) (kept left : List (List ℕ)) (name : List ℕ) →
     ((so_far : List (List ℕ)) → Holds seen so_far → Holds next (name ∷ so_far)) → contains (slice_cmp nat_cmp) seen name ≡ true →
     Keeping said names seen kept (name ∷ left) → Keeping said names next kept left
@@ -67,7 +67,7 @@ keeping_old said names seen next kept left name more old k =
       after = k.after;
     }
 
--- a name that was not said is kept
+-- a name that did not appear before is kept
 pub keeping_new : (said names : List (List ℕ)) (seen next : BTreeSet (List ℕ)) (kept left : List (List ℕ)) (name : List ℕ) →
     ((so_far : List (List ℕ)) → Holds seen so_far → Holds next (name ∷ so_far)) → contains (slice_cmp nat_cmp) seen name ≡ false →
     Keeping said names seen kept (name ∷ left) → Keeping said names next (kept ++ name ∷ []) left
@@ -87,7 +87,7 @@ keeping_end said names seen kept k =
     let P : List (List ℕ) → Type 0 = Holds seen in
     (sym (append-nil kept) ∙ k.all, subst P k.after k.held)
 
--- the same steps, as the loop makes them
+-- the same steps in the form that the loop needs
 pub keeping_init : (said names : List (List ℕ)) (seen : BTreeSet (List ℕ)) (kept left : List (List ℕ)) → kept ≡ [] → left ≡ names → Holds seen said → Keeping said names seen kept left
 keeping_init said names seen kept left none same held =
     let P : List (List ℕ) → Type 0 = λ k. Keeping said names seen k left in
@@ -141,7 +141,7 @@ pub lines_end : (lines : List (List (List ℕ))) (seen : BTreeSet (List ℕ)) (k
 unfolding kept_names
 lines_end lines seen kept k = sym (append-nil kept) ∙ k.all
 
--- the same steps, as the loop makes them
+-- the same steps in the form that the loop needs
 pub lines_on : (lines : List OptionLine) (i : ℕ) (line : OptionLine) (seen next : BTreeSet (List ℕ)) (kept more : List (List (List ℕ))) (names new : List (List ℕ)) →
     i < length lines → line ≡ get_or lines i line → names ≡ line_names line →
     ((said : List (List ℕ)) → Holds seen said → (new ≡ new_names said names) × Holds next (said_after said names)) → more ≡ kept ++ new ∷ [] →
@@ -162,7 +162,7 @@ lines_done lines i seen kept over k =
 
 -- ---- each name is kept
 
--- a name that was said is one of those
+-- a name that appeared before is among the earlier names
 said_among : (said : List (List ℕ)) (name : List ℕ) → is_said said name ≡ true → IsAmong name said
 unfolding is_said IsAmong
 said_among [] name h = absurd (let both : false ≡ true = h in cc)
@@ -171,7 +171,7 @@ said_among (other ∷ said) name h = elim (cases_Bool (bytes_eq other name)) [
   | inr differs ↦ inr (said_among said name (ap (λ b. b || is_said said name) (sym differs) ∙ h))
 ]
 
--- a name of a line is new, or was said before
+-- a name of a line is new, or appeared before
 first_new : (said : List (List ℕ)) (other : List ℕ) (names : List (List ℕ)) (name : List ℕ) → name ≡ other → IsAmong name said ⊎ IsAmong name (new_names said (other ∷ names))
 unfolding IsAmong new_names if_new
 first_new said other names name here = elim (cases_Bool (is_said said other)) [
@@ -206,7 +206,7 @@ said_before said (other ∷ names) name h = elim (said_before (other ∷ said) n
   | inr later ↦ inr (inr later)
 ]
 
--- all that the lines keep
+-- all names that the lines keep
 abbrev all_of : List (List (List ℕ)) → List (List ℕ)
 all_of kept = flat_map (λ names. names) kept
 

@@ -1,4 +1,4 @@
--- Options that are some value, taken apart.
+-- Case analysis on options that hold a value.
 use Rattle.std.specs.Option.{option_or, option_and_then, option_map}
 use Rattle.std.proofs.Common.{◌≡◌, ℕ, Bool, true, false, List, Option, Some, None, ◌⊎◌, inl, inr, refl, ◌∙◌, ap}
 use Rattle.complgen_import.specs.Reading.{Read, read_as}
@@ -31,7 +31,7 @@ pub when-some : {A : Type 0} (b : Bool) (x y : A) → elim b [ true ↦ Some x |
 when-some true x y h = (refl, some_same h)
 when-some false x y h = cc
 
--- the first of two that is some value
+-- the first of two that holds a value
 pub or_first : {A : Type 0} (a b : Option A) (y : A) → a ≡ Some y → option_or a b ≡ Some y
 or_first a b y h = ap (λ o. option_or o b) h
 

@@ -1,4 +1,5 @@
--- Worked rows: which pieces some lines are read as. Each is a form of help that programs print.
+-- Examples of lines and the pieces as which they are read. Each is a form of help that programs
+-- print.
 use Rattle.std.specs.Prelude.{codes}
 use Rattle.std.proofs.Common.{◌≡◌, ℕ, List, [], ◌∷◌, true, false, None, refl}
 use Rattle.cc_base.specs.Found.{after}
@@ -76,7 +77,7 @@ slash_row : ReadsAs Start (codes "-x/--extra|-e") (First (Short 120) ∷ Next Sl
 unfolding ReadsAs stage_after piece_at name_at negatable_at long_at short_at letter_at only_letter word_at after run past begins in_class is_word_with word_byte is_joined argument_at joined_at optional_at more_at spaced_at group_at lower_at value_at mark_at angle_at curly_at bare_at run_at held_at with_dots closed_at before_end ends_lower is_tail next_at separated may_separate separator_among separator_text
 slash_row = (_, refl, (_, refl, (_, refl, (refl, refl))))
 
--- a word with one dash is no name, nor is a dash alone, nor a number of two digits
+-- no names: a word after a single hyphen, hyphens alone, a number of two digits
 no_names : (piece_at Start (codes "-Xmx  memory") ≡ None) × (piece_at Start (codes "-- rest") ≡ None) × (piece_at Start (codes "-10  ten") ≡ None)
 unfolding ReadsAs stage_after piece_at name_at negatable_at long_at short_at letter_at only_letter word_at after run past begins in_class is_word_with word_byte is_joined argument_at joined_at optional_at more_at spaced_at group_at lower_at value_at mark_at angle_at curly_at bare_at run_at held_at with_dots closed_at before_end ends_lower is_tail next_at separated may_separate separator_among separator_text
 no_names = (refl, refl, refl)

@@ -1,4 +1,4 @@
--- The separator that a text begins with.
+-- The separator with which a text begins.
 use Rattle.std.proofs.Common.{◌≡◌, ◌<◌, ◌≤◌, ◌+◌, ℕ, List, ◌∷◌, length, drop, get_or, Some, None, refl, sym, ◌∙◌}
 use Rattle.std.proofs.lemmas.List.{at_drop_more, at_drop_all}
 use Rattle.cc_base.specs.Found.{after}
@@ -14,7 +14,7 @@ pub among-later : (separator : Separator) (separators : List Separator) (text : 
 unfolding separator_among
 among-later separator separators text e = rw (separator_among, e) refl
 
--- it begins with the separator at i
+-- the text begins with the separator at i
 pub among_found : (items : List Separator) (text : List ℕ) (i : ℕ) (d : Separator) (rest : List ℕ) → {whole : Read Separator} → i < length items →
     after (separator_text (get_or items i d)) text ≡ Some rest → separator_among (drop i items) text ≡ whole → Some (get_or items i d, rest) ≡ whole
 among_found items text i d rest below found e =

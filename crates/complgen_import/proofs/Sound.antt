@@ -1,4 +1,4 @@
--- What is read has the form, and is a front of the text.
+-- A result has the form, and its text is at the beginning of the text that was read.
 use Rattle.std.specs.Prelude.{codes}
 use Rattle.std.specs.Option.{option_or, option_and_then}
 use Rattle.std.proofs.lemmas.Bool.{cases_Bool}
@@ -28,11 +28,11 @@ use Rattle.complgen_import.proofs.FrontsRead.{after-text, after_cons, past-cons,
 use Rattle.complgen_import.proofs.Options.{and_then-some, map-some, or-some, read_as-some, some_same, when-some, when_read}
 use Rattle.complgen_import.proofs.SeparatorsRead.{among-some, among-later}
 
--- what the reader reads is such a thing, and its text begins the text
+-- the result of the reader has the property, and its text begins the text that was read
 abbrev pub Sound : {A : Type 0} → (List ℕ → Read A) → (A → List ℕ) → (A → Type 0) → Type 0
 Sound {A} reader text_of Is = (text : List ℕ) (read : A × List ℕ) → reader text ≡ Some read → Is read.0 × (text ≡ text_of read.0 ++ read.1)
 
--- behind a given front, as something else
+-- after a given beginning, with another result
 behind : {A B : Type 0} (front : List ℕ) (reader : List ℕ → Read A) (text_of : A → List ℕ) (Is : A → Type 0) (f : A → B) (whole : B → List ℕ) (IsB : B → Type 0) →
     Sound reader text_of Is → ((x : A) → Is x → IsB (f x)) → ((x : A) → whole (f x) ≡ front ++ text_of x) →
     Sound (λ text. read_as f (option_and_then reader (after front text))) whole IsB
@@ -47,7 +47,7 @@ behind {A} {B} front reader text_of Is f whole IsB sound is spelled text read h 
           ∙ sym (append_assoc front (text_of r.0) read.1) ∙ ap (λ t. t ++ read.1) (sym (spelled r.0)),
     )
 
--- one or another
+-- one reader or another
 either : {A : Type 0} (one other : List ℕ → Read A) (text_of : A → List ℕ) (Is : A → Type 0) → Sound one text_of Is → Sound other text_of Is → Sound (λ text. option_or (one text) (other text)) text_of Is
 either one other text_of Is sound_one sound_other text read h = elim (or-some (one text) (other text) read h) [
   | inl first ↦ sound_one text read first
@@ -72,7 +72,7 @@ run_past class (byte ∷ text) = elim (cases_Bool (in_class class byte)) [
   | inr out ↦ rw (run-cons class byte text false out, past-cons class byte text false out) refl
 ]
 
--- what follows a run does not go on with it
+-- the text after a run does not continue it
 pub past_clear : (class : Class) (text : List ℕ) → begins class (past class text) ≡ false
 unfolding begins past
 past_clear class [] = refl
@@ -124,7 +124,8 @@ sound_name =
 
 -- ---- values
 
--- what begins with a byte of the first class begins so where the others are all that is kept
+-- if a text begins with a byte of the first class, so does its run of the other class, which
+-- contains it
 begins_run : (first others : Class) → ((byte : ℕ) → in_class first byte ≡ true → in_class others byte ≡ true) → (text : List ℕ) → begins first text ≡ true → begins first (run others text) ≡ true
 unfolding begins run
 begins_run first others within [] h = cc
@@ -165,7 +166,7 @@ sound_mark first others within =
     (behind (codes "{") (held_at InCurlies (codes "}")) (λ held. held ++ codes "}") (AreIn InCurlies) Curly mark_text (IsMark first others) (sound_held InCurlies (codes "}")) (λ held is. is) (λ held. refl)))
     (sound_bare first others within)
 
--- what a mark and the dots after it are
+-- a mark and the dots after it
 dotted : (m : Mark × List ℕ) (found : Option (List ℕ)) → after (codes "...") m.1 ≡ found →
     ((with_dots m).0.mark ≡ m.0) × (mark_text m.0 ++ m.1 ≡ value_text (with_dots m).0 ++ (with_dots m).1)
 unfolding with_dots value_text dots
@@ -184,9 +185,9 @@ sound_value first others within text read h =
     let P : Value × List ℕ → Type 0 = λ p. IsMark first others p.0.mark × (text ≡ value_text p.0 ++ p.1) in
     subst P m.2 (subst Q (sym d.0) s.0, s.1 ∙ d.1)
 
--- ---- a value behind a `=`
+-- ---- a value after a `=`
 
--- a word has all the bytes that may go on with it
+-- a word ends where no further byte may continue it
 abbrev pub ClearOf : Class → Mark → List ℕ → Type 0
 ClearOf class (Word word) rest = begins class rest ≡ false
 ClearOf class (Angle held) rest = Unit {0}
@@ -211,7 +212,7 @@ mark_clear text read h =
           subst P r.2 (ap (begins ValueByte) (sym (ap (λ (p : List ℕ × List ℕ). p.1) w.1)) ∙ past_clear ValueByte text)
     ]
 
--- dots are bytes of values
+-- dots are value bytes
 pub dots_clear : (text : List ℕ) → begins ValueByte text ≡ false → after (codes "...") text ≡ None
 unfolding begins in_class after
 dots_clear [] h = refl
@@ -244,7 +245,7 @@ sound_joined_value text read h =
 
 -- ---- pieces
 
--- the piece may stand there, and is one
+-- the piece is allowed there, and has its form
 abbrev pub Fits : Stage → Piece → Type 0
 Fits stage piece = IsTrue (may_follow stage piece) × IsPiece piece
 
@@ -303,7 +304,7 @@ among_text (separator ∷ separators) text read h = elim (option_cases (after (s
   | inr none ↦ among_text separators text read (sym (among-later separator separators text none) ∙ h)
 ]
 
--- a further name may stand where its separator may
+-- a further name is allowed if its separator is
 pub next_follows : (stage : Stage) (separator : Separator) (name : Name) → may_follow stage (Next separator name) ≡ may_separate stage separator
 unfolding may_follow
 next_follows Start separator name = refl
@@ -339,7 +340,7 @@ sound_argument =
     (sound_more Named (λ value. refl) (λ held. refl)))
     sound_lower
 
--- each piece that is read may stand there, has its form, and begins the text
+-- each piece that is read is allowed there, has its form, and begins the text
 pub sound_piece : (stage : Stage) → Sound (piece_at stage) piece_text (Fits stage)
 unfolding piece_at may_follow piece_text IsPiece
 sound_piece Start text read h =

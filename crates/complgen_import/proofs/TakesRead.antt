@@ -1,4 +1,5 @@
--- How many at the front of a list pass, and whether dots are in a text.
+-- The number of elements at the beginning of a list that pass a test, and whether a text contains
+-- dots.
 use Rattle.std.specs.Prelude.{codes, is_some}
 use Rattle.std.specs.Borrow.{Bor}
 use Rattle.std.specs.List.{prefix_len}
@@ -27,7 +28,7 @@ by_end p xs i over within counted =
     let none : prefix_len p (drop i xs) ≡ 0 = at_drop_all (prefix_len p) xs i over in
     omega arith
 
--- whether there is something, seen through a reference
+-- an option has a value exactly if the same option of references has one
 pub copied_some : {A : Type 0} (r : Option (Bor A)) → is_some (option_copied r) ≡ is_some r
 copied_some None = refl
 copied_some (Some x) = refl

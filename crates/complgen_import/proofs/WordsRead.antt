@@ -7,12 +7,12 @@ use Rattle.cc_base.specs.PlainName.{NameByte, letter, joiner, foreign, is_joined
 use Rattle.cc_base.specs.PlainName.{name_byte, is_plain_name}
 use Rattle.complgen_import.specs.Words.{is_joiner, word_byte, is_word_with}
 
--- what is left of a word is joined, after a letter or after none
+-- the remaining bytes are joined, after a letter or not
 unfoldable pub joined_after : Bool → List NameByte → Bool
 joined_after true bytes = is_joined (letter ∷ bytes)
 joined_after false bytes = is_joined bytes
 
--- the same of bytes
+-- the same for bytes
 abbrev pub word_after : Bool → Bool → List ℕ → Bool
 word_after dots follows bytes = joined_after follows (map (word_byte dots) bytes)
 
@@ -35,11 +35,11 @@ joined_after-kind false false true bytes = refl
 joined_after-kind true false false bytes = refl
 joined_after-kind false false false bytes = refl
 
--- the byte may be in a word, after a letter or after none
+-- the byte is allowed in a word, after a letter or not
 abbrev pub may_follow : Bool → ℕ → Bool → Bool
 may_follow dots byte after_letter = is_ascii_alphanumeric byte || (after_letter && is_joiner dots byte)
 
--- one byte on: it may be there, and the rest is joined after it
+-- one more byte: it is allowed, and the rest is joined after it
 word_after-more : (dots follows : Bool) (byte : ℕ) (bytes : List ℕ) →
     word_after dots follows (byte ∷ bytes) ≡ (may_follow dots byte follows && word_after dots (is_ascii_alphanumeric byte) bytes)
 unfolding word_byte
@@ -49,13 +49,13 @@ word_after-at : (dots follows : Bool) (bytes : List ℕ) (i : ℕ) → i < lengt
     word_after dots follows (drop i bytes) ≡ (may_follow dots (get_or bytes i 0) follows && word_after dots (is_ascii_alphanumeric (get_or bytes i 0)) (drop (i + 1) bytes))
 word_after-at dots follows bytes i below = at_drop_more (word_after dots follows) bytes i 0 below ∙ word_after-more dots follows (get_or bytes i 0) (drop (i + 1) bytes)
 
--- a byte that may not be there
+-- a byte that is not allowed
 pub word_after-failed : (dots follows : Bool) (bytes : List ℕ) (i : ℕ) (whole : Bool) → i < length bytes →
     word_after dots follows (drop i bytes) ≡ whole → may_follow dots (get_or bytes i 0) follows ≡ false → false ≡ whole
 word_after-failed dots follows bytes i whole below is failed =
     sym (ap (λ b. b && word_after dots (is_ascii_alphanumeric (get_or bytes i 0)) (drop (i + 1) bytes)) failed) ∙ sym (word_after-at dots follows bytes i below) ∙ is
 
--- a byte that may
+-- a byte that is allowed
 pub word_after-passed : (dots follows : Bool) (bytes : List ℕ) (i : ℕ) (whole : Bool) → i < length bytes →
     word_after dots follows (drop i bytes) ≡ whole → may_follow dots (get_or bytes i 0) follows ≡ true →
     word_after dots (is_ascii_alphanumeric (get_or bytes i 0)) (drop (i + 1) bytes) ≡ whole

@@ -1,4 +1,4 @@
--- The options and flags of a help text.
+-- The options and flags in a help text.
 use Rattle.std.specs.Prelude.{◌≡◌, ◌==◌, ℕ, List, [], ◌∷◌, ◌++◌, length, map, if◌then◌else◌}
 use Rattle.std.specs.List.{flat_map}
 use Rattle.cc_base.specs.Differ.{AllDifferBy}
@@ -22,25 +22,25 @@ with_names (line ∷ lines) (names ∷ kept) = named line names ++ with_names li
 abbrev pub all_names : List Argument → List (List ℕ)
 all_names arguments = flat_map (λ argument. argument.names) arguments
 
--- they are the option lines of the text, each with its names that no line before it has
+-- they are the option lines of the text, each with its names that no earlier line has
 abbrev pub AreArguments : List ℕ → List Argument → Type 0
 AreArguments text arguments =
     (lines : List OptionLine) × AreOptionLines (lines_of text) lines
     × (arguments ≡ with_names lines (kept_names [] (map line_names lines)))
 
--- each plain name of each line of the form is there
+-- each plain name of each option line is among their names
 abbrev pub HasEachName : List ℕ → List Argument → Type 0
 HasEachName text arguments =
     (form : OptionLine) (name : List ℕ) → IsForm form → IsAmong (line_text form) (lines_of text) →
     IsAmong name (line_names form) → IsAmong name (all_names arguments)
 
--- each name that is there is one of a line of the form
+-- each of their names is a plain name of an option line
 abbrev pub HasOnlyNames : List ℕ → List Argument → Type 0
 HasOnlyNames text arguments =
     (name : List ℕ) → IsAmong name (all_names arguments) →
     (form : OptionLine) × IsForm form × IsAmong (line_text form) (lines_of text)
     × IsAmong name (line_names form)
 
--- no name is there twice
+-- no name appears twice
 abbrev pub HasNamesOnce : List Argument → Type 0
 HasNamesOnce arguments = AllDifferBy (λ name. name) (all_names arguments)

@@ -1,4 +1,4 @@
--- Classes of bytes, and the longest front of a text that is in a class.
+-- Classes of bytes, and the longest beginning of a text that is in a class.
 use Rattle.std.specs.Prelude.{ℕ, Bool, true, false, not, ◌||◌, ◌==◌, List, [], ◌∷◌}
 use Rattle.std.specs.Char.{is_ascii_alphanumeric, is_ascii_digit, is_ascii_lowercase, is_ascii_uppercase}
 use Rattle.complgen_import.specs.declared.class.Class.{Class}
@@ -21,7 +21,7 @@ is_small_byte byte =
     is_ascii_alphanumeric byte
     || (byte == 95 || byte == 45 || byte == 46 || byte == 58 || byte == 47)
 
--- whether the byte is in the class
+-- the byte is in the class
 unfoldable pub in_class : Class → ℕ → Bool
 in_class Blank byte = byte == 32
 in_class NameByte byte = is_name_byte byte
@@ -35,12 +35,12 @@ in_class InAngles byte = not (byte == 60 || byte == 62)
 in_class InCurlies byte = not (byte == 123 || byte == 125)
 in_class InSquares byte = not (byte == 91 || byte == 93)
 
--- whether a text begins with a byte of the class
+-- the text begins with a byte of the class
 unfoldable pub begins : Class → List ℕ → Bool
 begins class [] = false
 begins class (byte ∷ text) = in_class class byte
 
--- the bytes at the front of a text that are in the class
+-- the bytes of the class at the beginning of a text
 unfoldable pub run : Class → List ℕ → List ℕ
 run class [] = []
 run class (byte ∷ text) = elim (in_class class byte) [
@@ -48,7 +48,7 @@ run class (byte ∷ text) = elim (in_class class byte) [
   | false ↦ []
 ]
 
--- what follows those bytes
+-- the text after those bytes
 unfoldable pub past : Class → List ℕ → List ℕ
 past class [] = []
 past class (byte ∷ text) = elim (in_class class byte) [

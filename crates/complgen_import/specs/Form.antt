@@ -1,4 +1,4 @@
--- The form of an option line: which lines have it, and what each is made of.
+-- The form of an option line, and the parts of a line that has it.
 use Rattle.std.specs.Prelude.{◌≡◌, ℕ, Bool, true, false, IsTrue, List, [], ◌∷◌, ◌++◌, codes, Option, Some, IfSome}
 use Rattle.std.specs.Char.{is_ascii_alphanumeric}
 use Rattle.std.specs.List.{AllByRecursion, flat_map}
@@ -19,7 +19,7 @@ use Rattle.complgen_import.specs.declared.form.Value.{Value}
 use Rattle.complgen_import.specs.Classes.{in_class, begins}
 use Rattle.complgen_import.specs.Words.{is_word}
 
--- ---- how each part is spelled
+-- ---- the text of each part
 
 unfoldable pub name_text : Name → List ℕ
 name_text (Short letter) = 45 ∷ letter ∷ []
@@ -57,11 +57,11 @@ piece_text (Spaced value) = codes " " ++ value_text value
 piece_text (Group held) = codes " [" ++ (held ++ codes "]")
 piece_text (Lower word) = codes " " ++ word
 
--- the line, which is its parts one after another
+-- the line, which consists of its parts one after another
 unfoldable pub line_text : OptionLine → List ℕ
 line_text line = line.indent ++ (flat_map piece_text line.pieces ++ line.tail)
 
--- ---- what each part may be
+-- ---- the values that each part may have
 
 -- each byte is in the class
 abbrev pub AreIn : Class → List ℕ → Type 0
@@ -77,13 +77,13 @@ IsName (Short letter) = IsTrue (is_ascii_alphanumeric letter)
 IsName (Long word) = IsTrue (is_word word)
 IsName (Negatable word) = IsTrue (is_word word)
 
--- what brackets hold has none of them in it
+-- the text between brackets contains none of them
 unfoldable pub IsMark : Class → Class → Mark → Type 0
 IsMark first others (Word word) = IsRun first others word
 IsMark first others (Angle held) = AreIn InAngles held
 IsMark first others (Curly held) = AreIn InCurlies held
 
--- behind a `=` the bytes of a word may be dots: those that follow it belong to it
+-- after a `=`, the bytes of a word may include dots, so dots after the word belong to it
 unfoldable pub HasNoDots : Value → Mark → Type 0
 HasNoDots value (Word word) = value.repeats ≡ false
 HasNoDots value (Angle held) = Unit {0}
@@ -104,9 +104,9 @@ IsPiece (Spaced value) = IsSpacedValue value
 IsPiece (Group held) = AreIn InSquares held
 IsPiece (Lower word) = IsRun Small SmallByte word
 
--- ---- which part may follow which
+-- ---- the parts that may follow a part
 
--- a `/` without blanks stands between names alone, for a value may have one in it
+-- a `/` without spaces only separates names, because a value may contain one
 unfoldable pub may_separate : Stage → Separator → Bool
 may_separate Start separator = false
 may_separate Named separator = true
@@ -143,7 +143,7 @@ unfoldable pub may_end : Stage → Bool
 may_end Start = false
 may_end stage = true
 
--- nothing, or two blanks at least
+-- nothing, or at least two spaces
 unfoldable pub is_tail : List ℕ → Bool
 is_tail [] = true
 is_tail (byte ∷ []) = false
@@ -152,22 +152,22 @@ is_tail (byte ∷ next ∷ text) = elim (in_class BlankByte byte) [
   | false ↦ false
 ]
 
--- from this stage on these pieces may stand before the tail
+-- from this stage on, these pieces may come before the tail
 unfoldable pub IsHead : Stage → List Piece → List ℕ → Type 0
 IsHead stage [] tail = IsTrue (may_end stage) × IsTrue (is_tail tail)
 IsHead stage (piece ∷ pieces) tail =
     IsTrue (may_follow stage piece) × IsPiece piece × IsHead (stage_after piece) pieces tail
 
--- what has the form
+-- the line has the form
 pub record IsForm (line : OptionLine) : Type 0 where
   pub indent : AreIn BlankByte line.indent
   pub head : IsHead Start line.pieces line.tail
 
--- what is read of a line has the form and is the line
+-- the result for a line has the form, and is the line
 abbrev pub IsSoundReading : List ℕ → Option OptionLine → Type 0
 IsSoundReading line read = IfSome read (λ form. IsForm form × (line_text form ≡ line))
 
--- a line that has the form is read so
+-- a line that has the form is read as that form
 abbrev pub IsCompleteReading : List ℕ → Option OptionLine → Type 0
 IsCompleteReading line read =
     (form : OptionLine) → IsForm form → line_text form ≡ line → read ≡ Some form

@@ -1,4 +1,4 @@
--- The names that option lines say, and the line that keeps each.
+-- The names in option lines, and the line that keeps each.
 use Rattle.std.specs.Prelude.{◌≡◌, ℕ, Bool, true, false, ◌||◌, List, [], ◌∷◌, ◌++◌, codes, bytes_eq, if◌then◌else◌}
 use Rattle.std.specs.BTreeSet.{BTreeSet, contains}
 use Rattle.std.specs.Cmp.Lexicographic.{slice_cmp}
@@ -13,8 +13,8 @@ use Rattle.complgen_import.specs.declared.form.Piece.{Piece}
 use Rattle.complgen_import.specs.declared.form.Piece.TheVariants.{First, Next}
 use Rattle.complgen_import.specs.Lines.{IsAmong}
 
--- the names that a long name in a line stands for, as they are written on a command line; one
--- that is not plain stands for none, since a tree file cannot say it
+-- The names that a long name in a line means, as users type them. A name that is not plain means
+-- none, because a tree file cannot contain it.
 unfoldable pub long_names : List ℕ → List (List ℕ)
 long_names word = if is_plain_name word then (codes "--" ++ word) ∷ [] else []
 
@@ -22,7 +22,7 @@ unfoldable pub negatable_names : List ℕ → List (List ℕ)
 negatable_names word =
     if is_plain_name word then (codes "--" ++ word) ∷ (codes "--no-" ++ word) ∷ [] else []
 
--- the same of any name
+-- the same for any name
 unfoldable pub plain_names : Name → List (List ℕ)
 plain_names (Short letter) = (codes "-" ++ letter ∷ []) ∷ []
 plain_names (Long word) = long_names word
@@ -37,32 +37,32 @@ piece_names _ = []
 abbrev pub line_names : OptionLine → List (List ℕ)
 line_names line = flat_map piece_names line.pieces
 
--- whether a name is one of those that were said
+-- the name is among the earlier ones
 unfoldable pub is_said : List (List ℕ) → List ℕ → Bool
 is_said [] name = false
 is_said (other ∷ said) name = bytes_eq other name || is_said said name
 
--- the name, unless it was said
+-- the name, unless it is among the earlier ones
 unfoldable pub if_new : Bool → List ℕ → List (List ℕ)
 if_new true name = []
 if_new false name = name ∷ []
 
--- those of the names that were not said before
+-- the names that are not among the earlier ones
 unfoldable pub new_names : List (List ℕ) → List (List ℕ) → List (List ℕ)
 new_names said [] = []
 new_names said (name ∷ names) = if_new (is_said said name) name ++ new_names (name ∷ said) names
 
--- all that were said after these names
+-- the earlier names after these names
 unfoldable pub said_after : List (List ℕ) → List (List ℕ) → List (List ℕ)
 said_after said [] = said
 said_after said (name ∷ names) = said_after (name ∷ said) names
 
--- for each line those of its names that were not said before
+-- for each line, its names that are not among the earlier ones
 unfoldable pub kept_names : List (List ℕ) → List (List (List ℕ)) → List (List (List ℕ))
 kept_names said [] = []
 kept_names said (names ∷ more) = new_names said names ∷ kept_names (said_after said names) more
 
--- a set holds the names that were said
+-- the set contains the earlier names
 abbrev pub Holds : BTreeSet (List ℕ) → List (List ℕ) → Type 0
 Holds seen said = (name : List ℕ) → contains (slice_cmp nat_cmp) seen name ≡ is_said said name
 
@@ -72,12 +72,12 @@ KeepsEach lines kept =
     (line : OptionLine) (name : List ℕ) → IsAmong line lines → IsAmong name (line_names line) →
     IsAmong name (flat_map (λ names. names) kept)
 
--- no other name is
+-- no other name is kept
 abbrev pub KeepsOnly : List OptionLine → List (List (List ℕ)) → Type 0
 KeepsOnly lines kept =
     (name : List ℕ) → IsAmong name (flat_map (λ names. names) kept) →
     (line : OptionLine) × IsAmong line lines × IsAmong name (line_names line)
 
--- and none is there twice
+-- no name is kept twice
 abbrev pub KeepsOnce : List (List (List ℕ)) → Type 0
 KeepsOnce kept = AllDifferBy (λ name. name) (flat_map (λ names. names) kept)

@@ -1,4 +1,4 @@
--- How the parts of an option line are read, each at the front of a text.
+-- The readers of the parts of an option line, each at the beginning of a text.
 use Rattle.std.specs.Prelude.{◌≡◌, ℕ, Bool, true, false, List, [], ◌∷◌, codes, Option, Some, None, ◌||◌, is_some}
 use Rattle.std.specs.Char.{is_ascii_alphanumeric}
 use Rattle.std.specs.Option.{option_or, option_and_then, option_map}
@@ -20,18 +20,18 @@ use Rattle.complgen_import.specs.Classes.{begins, run, past}
 use Rattle.complgen_import.specs.Form.{is_tail, may_separate, separator_text, stage_after}
 use Rattle.complgen_import.specs.Words.{is_word}
 
--- what was read, and the text after it
+-- a result, and the text after it
 abbrev pub Read : Type 0 → Type 0
 Read A = Option (A × List ℕ)
 
--- the same, read as something else
+-- the same with another result
 abbrev pub read_as : {A B : Type 0} → (A → B) → Read A → Read B
 read_as f None = None
 read_as f (Some read) = Some (f read.0, read.1)
 
 -- ---- names
 
--- a whole run of the bytes of names that is a word
+-- a whole run of name bytes, if it is a word
 unfoldable pub word_at : List ℕ → Read (List ℕ)
 word_at text = elim (is_word (run NameByte text)) [
   | true ↦ Some (run NameByte text, past NameByte text)
@@ -71,7 +71,7 @@ run_at first others text = elim (begins first text) [
   | false ↦ None
 ]
 
--- what brackets hold, up to the closing one
+-- the text between brackets, up to the closing one
 unfoldable pub held_at : Class → List ℕ → List ℕ → Read (List ℕ)
 held_at inside closing text =
     option_map (λ rest. (run inside text, rest)) (after closing (past inside text))
@@ -91,7 +91,7 @@ unfoldable pub mark_at : Class → Class → List ℕ → Read Mark
 mark_at first others text =
     option_or (option_or (angle_at text) (curly_at text)) (bare_at first others text)
 
--- a value of this name, with the dots that may follow
+-- a value with this name, and the dots that may follow it
 unfoldable pub with_dots : Mark × List ℕ → Value × List ℕ
 with_dots read = elim (after (codes "...") read.1) [
   | Some rest ↦ (record { mark = read.0; repeats = true }, rest)
@@ -107,7 +107,7 @@ unfoldable pub joined_at : List ℕ → Read Piece
 joined_at text =
     read_as Joined (option_and_then (value_at ValueByte ValueByte) (after (codes "=") text))
 
--- the value, if it ends at a `]`
+-- the value, if a `]` follows it
 unfoldable pub closed_at : Value × List ℕ → Read Value
 closed_at read = option_map (λ rest. (read.0, rest)) (after (codes "]") read.1)
 
@@ -124,7 +124,7 @@ unfoldable pub group_at : List ℕ → Read Piece
 group_at text =
     read_as Group (option_and_then (held_at InSquares (codes "]")) (after (codes " [") text))
 
--- whether a word in lower case may be a value's name before this text
+-- a word in lower case before this text may be the name of a value
 unfoldable pub ends_lower : List ℕ → Bool
 ends_lower text = is_tail text || is_some (after (codes ", -") text)
 
@@ -136,7 +136,7 @@ lower_at text =
     read_as Lower (option_and_then before_end
     (option_and_then (run_at Small SmallByte) (after (codes " ") text)))
 
--- the first of these separators that the text begins with
+-- the first of these separators with which the text begins
 unfoldable pub separator_among : List Separator → List ℕ → Read Separator
 separator_among [] text = None
 separator_among (separator ∷ separators) text = elim (after (separator_text separator) text) [
@@ -144,12 +144,12 @@ separator_among (separator ∷ separators) text = elim (after (separator_text se
   | None ↦ separator_among separators text
 ]
 
--- all of them, each before those that it begins with
+-- all separators, each before those with which it begins
 abbrev pub separators : List Separator
 separators =
     CommaBlank ∷ Comma ∷ SpacedBar ∷ Bar ∷ SpacedSlash ∷ Slash ∷ Or ∷ Blank ∷ []
 
--- a name behind a separator that may stand there
+-- a name after a separator that is allowed there
 unfoldable pub separated : Stage → Separator × List ℕ → Read Piece
 separated stage read = elim (may_separate stage read.0) [
   | true ↦ read_as (Next read.0) (name_at read.1)
@@ -175,7 +175,7 @@ piece_at Valued text = option_or (more_at text) (next_at Valued text)
 piece_at Closed text = next_at Closed text
 piece_at Lowered text = next_at Lowered text
 
--- these pieces are read one after another, and no further one comes
+-- these pieces are read one after another, and no further piece follows
 unfoldable pub ReadsAs : Stage → List ℕ → List Piece → List ℕ → Type 0
 ReadsAs stage text [] rest = (piece_at stage text ≡ None) × (rest ≡ text)
 ReadsAs stage text (piece ∷ pieces) rest =

@@ -1,4 +1,4 @@
--- How many values an option takes.
+-- The number of values of an option.
 use Rattle.std.specs.Prelude.{ℕ, Bool, true, false, not, ◌||◌, List, [], ◌∷◌, Some, None, codes, count_by, drop, if◌then◌else◌, is_some, length}
 use Rattle.std.specs.List.{list_any, prefix_len, take_while}
 use Rattle.cc_base.specs.Found.{after}
@@ -17,18 +17,18 @@ is_name _ = false
 abbrev pub is_value : Piece → Bool
 is_value piece = not (is_name piece)
 
--- the values behind the first name that has some
+-- the values after the first name that is followed by any
 unfoldable pub values_of : List Piece → List Piece
 values_of pieces = take_while is_value (drop (prefix_len is_name pieces) pieces)
 
--- a value behind a `=` or a blank may not be left out
+-- a value after a `=` or a space is required
 abbrev pub is_needed : Piece → Bool
 is_needed (Joined value) = true
 is_needed (Spaced value) = true
 is_needed (Lower word) = true
 is_needed _ = false
 
--- whether `...` stands somewhere in a text
+-- the text contains `...`
 unfoldable pub has_dots : List ℕ → Bool
 has_dots [] = false
 has_dots (byte ∷ text) = is_some (after (codes "...") (byte ∷ text)) || has_dots text
@@ -41,7 +41,7 @@ mark_has_dots (Curly text) = has_dots text
 abbrev pub value_may_repeat : Value → Bool
 value_may_repeat value = value.repeats || mark_has_dots value.mark
 
--- whether there may be several
+-- the value may be repeated
 abbrev pub may_repeat : Piece → Bool
 may_repeat (Joined value) = value_may_repeat value
 may_repeat (Optional value) = value_may_repeat value
@@ -49,7 +49,7 @@ may_repeat (Spaced value) = value_may_repeat value
 may_repeat (Group held) = has_dots held
 may_repeat _ = false
 
--- how many values the option of these pieces takes
+-- the number of values of the option with these pieces
 unfoldable pub value_count : List Piece → ValueCount
 value_count pieces = record {
   least = count_by is_needed (values_of pieces);

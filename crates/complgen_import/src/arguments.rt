@@ -1,4 +1,4 @@
-//! The options and flags of a help text.
+//! The options and flags in a help text.
 
 ghost use Rattle.std.specs.Prelude.{◌≡◌, IfOk};
 ghost use Rattle.complgen_import.specs.Arguments.{AreArguments, HasEachName, HasNamesOnce, HasOnlyNames, with_names};
@@ -13,25 +13,25 @@ use std::alloc::{AllocError, Global};
 /// An option or a flag.
 #[derive(Drop)]
 pub struct Argument<'a> {
-    /// Its names: the plain names of its line that no earlier line has.
+    /// The plain names in its line that no earlier line has.
     pub names: Items<OptionName>,
-    /// The line that says it.
+    /// The line that describes it.
     pub line: OptionLine<'a>,
 }
 
-/// Reads the options and flags of a help text. The first line that has a name keeps it, and a
-/// line without a new plain name is left out.
+/// Reads the options and flags in the help text `text`. If several lines have the same name, the
+/// first keeps it. A line without a new plain name is left out.
 ///
 /// # Errors
 ///
-/// Fails if an allocation fails.
+/// `AllocError` if an allocation fails.
 pub fn read_arguments<'a>(alloc: Global, text: &'a [u8]) -> Result<Items<Argument<'a>>, AllocError>
     ensures exact { IfOk result (λ arguments. AreArguments text.now arguments) }
-    // Each plain name of each line of the form, wherever it stands, is a name of one of them.
+    // Each plain name of each option line, anywhere in the text, is a name of one of them.
     ensures complete { IfOk result (λ arguments. HasEachName text.now arguments) }
-    // Each of their names is a plain name of a line of the form.
+    // Each of their names is a plain name of an option line.
     ensures sound { IfOk result (λ arguments. HasOnlyNames text.now arguments) }
-    // No name is there twice.
+    // No name appears twice.
     ensures once { IfOk result (λ arguments. HasNamesOnce arguments) }
 {
     let lines = option_lines(alloc, text)?;
@@ -39,7 +39,7 @@ pub fn read_arguments<'a>(alloc: Global, text: &'a [u8]) -> Result<Items<Argumen
     Ok(with_names(alloc, lines.into_vec(), names)?)
 }
 
-// The lines that have names of their own.
+// Returns the lines that have names of their own.
 fn with_names<'a>(
     alloc: Global,
     lines: Vec<OptionLine<'a>>,

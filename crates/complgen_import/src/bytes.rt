@@ -1,11 +1,11 @@
-//! Borrowed bytes as the type of a field.
+//! Borrowed bytes, as the type of a field.
 
 ghost use Rattle.std.specs.Prelude.{◌≡◌, ℕ, List};
 
 use std::marker::Model;
 
-/// Borrowed bytes. A clause sees their values alone, so that a struct or an enum that holds them
-/// is the same type in code and in definitions.
+/// Borrowed bytes. Clauses see only their values, so a struct or an enum that contains them is the
+/// same type in code and in definitions.
 #[derive(Drop)]
 pub struct Bytes<'a> {
     bytes: &'a [u8],
@@ -18,7 +18,7 @@ impl<'a> Model for Bytes<'a> {
 }
 
 impl<'a> Bytes<'a> {
-    /// Borrows these bytes.
+    /// Borrows `bytes`.
     pub fn new(bytes: &'a [u8]) -> Bytes<'a>
         ensures { result ≡ bytes.now }
     {

@@ -9,28 +9,28 @@ pub(crate) enum Class {
     Blank,
     // a letter, a digit, or one of `_.:+-`
     NameByte,
-    // the same or one of `/@%`
+    // a name byte, or one of `/@%`
     ValueByte,
     // `A` to `Z`
     Capital,
-    // the same, a digit, `_` or `-`
+    // a capital, a digit, `_` or `-`
     CapitalByte,
     // `a` to `z`
     Small,
     // a letter, a digit, or one of `_-.:/`
     SmallByte,
-    // any but a line feed
+    // any byte except a line feed
     InLine,
-    // neither `<` nor `>`
+    // any byte except `<` and `>`
     InAngles,
-    // neither `{` nor `}`
+    // any byte except `{` and `}`
     InCurlies,
-    // neither `[` nor `]`
+    // any byte except `[` and `]`
     InSquares,
 }
 
 impl Class {
-    /// Whether the byte is in this class.
+    /// Returns whether the byte is in this class.
     #[tactic(auto, unfolding(crate::specs::Classes::in_class))]
     pub(crate) fn has(self, byte: u8) -> bool
         ensures { result ≡ in_class self byte }

@@ -1,32 +1,31 @@
-//! The form of an option line: what a line such as `  -o, --output <FILE>  Writes a file` is
-//! made of.
+//! The form of an option line: the parts of a line such as ` -o, --output <FILE> Writes a file`.
 
 use crate::bytes::Bytes;
 use cc_base::Items;
 
-/// A name of an option, without its dashes.
+/// A name of an option, without its hyphens.
 #[derive(Drop)]
 pub enum Name<'a> {
     /// The `c` of `-c`.
     Short(u8),
     /// The `name` of `--name`.
     Long(Bytes<'a>),
-    /// The `name` of `--[no-]name`, which stands for `--name` and `--no-name`.
+    /// The `name` of `--[no-]name`, which means `--name` and `--no-name`.
     Negatable(Bytes<'a>),
 }
 
 /// The name of a value, without its brackets.
 #[derive(Drop)]
 pub enum Mark<'a> {
-    /// A word, as `FILE`.
+    /// A word such as `FILE`.
     Word(Bytes<'a>),
-    /// What `<` and `>` hold.
+    /// The text between `<` and `>`.
     Angle(Bytes<'a>),
-    /// What `{` and `}` hold.
+    /// The text between `{` and `}`.
     Curly(Bytes<'a>),
 }
 
-/// A value that an option takes.
+/// A value of an option.
 #[derive(Drop)]
 pub struct Value<'a> {
     /// Its name.
@@ -35,7 +34,7 @@ pub struct Value<'a> {
     pub repeats: bool,
 }
 
-/// What stands between an option's name, or its value, and its next name.
+/// The text before a further name of an option.
 #[derive(Clone, Copy, Drop)]
 pub enum Separator {
     /// `, `
@@ -52,51 +51,51 @@ pub enum Separator {
     Slash,
     /// ` or `
     Or,
-    /// One blank.
+    /// One space.
     Blank,
 }
 
-/// A part of an option line's head.
+/// A part of the head of an option line.
 #[derive(Drop)]
 pub enum Piece<'a> {
     /// The first name.
     First(Name<'a>),
-    /// A further name, and what separates it from what is before it.
+    /// A further name, and the separator before it.
     Next(Separator, Name<'a>),
-    /// A value behind `=`.
+    /// A value after `=`.
     Joined(Value<'a>),
-    /// A value that may be left out, as `[=WHEN]`.
+    /// A value that may be omitted, such as `[=WHEN]`.
     Optional(Value<'a>),
-    /// A value behind a blank, as ` FILE`.
+    /// A value after a space, such as ` FILE`.
     Spaced(Value<'a>),
-    /// What `[` and `]` hold behind a blank.
+    /// The text between `[` and `]` after a space.
     Group(Bytes<'a>),
-    /// A word in lower case behind a blank.
+    /// A word in lower case after a space.
     Lower(Bytes<'a>),
 }
 
-/// Which pieces of a head may come next.
+/// The position in a head, which decides the pieces that may come next.
 #[derive(Clone, Copy, Drop)]
 pub enum Stage {
     /// At the start: a first name.
     Start,
-    /// Behind a name: a value, a group, or a further name.
+    /// After a name: a value, a group, or a further name.
     Named,
-    /// Behind a value that a blank precedes: more of them, a group, or a further name.
+    /// After a value with a space before it: more values, a group, or a further name.
     Valued,
-    /// Behind any other value or a group: a further name.
+    /// After any other value or a group: a further name.
     Closed,
-    /// Behind a word in lower case: a further name after `, `.
+    /// After a word in lower case: a further name after `, `.
     Lowered,
 }
 
-/// An option line. Its parts, one after another, are the line.
+/// An option line. The line consists of its parts, one after another.
 #[derive(Drop)]
 pub struct OptionLine<'a> {
-    /// The blanks that it begins with.
+    /// The spaces at its start.
     pub indent: Bytes<'a>,
-    /// The names and what they take.
+    /// The names and the values after them.
     pub pieces: Items<Piece<'a>>,
-    /// Nothing, or two blanks or more and the help.
+    /// Nothing, or at least two spaces and the help text.
     pub tail: Bytes<'a>,
 }

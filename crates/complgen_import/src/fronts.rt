@@ -1,4 +1,4 @@
-//! What a text begins with.
+//! Examines the beginning of a text.
 
 ghost use Rattle.std.specs.Prelude.{◌≡◌, ◌≤◌, length};
 ghost use Rattle.std.specs.Option.{option_copied};
@@ -8,7 +8,7 @@ ghost use Rattle.complgen_import.specs.Classes.{begins, past, run};
 use crate::bytes::Bytes;
 use crate::class::Class;
 
-/// Returns what follows this front; `None` if the text begins otherwise.
+/// Returns the text after `front`, or `None` if the text does not begin with it.
 #[tactic(auto, using(crate::proofs::FrontsRead::after_stripped))]
 pub(crate) fn after<'a>(front: &[u8], text: &'a [u8]) -> Option<&'a [u8]>
     ensures { option_copied result ≡ after front.now text.now }
@@ -16,7 +16,7 @@ pub(crate) fn after<'a>(front: &[u8], text: &'a [u8]) -> Option<&'a [u8]>
     text.strip_prefix(front)
 }
 
-/// Whether the text begins with a byte of the class.
+/// Returns whether the text begins with a byte of the class.
 #[tactic(auto, unfolding(crate::specs::Classes::begins))]
 pub(crate) fn begins(class: Class, text: &[u8]) -> bool
     ensures { result ≡ begins class text.now }
@@ -27,7 +27,7 @@ pub(crate) fn begins(class: Class, text: &[u8]) -> bool
     }
 }
 
-/// Returns the bytes at the front that are in the class, and what follows them.
+/// Returns the bytes of the class at the beginning of the text, and the text after them.
 #[tactic(auto, using(crate::proofs::FrontsRead::take_run, crate::proofs::FrontsRead::drop_run))]
 pub(crate) fn split_run<'a>(class: Class, text: &'a [u8]) -> (Bytes<'a>, Bytes<'a>)
     ensures front { result.0 ≡ run class text.now }

@@ -1,4 +1,12 @@
-//! Reads the help text that a program prints.
+//! Reads the options and flags from the help text that a program prints.
+//!
+//! ```rattle
+//! let help = b"  -o, --output <FILE>  Writes a file\n  -v, --verbose  Says more\n";
+//! let arguments = read_arguments(alloc, help)?;
+//! assert!(rt; arguments.as_slice().len() == 2);
+//! let count = value_count(&arguments.as_slice()[0].line);
+//! assert!(rt; count.least == 1);
+//! ```
 #![tactic(auto)]
 
 mod arguments;

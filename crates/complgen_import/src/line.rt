@@ -13,14 +13,14 @@ use crate::pieces::{is_tail, piece_at};
 use cc_base::Items;
 use std::alloc::{AllocError, Global};
 
-/// Reads an option line, which is given without the end of the line. Returns `None` if the line
-/// does not have the form.
+/// Reads the option line `line`, given without its line feed. Returns `None` if the line does not
+/// have the form.
 ///
 /// # Errors
 ///
-/// Fails if an allocation fails.
+/// `AllocError` if an allocation fails.
 pub fn option_line<'a>(alloc: Global, line: &'a [u8]) -> Result<Option<OptionLine<'a>>, AllocError>
-    // What is read has the form, and its parts are the line.
+    // The result has the form, and its parts make up the line.
     ensures sound { IfOk result (λ read. IsSoundReading line.now read) }
     // A line that has the form is read as its parts.
     ensures complete { IfOk result (λ read. IsCompleteReading line.now read) }
@@ -40,7 +40,7 @@ pub fn option_line<'a>(alloc: Global, line: &'a [u8]) -> Result<Option<OptionLin
     }))
 }
 
-// Reads pieces as long as one comes; also returns the text after the last.
+// Reads pieces as long as there are any. Returns them and the text after the last.
 fn read_head<'a>(alloc: Global, text: &'a [u8]) -> Result<(Items<Piece<'a>>, Bytes<'a>), AllocError>
     ensures { IfOk result (λ read. ReadsAs AtStart text.now read.0 read.1) }
 {

@@ -12,14 +12,14 @@ use crate::line::option_line;
 use cc_base::Items;
 use std::alloc::{AllocError, Global};
 
-/// The lines of a text, which are the texts between its line feeds.
+/// Iterates over the lines of a text, which are the texts between its line feeds.
 #[derive(Drop)]
 pub struct Lines<'a> {
     rest: Option<Bytes<'a>>,
 }
 
 impl<'a> Lines<'a> {
-    /// Returns the lines of this text.
+    /// Creates an iterator over the lines of `text`.
     #[tactic(auto, unfolding(crate::specs::Lines::lines_of_some))]
     pub fn new(text: &'a [u8]) -> Lines<'a>
         ensures { lines_left result ≡ lines_of text.now }
@@ -48,7 +48,7 @@ impl<'a> Iterator for Lines<'a> {
     }
 }
 
-// The first line, and what follows its line feed.
+// Returns the first line, and the text after its line feed.
 #[tactic(auto, using(crate::proofs::LinesRead::lines_split))]
 fn split_line<'a>(text: &'a [u8]) -> (Bytes<'a>, Option<Bytes<'a>>)
     ensures { lines_of text.now ≡ result.0 ∷ lines_of_some result.1 }
@@ -57,13 +57,13 @@ fn split_line<'a>(text: &'a [u8]) -> (Bytes<'a>, Option<Bytes<'a>>)
     (line, after(b"\n", rest.as_slice()).map(Bytes::new))
 }
 
-/// Reads each line of a text that has the form of an option line, wherever it stands.
+/// Reads each line of `text` that has the form of an option line, wherever it is.
 ///
 /// # Errors
 ///
-/// Fails if an allocation fails.
+/// `AllocError` if an allocation fails.
 pub fn option_lines<'a>(alloc: Global, text: &'a [u8]) -> Result<Items<OptionLine<'a>>, AllocError>
-    // They are read of the lines in order.
+    // They are read from the lines in order.
     ensures in_order { IfOk result (λ forms. AreOptionLines (lines_of text.now) forms) }
     // Each has the form and is a line of the text.
     ensures sound { IfOk result (λ forms. AreOfForm text.now forms) }
@@ -77,7 +77,7 @@ pub fn option_lines<'a>(alloc: Global, text: &'a [u8]) -> Result<Items<OptionLin
     Ok(forms)
 }
 
-// Adds what is read of a line.
+// Reads a line and adds the result.
 fn push_option_line<'a>(
     alloc: Global,
     forms: &mut Items<OptionLine<'a>>,

@@ -9,7 +9,7 @@ use crate::form::Name;
 use crate::fronts::{after, split_run};
 use crate::words::is_word;
 
-/// Reads a name with its dashes at the front of the text.
+/// Reads a name and its hyphens at the beginning of the text.
 #[tactic(auto, unfolding(crate::specs::Reading::name_at))]
 pub(crate) fn name_at<'a>(text: &'a [u8]) -> Option<(Name<'a>, Bytes<'a>)>
     ensures { result ≡ name_at text.now }

@@ -1,4 +1,4 @@
-//! A name of an option as it is written on a command line.
+//! A name of an option as users type it.
 
 ghost use Rattle.std.specs.Prelude.{◌≡◌, ◌++◌, ℕ, List, Some, IfOk, bytes_eq, refl};
 ghost use Rattle.std.specs.Cmp.{partial_equiv_from_equiv};
@@ -9,8 +9,7 @@ use std::alloc::{AllocError, Global};
 use std::cmp::Ordering;
 use std::marker::Model;
 
-/// A name of an option as it is written on a command line: `-c` or `--name`. A clause sees its
-/// bytes alone.
+/// A name of an option as users type it: `-c` or `--name`. Clauses see only its bytes.
 #[derive(Drop)]
 pub struct OptionName {
     written: Vec<u8>,
@@ -31,7 +30,7 @@ impl OptionName {
         Ok(OptionName { written })
     }
 
-    /// Returns the name with its dashes.
+    /// Returns the name with its hyphens.
     pub fn as_bytes(&self) -> &[u8]
         ensures { result.now ≡ self.now }
     {
@@ -42,7 +41,7 @@ impl OptionName {
     ///
     /// # Errors
     ///
-    /// Fails if an allocation fails.
+    /// `AllocError` if an allocation fails.
     pub fn try_clone(&self, alloc: Global) -> Result<OptionName, AllocError>
         ensures { IfOk result (λ copy. copy ≡ self.now) }
     {

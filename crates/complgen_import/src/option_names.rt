@@ -1,4 +1,4 @@
-//! The names that option lines say, and the line that keeps each.
+//! The names in option lines, and the line that keeps each.
 
 ghost use Rattle.std.specs.Prelude.{◌≡◌, ◌++◌, ◌∷◌, ℕ, List, [], IfOk, OnOk, map, not};
 ghost use Rattle.std.specs.BTreeSet.{contains};
@@ -13,11 +13,11 @@ use cc_base::Items;
 use std::alloc::{AllocError, Global};
 use std::collections::BTreeSet;
 
-/// Returns for each option line those of its plain names that no earlier line has, each once.
+/// Returns, for each of the `lines`, its plain names that no earlier line has, each once.
 ///
 /// # Errors
 ///
-/// Fails if an allocation fails.
+/// `AllocError` if an allocation fails.
 pub fn first_names(
     alloc: Global,
     lines: &[OptionLine],
@@ -25,9 +25,9 @@ pub fn first_names(
     ensures first { IfOk result (λ kept. kept.items ≡ kept_names [] (map line_names lines.now)) }
     // Each plain name of each line is kept.
     ensures complete { IfOk result (λ kept. KeepsEach lines.now kept.items) }
-    // No other name is.
+    // No other name is kept.
     ensures sound { IfOk result (λ kept. KeepsOnly lines.now kept.items) }
-    // None is kept twice.
+    // No name is kept twice.
     ensures once { IfOk result (λ kept. KeepsOnce kept.items) }
 {
     let mut seen = BTreeSet::new(alloc);
@@ -39,7 +39,7 @@ pub fn first_names(
     Ok(kept)
 }
 
-// Those of the names that the set does not have, which it then has.
+// Returns the names that are not in the set, and adds them to it.
 fn unseen(
     alloc: Global,
     seen: &mut BTreeSet<OptionName>,
@@ -58,7 +58,7 @@ fn unseen(
     Ok(kept)
 }
 
-// Adds a name to the set; whether it is new there.
+// Adds a name to the set. Returns whether it is new there.
 fn insert_name(
     alloc: Global,
     seen: &mut BTreeSet<OptionName>,
@@ -71,7 +71,7 @@ fn insert_name(
     Ok(seen.insert(name.try_clone(alloc)?)?)
 }
 
-// The plain names of a line.
+// Returns the plain names of a line.
 #[tactic(auto, unfolding(crate::specs::Names::piece_names))]
 fn line_names(alloc: Global, line: &OptionLine) -> Result<Vec<OptionName>, AllocError>
     ensures { IfOk result (λ names. names.items ≡ line_names line.now) }
@@ -97,7 +97,7 @@ fn push_piece_names(
     }
 }
 
-// Adds the names that a name of a line stands for.
+// Adds the names that a name in a line means.
 #[tactic(auto, unfolding(crate::specs::Names::plain_names))]
 fn push_names(alloc: Global, name: &Name, names: &mut Vec<OptionName>) -> Result<(), AllocError>
     ensures { OnOk result (names.new.items ≡ names.old.items ++ plain_names name.now) }

@@ -1,4 +1,4 @@
-//! Reads the pieces of an option line's head.
+//! Reads the pieces of the head of an option line.
 
 ghost use Rattle.std.specs.Prelude.{◌≡◌};
 ghost use Rattle.std.specs.Option.{option_copied};
@@ -12,7 +12,7 @@ use crate::fronts::after;
 use crate::names::name_at;
 use crate::values::{held_at, run_at, value_at};
 
-// Each stands before those that it begins with.
+// A separator comes before those with which it begins.
 const SEPARATORS: [Separator; 8] = [
     Separator::CommaBlank,
     Separator::Comma,
@@ -25,7 +25,7 @@ const SEPARATORS: [Separator; 8] = [
 ];
 
 impl Separator {
-    // How it is spelled.
+    // Returns the text of the separator.
     #[tactic(auto, unfolding(crate::specs::Form::separator_text))]
     fn as_bytes(self) -> &'static [u8]
         ensures { result.now ≡ separator_text self }
@@ -44,8 +44,8 @@ impl Separator {
 }
 
 impl Stage {
-    // Whether the separator may stand here. A value may have a `/` in it, so that one without
-    // blanks stands between names alone.
+    // Returns whether the separator may come next. A value may contain a `/`, so a `/` without
+    // spaces only separates names.
     #[tactic(auto, unfolding(crate::specs::Form::may_separate))]
     fn may_separate(self, separator: Separator) -> bool
         ensures { result ≡ may_separate self separator }
@@ -60,7 +60,7 @@ impl Stage {
 }
 
 impl<'a> Piece<'a> {
-    /// Returns which pieces may come next.
+    /// Returns the stage after this piece.
     #[tactic(auto, unfolding(crate::specs::Form::stage_after))]
     pub(crate) fn stage_after(&self) -> Stage
         ensures { result ≡ stage_after self.now }
@@ -74,7 +74,7 @@ impl<'a> Piece<'a> {
     }
 }
 
-/// Reads the next piece of a head at the front of the text.
+/// Reads the next piece of a head at the beginning of the text.
 #[tactic(auto, unfolding(crate::specs::Reading::piece_at))]
 pub(crate) fn piece_at<'a>(stage: Stage, text: &'a [u8]) -> Option<(Piece<'a>, Bytes<'a>)>
     ensures { result ≡ piece_at stage text.now }
@@ -151,7 +151,7 @@ fn lower_at<'a>(text: &'a [u8]) -> Option<(Piece<'a>, Bytes<'a>)>
     Some((Piece::Lower(word), rest))
 }
 
-// Whether a word in lower case may be the name of a value before this text.
+// Returns whether a word in lower case before this text may be the name of a value.
 #[tactic(auto, unfolding(crate::specs::Reading::ends_lower))]
 fn ends_lower(text: &[u8]) -> bool
     ensures { result ≡ ends_lower text.now }
@@ -159,7 +159,7 @@ fn ends_lower(text: &[u8]) -> bool
     is_tail(text) || after(b", -", text).is_some()
 }
 
-/// Whether the text may follow a head: nothing, or two blanks at least.
+/// Returns whether the text may follow a head: it is empty, or begins with two spaces.
 #[tactic(auto, unfolding(crate::specs::Form::is_tail, crate::specs::Classes::in_class))]
 pub(crate) fn is_tail(text: &[u8]) -> bool
     ensures { result ≡ is_tail text.now }

@@ -1,4 +1,4 @@
-//! How many values an option takes.
+//! Counts the values of an option.
 
 ghost use Rattle.std.specs.Prelude.{◌≡◌, ◌≤◌, None, Some, count_by, if◌then◌else◌, length};
 ghost use Rattle.std.specs.List.{list_any, prefix_len};
@@ -7,17 +7,17 @@ ghost use Rattle.complgen_import.specs.Takes.{has_dots, is_name, is_needed, is_v
 use crate::form::{Mark, OptionLine, Piece, Value};
 use crate::fronts::after;
 
-/// How many values an option takes.
+/// The number of values of an option.
 #[derive(Clone, Copy, Drop)]
 pub struct ValueCount {
-    /// At least so many.
+    /// The minimum.
     pub least: usize,
-    /// At most so many; `None` stands for any number.
+    /// The maximum, or `None` for any number.
     pub most: Option<usize>,
 }
 
-/// Returns how many values the option of a line takes: those that stand behind the first name
-/// that has some. A flag takes none.
+/// Returns the number of values of the option in `line`. They are the values after the first name
+/// that is followed by any. A flag has none.
 #[tactic(auto, unfolding(crate::specs::Takes::value_count))]
 pub fn value_count(line: &OptionLine) -> ValueCount
     ensures { result ≡ value_count line.now.pieces }
@@ -50,7 +50,7 @@ fn any_may_repeat(values: &[Piece]) -> bool
     values.iter().any(|piece| piece.may_repeat())
 }
 
-// The values behind the first name that has some.
+// Returns the values after the first name that is followed by any.
 #[tactic(auto, unfolding(crate::specs::Takes::values_of))]
 fn values_of<'p, 'a>(pieces: &'p [Piece<'a>]) -> &'p [Piece<'a>]
     ensures { result.now ≡ values_of pieces.now }
@@ -59,7 +59,7 @@ fn values_of<'p, 'a>(pieces: &'p [Piece<'a>]) -> &'p [Piece<'a>]
     &from_first[..value_len(from_first)]
 }
 
-// How many pieces before the first value there are.
+// Returns the number of pieces before the first value.
 fn name_len(pieces: &[Piece]) -> usize
     ensures within { result ≤ length pieces.now }
     ensures len { result ≡ prefix_len is_name pieces.now }
@@ -72,7 +72,7 @@ fn name_len(pieces: &[Piece]) -> usize
     pieces.len()
 }
 
-// How many values are at the front.
+// Returns the number of values at the beginning.
 fn value_len(pieces: &[Piece]) -> usize
     ensures within { result ≤ length pieces.now }
     ensures len { result ≡ prefix_len is_value pieces.now }
@@ -92,14 +92,14 @@ impl<'a> Piece<'a> {
         !matches!(self, Piece::First(_) | Piece::Next(_, _))
     }
 
-    // Whether it may not be left out.
+    // Returns whether the value is required.
     fn is_needed(&self) -> bool
         ensures { result ≡ is_needed self.now }
     {
         matches!(self, Piece::Joined(_) | Piece::Spaced(_) | Piece::Lower(_))
     }
 
-    // Whether there may be several.
+    // Returns whether the value may be repeated.
     fn may_repeat(&self) -> bool
         ensures { result ≡ may_repeat self.now }
     {
@@ -130,7 +130,7 @@ impl<'a> Mark<'a> {
     }
 }
 
-// Whether `...` stands somewhere in the text.
+// Returns whether the text contains `...`.
 fn has_dots(text: &[u8]) -> bool
     ensures { result ≡ has_dots text.now }
 {

@@ -1,4 +1,4 @@
-//! Reads the values that options take.
+//! Reads the values of options.
 
 ghost use Rattle.std.specs.Prelude.{◌≡◌};
 ghost use Rattle.complgen_import.specs.Reading.{angle_at, bare_at, curly_at, held_at, mark_at, run_at, value_at, with_dots};
@@ -8,8 +8,8 @@ use crate::class::Class;
 use crate::form::{Mark, Value};
 use crate::fronts::{after, begins, split_run};
 
-/// Reads a value at the front of the text: what angle or curly brackets hold, or a word that
-/// begins with a byte of one class and goes on with bytes of another. Then dots may follow.
+/// Reads a value at the beginning of the text: the text between angle or curly brackets, or a word
+/// that begins with a byte of one class and continues with bytes of another. Then dots may follow.
 #[tactic(auto, unfolding(crate::specs::Reading::value_at))]
 pub(crate) fn value_at<'a>(
     first: Class,
@@ -77,7 +77,7 @@ fn curly_at<'a>(text: &'a [u8]) -> Option<(Mark<'a>, Bytes<'a>)>
     Some((Mark::Curly(held), rest))
 }
 
-/// Reads what brackets hold: bytes of a class up to the closing bracket.
+/// Reads the text between brackets: bytes of a class up to the closing bracket.
 #[tactic(auto, unfolding(crate::specs::Reading::held_at))]
 pub(crate) fn held_at<'a>(
     inside: Class,
@@ -91,7 +91,7 @@ pub(crate) fn held_at<'a>(
     Some((held, Bytes::new(rest)))
 }
 
-/// Reads a word that begins with a byte of one class and goes on with bytes of another.
+/// Reads a word that begins with a byte of one class and continues with bytes of another.
 #[tactic(auto, unfolding(crate::specs::Reading::run_at))]
 pub(crate) fn run_at<'a>(
     first: Class,

@@ -1,19 +1,19 @@
-//! Which texts are words.
+//! Recognizes words.
 
 ghost use Rattle.std.specs.Prelude.{◌≡◌, ◌&&◌, ◌||◌};
 ghost use Rattle.std.specs.Char.{is_ascii_alphanumeric};
 ghost use Rattle.cc_base.specs.PlainName.{is_plain_name};
 ghost use Rattle.complgen_import.specs.Words.{is_joiner, is_word, is_word_with};
 
-/// Whether the text is a word: letters and digits, with one `-`, `_` or `.` at most between two
-/// of them.
+/// Returns whether the text is a word: letters and digits, with at most one `-`, `_` or `.` between
+/// two of them.
 pub(crate) fn is_word(text: &[u8]) -> bool
     ensures { result ≡ is_word text.now }
 {
     is_word_with(true, text)
 }
 
-/// Whether the text is a plain name, which is a word without dots.
+/// Returns whether the text is a plain name, which is a word without dots.
 #[tactic(auto, using(crate::proofs::WordsRead::plain_same))]
 pub(crate) fn is_plain_word(text: &[u8]) -> bool
     ensures { result ≡ is_plain_name text.now }
@@ -35,7 +35,7 @@ fn is_word_with(dots: bool, text: &[u8]) -> bool
     after_letter
 }
 
-// A letter or digit may always be in a word, a joiner after one of those.
+// A letter or digit may appear anywhere in a word, a joiner only after a letter or digit.
 fn may_follow(dots: bool, byte: u8, after_letter: bool) -> bool
     ensures { result ≡ (is_ascii_alphanumeric byte || (after_letter && is_joiner dots byte)) }
 {

@@ -1,4 +1,4 @@
-//! What `Debug` shows of plans and of a refusal.
+//! The `Debug` texts of plans and of a refusal.
 
 use crate::checks::is;
 use crate::runs::{candidates, script};

@@ -1,10 +1,11 @@
-//! The names that help texts of many formats say.
+//! The names in help texts of many formats.
 
 use complgen_import::{OptionName, first_names, option_lines, read_arguments, value_count};
 use std::alloc::{AllocError, Global};
 use std::process::Abort;
 
-// The names of each option line, with a blank after each name and a line feed after each line.
+// Returns the names in each option line, with a space after each name and a line feed after each
+// line.
 fn names(alloc: Global, text: &[u8]) -> Result<Vec<u8>, AllocError> {
     let lines = option_lines(alloc, text)?;
     let kept = first_names(alloc, lines.as_slice())?;
@@ -23,7 +24,7 @@ fn push_names(all: &mut Vec<u8>, names: &[OptionName]) -> Result<(), AllocError>
     Ok(all.push(b'\n')?)
 }
 
-// Fails unless the text says these names.
+// Fails unless the text contains exactly these names.
 fn says(rt: &impl Abort, alloc: Global, text: &[u8], wanted: &[u8]) {
     let all = names(alloc, text).expect(rt, "no names");
     assert_eq!(rt; all.as_slice(), wanted);
@@ -66,7 +67,7 @@ fn other_lines_say_nothing(rt: HostRuntime) {
     says(&rt, rt.alloc(), text, b"");
 }
 
-// The least and the greatest number of values of each option.
+// Returns the minimum and maximum number of values of each option.
 fn counts(alloc: Global, text: &[u8]) -> Result<Vec<(usize, Option<usize>)>, AllocError> {
     let arguments = read_arguments(alloc, text)?;
     let mut counts = Vec::new(alloc);

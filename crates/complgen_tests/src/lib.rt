@@ -1,5 +1,5 @@
-//! Tests of what the program is made of that no case of `complgen_cases` can say: what `Debug` shows, the
-//! built-in tree, files that are no text or very large, memory, and writers that fail.
+//! Tests of the parts of the program that no case of `complgen_cases` can express: `Debug` texts,
+//! the built-in tree, files that are not text or very large, memory, and writers that fail.
 #![tactic(auto)]
 
 #[cfg(test)]

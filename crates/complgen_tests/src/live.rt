@@ -15,7 +15,7 @@ fn bash(alloc: Global) -> Result<EnvValues, AllocError> {
     Ok(EnvValues::new(variables))
 }
 
-// What is written for the tree files of a directory, which is called by a relative path.
+// Returns the registration for the tree files in a directory with a relative path.
 fn registration(alloc: Global) -> Result<String, Error> {
     let folder = MemoryFolder::new(&[("/t", &["b.json", "a-1.json", "$(hit).json", "x"])], &[]);
     let known = known_names(alloc, &folder, to_strings(alloc, &["/t"])?.as_slice())?;

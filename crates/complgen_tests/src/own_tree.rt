@@ -1,4 +1,4 @@
-//! The built-in tree has the subcommands and the arguments of the command line, and no others.
+//! The built-in tree has exactly the subcommands and the arguments of the command line.
 
 use cc_arg::Arg;
 use cc_command::Command;
@@ -10,12 +10,12 @@ use std::alloc::Global;
 use std::convert::AsStr;
 use std::process::Abort;
 
-// How many lines of the text begin so.
+// Returns the number of lines of the text with this beginning.
 fn lines_with(text: &str, start: &str) -> usize {
     text.lines().filter(|line| line.starts_with(start)).count()
 }
 
-// Fails unless the help has a line that begins and ends so.
+// Fails unless the help text has a line with this beginning and end.
 fn has_line(rt: &impl Abort, help: &str, start: &str, end: &str) {
     let found = help
         .lines()
@@ -23,7 +23,7 @@ fn has_line(rt: &impl Abort, help: &str, start: &str, end: &str) {
     assert!(rt; found, "no line {start:?} .. {end:?} in {help}");
 }
 
-// Fails unless the help of a subcommand has a line for this argument of the tree.
+// Fails unless the help text of a subcommand has a line for this argument of the tree.
 fn has_argument(rt: &impl Abort, alloc: Global, help: &str, argument: &Arg) {
     let about = argument.get_help().unwrap_or("");
     let value = argument
@@ -44,7 +44,7 @@ fn has_argument(rt: &impl Abort, alloc: Global, help: &str, argument: &Arg) {
     has_line(rt, help, start.as_str(), about);
 }
 
-// Fails unless the help of a subcommand has the arguments of the tree and no others.
+// Fails unless the help text of a subcommand has exactly the arguments of the tree.
 fn has_arguments(rt: &impl Abort, alloc: Global, help: &str, child: &Command) {
     let mut longs = 0;
     let mut positionals = 0;
@@ -61,7 +61,7 @@ fn has_arguments(rt: &impl Abort, alloc: Global, help: &str, child: &Command) {
     assert!(rt; shown == positionals, "values of {help}");
 }
 
-// The refusal of these words; fails where there is a plan.
+// Returns the refusal of these words. Fails if there is a plan.
 fn refusal_of(rt: &impl Abort, alloc: Global, words: &[&str]) -> Refusal {
     let words = to_strings(alloc, words).expect(rt, "no words");
     match plan(alloc, words.as_slice()) {
@@ -70,7 +70,7 @@ fn refusal_of(rt: &impl Abort, alloc: Global, words: &[&str]) -> Refusal {
     }
 }
 
-// The help of a subcommand, which one of two command lines has.
+// Returns the help text of a subcommand, from the one of two command lines that has it.
 fn help_of(rt: &impl Abort, alloc: Global, name: &str) -> Refusal {
     let words = ["complgen", name, "-h"];
     let tool = to_strings(alloc, words.as_slice()).expect(rt, "no words");

@@ -1,4 +1,4 @@
-//! Carrying out a plan over a tree file and a folder in memory.
+//! Carries out plans over a tree file and directories in memory.
 
 use crate::checks::same;
 use cc_base::Collected;
@@ -17,7 +17,7 @@ pub(crate) fn script(alloc: Global, shell: &str) -> Result<Plan, AllocError> {
     Ok(Plan::Script(String::from_str(alloc, shell)?, bin, tree))
 }
 
-/// The plan of a registration for a program of this bin name.
+/// The plan of a registration for a program with this bin name.
 pub(crate) fn registration(alloc: Global, shell: &str, bin: &str) -> Result<Plan, AllocError> {
     let bin = String::from_str(alloc, bin)?;
     let tree = String::from_str(alloc, "tree.json")?;
@@ -30,7 +30,7 @@ pub(crate) fn candidates(alloc: Global, index: usize, words: &[&str]) -> Result<
     Ok(Plan::Candidates(index, String::from_str(alloc, "tree.json")?, words))
 }
 
-/// What the plan writes over this file, in a folder.
+/// Returns the output of the plan over this tree file, with these directories.
 pub(crate) fn output_in(
     alloc: Global,
     plan: &Plan,
@@ -42,12 +42,13 @@ pub(crate) fn output_in(
     Ok(String::from_utf8_lossy(alloc, out.as_slice())?)
 }
 
-/// What the plan writes over this file, where there are no other files.
+/// Returns the output of the plan over this tree file, without any other files.
 pub(crate) fn output_of(alloc: Global, plan: &Plan, file: &[u8]) -> Result<String, Refusal> {
     output_in(alloc, plan, file, &MemoryFolder::new(&[], &[]))
 }
 
-/// Fails unless the plan, over this file, ends with this text at status 1, and nothing is written.
+/// Fails unless the plan, over this tree file, ends with this text and status 1, and writes
+/// nothing.
 pub(crate) fn fails(
     rt: &impl Abort,
     alloc: Global,

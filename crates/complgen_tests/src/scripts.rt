@@ -1,4 +1,4 @@
-//! What a script's plan writes, and how carrying it out fails.
+//! The output of the plan of a script, and its failures.
 
 use crate::checks::{has, same};
 use crate::runs::{fails, output_of, script};
@@ -13,13 +13,13 @@ use std::convert::AsStr;
 const PARENT: &str = "{\"name\": \"app\", \"disable_help_flag\": true, \"subcommands\": [
     {\"name\": \"run\", \"visible_aliases\": [\"r\"], \"aliases\": [\"go\"]}]}";
 
-// The script for this shell of the tree in a file.
+// Returns the script for this shell and the tree in a file.
 fn script_of(alloc: Global, shell: &str, file: &[u8]) -> Result<String, Refusal> {
     output_of(alloc, &script(alloc, shell)?, file)
 }
 
-// As a rule there is memory enough. With `rt try --test --fail-alloc 4` the first allocation of
-// `run` fails, which is in reading the tree; nothing is written.
+// Usually there is enough memory. With `rt try --test --fail-alloc 4`, the first allocation of
+// `run` fails, while it reads the tree. Nothing is written.
 #[test]
 fn writes_nothing_without_memory(rt: HostRuntime) {
     let plan = script(rt.alloc(), "elvish").expect(&rt, "no plan");
@@ -51,7 +51,7 @@ fn reports_a_file_that_is_not_utf8(rt: HostRuntime) {
     );
 }
 
-// The first bytes of a file that ends with its last brace, but never all of them.
+// The beginnings of a file that ends with its last brace, without the whole file.
 #[test]
 fn reports_each_beginning_of_a_file(rt: HostRuntime) {
     for length in 0..PARENT.len() {
@@ -65,7 +65,7 @@ fn reports_each_beginning_of_a_file(rt: HostRuntime) {
     }
 }
 
-// Adds a text so many times.
+// Adds a text this many times.
 fn push_times(text: &mut String, part: &str, times: usize) -> Result<(), AllocError> {
     for _ in 0..times {
         text.push_str(part)?;
@@ -86,7 +86,7 @@ fn reports_a_million_open_brackets(rt: HostRuntime) {
     );
 }
 
-// Each parent is an object and a list, so 63 of them and a child nest as deep as JSON may.
+// Each parent is an object and a list, so 63 of them and a child nest as deeply as JSON may.
 fn deepest(alloc: Global) -> Result<String, AllocError> {
     let mut text = String::new(alloc);
     push_times(&mut text, "{\"name\":\"a\",\"subcommands\":[", 63)?;

@@ -1,4 +1,5 @@
-//! Plans carried out over a writer that fails, or takes nothing, after any count of bytes.
+//! Plans that are carried out over a writer that fails, or takes nothing, after any number of
+//! bytes.
 
 use crate::checks::same;
 use crate::runs::{candidates, output_of, registration, script};
@@ -14,7 +15,8 @@ use std::process::Abort;
 
 const TREE: &[u8] = br#"{"name": "app", "subcommands": [{"name": "run"}]}"#;
 
-// How a plan ends whose writer has this room, and what the writer then holds.
+// Carries out a plan over a writer with this room. Returns its end, and the bytes that the writer
+// then holds.
 fn end_of(
     alloc: Global,
     plan: &Plan,
@@ -40,7 +42,7 @@ fn text_of(alloc: Global, refusal: &Refusal) -> Result<String, AllocError> {
     format!(in alloc; "{} {}", refusal.status, refusal.text.as_str())
 }
 
-// Fails unless the plan ends with `write failed`, and what there is room for is written.
+// Fails unless the plan ends with `write failed`, and everything that fits is written.
 fn fails_in(rt: &impl Abort, alloc: Global, plan: &Plan, room: usize, whole: &str) {
     for kind in [Some(ErrorKind::BrokenPipe), None] {
         let (ended, held) = end_of(alloc, plan, room, kind).expect(rt, "out of memory");
@@ -49,7 +51,7 @@ fn fails_in(rt: &impl Abort, alloc: Global, plan: &Plan, room: usize, whole: &st
     }
 }
 
-// The same wherever the writer may fail; where it does not, the plan is carried out.
+// The same for every room; with room for everything, the plan is carried out.
 fn fails_to_write(rt: &impl Abort, alloc: Global, plan: Result<Plan, AllocError>) {
     let plan = plan.expect(rt, "no plan");
     let whole = output_of(alloc, &plan, TREE).expect(rt, "no text");

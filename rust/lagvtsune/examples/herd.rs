@@ -1,4 +1,5 @@
-//! `herd`, which would run a cluster: it prints its script for a shell, and completes itself.
+//! `herd`, the command line of a program that would run a cluster. It prints its script for a
+//! shell, and completes itself.
 
 #[path = "../../../examples/from-clap/herd/src/cli.rs"]
 mod cli;
@@ -15,7 +16,7 @@ fn main() {
     }
 }
 
-/// The command line, with an option for the script.
+/// Returns the command line, with an option for the script.
 fn command() -> Command {
     let completions = Arg::new("completions")
         .long("completions")

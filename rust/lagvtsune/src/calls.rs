@@ -1,17 +1,22 @@
-//! Calls of the library with room enough for what they return, as results.
+//! Calls the library with enough room for its result.
 
 use crate::folder::Listing;
 use crate::native::{self, Bytes, Request, Returned};
 use std::io;
 
-/// The least bytes of the first room. A text that is longer is made twice.
+/// The minimum size of the first room, in bytes. A longer text takes a second call.
 const LEAST_ROOM: usize = 64 << 10;
 
-/// How many times as long as its tree file a script mostly is at most.
+/// An estimate of the length of a script, as a multiple of the length of its tree file. Few scripts
+/// exceed it.
 const SCRIPT_LENGTHS: usize = 10;
 
-/// The script for the shell of this name, of the command in a tree file, under the bin name. Fails
-/// with the library's message.
+/// Returns the script for the shell `shell`, under the name `bin`, of the command in the tree file
+/// `tree`.
+///
+/// # Errors
+///
+/// The library's message, if there is no script.
 pub(crate) fn script(shell: &str, bin: &str, tree: &str) -> io::Result<Vec<u8>> {
     let (shell, bin, tree) = (shell.as_bytes(), bin.as_bytes(), tree.as_bytes());
     let first = LEAST_ROOM.max(SCRIPT_LENGTHS * tree.len());
@@ -25,26 +30,30 @@ pub(crate) fn script(shell: &str, bin: &str, tree: &str) -> io::Result<Vec<u8>> 
 /// A live request.
 pub(crate) struct LiveRequest {
     pub(crate) tree: String,
-    /// The program's arguments, its name first.
+    /// The program's arguments, starting with its name.
     pub(crate) words: Vec<Vec<u8>>,
-    /// Names and values in turn.
+    /// Names and values, alternating.
     pub(crate) variables: Vec<Vec<u8>>,
-    /// The folder of which the library may learn the names.
+    /// The directory whose names the library may use.
     pub(crate) listing: Listing,
 }
 
-/// What the library answers to a live request.
+/// The library's answer to a live request.
 pub(crate) enum Answer {
     /// The registration or the reply.
     Text(Vec<u8>),
     /// The variables request nothing.
     NotRequested,
-    /// The names in the folder of this path are wanted, and were not handed in.
+    /// The library needs the names in the directory with this path, which the request does not
+    /// contain.
     WantsFolder(String),
 }
 
-/// The answer to a live request. Fails with the library's message, where a word or a variable is
-/// not UTF-8.
+/// Answers a live request.
+///
+/// # Errors
+///
+/// The library's message, or an error if a word or a variable is not UTF-8.
 pub(crate) fn live(request: &LiveRequest) -> io::Result<Answer> {
     let request = Request {
         tree: request.tree.as_bytes(),
@@ -64,12 +73,12 @@ pub(crate) fn live(request: &LiveRequest) -> io::Result<Answer> {
     }
 }
 
-/// The texts as a list that the library takes.
+/// Converts texts to a list that the library accepts.
 pub(crate) fn slices<T: AsRef<[u8]>>(texts: &[T]) -> Vec<Bytes<'_>> {
     texts.iter().map(|text| text.as_ref().into()).collect()
 }
 
-/// The error of a status that is none of those with an answer.
+/// Returns the error for a status without an answer.
 fn refusal(status: u8, text: Vec<u8>) -> io::Error {
     match status {
         1 => io::Error::other(String::from_utf8_lossy(&text).trim_end()),
@@ -78,7 +87,8 @@ fn refusal(status: u8, text: Vec<u8>) -> io::Error {
     }
 }
 
-/// The status and the text of a call, which is made again with more room where the text is longer.
+/// Makes a call, and repeats it with more room if the text is longer than the first. Returns the
+/// status and the text.
 fn with_room(first: usize, call: impl Fn(&mut [u8]) -> Returned) -> (u8, Vec<u8>) {
     let mut room = vec![0; first];
     loop {

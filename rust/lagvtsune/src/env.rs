@@ -11,10 +11,11 @@ use std::os::unix::ffi::OsStringExt;
 use std::path::Path;
 use std::{env, process, str};
 
-/// The variable by which a shell requests a registration or a reply.
+/// The variable with which a shell requests a registration or a reply.
 const REQUEST: &str = "COMPLETE";
 
-/// The variables that a registration sets besides: the last two those of the original's form.
+/// Other variables that a registration sets. The last two are those of `clap_complete`'s
+/// registrations.
 const SET_BESIDES: [&str; 5] = [
     "_COMPLGEN_VALUES",
     "_COMPLGEN_KEPT",
@@ -23,28 +24,28 @@ const SET_BESIDES: [&str; 5] = [
     "_CLAP_IFS",
 ];
 
-/// The user's home folder.
+/// The user's home directory.
 const HOME: &str = "HOME";
 
-/// The name by which the library knows the folder where relative paths begin.
+/// The variable in which the library expects the current directory.
 const CURRENT_DIR: &str = "PWD";
 
-/// What a program does before anything else, so that a shell can have it complete a command line.
+/// Answers the completion requests of shells. Call it before the program does anything else.
 ///
-/// A user has the shell load what the program writes where the variable `COMPLETE` is the name of
-/// the shell, as by `source <(COMPLETE=bash app)`.
+/// To enable completion, a user makes the shell load the program's output for the variable
+/// `COMPLETE`, such as by `source <(COMPLETE=bash app)` in bash.
 pub struct CompleteEnv<F> {
     factory: F,
 }
 
 impl<F: Fn() -> Command> CompleteEnv<F> {
-    /// Completes the command that the factory makes, which is not to be built yet.
+    /// Completes the command that `factory` returns. The command must not be built yet.
     pub fn with_factory(factory: F) -> CompleteEnv<F> {
         CompleteEnv { factory }
     }
 
-    /// Where a shell requests it, writes the registration or the reply to the standard output and
-    /// ends the process, with status 0, or 2 after a message. Else it does nothing.
+    /// If a shell requests it, writes the registration or the reply to stdout and ends the process.
+    /// The exit status is 0, or 2 after an error message. Otherwise does nothing.
     pub fn complete(self) {
         let current_dir = env::current_dir().ok();
         match self.try_complete(env::args_os(), current_dir.as_deref()) {
@@ -54,16 +55,21 @@ impl<F: Fn() -> Command> CompleteEnv<F> {
         }
     }
 
-    /// Where a shell requests it, writes the registration or the reply for these arguments, the
-    /// program's name first, to the standard output. Returns whether it did. Fails as the standard
-    /// output does, and before anything is written with the library's message, as where the shell
-    /// is unknown, or where an argument is not UTF-8.
+    /// If a shell requests it, writes the registration or the reply for `args` to stdout. The first
+    /// of `args` is the program's name, and relative paths refer to `current_dir`. Returns whether
+    /// a shell requested it.
+    ///
+    /// # Errors
+    ///
+    /// - The error of stdout, if writing fails.
+    /// - The library's message, before anything is written, such as for an unknown shell.
+    /// - An error before anything is written, if an argument is not UTF-8.
     pub fn try_complete(
         self,
         args: impl IntoIterator<Item = impl Into<OsString>>,
         current_dir: Option<&Path>,
     ) -> Result<bool> {
-        // The library decides it too, but no tree is to be made where nothing is requested.
+        // The library decides this too, but without a request no tree should be made.
         if env::var_os(REQUEST).is_none_or(|value| value.is_empty() || value == "0") {
             return Ok(false);
         }
@@ -93,7 +99,7 @@ impl<F: Fn() -> Command> CompleteEnv<F> {
         match answer {
             Answer::Text(text) => io::stdout().write_all(&text)?,
             Answer::NotRequested => return Ok(false),
-            // No request wants the names of two folders.
+            // No request needs the names of two directories.
             Answer::WantsFolder(path) => {
                 return Err(io::Error::other(format!("wanted besides: {path}")).into())
             }
@@ -102,16 +108,16 @@ impl<F: Fn() -> Command> CompleteEnv<F> {
     }
 }
 
-/// The last of the words after the first `--`, which is completed where no other is; none for a
-/// registration, where no word follows.
+/// Returns the last of the words after the first `--`, which is usually the one to complete. A
+/// registration has no such word.
 fn typed_word(words: &[Vec<u8>]) -> Option<&[u8]> {
     let (last, before) = words.split_last()?;
     let is_reply = before.iter().skip(1).any(|word| word == b"--");
     is_reply.then_some(last)
 }
 
-/// Names and values in turn, of the variables that are set. A folder whose path is not UTF-8, or
-/// empty, is left out.
+/// Returns names and values, alternating, of the variables that are set. A directory whose path is
+/// empty or not UTF-8 is left out.
 fn variables(home: Option<&str>, current_dir: Option<&str>) -> Vec<Vec<u8>> {
     let folders = [(HOME, home), (CURRENT_DIR, current_dir)];
     let folders = folders.map(|(name, path)| (name, path.map(OsString::from)));

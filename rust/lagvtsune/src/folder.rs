@@ -1,11 +1,11 @@
-//! The names in a folder, as the library takes them.
+//! The names in a directory, as the library receives them.
 
 use std::fs::{self, Metadata};
 use std::path::Path;
 
-/// The folder whose names a reply for this word wants, if it is a path, or an option with one: so
-/// the library need not be called once only to learn it. None for a word without a slash, which
-/// mostly is no path. Where this is not the folder that is wanted, the library says so.
+/// Guesses the directory whose names a reply for this word needs, if the word is a path or an
+/// option with a path. This saves a call of the library. Returns `None` for a word without a slash,
+/// which is rarely a path. If the guess is wrong, the library reports the right directory.
 pub(crate) fn likely_folder(
     word: &str,
     home: Option<&str>,
@@ -29,7 +29,8 @@ pub(crate) fn likely_folder(
     value.contains('/').then(|| folder.into_os_string().into_string().ok())?
 }
 
-/// The path of a folder, the names in it, and which of their paths are folders and files.
+/// The path of a directory, the names in it, and the paths among them that lead to directories and
+/// files.
 #[derive(Default)]
 pub(crate) struct Listing {
     pub(crate) path: String,
@@ -39,8 +40,8 @@ pub(crate) struct Listing {
 }
 
 impl Listing {
-    /// What the system says of the folder of this path: without names where it can't be read, and
-    /// without those that are not UTF-8. A link is what it leads to.
+    /// Reads the directory with this path. An unreadable directory has no names, and names that are
+    /// not UTF-8 are left out. Symbolic links are followed.
     pub(crate) fn of(path: String) -> Listing {
         let entries = fs::read_dir(&path).into_iter().flatten().flatten();
         let names = entries.filter_map(|entry| entry.file_name().into_string().ok());
@@ -53,7 +54,7 @@ impl Listing {
         listing
     }
 
-    /// Adds a path to those of folders or of files, if it is one.
+    /// Adds a path to the directories or to the files, if it leads to one.
     fn put(&mut self, path: String) {
         let kind = fs::metadata(&path);
         if kind.as_ref().is_ok_and(Metadata::is_dir) {

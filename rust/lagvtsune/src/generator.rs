@@ -1,4 +1,4 @@
-//! Making scripts.
+//! Generates scripts.
 
 use clap::Command;
 use std::ffi::OsString;
@@ -6,26 +6,39 @@ use std::fs;
 use std::io::{Error, Write};
 use std::path::PathBuf;
 
-/// What makes the scripts of a shell.
+/// Generates the scripts of a shell.
 ///
-/// The functions of this package hand it a command as it was declared, with its bin name set. It
-/// was not built, as it is in `clap_complete`.
+/// The functions of this package pass it a command as the program declared it, with its bin name
+/// set. In `clap_complete`, the command is already built.
 pub trait Generator {
-    /// The name of the file that the shell looks for, for a program of this name.
+    /// Returns the name of the file in which the shell looks for the script of the program `name`.
     fn file_name(&self, name: &str) -> String;
 
-    /// Writes the script of the command. Panics where that fails.
+    /// Writes the script of `cmd` to `buf`.
+    ///
+    /// # Panics
+    ///
+    /// If writing fails, or there is no script.
     fn generate(&self, cmd: &Command, buf: &mut dyn Write);
 
-    /// Writes the script of the command. Fails as the writer does, and where there is no script.
+    /// Writes the script of `cmd` to `buf`.
+    ///
+    /// # Errors
+    ///
+    /// The error of the writer, or an error if there is no script.
     fn try_generate(&self, cmd: &Command, buf: &mut dyn Write) -> Result<(), Error> {
         self.generate(cmd, buf);
         Ok(())
     }
 }
 
-/// Writes the script of a command that was not built yet, under this bin name, which the command
-/// has from then on. Panics where that fails, as in `clap_complete`: see [`try_generate`].
+/// Writes the script of `cmd`, which must not be built yet, under the name `bin_name` to `buf`. The
+/// command keeps that name.
+///
+/// # Panics
+///
+/// If writing fails, or there is no script, as in `clap_complete`. [`try_generate`] returns an
+/// error instead.
 pub fn generate<G, S>(generator: G, cmd: &mut Command, bin_name: S, buf: &mut dyn Write)
 where
     G: Generator,
@@ -35,8 +48,12 @@ where
     generator.generate(cmd, buf);
 }
 
-/// As [`generate`], but fails as the writer does, and before anything is written with the library's
-/// message where there is no script.
+/// Does the same as [`generate`], but returns errors.
+///
+/// # Errors
+///
+/// - The error of the writer.
+/// - The library's message, before anything is written, if there is no script.
 pub fn try_generate<G, S>(
     generator: G,
     cmd: &mut Command,
@@ -51,9 +68,13 @@ where
     generator.try_generate(cmd, buf)
 }
 
-/// Writes the script of a command that was not built yet to the file that the shell looks for, in
-/// this folder, and returns its path. Fails as the system does, and before the file is made with
-/// the library's message where there is no script.
+/// Writes the script of `cmd`, which must not be built yet, under the name `bin_name`, to the file
+/// in `out_dir` in which the shell looks for it. Returns the path of the file.
+///
+/// # Errors
+///
+/// - The error of the system.
+/// - The library's message, before the file is created, if there is no script.
 pub fn generate_to<G, S, T>(
     generator: G,
     cmd: &mut Command,

@@ -1,9 +1,9 @@
-//! The archive of the proved library: its functions over bytes, and the memory that they ask for.
+//! The archive of the proved library: its functions over bytes, and the memory that they request.
 //! All unsafe code of this package is here.
 //!
-//! Nothing compares the declarations with `crates/complgen_c/src`; the tests call each. The library
-//! does not unwind, and what it calls for memory lets no panic out: one of the program's allocator
-//! would end the process at the edge of an `extern "C"` function.
+//! Nothing compares the declarations with `crates/complgen_c/src`, but the tests call each
+//! function. The library does not unwind. The memory functions that it calls let no panic out: a
+//! panic of the program's allocator ends the process at the edge of an `extern "C"` function.
 
 use std::alloc::{self, Layout};
 use std::marker::PhantomData;
@@ -43,7 +43,7 @@ extern "C" {
     ) -> usize;
 }
 
-/// A slice in a list of slices, as C has them.
+/// A slice in a list of slices, as C represents them.
 #[repr(C)]
 pub(crate) struct Bytes<'b> {
     start: *const u8,
@@ -57,22 +57,22 @@ impl<'b> From<&'b [u8]> for Bytes<'b> {
     }
 }
 
-/// What a function of the library returns.
+/// The result of a function of the library.
 pub(crate) struct Returned {
-    /// How the call ended: 0 with the text, 1 with a message in its place, 2 with neither, since a
-    /// name or a word is not UTF-8; of `live` also 3, where nothing is requested, and 4 with the path
-    /// of a folder whose names are wanted.
+    /// The end of the call: 0 with the text, 1 with an error message instead, 2 with neither,
+    /// because a name or a word is not UTF-8. `live` also returns 3 if nothing is requested, and 4
+    /// with the path of a directory whose names it needs.
     pub(crate) status: u8,
-    /// The bytes of the text, which stands at the start of the room where it fits there. Else the
-    /// room is as it was.
+    /// The length of the text in bytes. If the text fits, it is at the start of the room. Otherwise
+    /// the room is unchanged.
     pub(crate) length: usize,
 }
 
-/// Makes the script for the shell of this name, of the command in a tree file, under the bin name.
-/// Any bytes may be passed. Of memory it allocates only what the library asks for.
+/// Writes the script for the shell `shell`, under the name `bin`, of the command in the tree file
+/// `tree`, to `room`. All bytes are allowed. Allocates only the memory that the library requests.
 pub(crate) fn script(shell: &[u8], bin: &[u8], tree: &[u8], room: &mut [u8]) -> Returned {
     let mut status = u8::MAX;
-    // SAFETY: the function is proved for any bytes. It reads these slices and writes to `room` and
+    // SAFETY: the function is proved for all bytes. It reads these slices and writes to `room` and
     // `status`, each of which is borrowed here until it returns, and it keeps none of them.
     let length = unsafe {
         lagvtsune_script(
@@ -90,23 +90,24 @@ pub(crate) fn script(shell: &[u8], bin: &[u8], tree: &[u8], room: &mut [u8]) -> 
     Returned { status, length }
 }
 
-/// A live request, as `lagvtsune_live` takes it.
+/// A live request, as `lagvtsune_live` expects it.
 pub(crate) struct Request<'r> {
     pub(crate) tree: &'r [u8],
-    /// The program's arguments, its name first.
+    /// The program's arguments, starting with its name.
     pub(crate) words: Vec<Bytes<'r>>,
-    /// Names and values in turn.
+    /// Names and values, alternating.
     pub(crate) variables: Vec<Bytes<'r>>,
-    /// The path of the folder that has these names.
+    /// The path of the directory with these names.
     pub(crate) listed: &'r [u8],
     pub(crate) names: Vec<Bytes<'r>>,
-    /// Which paths, of that folder and of its names, are folders and files.
+    /// The paths, among that of the directory and those of its names, that lead to directories and
+    /// to files.
     pub(crate) folders: Vec<Bytes<'r>>,
     pub(crate) files: Vec<Bytes<'r>>,
 }
 
-/// Makes the registration or the reply that is requested. Any bytes may be passed. Of memory it
-/// allocates only what the library asks for.
+/// Writes the registration or the reply that is requested to `room`. All bytes are allowed.
+/// Allocates only the memory that the library requests.
 pub(crate) fn live(request: &Request<'_>, room: &mut [u8]) -> Returned {
     let mut status = u8::MAX;
     // SAFETY: as in `script`. Each `Bytes` in the lists borrows its slice.
@@ -134,39 +135,39 @@ pub(crate) fn live(request: &Request<'_>, room: &mut [u8]) -> Returned {
     Returned { status, length }
 }
 
-/// The bytes before each block, in which its size stands, since the library frees a block without
-/// saying how large it is. So many that the block behind them has the largest alignment that the
-/// library asks for.
+/// The number of bytes before each block. They contain the size of the block, because the library
+/// frees a block without its size. Their number gives the block the largest alignment that the
+/// library requests.
 const HEADER: usize = 16;
 
-/// What the library gets where it wants memory.
+/// The answer to a request of the library for memory.
 #[repr(C)]
 struct Tried {
     ok: bool,
-    /// Where there is no memory, a byte that nothing reads: the pointer must not be null.
+    /// Without memory, a byte that nothing reads: the pointer must not be null.
     block: *mut u8,
 }
 
-/// Memory for a block of this size. Where there is none, the library learns so, and fails with
-/// "out of memory".
+/// Allocates a block with this size. If there is no memory, the library receives that answer, and
+/// fails with "out of memory".
 #[unsafe(no_mangle)]
 extern "C" fn rattle_alloc(size: usize, align: usize) -> Tried {
     let Some(whole) = layout(size, align) else {
         return refusal();
     };
-    // SAFETY: the layout has the header's bytes, so it is not empty.
+    // SAFETY: the layout includes the header, so it is not empty.
     let start = unsafe { alloc::alloc(whole) };
-    // SAFETY: the allocator gave a block of this layout, or null.
+    // SAFETY: the allocator returned a block with this layout, or null.
     unsafe { block_after(start, whole) }
 }
 
-/// The block with this size, and as many of its first bytes as there are in both. Where there is
-/// no memory, the block stays as it is.
+/// Changes the size of a block, and keeps the bytes that fit. If there is no memory, the block is
+/// unchanged.
 ///
 /// # Safety
 ///
-/// The block came from here or from `rattle_alloc`, and was not freed: the library is proved to
-/// pass no other.
+/// The block came from here or from `rattle_alloc`, and was not freed. The library is proved to
+/// pass no other block.
 #[unsafe(no_mangle)]
 unsafe extern "C" fn rattle_realloc(
     block: *mut u8,
@@ -177,41 +178,42 @@ unsafe extern "C" fn rattle_realloc(
     let Some(whole) = layout(size, align) else {
         return refusal();
     };
-    // SAFETY: by this function's own condition, `start_of` gives what the allocator gave, and the
-    // new size is that of a layout.
+    // SAFETY: by this function's own condition, `start_of` returns the pointer that the allocator
+    // returned, and the new size is that of a layout.
     let start = unsafe {
         let (start, old) = start_of(block);
         alloc::realloc(start, old, whole.size())
     };
-    // SAFETY: the allocator gave a block of this layout, or null.
+    // SAFETY: the allocator returned a block with this layout, or null.
     unsafe { block_after(start, whole) }
 }
 
-/// Frees the block.
+/// Frees a block.
 ///
 /// # Safety
 ///
-/// As for `rattle_realloc`.
+/// The same condition as for `rattle_realloc`.
 #[unsafe(no_mangle)]
 unsafe extern "C" fn rattle_dealloc(block: *mut u8) {
-    // SAFETY: by this function's own condition, `start_of` gives what the allocator gave.
+    // SAFETY: by this function's own condition, `start_of` returns the pointer that the allocator
+    // returned.
     unsafe {
         let (start, whole) = start_of(block);
         alloc::dealloc(start, whole);
     }
 }
 
-/// The layout of a block of this size behind its header, where there is one.
+/// Returns the layout of a block with this size and its header, if there is one.
 fn layout(size: usize, align: usize) -> Option<Layout> {
     let whole = Layout::from_size_align(size.checked_add(HEADER)?, HEADER).ok()?;
     (align <= HEADER).then_some(whole)
 }
 
-/// The block behind the header, in which its size is written.
+/// Writes the size into the header, and returns the block after it.
 ///
 /// # Safety
 ///
-/// At `start` is memory of this layout, or it is null.
+/// At `start` there is memory with this layout, or `start` is null.
 unsafe fn block_after(start: *mut u8, whole: Layout) -> Tried {
     if start.is_null() {
         return refusal();
@@ -224,14 +226,14 @@ unsafe fn block_after(start: *mut u8, whole: Layout) -> Tried {
     }
 }
 
-/// What the allocator gave for a block, and its layout.
+/// Returns the pointer that the allocator returned for a block, and its layout.
 ///
 /// # Safety
 ///
-/// `block_after` gave the block, and it was not freed.
+/// `block_after` returned the block, and it was not freed.
 unsafe fn start_of(block: *mut u8) -> (*mut u8, Layout) {
-    // SAFETY: so there is a header before it, and in that the size of its layout, which is that of
-    // a layout with this alignment.
+    // SAFETY: by the condition, there is a header before the block. It contains the size of the
+    // layout, which is valid with this alignment.
     unsafe {
         let start = block.sub(HEADER);
         let size = start.cast::<usize>().read();
@@ -244,16 +246,16 @@ fn refusal() -> Tried {
     Tried { ok: false, block: (&raw const UNREAD).cast_mut() }
 }
 
-/// The allocator of the tests, which refuses one allocation where a test wants it.
+/// The allocator of the tests, which refuses one allocation when a test requests that.
 #[cfg(test)]
 pub(crate) mod refusing {
     use std::alloc::{GlobalAlloc, Layout, System};
     use std::cell::Cell;
 
     thread_local! {
-        /// How many allocations of this thread are left until one is refused; 0 for none.
+        /// The number of allocations of this thread until one is refused; 0 if none will be.
         static LEFT: Cell<usize> = const { Cell::new(0) };
-        /// How many more blocks this thread allocated than it freed.
+        /// The number of blocks that this thread allocated, minus those that it freed.
         static BLOCKS: Cell<isize> = const { Cell::new(0) };
     }
 
@@ -262,8 +264,8 @@ pub(crate) mod refusing {
     #[global_allocator]
     static ALLOCATOR: Refusing = Refusing;
 
-    /// What the call returns where its allocation of this number is refused, counted from 1, and
-    /// how many blocks more it allocated than it freed.
+    /// Makes a call and refuses its allocation with this number, counted from 1. Returns the
+    /// result, and the number of blocks that it allocated minus those that it freed.
     pub(crate) fn refused<R>(number: usize, call: impl FnOnce() -> R) -> (R, isize) {
         let before = BLOCKS.get();
         LEFT.set(number);
@@ -285,7 +287,7 @@ pub(crate) mod refusing {
         block
     }
 
-    // SAFETY: memory is that of `System`, or there is none.
+    // SAFETY: memory comes from `System`, or there is none.
     unsafe impl GlobalAlloc for Refusing {
         unsafe fn alloc(&self, layout: Layout) -> *mut u8 {
             if is_refused() {

@@ -29,8 +29,8 @@ pub enum Shell {
 }
 
 impl Shell {
-    /// The shell whose program this path leads to, by the file's name without its extension; `None`
-    /// for another program.
+    /// Returns the shell whose program is at `path`, by the file name without its extension, or
+    /// `None` for any other program.
     pub fn from_shell_path<P: AsRef<Path>>(path: P) -> Option<Shell> {
         match path.as_ref().file_stem()?.to_str()? {
             "bash" => Some(Shell::Bash),
@@ -43,13 +43,13 @@ impl Shell {
         }
     }
 
-    /// The shell whose program the variable `SHELL` leads to; `None` for another program, or where
-    /// the variable is not set.
+    /// Returns the shell whose path is in the variable `SHELL`. Returns `None` for any other
+    /// program, or if the variable is not set.
     pub fn from_env() -> Option<Shell> {
         Shell::from_shell_path(std::env::var_os("SHELL")?)
     }
 
-    /// The name by which the library, and a user, chooses the shell.
+    /// Returns the name with which the library and users select the shell.
     fn name(self) -> &'static str {
         match self {
             Shell::Bash => "bash",
@@ -71,7 +71,11 @@ impl Display for Shell {
 impl FromStr for Shell {
     type Err = String;
 
-    /// The shell of this name. Fails with `invalid variant: ` and the text where it has none.
+    /// Returns the shell with this name.
+    ///
+    /// # Errors
+    ///
+    /// `invalid variant: ` and the text, if no shell has this name.
     fn from_str(text: &str) -> Result<Shell, String> {
         let mut shells = Shell::value_variants().iter();
         let shell = shells.find(|shell| shell.name() == text).copied();
@@ -105,9 +109,14 @@ impl Generator for Shell {
         self.try_generate(cmd, buf).expect("failed to write completion file");
     }
 
-    /// Writes the script under the bin name of the command, or its name where it has none. Fails
-    /// as the writer does, and before anything is written with the library's message, as where two
-    /// commands share a label of a bash script.
+    /// Writes the script under the bin name of the command, or under its name if it has no bin
+    /// name.
+    ///
+    /// # Errors
+    ///
+    /// - The error of the writer.
+    /// - The library's message, before anything is written, such as if two commands share a label
+    ///   of a bash script.
     fn try_generate(&self, cmd: &Command, buf: &mut dyn Write) -> Result<(), Error> {
         let bin_name = cmd.get_bin_name().unwrap_or(cmd.get_name());
         buf.write_all(&calls::script(self.name(), bin_name, &tree_file(cmd))?)

@@ -1,4 +1,4 @@
-//! Tests of the library's functions over any bytes, and with allocations that are refused.
+//! Tests the library's functions with arbitrary bytes, and with allocations that are refused.
 
 use crate::calls::slices;
 use crate::folder::likely_folder;
@@ -49,14 +49,14 @@ fn a_tree_file_has_what_only_a_built_command_says() {
     assert_eq!(text, tree_file(&command));
 }
 
-/// A call with this much room: its status, its length, and what is in the room.
+/// Makes a call with this much room. Returns its status, its length, and the content of the room.
 fn call(shell: &str, bin: &[u8], tree: &[u8], size: usize) -> (u8, usize, Vec<u8>) {
     let mut room = vec![b'.'; size];
     let Returned { status, length } = native::script(shell.as_bytes(), bin, tree, &mut room);
     (status, length, room)
 }
 
-/// The status and the text of a call with room enough.
+/// Makes a call with enough room. Returns its status and its text.
 fn text_of(shell: &str, bin: &[u8], tree: &[u8]) -> (u8, String) {
     let (status, length, room) = call(shell, bin, tree, 1 << 16);
     (status, String::from_utf8(room[..length].to_vec()).unwrap())
@@ -80,8 +80,8 @@ fn each_status_has_its_text() {
     assert_eq!(text_of("fish", b"\xff", b"{}"), (2, String::new()));
 }
 
-/// Makes a call that makes this text once for each of its allocations, which is refused, and again
-/// after each. Returns how many there are.
+/// Makes a call that returns this text once for each of its allocations, which is refused, and
+/// again after each. Returns the number of allocations.
 fn refuse_each(text: &[u8], call: impl Fn(&mut [u8]) -> Returned) -> usize {
     let mut room = vec![0; 1 << 16];
     for number in 1.. {
@@ -117,7 +117,7 @@ const REQUEST: [&str; 8] =
 /// The words of a request for a path.
 const WORDS: [&str; 6] = ["app", "--", "app", "run", "--file", ""];
 
-/// A request of bash for the paths in a folder, with the names in it where these are known.
+/// A request of bash for the paths in a directory, with the names in it if they are known.
 fn request(names: Option<&'static [&'static str]>) -> Request<'static> {
     Request {
         tree: TREE.as_bytes(),
@@ -177,7 +177,7 @@ fn a_refused_allocation_of_a_reply_is_an_error_that_loses_nothing() {
     assert!(count > 20, "only {count} allocations");
 }
 
-/// Requests for a registration, for words that begin with these and for a path.
+/// Requests for a registration, for words with these beginnings, and for a path.
 const LINES: [&[&str]; 5] = [
     &["app"],
     &["app", "--", "app", ""],
@@ -186,15 +186,15 @@ const LINES: [&[&str]; 5] = [
     &WORDS,
 ];
 
-/// The shells that request.
+/// The shells that send requests.
 const LIVE_SHELLS: [&str; 5] = ["bash", "elvish", "fish", "powershell", "zsh"];
 
-/// The status and the text of the answer to a request of a shell with these words.
+/// Returns the status and the text of the answer to a request of a shell with these words.
 fn answer(shell: &str, words: &[&str]) -> (u8, Vec<u8>) {
     answer_of(TREE, shell, words)
 }
 
-/// The same by this tree file.
+/// The same with this tree file.
 fn answer_of(tree: &str, shell: &str, words: &[&str]) -> (u8, Vec<u8>) {
     let index = words.len().saturating_sub(3).to_string();
     let variables =
@@ -210,7 +210,7 @@ fn answer_of(tree: &str, shell: &str, words: &[&str]) -> (u8, Vec<u8>) {
     (status, room[..length].to_vec())
 }
 
-/// The answers to all requests, of which the one with this number is made first.
+/// Returns the answers to all requests, which are made from the one with this number on.
 fn answers(first: usize) -> Vec<(u8, Vec<u8>)> {
     let requests = LIVE_SHELLS.iter().flat_map(|shell| LINES.iter().map(move |line| (shell, line)));
     let mut requests: Vec<_> = requests.collect();
@@ -279,7 +279,7 @@ impl Numbers {
         (0..self.below(most)).map(|_| self.next() as u8).collect()
     }
 
-    /// A tree file of which some bytes may be others, or left out.
+    /// Returns a tree file in which some bytes may be replaced or left out.
     fn changed_tree(&mut self) -> Vec<u8> {
         const OTHERS: &[u8] = b"{}[]\",:\\0 a\xff";
         let mut tree = TREE.as_bytes().to_vec();
@@ -316,7 +316,7 @@ fn any_bytes_end_with_a_status() {
     assert!(ends.iter().all(|count| *count > 500), "{ends:?}");
 }
 
-/// A variable or a word as a request may have it, or any bytes.
+/// Returns a variable or a word that may be in a request, or arbitrary bytes.
 fn word(numbers: &mut Numbers) -> Vec<u8> {
     const OTHERS: [&str; 8] = ["zsh", "fish", "tcsh", "", "/w/", "a.txt", "--color=", "HOME"];
     let known: Vec<&str> = REQUEST.into_iter().chain(WORDS).chain(OTHERS).collect();
@@ -326,7 +326,7 @@ fn word(numbers: &mut Numbers) -> Vec<u8> {
     }
 }
 
-/// At most seven of them.
+/// Returns at most seven of them.
 fn words(numbers: &mut Numbers) -> Vec<Vec<u8>> {
     (0..numbers.below(8)).map(|_| word(numbers)).collect()
 }

@@ -1,5 +1,5 @@
-//! Tests of live completion: a program that requests completions of itself, since a request is made
-//! by the environment of a process.
+//! Tests live completion with a program that sends requests to itself, because a request is part of
+//! the environment of a process.
 
 use clap::{Arg, Command, ValueHint};
 use lagvtsune::CompleteEnv;
@@ -25,25 +25,25 @@ fn main() {
     println!("requests: passed");
 }
 
-/// With a child and nothing else.
+/// A command with a child and nothing else.
 fn app() -> Command {
     Command::new("app").subcommand(Command::new("test").visible_alias("t"))
 }
 
-/// With the path of a file, and nothing else.
+/// A command with a file path and nothing else.
 fn paths() -> Command {
     let file = Arg::new("file").value_hint(ValueHint::FilePath);
     Command::new("app").disable_help_flag(true).arg(file)
 }
 
-/// What this program does with these words, where the variables request a completion of a tree.
+/// Runs this program with these words, and with variables that request a completion of a tree.
 fn run(tree: &str, variables: &[(&str, &str)], words: &[&str]) -> Output {
     let program = env::current_exe().unwrap();
     let mut child = process::Command::new(program);
     child.env("APP", tree).envs(variables.iter().copied()).args(words).output().unwrap()
 }
 
-/// The text of a request that has to end with status 0 and without a message.
+/// Returns the output of a request that must end with status 0 and without a message.
 fn text(tree: &str, variables: &[(&str, &str)], words: &[&str]) -> String {
     let Output { status, stdout, stderr } = run(tree, variables, words);
     assert!(status.success() && stderr.is_empty(), "{status} {}", String::from_utf8_lossy(&stderr));

@@ -1,4 +1,4 @@
-//! Tests of the public calls.
+//! Tests the public calls.
 
 use clap::{Arg, Command, ValueEnum};
 use lagvtsune::aot::{try_generate, Bash, Generator};
@@ -11,7 +11,7 @@ fn app() -> Command {
     Command::new("app").version("1").arg(out).subcommand(Command::new("run").about("Run it"))
 }
 
-/// Two commands whose labels are the same in a bash script.
+/// Two commands with the same label in a bash script.
 fn clash() -> Command {
     Command::new("app")
         .subcommand(Command::new("a").subcommand(Command::new("b__subcmd__c")))

@@ -3,7 +3,7 @@ use Rattle.cc_flat.specs.Flat.{entries_of}
 use Rattle.cc_flat.specs.Numbered.{without_numbers, with_count}
 use Rattle.cc_flat.proofs.flat.number_children.Given as goal
 
--- the children that were passed over are listed
+-- the children up to this one are listed
 abbrev pub invariant-loop-command : goal.invariant-loop-command
 invariant-loop-command l =
     entries_of l.nodes.items

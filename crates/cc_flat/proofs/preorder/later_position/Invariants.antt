@@ -2,7 +2,7 @@ use Rattle.std.proofs.Common.{◌≡◌, ◌<◌, Some, length}
 use Rattle.cc_flat.specs.Positions.{later_nodes, path_start}
 use Rattle.cc_flat.proofs.preorder.later_position.Given as goal
 
--- what comes after the node comes after the position
+-- the nodes after this one are the nodes after the position
 abbrev pub invariant-loop-parent : goal.invariant-loop-parent
 invariant-loop-parent l = record {
   listed : l.number < length l.flat;

@@ -5,7 +5,7 @@ use Rattle.cc_gather.specs.Finished.{rank_of}
 use Rattle.cc_gather.specs.Seen.{first_rank}
 use Rattle.cc_gather.proofs.finishing.ranks.Given as goal
 
--- the map has the first ranks of the tags so far
+-- the map contains the first ranks of the tags so far
 abbrev pub invariant-loop-candidate : goal.invariant-loop-candidate
 invariant-loop-candidate l = record {
   ranks : l.ranks.items ≡ map (λ c. rank_of l.candidates c.tag) (take l.candidate-index l.candidates);

@@ -12,6 +12,6 @@ invariant-loop-child l =
     (globals_in l.above here before ≡ false → IsLeaf (app_of l.fn.parser) → AddsShapes l.above here before (app_of l.fn.parser) (app_of l.parser))
     × ((out-Command l.parser).has_globals ≡ ((out-Command l.fn.parser).has_globals || globals_in l.above here before))
 
--- how many nodes the children have with all below them
+-- the number of nodes among the children and below them
 abbrev pub decreases-with_children : goal.decreases-with_children
 decreases-with_children l = forest_size (forest_of l.children.now)

@@ -1,4 +1,4 @@
--- What is cut off ends with an ASCII byte.
+-- The part that is cut off ends with an ASCII byte.
 use Rattle.std.proofs.Common.{◌≡◌, ◌-◌, ◌≤◌, ◌<◌, length, get_or, drop}
 use Rattle.cc_paths.specs.PathTexts.{past_leading}
 use Rattle.cc_paths.proofs.path_texts.past_leading.Given as goal

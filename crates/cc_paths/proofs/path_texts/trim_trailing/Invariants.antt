@@ -1,4 +1,4 @@
--- What is cut off begins with an ASCII byte.
+-- The part that is cut off begins with an ASCII byte.
 use Rattle.std.proofs.Common.{◌≡◌, ◌≤◌, ◌<◌, length, get_or}
 use Rattle.std.specs.Path.{trimmed_len}
 use Rattle.cc_paths.proofs.path_texts.trim_trailing.Given as goal

@@ -2,7 +2,7 @@ use Rattle.std.proofs.Common.{◌≡◌, ◌++◌, drop, map}
 use Rattle.cc_base.specs.Joined.{joined_after}
 use Rattle.cc_replies.proofs.reply.put_values.Given as goal
 
--- what was taken and the candidates that are left make the whole; no put failed
+-- the bytes so far and those for the remaining candidates make up the whole reply; no put failed
 abbrev pub invariant-loop-candidate : goal.invariant-loop-candidate
 invariant-loop-candidate g l = record {
   written : g.W.Sink.taken l.sink

@@ -3,7 +3,7 @@ use Rattle.cc_replies.specs.SafeReplies.{safe_zsh_line}
 use Rattle.cc_replies.specs.SafeValues.{is_safe_text}
 use Rattle.cc_replies.proofs.safe_replies.put_safe_zsh_items.Given as goal
 
--- what was taken and the candidates that are left make the whole; no put failed
+-- the bytes so far and those for the remaining candidates make up the whole reply; no put failed
 abbrev pub invariant-loop-candidate : goal.invariant-loop-candidate
 invariant-loop-candidate g l = record {
   written : g.W.Sink.taken l.sink

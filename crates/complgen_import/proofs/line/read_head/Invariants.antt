@@ -2,7 +2,7 @@ use Rattle.std.proofs.Common.{length}
 use Rattle.complgen_import.proofs.LineRead.{Continues}
 use Rattle.complgen_import.proofs.line.read_head.Given as goal
 
--- what is read of the rest ends what is read of the text
+-- the pieces read from the rest complete those read from the text
 abbrev pub invariant-loop-piece : goal.invariant-loop-piece
 invariant-loop-piece l = Continues l.fn.text l.stage l.rest l.pieces
 

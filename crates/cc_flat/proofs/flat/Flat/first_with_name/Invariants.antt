@@ -4,7 +4,7 @@ use Rattle.cc_flat.specs.Flat.{trees_at, numbers_between}
 use Rattle.cc_flat.specs.Lookup.{find_from}
 use Rattle.cc_flat.proofs.flat.Flat.first_with_name.Given as goal
 
--- none of the children that were passed over has the name
+-- no child that was skipped has the name
 abbrev pub invariant-loop-child : goal.invariant-loop-child
 invariant-loop-child l = record {
   inside : l.child-iterator.end ≤ length l.self;
