@@ -59,9 +59,9 @@ pub trait Generator {
 
 /// Sets the bin name, builds `command` and writes the script of `generator` to `sink`.
 ///
-/// The script reads back if the command and the bin name are plain. What a bash script offers at each
-/// command reads back if the possible values are quiet too (`Command::has_quiet_values`). Building a
-/// command keeps its values quiet.
+/// The script reads back if the command and the bin name are plain. What a bash script offers at
+/// each command reads back if the possible values are quiet too (`Command::has_quiet_values`).
+/// Building a command keeps its values quiet.
 ///
 /// # Errors
 ///
