@@ -42,7 +42,11 @@ pub trait Generator {
         ensures { Generates W.taken W.failed (spec self.now) command.now result
             sink.old sink.new };
 
-    /// Writes the script as [`Generator::generate`] does, with the same errors.
+    /// Writes the script as [`Generator::generate`] does.
+    ///
+    /// # Errors
+    ///
+    /// The errors of [`Generator::generate`].
     fn try_generate<W: Sink>(
         &self,
         alloc: Global,
