@@ -12,7 +12,7 @@ use Rattle.cc_zsh.specs.Nested.{function_label}
 
 -- ---- the functions of a tree
 
--- a visible name of a child, with the child's about text if there is one
+-- a visible name of a child, with the child's description if there is one
 pub record Entry : Type 0 where
   pub word : List ℕ
   pub help : List ℕ

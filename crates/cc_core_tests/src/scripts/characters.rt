@@ -15,7 +15,7 @@ use std::fmt::Write;
 use std::process::Abort;
 
 // Reads the help text of the flag `--x`, the help text of the value `v` of the option `--o`, if the
-// script has it, and the about text of the child `c`, as a shell reads them.
+// script has it, and the description of the child `c`, as a shell reads them.
 trait Described: Generator {
     fn help(alloc: Global, script: &str) -> Result<Option<String>, Error>;
 
