@@ -26,9 +26,9 @@ use std::rt::Files;
 /// buffer. So no file is created if two commands share a label, or if an allocation fails before
 /// that.
 ///
-/// The clause `script_reads` says only something about the script's text, as `plain` of
-/// [`generate`] does: on `Ok` no two commands share a label, and the script of a plain command
-/// reads back. No clause says what the file contains, or with which kind the system fails.
+/// The clause `script_reads` is only about the script's text, as `plain` of [`generate`] is. On
+/// `Ok` no two commands share a label, and the script of a plain command reads back. No clause says
+/// what the file contains, or with which kind the system fails.
 ///
 /// # Errors
 ///

@@ -26,7 +26,8 @@ pub(crate) fn write_name<W: Sink>(sink: &mut W, name: &ShownName<'_>) -> Result<
     }
 }
 
-/// Writes the name of a function without its first `_`, which the text before it ends with.
+/// Writes the name of a function without its first `_`. The text before the name ends with that
+/// `_`.
 pub(crate) fn write_label<W: Sink>(sink: &mut W, name: &str) -> Result<(), ErrorKind>
     ensures { Writes W.taken W.failed (as_write result) sink.old sink.new
         (function_label name.now) }
