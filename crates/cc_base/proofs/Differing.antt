@@ -20,7 +20,7 @@ AllDifferBy-append value (x ∷ xs) ys h k apart = (
   AllDifferBy-append value xs ys h.1 k (λ x y p q. apart x y (inr p) q),
 )
 
--- a `map` whose results have these values
+-- a `map`, if the values of its results differ
 pub AllDifferBy-map : {A B C : Type 0} (value : B → C) (f : A → B) → (xs : List A) → AllDifferBy (λ x. value (f x)) xs → AllDifferBy value (map f xs)
 AllDifferBy-map value f [] h = tt
 AllDifferBy-map value f (x ∷ xs) h = (AllByRecursion-map (λ other. value (f x) ≢ value other) f xs h.0, AllDifferBy-map value f xs h.1)

@@ -61,8 +61,7 @@ impl Generator for Bash {
 
 /// Returns the label that two nodes of `command` share, or `None` if all labels differ. It is the
 /// label of the first node whose label an earlier node has. If a command is built under a bin name,
-/// the generator fails with `LabelClash` if and only if there is such a label, and the error holds
-/// it.
+/// the generator fails with this label, and reports no label if there is none.
 ///
 /// # Errors
 ///

@@ -1,4 +1,5 @@
-//! Arguments: what builders set, what copies keep, what building fills in, and the names shown.
+//! Tests of arguments: what builders set, what copies keep, what building fills in, and the names
+//! that are shown.
 
 use crate::checks::same;
 use cc_arg::{
@@ -13,7 +14,7 @@ fn argument(alloc: Global, id: &str) -> Result<Arg, Error> {
     Ok(Arg::new(alloc, String::from_str(alloc, id)?))
 }
 
-/// `file` with the short `-f`, shown as `-p` too, and hidden as `-q`.
+/// Returns `file` with the short `-f`, its visible alias `-p` and its hidden alias `-q`.
 pub(crate) fn with_shorts(alloc: Global) -> Result<Arg, Error> {
     let file = argument(alloc, "file")?.short('f');
     file.visible_short_alias('p')?.short_alias('q')
@@ -40,7 +41,8 @@ fn lists_the_shorts(rt: HostRuntime) {
     has_its_shorts(&rt, with_shorts(rt.alloc()));
 }
 
-// `file` with the long `--file`, shown as `--path` too, and hidden as `--source`.
+// Returns `file` with the long `--file`, its visible alias `--path` and its hidden alias
+// `--source`.
 fn with_longs(alloc: Global) -> Result<Arg, Error> {
     let file = String::from_str(alloc, "file")?;
     let path = String::from_str(alloc, "path")?;
@@ -68,7 +70,7 @@ fn lists_the_longs(rt: HostRuntime) {
     has_its_longs(&rt, with_longs(rt.alloc()));
 }
 
-// The shorts and the longs together.
+// Returns `file` with these shorts and longs.
 fn with_names(alloc: Global) -> Result<Arg, Error> {
     let file = String::from_str(alloc, "file")?;
     let path = String::from_str(alloc, "path")?;
@@ -114,7 +116,11 @@ fn aliases_alone_are_not_shown(rt: HostRuntime) {
     drop(argument);
 }
 
-/// A copy of an argument.
+/// Returns a copy of `argument`.
+///
+/// # Errors
+///
+/// The error of `argument`, and `Memory` if an allocation fails.
 pub(crate) fn copy_of(alloc: Global, argument: Result<Arg, Error>) -> Result<Arg, Error> {
     let argument = argument?;
     let copy = argument.try_clone(alloc);

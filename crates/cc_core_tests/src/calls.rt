@@ -1,5 +1,5 @@
-//! Calls that allocate, with memory enough: they do not fail, and return what they
-//! are to return. The other modules here run the rest of them.
+//! Tests of calls that allocate: with enough memory they succeed and return the expected values.
+//! The other modules of this crate test the remaining calls.
 
 use crate::arguments::with_shorts;
 use crate::checks::{is, same};
@@ -20,7 +20,7 @@ fn push_all(line: &mut String, texts: &[Text]) -> Result<(), Error> {
     Ok(())
 }
 
-// The visible longs, the hidden ones and the value names.
+// Returns the visible longs, the hidden longs and the value names.
 fn names(alloc: Global, arg: &Arg) -> Result<String, Error> {
     let mut line = String::new(alloc);
     push_all(&mut line, arg.get_visible_aliases())?;
@@ -29,7 +29,7 @@ fn names(alloc: Global, arg: &Arg) -> Result<String, Error> {
     Ok(line)
 }
 
-// A flag with names of each kind, shown and hidden.
+// Returns a flag with visible and hidden names of each kind.
 fn file(alloc: Global) -> Result<Arg, Error> {
     let path = String::from_str(alloc, "path")?;
     let old = String::from_str(alloc, "old")?;
@@ -54,7 +54,7 @@ fn an_argument_keeps_its_names_and_is_copied(rt: HostRuntime) {
     drop(arg);
 }
 
-// The visible aliases and the hidden ones.
+// Returns the visible aliases and the hidden ones.
 fn aliases(alloc: Global, command: &Command) -> Result<String, Error> {
     let mut line = String::new(alloc);
     push_all(&mut line, command.get_visible_aliases())?;
@@ -79,7 +79,7 @@ fn with_file(alloc: Global) -> Result<Command, Error> {
     }
 }
 
-// A command with aliases of each kind and an argument.
+// Returns a command with aliases of each kind and an argument.
 fn test(alloc: Global) -> Result<Command, Error> {
     let shown = String::from_str(alloc, "tests")?;
     with_file(alloc)?.visible_alias(shown)
@@ -93,7 +93,7 @@ fn a_command_keeps_its_aliases_and_its_arguments(rt: HostRuntime) {
     drop(command);
 }
 
-// A command as generators ask for it: with a bin name, and built.
+// Returns a command that is ready for generators: with a bin name, and built.
 fn ready(rt: &impl Abort, alloc: Global, text: &str) -> Command {
     let bin_name = String::from_str(alloc, "app").expect(rt, "no name");
     build(rt, alloc, tree(rt, alloc, text).bin_name(bin_name))

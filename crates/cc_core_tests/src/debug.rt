@@ -1,4 +1,4 @@
-//! What `Debug` shows of a type's values.
+//! Tests of the `Debug` output of types.
 
 use crate::checks::is;
 use cc_arg::{ArgAction, ValueHint, ValueRange};

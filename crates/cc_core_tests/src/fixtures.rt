@@ -1,34 +1,34 @@
-//! Small trees, as tree files. What holds a command or an argument ends with a call of `drop`: to
-//! prove a drop that no call is takes seconds in each function.
+//! Small trees, as tree files. A function that owns a command or an argument ends with a call of
+//! `drop`, because proving an implicit drop takes seconds in each function.
 
 use cc_command::Command;
 use cc_fixtures::trees::read;
 use std::alloc::Global;
 use std::process::Abort;
 
-/// The command that a tree file describes.
+/// Returns the command that the tree file `text` describes.
 pub(crate) fn tree(rt: &impl Abort, alloc: Global, text: &str) -> Command {
     read(alloc, text).expect(rt, "no command")
 }
 
-/// A command that was built.
+/// Returns `command`, built.
 pub(crate) fn build(rt: &impl Abort, alloc: Global, command: Command) -> Command {
     let mut command = command;
     command.build(alloc).expect(rt, "not built");
     command
 }
 
-/// The command that a tree file describes, and that was built.
+/// Returns the command that the tree file `text` describes, built.
 pub(crate) fn built_tree(rt: &impl Abort, alloc: Global, text: &str) -> Command {
     build(rt, alloc, tree(rt, alloc, text))
 }
 
-/// `app` with a positional `input` too.
+/// `app` with a flag, an option and the positional `input`.
 pub(crate) const APP_WITH_INPUT: &str = r#"{"name": "app", "args": [
     {"id": "verbose", "short": "v", "long": "verbose", "help": "Be loud", "action": "SetTrue"},
     {"id": "out", "long": "out", "action": "Set"}, {"id": "input"}]}"#;
 
-/// `app` with a child `run`, as `NESTED` has it, and a child `list`; nothing is generated.
+/// `app` with a child `run`, as in `NESTED`, and a child `list`. Nothing is generated.
 pub(crate) const NESTED_AND_LIST: &str = r#"{"name": "app", "disable_help_flag": true,
     "disable_help_subcommand": true, "subcommands": [
         {"name": "run", "disable_help_flag": true, "disable_help_subcommand": true,
@@ -36,8 +36,8 @@ pub(crate) const NESTED_AND_LIST: &str = r#"{"name": "app", "disable_help_flag":
                 {"name": "job", "disable_help_flag": true, "disable_help_subcommand": true}]},
         {"name": "list", "disable_help_flag": true, "disable_help_subcommand": true}]}"#;
 
-/// `myapp`, called `my-cmd`, of a version, with the children `test`, which has a flag and holds
-/// `config`, and `hello`.
+/// `myapp` with the bin name `my-cmd`, a version and the children `test` and `hello`. `test` has a
+/// flag and the child `config`.
 pub(crate) const MY_APP: &str = r#"{"name": "myapp", "bin_name": "my-cmd", "version": "3.0",
     "subcommands": [
         {"name": "test", "aliases": ["t"], "args": [
@@ -47,8 +47,9 @@ pub(crate) const MY_APP: &str = r#"{"name": "myapp", "bin_name": "my-cmd", "vers
             "subcommands": [{"name": "config"}]},
         {"name": "hello"}]}"#;
 
-/// `app` with the flags `-q`, `--yaml`, `-y`, which has the id `yaml` too, and `--json`, which
-/// excludes `yaml`, `toml`, which is the id of no argument, and `quiet`, in this order.
+/// `app` with the flags `-q`, `--yaml`, `-y`, which also has the id `yaml`, and `--json`. `--json`
+/// conflicts with `yaml`, with `toml`, which is not the id of an argument, and with `quiet`, in
+/// this order.
 pub(crate) const EXCLUDING: &str = r#"{"name": "app", "disable_help_flag": true, "args": [
     {"id": "quiet", "short": "q", "action": "SetTrue"},
     {"id": "yaml", "long": "yaml", "action": "SetTrue"},

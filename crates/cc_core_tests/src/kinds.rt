@@ -1,5 +1,5 @@
-//! What a command lists of its arguments and names by kind, and which commands are plain or have
-//! quiet values.
+//! Tests of the arguments and names that a command lists by kind, and of the commands that are
+//! plain or have quiet values.
 
 use crate::checks::same;
 use crate::fixtures::{APP_WITH_INPUT, built_tree, tree};
@@ -10,7 +10,7 @@ use cc_fixtures::trees::{NESTED, QUOTED};
 use std::alloc::Global;
 use std::process::Abort;
 
-// The id, and nothing where there is no argument.
+// Returns the id, or an empty text if there is no argument.
 fn id(argument: Option<&Arg>) -> &str {
     match argument {
         Some(argument) => argument.get_id(),
@@ -38,7 +38,7 @@ fn arguments_are_listed_by_kind(rt: HostRuntime) {
     drop(app);
 }
 
-// The child that a word leads to, and else the command itself.
+// Returns the child to which a word leads, or the command itself if there is none.
 fn child<'a>(command: &'a Command, word: &str) -> &'a Command {
     command.find_subcommand(word).unwrap_or(command)
 }
@@ -73,7 +73,7 @@ fn a_built_command_is_plain_and_one_with_a_quote_is_not(rt: HostRuntime) {
     assert!(rt; !is_plain_name("a--b"));
 }
 
-// Whether the command of a tree file has quiet values.
+// Returns whether the command of a tree file has quiet values.
 fn has_quiet_values(rt: &impl Abort, alloc: Global, text: &str) -> bool {
     let command = tree(rt, alloc, text);
     let quiet = command.has_quiet_values();

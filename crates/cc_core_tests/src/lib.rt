@@ -1,5 +1,5 @@
-//! Tests of scripts and what they are made of: sinks, texts, arguments, trees, tree files, lists,
-//! visits and quoted words.
+//! Tests of scripts and their parts: sinks, texts, arguments, trees, tree files, lists, visits and
+//! quoted words.
 #![tactic(auto)]
 
 #[cfg(test)]

@@ -1,4 +1,4 @@
-//! The lists that generators share.
+//! Tests of the lists that generators share.
 
 use crate::checks::is;
 use crate::fixtures::{MY_APP, built_tree};
@@ -40,7 +40,7 @@ fn push_longs(line: &mut String, alloc: Global, command: &Command) -> Result<(),
     Ok(())
 }
 
-// The shorts and then the longs, each with its visible aliases.
+// Returns the shorts and then the longs, each with its visible aliases.
 fn shorts_and_longs(alloc: Global, command: &Command) -> Result<String, Error> {
     let mut line = String::new(alloc);
     push_shorts(&mut line, alloc, command)?;
@@ -48,7 +48,7 @@ fn shorts_and_longs(alloc: Global, command: &Command) -> Result<String, Error> {
     Ok(line)
 }
 
-// The same of the command that a word leads to.
+// Returns the shorts and longs of the command to which a word leads.
 fn shorts_and_longs_of(alloc: Global, command: &Command, word: &str) -> Result<String, Error> {
     match utils::find_subcommand_with_path(command, [word].as_slice()) {
         Some(child) => shorts_and_longs(alloc, child),
@@ -56,7 +56,7 @@ fn shorts_and_longs_of(alloc: Global, command: &Command, word: &str) -> Result<S
     }
 }
 
-// The longs of the flags, with a space after each.
+// Returns the longs of the flags, with a space after each.
 fn longs_of_flags(alloc: Global, command: &Command) -> Result<String, Error> {
     let mut longs = String::new(alloc);
     for flag in utils::flags(alloc, command)? {
@@ -66,7 +66,7 @@ fn longs_of_flags(alloc: Global, command: &Command) -> Result<String, Error> {
     Ok(longs)
 }
 
-// The longs of the flags of the command that a word leads to.
+// Returns the longs of the flags of the command to which a word leads.
 fn longs_of_flags_of(alloc: Global, command: &Command, word: &str) -> Result<String, Error> {
     match utils::find_subcommand_with_path(command, [word].as_slice()) {
         Some(child) => longs_of_flags(alloc, child),
@@ -114,7 +114,7 @@ fn generated_flags_are_flags(rt: HostRuntime) {
     drop(command);
 }
 
-// The pairs, a line for each.
+// Returns the pairs, one per line.
 fn lines(alloc: Global, pairs: &[(String, String)]) -> Result<String, Error> {
     let mut lines = String::new(alloc);
     for (name, full_name) in pairs {
@@ -123,7 +123,7 @@ fn lines(alloc: Global, pairs: &[(String, String)]) -> Result<String, Error> {
     Ok(lines)
 }
 
-// The lines of all commands below a command; none of one that is not built.
+// Returns the lines of all commands below a command, or none if it is not built.
 fn all_lines(alloc: Global, command: &Command) -> Result<String, Error> {
     if !command.is_built() {
         return Ok(String::new(alloc));
@@ -139,7 +139,7 @@ fn children_come_before_what_is_below_them(rt: HostRuntime) {
     drop(command);
 }
 
-// The lines of the children of a command; none of one that is not built.
+// Returns the lines of the children of a command, or none if it is not built.
 fn child_lines(alloc: Global, command: &Command) -> Result<String, Error> {
     if !command.is_built() {
         return Ok(String::new(alloc));

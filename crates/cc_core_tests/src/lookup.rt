@@ -1,4 +1,4 @@
-//! Words that lead from a command to its children, over the numbered nodes.
+//! Tests of words that lead from a command to its children, over the numbered nodes.
 
 use crate::checks::same;
 use crate::fixtures::{MY_APP, tree};
@@ -7,7 +7,7 @@ use cc_flat::Flat;
 use std::alloc::{AllocError, Global};
 use std::process::Abort;
 
-// The number of the child that a word leads to from a command.
+// Returns the number of the child to which a word leads from a command.
 fn find(alloc: Global, root: &Command, word: &str) -> Result<Option<usize>, AllocError> {
     let flat = Flat::new(alloc, root)?;
     let found = find_in(&flat, word);
@@ -22,7 +22,7 @@ fn find_in(flat: &Flat<'_>, word: &str) -> Option<usize> {
     flat.find_child(0, word)
 }
 
-// Fails unless a word leads to this from the root of `myapp`.
+// Fails unless a word leads from the root of `myapp` to the node `wanted`.
 fn leads(rt: &impl Abort, alloc: Global, word: &str, wanted: Option<usize>) {
     let root = tree(rt, alloc, MY_APP);
     same(rt, find(alloc, &root, word).expect(rt, "no nodes"), wanted);
@@ -36,7 +36,7 @@ fn a_word_leads_to_the_child_of_that_name_or_alias(rt: HostRuntime) {
     leads(&rt, rt.alloc(), "config", None);
 }
 
-// The parents of the root and of its first child; `None` where it has none.
+// Returns the parents of the root and of its first child, or `None` if there is no child.
 fn parents(flat: &Flat<'_>) -> Option<(Option<usize>, Option<usize>)> {
     if flat.len() < 2 {
         return None;

@@ -1,4 +1,4 @@
-//! Pieces and separators put to a sink.
+//! Tests of pieces and separators that are put to a sink.
 
 use crate::checks::is;
 use cc_base::{

@@ -1,4 +1,4 @@
-//! The writers and readers of quoted words.
+//! Tests of the writers and readers of quoted words.
 
 use crate::checks::{is, is_none, same};
 use cc_base::{Collected, Error};
@@ -11,7 +11,7 @@ use cc_quote::{
 use std::alloc::{AllocError, Global};
 use std::process::Abort;
 
-// Fails unless this word was read, and what follows it.
+// Fails unless the word `word` was read, followed by the text `rest`.
 fn reads(rt: &impl Abort, read: Result<Option<(String, &str)>, Error>, word: &str, rest: &str) {
     let (shown, left) = read.expect(rt, "out of memory").expect(rt, "no word");
     same(rt, shown.as_str(), word);
@@ -64,7 +64,7 @@ fn elvish_reads_words(rt: HostRuntime) {
     is_none(&rt, elvish_word(alloc, "'it''s"));
 }
 
-// What escapes write to a sink.
+// Returns what escapes write to a sink.
 fn escape(alloc: Global) -> Result<String, Error> {
     let mut sink = Collected::new(alloc);
     put_escaped(&mut sink, &ElvishEscape, "it's\n’")?;
@@ -72,7 +72,7 @@ fn escape(alloc: Global) -> Result<String, Error> {
     Ok(String::from_utf8_lossy(alloc, sink.as_slice())?)
 }
 
-// What two escapes append to a text.
+// Returns a text to which two escapes appended.
 fn append_escaped(alloc: Global) -> Result<String, AllocError> {
     let mut made = String::from_str(alloc, "'")?;
     push_escaped(&PowershellEscape, "’'–“b”", &mut made)?;

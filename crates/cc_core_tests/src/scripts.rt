@@ -1,5 +1,5 @@
-//! Tests of scripts that no case of `complgen_cases` can say: texts of any character, a chain of commands
-//! that nests deeper than a tree file, methods, and memory.
+//! Tests of scripts that the cases of `complgen_cases` cannot express: texts with any character, a
+//! chain of commands that nests deeper than a tree file, methods, and memory.
 
 mod chains;
 mod characters;

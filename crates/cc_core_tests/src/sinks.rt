@@ -1,4 +1,4 @@
-//! Sinks: what they keep or pass on, and the failures that they count.
+//! Tests of sinks: what they keep or pass on, and the failures that they count.
 
 ghost use Rattle.std.specs.Prelude.{◌≡◌, ◌++◌, IfOk};
 
@@ -8,8 +8,8 @@ use std::alloc::Global;
 use std::io::{self, ErrorKind};
 use std::process::Abort;
 
-// Takes at most `at_once` bytes a call. Once it holds `room` bytes it fails with `failure`,
-// or takes nothing where there is none.
+// A writer that takes at most `at_once` bytes per call. Once it holds `room` bytes, it fails with
+// `failure`, or takes nothing if there is no `failure`.
 #[derive(Drop)]
 struct Limited {
     held: Vec<u8>,
@@ -40,7 +40,8 @@ impl io::Write for Limited {
     }
 }
 
-// A sink over a writer that takes at most `at_once` bytes a call, and `room` bytes in all.
+// Returns a sink over a writer that takes at most `at_once` bytes per call, and `room` bytes in
+// all.
 fn over(
     alloc: Global,
     at_once: usize,
@@ -81,7 +82,7 @@ fn a_counted_sink_passes_the_bytes_on(rt: HostRuntime) {
     same(&rt, sink.into_inner().as_slice(), b"abc".as_slice());
 }
 
-// The vector after the bytes are put over it.
+// Returns the vector after the bytes were put to a sink over it.
 fn pass_on(held: Vec<u8>, bytes: &[u8]) -> Result<Vec<u8>, Error>
     ensures { IfOk result (λ now. now.items ≡ held.items ++ bytes.now) }
 {

@@ -1,4 +1,4 @@
-//! Texts and lists of fields, and the texts of errors.
+//! Tests of texts and lists for fields, and of the texts of errors.
 
 use crate::checks::{is, same};
 use cc_base::{Error, Items, Text};

@@ -1,4 +1,4 @@
-//! Tree files: what each key sets, how deep they nest, and which are no trees.
+//! Tests of tree files: what each key sets, how deep they nest, and which texts are not trees.
 
 use crate::checks::{is, same};
 use crate::fixtures::{built_tree, tree};
@@ -42,8 +42,8 @@ fn has_the_fields_of_a_command(rt: &impl Abort, command: &Command) {
     same(rt, id, Some("version"));
 }
 
-// Whether a command allows external subcommands and is hidden, and with how many children it is
-// built.
+// Returns whether a command allows external subcommands, whether it is hidden, and how many
+// children it has when it is built.
 fn marks_of_command(rt: &impl Abort, alloc: Global, text: &str) -> (bool, bool, usize) {
     let command = built_tree(rt, alloc, text);
     let external = command.is_allow_external_subcommands_set();
@@ -112,7 +112,7 @@ fn each_key_of_an_argument_sets_its_field(rt: HostRuntime) {
     drop(command);
 }
 
-// The id of the only argument in conflict with the first one of a command.
+// Returns the id of the only argument that conflicts with the first one of a command.
 fn conflict_of_first(alloc: Global, command: &Command) -> Result<Option<&str>, Error> {
     let Some(first) = command.get_arguments().first() else {
         return Ok(None);
@@ -131,7 +131,8 @@ fn an_argument_has_the_conflicts_of_its_key(rt: HostRuntime) {
     drop(command);
 }
 
-// Whether the first argument of a command is required, the last, global and hidden.
+// Returns whether the first argument of a command is required, whether it is the last, whether it
+// is global, and whether it is hidden.
 fn marks(rt: &impl Abort, alloc: Global, text: &str) -> (bool, bool, bool, bool) {
     let command = tree(rt, alloc, text);
     let marks = marks_of(command.get_arguments().first().expect(rt, "no argument"));
@@ -197,7 +198,7 @@ fn has_the_fields_of_an_argument(rt: &impl Abort, arg: &Arg) {
     has_the_possible_values(rt, possible_values(arg));
 }
 
-// What live completion reads of an argument and of its command.
+// The keys of an argument and of its command that live completion reads.
 const LIVE: &str = "{\"name\": \"app\", \"no_binary_name\": true, \"args\": [{\"id\": \"o\",
     \"long\": \"out\", \"help_heading\": \"Output\", \"value_delimiter\": \"§\",
     \"display_order\": 7, \"allow_hyphen_values\": true}, {\"id\": \"p\"}]}";
@@ -229,7 +230,7 @@ fn has_the_possible_values(rt: &impl Abort, values: Option<&[PossibleValue]>) {
     assert!(rt; last.is_hide_set());
 }
 
-// A command under so many others, each the child of the one before.
+// Returns a command below the given number of parents, each the child of the one before.
 fn nest(alloc: Global, parents: u8) -> Result<String, AllocError> {
     let mut text = String::new(alloc);
     push_times(&mut text, "{\"name\":\"a\",\"subcommands\":[", parents)?;
@@ -238,7 +239,7 @@ fn nest(alloc: Global, parents: u8) -> Result<String, AllocError> {
     Ok(text)
 }
 
-// Adds a text so many times.
+// Adds a text the given number of times.
 fn push_times(text: &mut String, part: &str, times: u8) -> Result<(), AllocError> {
     for _ in 0..times {
         text.push_str(part)?;
@@ -246,7 +247,7 @@ fn push_times(text: &mut String, part: &str, times: u8) -> Result<(), AllocError
     Ok(())
 }
 
-// Why a text describes no tree; `None` where it does.
+// Returns the reason why a text is not a tree file, or `None` if it is one.
 fn error(alloc: Global, text: &str) -> Option<TreeError> {
     let tree = read_tree(alloc, text.as_bytes());
     let error = tree.map(drop);
@@ -258,7 +259,7 @@ fn error_below(rt: &impl Abort, alloc: Global, parents: u8) -> Option<TreeError>
     error(alloc, text.as_str())
 }
 
-// Each parent is an object and a list, so 63 of them and a child nest 127 deep.
+// Each parent is an object and a list, so 63 parents and a child nest 127 levels deep.
 #[test]
 fn reads_as_deep_as_json_nests(rt: HostRuntime) {
     assert!(rt; error_below(&rt, rt.alloc(), 63).is_none());
@@ -318,7 +319,7 @@ fn each_error_shows_its_text(rt: HostRuntime) {
     );
 }
 
-// What a parser alone reads of a command.
+// The keys of a command that only a parser reads.
 const PARSED: &str = "{\"name\": \"app\", \"version\": \"1.2\", \"long_about\": \"At length\",
     \"after_help\": \"See also\", \"subcommand_required\": true, \"subcommands\": [
     {\"name\": \"a\", \"arg_required_else_help\": true}]}";

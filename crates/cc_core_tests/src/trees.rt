@@ -1,4 +1,4 @@
-//! Trees, as their getters return them.
+//! Tests of trees, as their getters return them.
 
 use crate::checks::{is, same};
 use crate::fixtures::{EXCLUDING, MY_APP, build, built_tree, tree};
@@ -10,7 +10,7 @@ use std::alloc::Global;
 use std::fmt::Write;
 use std::process::Abort;
 
-// The ids of the arguments, with a space after each.
+// Returns the ids of the arguments, with a space after each.
 fn ids(alloc: Global, command: &Command) -> Result<String, Error> {
     let mut ids = String::new(alloc);
     for argument in command.get_arguments() {
@@ -29,7 +29,8 @@ fn building_twice_adds_help_once(rt: HostRuntime) {
     drop(twice);
 }
 
-// The ids of the arguments of the command that a path leads to; `none` where it leads to none.
+// Returns the ids of the arguments of the command to which a path leads, or `none` if it leads to
+// none.
 fn ids_at(alloc: Global, command: &Command, path: &[&str]) -> Result<String, Error> {
     match find_subcommand_with_path(command, path) {
         Some(found) => ids(alloc, found),
@@ -47,14 +48,14 @@ fn a_global_argument_goes_to_the_children_that_were_given(rt: HostRuntime) {
     drop(command);
 }
 
-// A command that was built, and then built again under another name.
+// Returns a command that was built, and then built again under another name.
 fn rename(rt: &impl Abort, alloc: Global, command: Command) -> Command {
     let mut command = build(rt, alloc, command);
     command.set_bin_name(String::from_str(alloc, "z").expect(rt, "no name"));
     build(rt, alloc, command)
 }
 
-// The full name of the innermost command of the nested tree.
+// Returns the full name of the innermost command of the nested tree.
 fn full_name_of_job(command: &Command) -> Option<&str> {
     let run = command.find_subcommand("run")?;
     let job = run.find_subcommand("job")?;
@@ -68,7 +69,7 @@ fn a_new_bin_name_and_a_new_build_rename_the_tree(rt: HostRuntime) {
     drop(command);
 }
 
-// The name of the command that a path leads to.
+// Returns the name of the command to which a path leads.
 fn name_at<'a>(command: &'a Command, path: &[&str]) -> Option<&'a str> {
     Some(find_subcommand_with_path(command, path)?.get_name())
 }
@@ -89,7 +90,8 @@ fn a_path_leads_through_unbuilt_commands(rt: HostRuntime) {
     drop(command);
 }
 
-// The ids and longs of the arguments in conflict with the last one, with a space after each.
+// Returns the ids and longs of the arguments that conflict with the last one, with a space after
+// each.
 fn conflicts_of_last(alloc: Global, command: &Command) -> Result<String, Error> {
     let mut line = String::new(alloc);
     let Some(last) = command.get_arguments().last() else {

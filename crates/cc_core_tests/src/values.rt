@@ -1,4 +1,4 @@
-//! Actions, ranges, hints and possible values.
+//! Tests of actions, ranges, hints and possible values.
 
 use crate::arguments::copy_of;
 use crate::checks::same;
@@ -68,7 +68,7 @@ fn hidden_alone(alloc: Global) -> Result<Vec<PossibleValue>, Error> {
     Ok(values)
 }
 
-// An argument that may be the hidden value alone.
+// Returns an argument whose only possible value is hidden.
 fn with_hidden(alloc: Global) -> Result<Arg, Error> {
     let id = String::from_str(alloc, "color")?;
     let values = hidden_alone(alloc)?;

@@ -1,5 +1,5 @@
-//! The visits of a small tree in both orders: each key with the node above and the node visited;
-//! and its nodes in preorder.
+//! Tests of the visits of a small tree in both orders, each with its key, the node above and the
+//! visited node; and of its nodes in preorder.
 
 use crate::checks::is;
 use crate::fixtures::{NESTED_AND_LIST, tree};
@@ -8,7 +8,8 @@ use cc_visits::{Joined, PathStep, PathSteps, TableVisits, Visit};
 use std::alloc::{AllocError, Global};
 use std::fmt::Write;
 
-// More than the visits and steps of the tree, so that a loop of so many turns sees all.
+// More than the number of visits and steps of the tree, so that a loop with this many turns sees
+// them all.
 const TURNS: usize = 20;
 
 fn push_visit(text: &mut String, visit: &Visit<'_>) -> Result<(), AllocError> {
@@ -101,7 +102,7 @@ fn path_order(alloc: Global, flat: &Flat<'_>) -> Result<String, AllocError> {
     Ok(text)
 }
 
-// The first step below the root.
+// Returns the first step below the root.
 fn first_below(alloc: Global, flat: &Flat<'_>) -> Result<String, AllocError> {
     let mut text = String::new(alloc);
     if flat.len() == 0 {
@@ -115,7 +116,7 @@ fn first_below(alloc: Global, flat: &Flat<'_>) -> Result<String, AllocError> {
     Ok(text)
 }
 
-// The names of the nodes below the root, each with its level.
+// Returns the names of the nodes below the root, each with its level.
 fn preorder(alloc: Global, flat: &Flat<'_>) -> Result<String, AllocError> {
     let mut text = String::new(alloc);
     if flat.len() == 0 {

@@ -1,12 +1,12 @@
-//! What is warned about, where, and by which words.
+//! Tests of warnings: what they are about, where, and in which words.
 
 use crate::checks::same;
 use crate::fixtures::tree;
 use complgen_lints::{Warning, command_warnings};
 use std::alloc::{AllocError, Global};
 
-// A line for each warning: the indexes of its command, that of its argument, its key, that of the
-// item, and its text.
+// Returns a line for each warning: the indexes of its command, the index of its argument, its key,
+// the index of the item, and its text.
 fn lines(alloc: Global, warnings: &[Warning]) -> Result<String, AllocError> {
     let mut text = String::new(alloc);
     for warning in warnings {

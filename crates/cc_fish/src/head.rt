@@ -111,7 +111,8 @@ fn write_first_long<W: Sink>(sink: &mut W, argument: &Arg) -> Result<(), ErrorKi
     put_escaped(sink, &FishEscape, long)
 }
 
-// Returns the slash between a short and a long, which `argparse` takes as one option.
+// Returns the slash between a short and a long, or an empty text if there is no long. `argparse`
+// takes names with a slash between them as one option.
 fn slash(argument: &Arg) -> &'static str
     ensures { result.now ≡ slash_text (shown_longs argument.now) }
 {

@@ -137,7 +137,7 @@ fn write_long<W: Sink>(sink: &mut W, long: &str) -> Result<(), ErrorKind>
     put_escaped(sink, &FishEscape, long)
 }
 
-// Writes the help text of an argument, or the about text of a child.
+// Writes the help text of an argument, or the description of a child.
 #[tactic(auto, unfolding(cc_quote::specs::FishQuote::fish_escaped))]
 fn write_help<W: Sink>(sink: &mut W, help: Option<&str>) -> Result<(), ErrorKind>
     ensures { Writes W.taken W.failed (as_write result) sink.old sink.new

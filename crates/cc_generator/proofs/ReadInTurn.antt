@@ -22,8 +22,8 @@ pub items_begin : {Item : Type 0} (IsRest : List ℕ → Type 0) (text : Item �
 items_begin IsRest text begins [] rest h = h
 items_begin IsRest text begins (item ∷ items) rest h = rw (append_assoc (text item) (flat_map text items) rest) (begins item (flat_map text items ++ rest))
 
--- `reading` is the reader over a text, with what it has read before. `as_read` is what it reads of an
--- item, if the text after the item may follow.
+-- `reading` is the reader over a text, with what it has read before. `as_read` is what it reads of
+-- an item, if the text after the item may follow.
 module _ {Value Item Read : Type 0} (IsRest : List ℕ → Type 0) (reading : List Read → List ℕ → Value) (text : Item → List ℕ) (as_read : Item → Read) (IsReadable : Item → Type 0)
     (begins : (item : Item) (rest : List ℕ) → IsRest (text item ++ rest))
     (one : (done : List Read) (item : Item) (rest : List ℕ) → IsReadable item → IsRest rest → reading done (text item ++ rest) ≡ reading (done ++ as_read item ∷ []) rest) where

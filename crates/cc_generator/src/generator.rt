@@ -42,7 +42,11 @@ pub trait Generator {
         ensures { Generates W.taken W.failed (spec self.now) command.now result
             sink.old sink.new };
 
-    /// Writes the script as [`Generator::generate`] does, with the same errors.
+    /// Writes the script as [`Generator::generate`] does.
+    ///
+    /// # Errors
+    ///
+    /// The errors of [`Generator::generate`].
     fn try_generate<W: Sink>(
         &self,
         alloc: Global,
@@ -59,9 +63,9 @@ pub trait Generator {
 
 /// Sets the bin name, builds `command` and writes the script of `generator` to `sink`.
 ///
-/// The script reads back if the command and the bin name are plain. What a bash script offers at each
-/// command reads back if the possible values are quiet too (`Command::has_quiet_values`). Building a
-/// command keeps its values quiet.
+/// The script reads back if the command and the bin name are plain. What a bash script offers at
+/// each command reads back if the possible values are quiet too (`Command::has_quiet_values`).
+/// Building a command keeps its values quiet.
 ///
 /// # Errors
 ///

@@ -105,8 +105,7 @@ impl ByteEscape for HelpEscape {
     }
 }
 
-// Returns whether a text is not empty and consists of ASCII letters, digits and `/ _ - . , + = :
-// @`.
+// Returns whether a text is not empty and consists of bytes that need no quotes.
 fn is_safe_word(text: &str) -> bool
     ensures { result ≡ is_fish_safe_word text.now }
 {

@@ -1,4 +1,4 @@
--- A registration for bash is read as what it was made for.
+-- A registration for bash reads back.
 use Rattle.std.proofs.Common.{◌≡◌, ◌==◌, ℕ, IsTrue, List, [], ◌∷◌, ◌++◌, Some, option_map, drop, codes, refl, sym, ◌∙◌, ap, append_assoc, append-nil}
 use Rattle.std.specs.Option.{option_and_then}
 use Rattle.cc_base.proofs.Lines.{regroup_six}
@@ -20,7 +20,7 @@ module _ (variable name bin completer : List ℕ) where
   abbrev n : List ℕ
   n = underscored name
 
-  -- after the variable's line
+  -- the text after the variable's line
   abbrev call : List ℕ
   call = codes "        \"" ++ (bash_doubled completer ++ registration_tail name bin)
 
@@ -31,7 +31,7 @@ module _ (variable name bin completer : List ℕ) where
       regroup_six (function_begins ++ n) function_head variable call_begins (bash_doubled completer) (registration_tail name bin)
       ∙ append_assoc function_begins n (function_head ++ (variable ++ (variable_ends ++ call)))
 
-  -- what is before the binary's last occurrence
+  -- the text before the last occurrence of the binary
   abbrev before_bin : List ℕ
   before_bin = (registration_front variable name ++ bash_doubled completer) ++ (((((call_ends ++ n) ++ name_ends) ++ bin) ++ otherwise) ++ n)
 
@@ -48,7 +48,7 @@ module _ (variable name bin completer : List ℕ) where
     of_name : AreNameBytes n
     of_name = underscored_bytes name (plain_bytes name name_plain)
 
-    -- up to the line's end
+    -- the text before the line's end
     abbrev before : List ℕ
     before = function_begins ++ (n ++ (function_head ++ (variable ++ [])))
 

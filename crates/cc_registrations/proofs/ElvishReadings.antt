@@ -1,4 +1,4 @@
--- A registration for Elvish is read as what it was made for.
+-- A registration for Elvish reads back.
 use Rattle.std.proofs.Common.{◌≡◌, ℕ, IsTrue, List, [], ◌∷◌, ◌++◌, Some, option_map, drop, codes, refl, ◌∙◌, ap, ap₂, append_assoc, append-nil}
 use Rattle.std.specs.Option.{option_and_then}
 use Rattle.cc_base.specs.PlainName.{is_plain_name, name_byte}
@@ -14,7 +14,7 @@ use Rattle.cc_registrations.specs.ElvishRegistration.{registration_begins, funct
 use Rattle.cc_base.proofs.Finding.{past_lacking, past_free, run_on}
 
 module _ (variable bin completer : List ℕ) (variable_plain : IsTrue (is_plain_name variable)) (bin_plain : IsTrue (is_plain_name bin)) (completer_plain : IsTrue (is_plain_path completer)) where
-  -- after the variable's mark
+  -- the text after the variable's mark
   abbrev call : List ℕ
   call = space ∷ (completer ++ registration_ends)
 
@@ -26,7 +26,7 @@ module _ (variable bin completer : List ℕ) (variable_plain : IsTrue (is_plain_
       ∙ regroup_six (registration_begins ++ bin) function_head variable (codes "=\"elvish\" ") completer registration_ends
       ∙ append_assoc registration_begins bin (function_head ++ (variable ++ (variable_ends ++ call)))
 
-  -- up to the mark
+  -- the text before the mark
   abbrev before : List ℕ
   before = registration_begins ++ (bin ++ (function_head ++ (variable ++ [])))
 

@@ -1,4 +1,4 @@
--- Registrations that are read as the definitions say.
+-- Examples of how registrations are read.
 use Rattle.std.proofs.Common.{◌≡◌, true, false, Some, refl, codes}
 use Rattle.cc_quote.specs.PosixQuote.{posix_word_from, posix_word_of, is_posix_safe, is_posix_safe_word, posix_quoted}
 use Rattle.cc_quote.specs.PosixSigns.{sign, byte_of}
@@ -43,7 +43,7 @@ zsh_row = record {
   binary_read = refl;
 }
 
--- the whole text for fish, of a completer and a binary that need quotes
+-- the whole text for fish, with a completer and a binary that need quotes
 fish_text_row : fish.fish_registration (codes "V") (codes "dyn\\amic") (codes "/p/dyn\\amic/foo")
     ≡ codes "complete --keep-order --exclusive --command 'dyn\\\\amic' --arguments \"(V=fish '/p/dyn\\\\\\\\amic/foo' -- (commandline --current-process --tokenize --cut-at-cursor) (commandline --current-token))\"\n"
 unfolding is_fish_safe fish_sign fish_quoted fish_quoted_for_eval fish.registration_begins fish.arguments_begin fish.shell_set fish.registration_ends fish.fish_registration
@@ -65,7 +65,7 @@ powershell_row = record {
   binary_read = refl;
 }
 
--- ---- which completers those two promise to read
+-- ---- completers with which the registrations for Elvish and PowerShell promise to read back
 
 plain_paths :
     (is_plain_path (codes "/w/./app") ≡ true)
@@ -74,7 +74,7 @@ plain_paths :
 unfolding is_plain_path is_path_byte
 plain_paths = (refl, refl, refl)
 
--- ---- completers with blanks and quotes, as they are written
+-- ---- completers with whitespace and quotes, as they are written
 
 odd_completers :
     (between (codes "V=\"bash\" \\\n        ") (codes " -- ")

@@ -1,4 +1,4 @@
--- A registration for fish is read as what it was made for.
+-- A registration for fish reads back.
 use Rattle.std.proofs.Common.{◌≡◌, ℕ, IsTrue, List, [], ◌∷◌, ◌++◌, Some, option_map, drop, codes, refl, sym, ◌∙◌, ap, append_assoc, append-nil}
 use Rattle.std.specs.Option.{option_and_then}
 use Rattle.cc_base.proofs.Lines.{regroup_six}
@@ -15,7 +15,7 @@ use Rattle.cc_base.specs.Found.{after, with_front, cut_at, up_to, after_mark, be
 use Rattle.cc_registrations.specs.FishRegistration.{registration_begins, arguments_begin, shell_set, registration_ends, fish_registration, fish_binary, fish_arguments, fish_variable, fish_completer, FishRegistrationReads, FishReads}
 use Rattle.cc_base.proofs.Finding.{cut_at-none, after-none, past_lacking, past_free}
 
--- past the space before the binary, which begins with no `-`
+-- the search passes over the space before the binary, which does not begin with `-`
 past_space : (bin rest : List ℕ) → IsTrue (is_plain_name bin) → cut_at (codes " --arguments") (space ∷ (bin ++ rest)) ≡ with_front (codes " ") (cut_at (codes " --arguments") (bin ++ rest))
 unfolding after name_byte
 past_space [] rest h = absurd (plain_some [] h refl)
@@ -25,11 +25,11 @@ abbrev command : List ℕ
 command = codes "complete --keep-order --exclusive --command"
 
 module _ (variable bin completer : List ℕ) where
-  -- after the completer, up to the quote
+  -- the text after the completer, before the quote
   abbrev closing : List ℕ
   closing = codes " -- (commandline --current-process --tokenize --cut-at-cursor) (commandline --current-token))"
 
-  -- after the variable
+  -- the text after the variable
   abbrev after_variable : List ℕ
   after_variable = shell_set ++ (fish_quoted_for_eval completer ++ registration_ends)
 
@@ -50,7 +50,7 @@ module _ (variable bin completer : List ℕ) where
       ∙ ap (option_map (λ read. read.0)) read.1
 
   module _ (variable_plain : IsTrue (is_plain_name variable)) (bin_plain : IsTrue (is_plain_name bin)) where
-    -- what the quotes hold
+    -- the text in the quotes
     abbrev held : List ℕ
     held = (((codes "(" ++ variable) ++ codes "=fish ") ++ fish_quoted completer) ++ closing
 

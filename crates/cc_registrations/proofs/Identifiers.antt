@@ -1,11 +1,11 @@
--- What readers want of the bytes of identifiers.
+-- What readers require of the bytes of identifiers.
 use Rattle.std.proofs.Common.{◌≡◌, ◌==◌, ℕ, Bool, true, false, cond, List, [], ◌∷◌, refl, sym, ◌∙◌, ap}
 use Rattle.std.proofs.lemmas.Bool.{ne_eqb}
 use Rattle.cc_base.specs.Bytes.{underscore}
 use Rattle.cc_base.proofs.Finding.{Lacks}
 use Rattle.cc_registrations.specs.Names.{identifier, identifier_byte, is_identifier_byte}
 
--- a byte that may not occur in an identifier is in none
+-- a byte that may not occur in an identifier does not occur in one
 pub identifier_lacks : (special : ℕ) (text : List ℕ) → is_identifier_byte special ≡ false → Lacks special (identifier text)
 unfolding identifier_byte is_identifier_byte
 identifier_lacks special [] h = tt

@@ -1,10 +1,10 @@
--- Names one after another are read as they are, whatever follows them.
+-- A list of names reads back to the names, whatever follows it.
 use Rattle.std.proofs.Common.{◌≡◌, ℕ, suc, zero, ◌≤◌, true, List, [], ◌∷◌, ◌++◌, map, length, length-append, Option, Some, None, refl, ◌∙◌, ap, arith, append_assoc}
 use Rattle.cc_base.specs.Found.{after}
 use Rattle.cc_base.specs.Joined.{joined, joined_after}
 use Rattle.cc_registrations.specs.Names.{listed_by, with_word, words_by}
 
--- a quoted word is read before a separator and before what follows the names, which begins with
+-- a quoted word is read before a separator and before the text after the names, which begins with
 -- neither a separator nor a word
 pub record ReadsWords (quote meant : List ℕ → List ℕ) (reader : List ℕ → Option (List ℕ × List ℕ)) (between : List ℕ) (first : ℕ) (rest : List ℕ) : Type 0 where
   pub before_more : (word more : List ℕ) → reader (quote word ++ (between ++ more)) ≡ Some (meant word, between ++ more)
@@ -15,7 +15,7 @@ pub record ReadsWords (quote meant : List ℕ → List ℕ) (reader : List ℕ �
   pub is_some : 1 ≤ length between
 
 module _ {quote meant : List ℕ → List ℕ} {reader : List ℕ → Option (List ℕ × List ℕ)} {between : List ℕ} {first : ℕ} {rest : List ℕ} (reads : ReadsWords quote meant reader between first rest) where
-  -- names after the first, and what follows them
+  -- the names after the first one, and the text after them
   abbrev others : List (List ℕ) → List ℕ
   others names = joined_after between true (map quote names) ++ first ∷ rest
 
@@ -45,7 +45,7 @@ module _ {quote meant : List ℕ → List ℕ} {reader : List ℕ → Option (Li
       ∙ ap (parted (suc most) (meant word) (between ++ later)) (reads.skips later)
       ∙ ap (with_word (meant word)) (words names most (omega (arith, h)) name)
 
-  -- there are no more names than bytes
+  -- there are at most as many names as bytes
   fits : (names : List (List ℕ)) → suc (length names) ≤ length (others names)
   fits [] = omega arith
   fits (name ∷ names) =
@@ -67,7 +67,7 @@ module _ {quote meant : List ℕ → List ℕ} {reader : List ℕ → Option (Li
       by_length zero h = absurd (omega (arith, h))
       by_length (suc most) h = words names most (omega (arith, h)) word
 
--- a list of texts as they are
+-- a list of texts, unchanged
 pub map_same : (texts : List (List ℕ)) → map (λ text. text) texts ≡ texts
 map_same [] = refl
 map_same (text ∷ texts) = ap (λ ts. text ∷ ts) (map_same texts)

@@ -1,4 +1,4 @@
--- A registration for PowerShell is read as what it was made for.
+-- A registration for PowerShell reads back.
 use Rattle.std.proofs.Common.{◌≡◌, ℕ, IsTrue, List, [], ◌∷◌, ◌++◌, Some, option_map, drop, codes, refl, ◌∙◌, ap, ap₂, append_assoc, append-nil}
 use Rattle.std.specs.Option.{option_and_then}
 use Rattle.cc_base.proofs.Lines.{regroup_five, regroup_six}
@@ -14,11 +14,11 @@ use Rattle.cc_registrations.specs.PowershellRegistration.{registration_begins, s
 use Rattle.cc_base.proofs.Finding.{past_lacking, past_free}
 
 module _ (variable bin completer : List ℕ) (variable_plain : IsTrue (is_plain_name variable)) (bin_plain : IsTrue (is_plain_name bin)) (completer_plain : IsTrue (is_plain_path completer)) where
-  -- from the completer on
+  -- the text from the completer on
   abbrev completed : List ℕ
   completed = completer ++ registration_tail variable
 
-  -- from the first occurrence of the variable on
+  -- the text from the first occurrence of the variable on
   abbrev called : List ℕ
   called = variable ++ (prev_ends ++ (variable ++ (arguments ++ (call_begins ++ completed))))
 
@@ -45,7 +45,7 @@ module _ (variable bin completer : List ℕ) (variable_plain : IsTrue (is_plain_
       ∙ ap (option_map (λ c. c.0)) (past_lacking semicolon [] variable (prev_ends ++ (variable ++ (arguments ++ (call_begins ++ completed)))) (name_lacks semicolon variable refl (plain_bytes variable variable_plain)))
       ∙ ap Some (append-nil variable)
 
-  -- past the lines before the completer's
+  -- the search passes over the lines before the completer's line
   cut : option_map (λ c. c.1) (cut_at (codes "\n& ") (powershell_registration variable bin completer)) ≡ Some completed
   unfolding after with_front cut_at registration_begins script_head environment prev_ends arguments call_begins name_byte
   cut =

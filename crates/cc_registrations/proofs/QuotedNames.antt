@@ -1,4 +1,4 @@
--- Quoted words of fish, Elvish and PowerShell before what follows them in a list of names.
+-- Quoted words of fish, Elvish and PowerShell before the text that follows them in a list of names.
 use Rattle.std.proofs.Common.{◌≡◌, ℕ, true, cond, List, [], ◌∷◌, ◌++◌, map, Some, None, codes, inl, inr, refl, ◌∙◌, ap, append_assoc}
 use Rattle.std.specs.List.{list_all}
 use Rattle.std.proofs.lemmas.Bool.{cases_Bool}
@@ -27,7 +27,7 @@ begins (byte ∷ text) rest = elim (cases_Bool (list_all is_fish_safe (byte ∷ 
   | inr unsafe ↦ rw unsafe refl
 ]
 
--- before a line feed
+-- a quoted word before a line feed
 pub fish_before_line_feed : (text rest : List ℕ) → fish_word_of (fish_quoted text ++ line_feed ∷ rest) ≡ Some (text, line_feed ∷ rest)
 unfolding fish_sign
 fish_before_line_feed text rest =
@@ -36,7 +36,7 @@ fish_before_line_feed text rest =
 
 -- ---- Elvish
 
--- before a byte at which a quoted word ends
+-- a quoted word before a byte at which it ends
 module _ (end : ℕ) (rest : List ℕ)
     (ends : (word : List ℕ) → word_from (after_quote word) (map sign (end ∷ rest)) ≡ Some (word, end ∷ rest)) where
   pub elvish_before : (text : List ℕ) → elvish_word_of (elvish_quoted text ++ end ∷ rest) ≡ Some (line_feeds_as_spaces text, end ∷ rest)
@@ -50,7 +50,7 @@ module _ (end : ℕ) (rest : List ℕ)
   unfolding elvish_quoted
   elvish_quoted_before text = elvish_before text
 
--- a space ends it, and so does `]`
+-- a quoted word ends at a space, and also at `]`
 pub elvish_ends_at_space : (rest word : List ℕ) → word_from (after_quote word) (map sign (space ∷ rest)) ≡ Some (word, space ∷ rest)
 unfolding sign
 elvish_ends_at_space rest word = ap (λ bs. Some (word, space ∷ bs)) (elvish_signs.bytes_are rest)
@@ -74,7 +74,7 @@ module _ (end : ℕ) (rest : List ℕ)
   unfolding powershell_quoted
   powershell_quoted_before text = powershell_before text
 
--- a space ends it, and so does `,`
+-- a quoted word ends at a space, and also at `,`
 pub powershell_ends_at_space : (rest word : List ℕ) → word_from (after_quote word) (powershell_signs (space ∷ rest)) ≡ Some (word, space ∷ rest)
 unfolding powershell_signs sign_before sign
 powershell_ends_at_space rest word = ap (λ bs. Some (word, space ∷ bs)) (powershell_signs_are.bytes_are rest)

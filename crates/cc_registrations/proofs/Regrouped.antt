@@ -1,18 +1,19 @@
--- The parts of a registration, joined from the right.
+-- The parts of a registration, bracketed from the right.
 use Rattle.std.proofs.Common.{◌≡◌, ℕ, List, ◌++◌, append_assoc}
 
--- those of a posix shell and of fish: a line of four, a function of five, the completer and the end
+-- the parts for POSIX shells and fish: a line of four, a function of five, the completer and the
+-- end
 pub regroup_eleven : (a b c d e f g h i j k : List ℕ)
     → ((((a ++ b) ++ c) ++ d) ++ ((((e ++ f) ++ g) ++ h) ++ i) ++ j) ++ k
     ≡ a ++ (b ++ (c ++ (d ++ (e ++ (f ++ (g ++ (h ++ (i ++ (j ++ k)))))))))
 regroup_eleven a b c d e f g h i j k = simp append_assoc
 
--- those of Elvish
+-- the parts for Elvish
 pub regroup_seven : (a b c d e f g : List ℕ)
     → (((((a ++ b) ++ c) ++ d) ++ e) ++ f) ++ g ≡ a ++ (b ++ (c ++ (d ++ (e ++ (f ++ g)))))
 regroup_seven a b c d e f g = simp append_assoc
 
--- those of PowerShell: a head of three, a call of four, the completer and the end
+-- the parts for PowerShell: a head of three, a call of four, the completer and the end
 pub regroup_nine : (a b c d e f g h i : List ℕ)
     → ((((a ++ b) ++ c) ++ (((d ++ e) ++ f) ++ g)) ++ h) ++ i
     ≡ a ++ (b ++ (c ++ (d ++ (e ++ (f ++ (g ++ (h ++ i)))))))

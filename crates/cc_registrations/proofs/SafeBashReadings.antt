@@ -1,4 +1,4 @@
--- A safe registration for bash is read as what it was made for.
+-- A safe registration for bash reads back.
 use Rattle.std.proofs.Common.{◌≡◌, ℕ, List, [], ◌∷◌, ◌++◌, Some, map, option_map, drop, codes, refl, ◌∙◌, ap, arith, append-nil}
 use Rattle.std.specs.Option.{option_and_then}
 use Rattle.cc_base.specs.Bytes.{equals, line_feed, space}
@@ -24,15 +24,15 @@ module _ (variable name : List ℕ) (bins : List (List ℕ)) (completer : List �
   abbrev names : List ℕ
   names = joined (codes " ") (map posix_quoted bins)
 
-  -- from the completer on
+  -- the text from the completer on
   abbrev completed : List ℕ
   completed = posix_quoted completer ++ call_ends
 
-  -- from the variable on
+  -- the text from the variable on
   abbrev called : List ℕ
   called = v ++ (call_begins ++ completed)
 
-  -- after the programs
+  -- the text after the programs
   abbrev function : List ℕ
   function = function_begins ++ (n ++ (function_head ++ called))
 

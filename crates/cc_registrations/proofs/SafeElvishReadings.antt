@@ -1,4 +1,4 @@
--- A safe registration for Elvish is read as what it was made for.
+-- A safe registration for Elvish reads back.
 use Rattle.std.proofs.Common.{◌≡◌, ℕ, List, ◌++◌, Some, map, option_map, drop, codes, refl, ◌∙◌, ap, arith, append-nil}
 use Rattle.std.specs.Option.{option_and_then}
 use Rattle.cc_base.specs.Bytes.{close_bracket, equals, space}
@@ -21,11 +21,11 @@ module _ (variable name : List ℕ) (bins : List (List ℕ)) (completer : List �
   abbrev names : List ℕ
   names = joined (codes " ") (map elvish_quoted bins)
 
-  -- from the completer on
+  -- the text from the completer on
   abbrev completed : List ℕ
   completed = elvish_quoted completer ++ call_ends
 
-  -- after the programs
+  -- the text after the programs
   abbrev function : List ℕ
   function = function_head ++ (v ++ (call_begins ++ completed))
 

@@ -1,4 +1,4 @@
--- Safe registrations that are read as the definitions say.
+-- Examples of how safe registrations are read.
 use Rattle.std.proofs.Common.{◌≡◌, List, [], ◌∷◌, ℕ, Option, Some, refl, codes}
 use Rattle.cc_base.specs.Found.{after, with_front, cut_at, up_to, after_mark, between, without_blanks, word_by, word_after}
 use Rattle.cc_quote.specs.FishQuote.{is_fish_safe, fish_sign, fish_quoted}
@@ -18,7 +18,7 @@ use Rattle.cc_registrations.specs.SafeElvish.{SafeElvishReads}
 use Rattle.cc_registrations.specs.SafePowershell as powershell
 use Rattle.cc_registrations.specs.SafePowershell.{SafePowershellReads}
 
--- programs that no name says, one after another
+-- several programs, with names that need quotes
 odd_bins : List (List ℕ)
 odd_bins = codes "git" ∷ codes "it's $x" ∷ codes "" ∷ codes " -- \\" ∷ []
 

@@ -1,4 +1,4 @@
--- A safe registration for PowerShell is read as what it was made for.
+-- A safe registration for PowerShell reads back.
 use Rattle.std.proofs.Common.{◌≡◌, ℕ, List, [], ◌∷◌, ◌++◌, Some, map, option_map, drop, codes, refl, ◌∙◌, ap, arith, append-nil}
 use Rattle.std.specs.Option.{option_and_then}
 use Rattle.cc_base.specs.Bytes.{space}
@@ -21,15 +21,15 @@ module _ (variable name : List ℕ) (bins : List (List ℕ)) (completer : List �
   abbrev names : List ℕ
   names = joined (codes ", ") (map powershell_quoted bins)
 
-  -- from the completer on
+  -- the text from the completer on
   abbrev completed : List ℕ
   completed = powershell_quoted completer ++ registration_tail variable
 
-  -- from the second occurrence of the variable on
+  -- the text from the second occurrence of the variable on
   abbrev called : List ℕ
   called = v ++ (call_begins ++ completed)
 
-  -- after the programs
+  -- the text after the programs
   abbrev script : List ℕ
   script = script_head ++ (v ++ (variable_kept ++ called))
 

@@ -1,4 +1,4 @@
--- A registration for zsh is read as what it was made for.
+-- A registration for zsh reads back.
 use Rattle.std.proofs.Common.{◌≡◌, ◌==◌, ℕ, IsTrue, List, [], ◌∷◌, ◌++◌, Some, option_map, drop, codes, refl, ◌∙◌, ap, append-nil}
 use Rattle.std.specs.Option.{option_and_then}
 use Rattle.cc_base.proofs.Lines.{regroup_five, regroup_six}
@@ -14,7 +14,7 @@ use Rattle.cc_registrations.specs.ZshRegistration.{registration_begins, function
 use Rattle.cc_base.proofs.Finding.{cut_at-none, after-none, with_front-append, past_lacking, past_free, run_on, no_blanks}
 use Rattle.cc_registrations.proofs.Underscored.{underscored_bytes}
 
--- past what is before the binary, which begins with no `_`
+-- the search passes over the text before the binary, which does not begin with `_`
 past_first : (bin rest : List ℕ) → IsTrue (is_plain_name bin) → cut_at (codes " _clap_dynamic_completer_") (registration_begins ++ (bin ++ rest)) ≡ with_front registration_begins (cut_at (codes " _clap_dynamic_completer_") (bin ++ rest))
 unfolding after name_byte registration_begins
 past_first [] rest h = absurd (plain_some [] h refl)
@@ -27,11 +27,11 @@ module _ (variable name bin completer : List ℕ) where
   abbrev n : List ℕ
   n = underscored name
 
-  -- after the variable's line
+  -- the text after the variable's line
   abbrev call : List ℕ
   call = codes "        " ++ (posix_quoted completer ++ registration_tail name bin)
 
-  -- from the name on
+  -- the text from the name on
   abbrev after_name : List ℕ
   after_name = function_head ++ (variable ++ (variable_ends ++ call))
 
@@ -55,11 +55,11 @@ module _ (variable name bin completer : List ℕ) where
     of_name : AreNameBytes n
     of_name = underscored_bytes name (plain_bytes name name_plain)
 
-    -- a plain binary is written as it is
+    -- a plain binary is written unchanged
     plainly : zsh_registration variable name bin completer ≡ registration_begins ++ (bin ++ (function_begins ++ (n ++ after_name)))
     plainly = in_turn ∙ ap (λ text. registration_begins ++ (text ++ (function_begins ++ (n ++ after_name)))) (posix_plain bin bin_plain)
 
-    -- up to the line's end
+    -- the text before the line's end
     abbrev before : List ℕ
     before = registration_begins ++ (bin ++ (function_begins ++ (n ++ (function_head ++ (variable ++ [])))))
 

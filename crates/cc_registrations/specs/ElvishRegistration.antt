@@ -1,4 +1,4 @@
--- The registration for Elvish, and what its parts are read as.
+-- The registration for Elvish, and the reading of its parts.
 use Rattle.std.specs.Prelude.{⊤, ◌≡◌, ℕ, IsTrue, List, ◌++◌, Option, Some, option_map, codes}
 use Rattle.cc_base.specs.PlainName.{is_plain_name}
 use Rattle.cc_quote.specs.ElvishQuote.{elvish_word_of}
@@ -6,15 +6,15 @@ use Rattle.cc_quote.specs.PosixQuote.{posix_quoted}
 use Rattle.cc_base.specs.Found.{between, last_run, up_to, word_after}
 use Rattle.cc_quote.specs.PlainPath.{is_plain_path}
 
--- ---- its text
+-- ---- the text
 
--- up to the binary
+-- the text before the binary
 unfoldable pub registration_begins : List ℕ
 registration_begins =
     codes "\n"
     ++ codes "set edit:completion:arg-completer["
 
--- between the binary and the variable
+-- the text between the binary and the variable
 unfoldable pub function_head : List ℕ
 function_head =
     codes "] = { |@words|\n"
@@ -23,18 +23,18 @@ function_head =
     ++ codes "\n"
     ++ codes "    put (env _CLAP_IFS=\"\\n\" _CLAP_COMPLETE_INDEX=(to-string $index) "
 
--- between the variable and the completer
+-- the text between the variable and the completer
 unfoldable pub shell_set : List ℕ
 shell_set = codes "=\"elvish\" "
 
--- after the completer
+-- the text after the completer
 unfoldable pub registration_ends : List ℕ
 registration_ends =
     codes " -- $@words) | to-lines\n"
     ++ codes "}\n"
     ++ codes "\n"
 
--- what opens each fixed text
+-- unfolds each fixed text
 unfoldable pub fixed_texts : ⊤
 unfolding registration_begins function_head shell_set registration_ends
 fixed_texts = tt
@@ -47,15 +47,15 @@ elvish_registration variable bin completer =
 
 -- ---- how it is read
 
--- what follows the variable
+-- the text after the variable
 unfoldable pub variable_ends : List ℕ
 variable_ends = codes "=\"elvish\""
 
--- the variable: what is before it, after the last blank
+-- the variable: the text before that, after the last whitespace
 unfoldable pub elvish_variable : List ℕ → Option (List ℕ)
 elvish_variable text = option_map last_run (up_to variable_ends text)
 
--- the completer: the word after it
+-- the completer: the word after that
 unfoldable pub elvish_completer : List ℕ → Option (List ℕ)
 elvish_completer text = word_after elvish_word_of variable_ends text
 
@@ -63,14 +63,14 @@ elvish_completer text = word_after elvish_word_of variable_ends text
 unfoldable pub elvish_binary : List ℕ → Option (List ℕ)
 elvish_binary text = between (codes "arg-completer[") (codes "]") text
 
--- the registration is read as what it was made for
+-- the registration reads back to its variable, completer and binary
 pub record ElvishRegistrationReads (variable bin completer : List ℕ) : Type 0 where
   pub variable_read : elvish_variable (elvish_registration variable bin completer) ≡ Some variable
   pub completer_read :
       elvish_completer (elvish_registration variable bin completer) ≡ Some completer
   pub binary_read : elvish_binary (elvish_registration variable bin completer) ≡ Some bin
 
--- the registration of a plain variable and binary and a plain path is read so
+-- if the variable, the binary and the completer's path are plain, the registration reads back
 unfoldable pub ElvishReads : List ℕ → List ℕ → List ℕ → Type 0
 ElvishReads variable bin completer =
     IsTrue (is_plain_name variable) → IsTrue (is_plain_name bin) → IsTrue (is_plain_path completer)

@@ -17,7 +17,7 @@ underscored name = replace_byte dash (codes "_") name
 unfoldable pub is_identifier_byte : ℕ → Bool
 is_identifier_byte byte = is_ascii_alphanumeric byte || byte == underscore
 
--- what an identifier has for a byte: the byte, or `_` for one that may not occur
+-- the byte of an identifier for a byte: `_` if the byte may not occur in identifiers
 unfoldable pub identifier_byte : ℕ → ℕ
 identifier_byte byte = if is_identifier_byte byte then byte else underscore
 
@@ -27,19 +27,19 @@ identifier text = map identifier_byte text
 
 -- ---- names one after another
 
--- a text between `'`, for Elvish and for PowerShell
+-- a text between two `'`, for Elvish and for PowerShell
 unfoldable pub elvish_quoted : List ℕ → List ℕ
 elvish_quoted text = codes "'" ++ elvish_escaped text ++ codes "'"
 
 unfoldable pub powershell_quoted : List ℕ → List ℕ
 powershell_quoted text = codes "'" ++ powershell_escaped text ++ codes "'"
 
--- some words, where one more is before them
+-- some words, with one more word before them
 abbrev pub with_word : List ℕ → Option (List (List ℕ) × List ℕ) → Option (List (List ℕ) × List ℕ)
 with_word word found = option_map (λ listed. (word ∷ listed.0, listed.1)) found
 
--- The words that a text begins with, one after another with a separator between them, and what
--- follows them. A reader reads each, at most so many.
+-- The words with which a text begins, with a separator between each two, and the text after them. A
+-- reader reads each word. At most the given number of words is read.
 abbrev pub words_by : (List ℕ → Option (List ℕ × List ℕ)) → List ℕ → ℕ → List ℕ
     → Option (List (List ℕ) × List ℕ)
 words_by reader between zero text = None
@@ -51,12 +51,12 @@ words_by reader between (suc most) text = elim (reader text) [
   ]
 ]
 
--- the same, as many as there are
+-- the same for all words of a text
 abbrev pub listed_by : (List ℕ → Option (List ℕ × List ℕ)) → List ℕ → List ℕ
     → Option (List (List ℕ) × List ℕ)
 listed_by reader between text = words_by reader between (length text) text
 
--- the word that a text begins with, where that begins with `'`
+-- the word with which a text begins, if it begins with `'`
 abbrev pub quoted_by : (List ℕ → Option (List ℕ × List ℕ)) → List ℕ → Option (List ℕ × List ℕ)
 quoted_by reader [] = None
 quoted_by reader (byte ∷ text) = if byte == single_quote then reader (byte ∷ text) else None

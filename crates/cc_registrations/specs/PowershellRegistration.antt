@@ -1,4 +1,4 @@
--- The registration for PowerShell, and what its parts are read as.
+-- The registration for PowerShell, and the reading of its parts.
 use Rattle.std.specs.Prelude.{⊤, ◌≡◌, ℕ, IsTrue, List, ◌++◌, Option, Some, codes}
 use Rattle.cc_base.specs.PlainName.{is_plain_name}
 use Rattle.cc_quote.specs.PosixQuote.{posix_quoted}
@@ -6,15 +6,15 @@ use Rattle.cc_quote.specs.PowershellQuote.{powershell_word_of}
 use Rattle.cc_base.specs.Found.{between, word_after}
 use Rattle.cc_quote.specs.PlainPath.{is_plain_path}
 
--- ---- its text
+-- ---- the text
 
--- up to the binary
+-- the text before the binary
 unfoldable pub registration_begins : List ℕ
 registration_begins =
     codes "\n"
     ++ codes "Register-ArgumentCompleter -Native -CommandName "
 
--- between the binary and `$env:`
+-- the text between the binary and `$env:`
 unfoldable pub script_head : List ℕ
 script_head =
     codes " -ScriptBlock {\n"
@@ -22,17 +22,17 @@ script_head =
     ++ codes "\n"
     ++ codes "    $prev = "
 
--- before the variable
+-- the text before the variable
 unfoldable pub environment : List ℕ
 environment = codes "$env:"
 
--- between the first two occurrences of the variable
+-- the text between the first two occurrences of the variable
 unfoldable pub prev_ends : List ℕ
 prev_ends =
     codes ";\n"
     ++ codes "    $env:"
 
--- from the variable up to the line of the completer
+-- the text after the variable, before the line of the completer
 unfoldable pub arguments : List ℕ
 arguments =
     codes " = \"powershell\";\n"
@@ -45,13 +45,13 @@ arguments =
     ++ codes "\n"
     ++ codes "    $results = Invoke-Expression @\""
 
--- before the completer
+-- the text before the completer
 unfoldable pub call_begins : List ℕ
 call_begins =
     codes "\n"
     ++ codes "& "
 
--- between the completer and the third occurrence of the variable
+-- the text between the completer and the third occurrence of the variable
 unfoldable pub call_ends : List ℕ
 call_ends =
     codes " -- $args\n"
@@ -59,14 +59,14 @@ call_ends =
     ++ codes "    if ($null -eq $prev) {\n"
     ++ codes "        Remove-Item Env:\\"
 
--- between the last two occurrences of the variable
+-- the text between the last two occurrences of the variable
 unfoldable pub otherwise : List ℕ
 otherwise =
     codes ";\n"
     ++ codes "    } else {\n"
     ++ codes "        $env:"
 
--- after the variable
+-- the text after the variable
 unfoldable pub registration_ends : List ℕ
 registration_ends =
     codes " = $prev;\n"
@@ -87,20 +87,20 @@ registration_ends =
     ++ codes "};\n"
     ++ codes "        \n"
 
--- what opens each fixed text
+-- unfolds each fixed text
 unfoldable pub fixed_texts : ⊤
 unfolding registration_begins script_head environment prev_ends arguments call_begins call_ends otherwise registration_ends
 fixed_texts = tt
 
--- up to the first occurrence of the variable
+-- the text before the first occurrence of the variable
 unfoldable pub registration_head : List ℕ → List ℕ
 registration_head bin = registration_begins ++ posix_quoted bin ++ script_head ++ environment
 
--- from there up to the completer
+-- the text after that, before the completer
 unfoldable pub call : List ℕ → List ℕ
 call variable = variable ++ prev_ends ++ variable ++ arguments ++ call_begins
 
--- after the completer
+-- the text after the completer
 unfoldable pub registration_tail : List ℕ → List ℕ
 registration_tail variable =
     call_ends ++ variable ++ otherwise ++ variable ++ registration_ends
@@ -125,7 +125,7 @@ powershell_completer text = word_after powershell_word_of (codes "\n& ") text
 unfoldable pub powershell_binary : List ℕ → Option (List ℕ)
 powershell_binary text = word_after powershell_word_of (codes "-CommandName") text
 
--- the registration is read as what it was made for
+-- the registration reads back to its variable, completer and binary
 pub record PowershellRegistrationReads (variable bin completer : List ℕ) : Type 0 where
   pub variable_read :
       powershell_variable (powershell_registration variable bin completer) ≡ Some variable
@@ -133,7 +133,7 @@ pub record PowershellRegistrationReads (variable bin completer : List ℕ) : Typ
       powershell_completer (powershell_registration variable bin completer) ≡ Some completer
   pub binary_read : powershell_binary (powershell_registration variable bin completer) ≡ Some bin
 
--- the registration of a plain variable and binary and a plain path is read so
+-- if the variable, the binary and the completer's path are plain, the registration reads back
 unfoldable pub PowershellReads : List ℕ → List ℕ → List ℕ → Type 0
 PowershellReads variable bin completer =
     IsTrue (is_plain_name variable) → IsTrue (is_plain_name bin) → IsTrue (is_plain_path completer)

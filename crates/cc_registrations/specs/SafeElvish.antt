@@ -1,4 +1,4 @@
--- The safe registration for Elvish, and what its parts are read as.
+-- The safe registration for Elvish, and the reading of its parts.
 use Rattle.std.specs.Prelude.{⊤, ◌≡◌, ℕ, List, ◌++◌, Option, Some, map, option_map, codes}
 use Rattle.std.specs.Option.{option_and_then}
 use Rattle.cc_base.specs.Found.{after_mark, between, word_after}
@@ -7,13 +7,13 @@ use Rattle.cc_quote.specs.ElvishQuote.{elvish_word_of}
 use Rattle.cc_quote.specs.QuotedWord.{line_feeds_as_spaces}
 use Rattle.cc_registrations.specs.Names.{elvish_quoted, identifier, listed_by, quoted_by}
 
--- ---- its text
+-- ---- the text
 
--- up to the programs
+-- the text before the programs
 unfoldable pub names_begin : List ℕ
 names_begin = codes "for complgen-name ["
 
--- between the programs and the variable
+-- the text between the programs and the variable
 unfoldable pub function_head : List ℕ
 function_head =
     codes "] {\n"
@@ -22,11 +22,11 @@ function_head =
     ++ codes "        fn request {|values|\n"
     ++ codes "            env "
 
--- between the variable and the completer
+-- the text between the variable and the completer
 unfoldable pub call_begins : List ℕ
 call_begins = codes "=elvish _COMPLGEN_VALUES=$values "
 
--- after the completer
+-- the text after the completer
 unfoldable pub call_ends : List ℕ
 call_ends =
     codes " -- $@words\n"
@@ -47,25 +47,25 @@ call_ends =
     ++ codes "    }\n"
     ++ codes "}\n"
 
--- what opens each fixed text
+-- unfolds each fixed text
 unfoldable pub fixed_texts : ⊤
 unfolding names_begin function_head call_begins call_ends
 fixed_texts = tt
 
--- up to the completer
+-- the text before the completer
 unfoldable pub registration_front : List ℕ → List (List ℕ) → List ℕ
 registration_front variable bins =
     names_begin ++ joined (codes " ") (map elvish_quoted bins) ++ function_head ++ identifier variable
     ++ call_begins
 
--- the registration, which holds no name
+-- the registration, which does not use the name
 unfoldable pub safe_elvish : List ℕ → List ℕ → List (List ℕ) → List ℕ → List ℕ
 safe_elvish variable name bins completer =
     registration_front variable bins ++ elvish_quoted completer ++ call_ends
 
 -- ---- how it is read
 
--- the programs, which are quoted words after `[`, and what follows them
+-- the programs, which are quoted words after `[`, and the text after them
 unfoldable pub safe_elvish_names : List ℕ → Option (List (List ℕ) × List ℕ)
 safe_elvish_names text =
     option_and_then (listed_by (quoted_by elvish_word_of) (codes " ")) (after_mark (codes "[") text)
@@ -78,19 +78,19 @@ safe_elvish_binaries text = option_map (λ listed. listed.0) (safe_elvish_names 
 unfoldable pub safe_elvish_function : List ℕ → Option (List ℕ)
 safe_elvish_function text = option_map (λ listed. listed.1) (safe_elvish_names text)
 
--- the variable: there, what `env` sets to `elvish`
+-- the variable: in the function, what `env` sets to `elvish`
 unfoldable pub safe_elvish_variable : List ℕ → Option (List ℕ)
 safe_elvish_variable text =
     option_and_then (between (codes " env ") (codes "=elvish ")) (safe_elvish_function text)
 
--- the completer: there, the word after the last variable that is set
+-- the completer: in the function, the word after the last variable that is set
 unfoldable pub safe_elvish_completer : List ℕ → Option (List ℕ)
 safe_elvish_completer text =
     option_and_then (word_after elvish_word_of (codes "=$values "))
     (safe_elvish_function text)
 
--- The registration is read as what it was made for: any variable as an identifier, and any programs
--- and any completer as they are, with a space for each line feed.
+-- The registration reads back: the variable as an identifier, the programs and the completer with a
+-- space for each line feed. This holds for any of them.
 pub record SafeElvishReads (variable name : List ℕ) (bins : List (List ℕ)) (completer : List ℕ)
     : Type 0 where
   pub variable_read :

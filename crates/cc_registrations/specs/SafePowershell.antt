@@ -1,4 +1,4 @@
--- The safe registration for PowerShell, and what its parts are read as.
+-- The safe registration for PowerShell, and the reading of its parts.
 use Rattle.std.specs.Prelude.{⊤, ◌≡◌, ℕ, List, ◌++◌, Option, Some, map, option_map, codes}
 use Rattle.std.specs.Option.{option_and_then}
 use Rattle.cc_base.specs.Found.{after_mark, between, word_after}
@@ -7,13 +7,13 @@ use Rattle.cc_quote.specs.PowershellQuote.{powershell_word_of}
 use Rattle.cc_quote.specs.QuotedWord.{line_feeds_as_spaces}
 use Rattle.cc_registrations.specs.Names.{identifier, listed_by, powershell_quoted, quoted_by}
 
--- ---- its text
+-- ---- the text
 
--- up to the programs
+-- the text before the programs
 unfoldable pub names_begin : List ℕ
 names_begin = codes "Register-ArgumentCompleter -Native -CommandName "
 
--- between the programs and the variable
+-- the text between the programs and the variable
 unfoldable pub script_head : List ℕ
 script_head =
     codes " -ScriptBlock {\n"
@@ -38,7 +38,7 @@ script_head =
     ++ codes "    $PSNativeCommandUseErrorActionPreference = $false\n"
     ++ codes "    $before = @($env:"
 
--- between the first two occurrences of the variable
+-- the text between the first two occurrences of the variable
 unfoldable pub variable_kept : List ℕ
 variable_kept =
     codes ", $env:_COMPLGEN_VALUES)\n"
@@ -48,20 +48,20 @@ variable_kept =
     ++ codes "        end {\n"
     ++ codes "            $env:"
 
--- from there up to the completer
+-- the text after that, before the completer
 unfoldable pub call_begins : List ℕ
 call_begins =
     codes " = 'powershell'\n"
     ++ codes "            $env:_COMPLGEN_VALUES = $values\n"
     ++ codes "            try { $lines | & "
 
--- between the completer and the third occurrence of the variable
+-- the text between the completer and the third occurrence of the variable
 unfoldable pub call_ends : List ℕ
 call_ends =
     codes " -- @words 2>$null }\n"
     ++ codes "            finally { $env:"
 
--- after the variable
+-- the text after the variable
 unfoldable pub script_ends : List ℕ
 script_ends =
     codes ", $env:_COMPLGEN_VALUES = $before }\n"
@@ -84,25 +84,25 @@ script_ends =
     ++ codes "    }\n"
     ++ codes "}\n"
 
--- what opens each fixed text
+-- unfolds each fixed text
 unfoldable pub fixed_texts : ⊤
 unfolding names_begin script_head variable_kept call_begins call_ends script_ends
 fixed_texts = tt
 
--- up to the first occurrence of the variable
+-- the text before the first occurrence of the variable
 unfoldable pub registration_head : List (List ℕ) → List ℕ
 registration_head bins =
     names_begin ++ joined (codes ", ") (map powershell_quoted bins) ++ script_head
 
--- from there up to the completer
+-- the text after that, before the completer
 unfoldable pub call : List ℕ → List ℕ
 call variable = identifier variable ++ variable_kept ++ identifier variable ++ call_begins
 
--- after the completer
+-- the text after the completer
 unfoldable pub registration_tail : List ℕ → List ℕ
 registration_tail variable = call_ends ++ identifier variable ++ script_ends
 
--- the registration, which holds no name
+-- the registration, which does not use the name
 unfoldable pub safe_powershell : List ℕ → List ℕ → List (List ℕ) → List ℕ → List ℕ
 safe_powershell variable name bins completer =
     registration_head bins ++ call variable ++ powershell_quoted completer
@@ -110,7 +110,7 @@ safe_powershell variable name bins completer =
 
 -- ---- how it is read
 
--- the programs, which are quoted words after `-CommandName`, and what follows them
+-- the programs, which are quoted words after `-CommandName`, and the text after them
 unfoldable pub safe_powershell_names : List ℕ → Option (List (List ℕ) × List ℕ)
 safe_powershell_names text =
     option_and_then (listed_by (quoted_by powershell_word_of) (codes ", "))
@@ -124,18 +124,18 @@ safe_powershell_binaries text = option_map (λ listed. listed.0) (safe_powershel
 unfoldable pub safe_powershell_script : List ℕ → Option (List ℕ)
 safe_powershell_script text = option_map (λ listed. listed.1) (safe_powershell_names text)
 
--- the variable: there, from the first `$env:` up to `,`
+-- the variable: in the script, from the first `$env:` up to `,`
 unfoldable pub safe_powershell_variable : List ℕ → Option (List ℕ)
 safe_powershell_variable text =
     option_and_then (between (codes "$env:") (codes ",")) (safe_powershell_script text)
 
--- the completer: there, the word after the first `| &`
+-- the completer: in the script, the word after the first `| &`
 unfoldable pub safe_powershell_completer : List ℕ → Option (List ℕ)
 safe_powershell_completer text =
     option_and_then (word_after powershell_word_of (codes "| &")) (safe_powershell_script text)
 
--- The registration is read as what it was made for: any variable as an identifier, and any programs
--- and any completer as they are, with a space for each line feed.
+-- The registration reads back: the variable as an identifier, the programs and the completer with a
+-- space for each line feed. This holds for any of them.
 pub record SafePowershellReads (variable name : List ℕ) (bins : List (List ℕ))
     (completer : List ℕ) : Type 0 where
   pub variable_read :

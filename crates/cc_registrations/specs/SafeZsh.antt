@@ -1,4 +1,4 @@
--- The safe registration for zsh, and what its parts are read as.
+-- The safe registration for zsh, and the reading of its parts.
 use Rattle.std.specs.Prelude.{⊤, ◌≡◌, ℕ, List, ◌++◌, Option, Some, map, option_map, codes}
 use Rattle.std.specs.Option.{option_and_then}
 use Rattle.cc_base.specs.Found.{after_mark, between, word_after}
@@ -6,23 +6,23 @@ use Rattle.cc_base.specs.Joined.{joined}
 use Rattle.cc_quote.specs.PosixQuote.{posix_quoted, posix_word_of}
 use Rattle.cc_registrations.specs.Names.{identifier, listed_by}
 
--- ---- its text
+-- ---- the text
 
--- up to the name
+-- the text before the name
 unfoldable pub names_begin : List ℕ
 names_begin = codes "compdef _complgen_"
 
--- between the name and the programs
+-- the text between the name and the programs
 unfoldable pub names_follow : List ℕ
 names_follow = codes " "
 
--- between the programs and the name of the function
+-- the text between the programs and the name of the function
 unfoldable pub function_begins : List ℕ
 function_begins =
     codes "\n"
     ++ codes "_complgen_"
 
--- from there up to the variable
+-- the text after that, before the variable
 unfoldable pub function_head : List ℕ
 function_head =
     codes "() {\n"
@@ -37,14 +37,14 @@ function_head =
     ++ codes "        reply=$({ \"${run[@]}\" || : } </dev/null 2>/dev/null | \\\n"
     ++ codes "            "
 
--- between the variable and the completer
+-- the text between the variable and the completer
 unfoldable pub call_begins : List ℕ
 call_begins =
     codes "=zsh \\\n"
     ++ codes "            _COMPLGEN_VALUES=$values \\\n"
     ++ codes "            "
 
--- after the completer
+-- the text after the completer
 unfoldable pub call_ends : List ℕ
 call_ends =
     codes " -- \"${typed[@]}\" 2>/dev/null) && code=0 || code=$?\n"
@@ -68,7 +68,7 @@ call_ends =
     ++ codes "    return found\n"
     ++ codes "}\n"
 
--- what opens each fixed text
+-- unfolds each fixed text
 unfoldable pub fixed_texts : ⊤
 unfolding names_begin names_follow function_begins function_head call_begins call_ends
 fixed_texts = tt
@@ -90,11 +90,11 @@ safe_zsh variable name bins completer =
 
 -- ---- how it is read
 
--- the name: in that of the function, up to the space
+-- the name, which is part of the function's name, before the space
 unfoldable pub safe_zsh_name : List ℕ → Option (List ℕ)
 safe_zsh_name text = between (codes " _complgen_") (codes " ") text
 
--- the programs, which are words after that of the function, and what follows them
+-- the programs, which are words after the name of the function, and the text after them
 unfoldable pub safe_zsh_names : List ℕ → Option (List (List ℕ) × List ℕ)
 safe_zsh_names text =
     option_and_then (listed_by posix_word_of (codes " "))
@@ -108,18 +108,18 @@ safe_zsh_binaries text = option_map (λ listed. listed.0) (safe_zsh_names text)
 unfoldable pub safe_zsh_function : List ℕ → Option (List ℕ)
 safe_zsh_function text = option_map (λ listed. listed.1) (safe_zsh_names text)
 
--- the variable: there, what is set to `zsh` after the first `|` that ends a line
+-- the variable: in the function, what is set to `zsh` after the first `|` at the end of a line
 unfoldable pub safe_zsh_variable : List ℕ → Option (List ℕ)
 safe_zsh_variable text =
     option_and_then (between (codes " | \\\n            ") (codes "=zsh \\\n")) (safe_zsh_function text)
 
--- the completer: there, the word after the last variable that is set
+-- the completer: in the function, the word after the last variable that is set
 unfoldable pub safe_zsh_completer : List ℕ → Option (List ℕ)
 safe_zsh_completer text =
     option_and_then (word_after posix_word_of (codes "=$values \\\n")) (safe_zsh_function text)
 
--- The registration is read as what it was made for: any variable and any name as an identifier, and
--- any programs and any completer as they are.
+-- The registration reads back: the variable and the name as identifiers, the programs and the
+-- completer unchanged. This holds for any of them.
 pub record SafeZshReads (variable name : List ℕ) (bins : List (List ℕ)) (completer : List ℕ)
     : Type 0 where
   pub variable_read :

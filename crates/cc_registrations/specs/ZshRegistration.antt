@@ -1,21 +1,21 @@
--- The registration for zsh, and what its parts are read as.
+-- The registration for zsh, and the reading of its parts.
 use Rattle.std.specs.Prelude.{⊤, ◌≡◌, ℕ, IsTrue, List, ◌++◌, Option, Some, option_map, codes}
 use Rattle.cc_quote.specs.PosixQuote.{posix_quoted, posix_word_of}
 use Rattle.cc_base.specs.PlainName.{is_plain_name}
 use Rattle.cc_base.specs.Found.{between, last_line, up_to, without_blanks, word_after}
 use Rattle.cc_registrations.specs.Names.{underscored}
 
--- ---- its text
+-- ---- the text
 
--- up to the binary
+-- the text before the binary
 unfoldable pub registration_begins : List ℕ
 registration_begins = codes "#compdef "
 
--- between the binary and the name
+-- the text between the binary and the name
 unfoldable pub function_begins : List ℕ
 function_begins = codes "\nfunction _clap_dynamic_completer_"
 
--- between the name and the variable
+-- the text between the name and the variable
 unfoldable pub function_head : List ℕ
 function_head =
     codes "() {\n"
@@ -27,11 +27,11 @@ function_head =
     ++ codes "        _CLAP_COMPLETE_INDEX=\"$_CLAP_COMPLETE_INDEX\" \\\n"
     ++ codes "        "
 
--- between the variable and the completer
+-- the text between the variable and the completer
 unfoldable pub call_begins : List ℕ
 call_begins = codes "=\"zsh\" \\\n        "
 
--- between the completer and the second occurrence of the name
+-- the text between the completer and the second occurrence of the name
 unfoldable pub call_ends : List ℕ
 call_ends =
     codes " -- \"${words[@]}\" 2>/dev/null \\\n"
@@ -62,29 +62,29 @@ call_ends =
     ++ codes "\n"
     ++ codes "compdef _clap_dynamic_completer_"
 
--- between the name and the binary
+-- the text between the name and the binary
 unfoldable pub name_ends : List ℕ
 name_ends = codes " "
 
--- after the binary
+-- the text after the binary
 unfoldable pub registration_ends : List ℕ
 registration_ends = codes "\n"
 
--- what opens each fixed text
+-- unfolds each fixed text
 unfoldable pub fixed_texts : ⊤
 unfolding registration_begins function_begins function_head call_begins call_ends name_ends registration_ends
 fixed_texts = tt
 
--- up to the name
+-- the text before the name
 unfoldable pub registration_head : List ℕ → List ℕ
 registration_head bin = registration_begins ++ posix_quoted bin ++ function_begins
 
--- up to the completer
+-- the text before the completer
 unfoldable pub registration_front : List ℕ → List ℕ → List ℕ → List ℕ
 registration_front variable name bin =
     registration_head bin ++ underscored name ++ function_head ++ variable ++ call_begins
 
--- after the completer
+-- the text after the completer
 unfoldable pub registration_tail : List ℕ → List ℕ → List ℕ
 registration_tail name bin =
     call_ends ++ underscored name ++ name_ends ++ posix_quoted bin ++ registration_ends
@@ -96,11 +96,11 @@ zsh_registration variable name bin completer =
 
 -- ---- how it is read
 
--- what ends the line of the variable
+-- the end of the line of the variable
 unfoldable pub variable_ends : List ℕ
 variable_ends = codes "=\"zsh\" \\\n"
 
--- the variable: on the first line that ends so, up to that, without blanks before it
+-- the variable: the first line with this end, without the end and without whitespace at its start
 unfoldable pub zsh_variable : List ℕ → Option (List ℕ)
 zsh_variable text =
     option_map (λ before. without_blanks (last_line before)) (up_to variable_ends text)
@@ -109,8 +109,8 @@ zsh_variable text =
 unfoldable pub zsh_completer : List ℕ → Option (List ℕ)
 zsh_completer text = word_after posix_word_of variable_ends text
 
--- the name: in that of the function, which begins a word; a binary may hold the mark without the
--- space
+-- the name, which is part of the function's name and begins a word; a binary may contain the mark
+-- without the space
 unfoldable pub zsh_name : List ℕ → Option (List ℕ)
 zsh_name text = between (codes " _clap_dynamic_completer_") (codes "() {") text
 
@@ -118,14 +118,15 @@ zsh_name text = between (codes " _clap_dynamic_completer_") (codes "() {") text
 unfoldable pub zsh_binary : List ℕ → Option (List ℕ)
 zsh_binary text = word_after posix_word_of (codes "#compdef") text
 
--- the registration is read as what it was made for
+-- the registration reads back to its variable, completer, name and binary
 pub record ZshRegistrationReads (variable name bin completer : List ℕ) : Type 0 where
   pub variable_read : zsh_variable (zsh_registration variable name bin completer) ≡ Some variable
   pub completer_read : zsh_completer (zsh_registration variable name bin completer) ≡ Some completer
   pub name_read : zsh_name (zsh_registration variable name bin completer) ≡ Some (underscored name)
   pub binary_read : zsh_binary (zsh_registration variable name bin completer) ≡ Some bin
 
--- the registration of a plain variable, name and binary is read so, whatever the completer
+-- if the variable, the name and the binary are plain, the registration reads back, whatever the
+-- completer is
 unfoldable pub ZshReads : List ℕ → List ℕ → List ℕ → List ℕ → Type 0
 ZshReads variable name bin completer =
     IsTrue (is_plain_name variable) → IsTrue (is_plain_name name) → IsTrue (is_plain_name bin)

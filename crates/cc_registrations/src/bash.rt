@@ -58,8 +58,12 @@ fi
 
 ";
 
-/// Writes the registration for bash: of the variable that requests completions, the name,
-/// the binary and the completer that is run. Fails with `Write` alone, where the sink fails.
+/// Writes the registration for bash. `variable` requests completions, `name` is part of the
+/// function's name, `bin` is the program to register, and `completer` is the program to run.
+///
+/// # Errors
+///
+/// `Write` if the sink fails. There are no other errors.
 #[tactic(auto, using(crate::proofs::BashReadings::bash_reads))]
 pub fn write_bash<W: Sink>(
     sink: &mut W,
@@ -76,7 +80,7 @@ pub fn write_bash<W: Sink>(
     write_text(sink, variable, name, bin, completer)
 }
 
-// The text of the registration.
+// Writes the text of the registration.
 #[tactic(auto, unfolding(crate::specs::BashRegistration::bash_registration))]
 fn write_text<W: Sink>(
     sink: &mut W,
@@ -94,7 +98,7 @@ fn write_text<W: Sink>(
     Ok(write_tail(sink, name, bin)?)
 }
 
-// The text up to the completer.
+// Writes the text before the completer.
 fn write_front<W: Sink>(sink: &mut W, variable: &str, name: &str) -> Result<(), ErrorKind>
     ensures { Writes W.taken W.failed (as_write result) sink.old sink.new
         (registration_front variable.now name.now) }
@@ -106,7 +110,7 @@ fn write_front<W: Sink>(sink: &mut W, variable: &str, name: &str) -> Result<(), 
     put_piece(sink, CALL_BEGINS)
 }
 
-// The text from the completer on.
+// Writes the text from the completer on.
 fn write_tail<W: Sink>(sink: &mut W, name: &str, bin: &str) -> Result<(), ErrorKind>
     ensures { Writes W.taken W.failed (as_write result) sink.old sink.new
         (registration_tail name.now bin.now) }

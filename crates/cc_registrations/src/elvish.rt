@@ -23,8 +23,12 @@ const REGISTRATION_ENDS: &str = " -- $@words) | to-lines
 
 ";
 
-/// Writes the registration for Elvish: of the variable that requests completions, the binary and
-/// the completer that is run. Fails with `Write` where the sink fails, and with `Memory`.
+/// Writes the registration for Elvish. `variable` requests completions, `bin` is the program to
+/// register, and `completer` is the program to run.
+///
+/// # Errors
+///
+/// `Write` if the sink fails, `Memory` if an allocation fails.
 #[tactic(auto, using(crate::proofs::ElvishReadings::elvish_reads))]
 pub fn write_elvish<W: Sink>(
     alloc: Global,
@@ -40,7 +44,7 @@ pub fn write_elvish<W: Sink>(
     write_text(alloc, sink, variable, bin, completer)
 }
 
-// The text of the registration.
+// Writes the text of the registration.
 fn write_text<W: Sink>(
     alloc: Global,
     sink: &mut W,

@@ -18,8 +18,12 @@ const REGISTRATION_ENDS: &str =
     " -- (commandline --current-process --tokenize --cut-at-cursor) (commandline --current-token))\"
 ";
 
-/// Writes the registration for fish: of the variable that requests completions, the binary and the
-/// completer that is run. Fails with `Write` where the sink fails, and with `Memory`.
+/// Writes the registration for fish. `variable` requests completions, `bin` is the program to
+/// register, and `completer` is the program to run.
+///
+/// # Errors
+///
+/// `Write` if the sink fails, `Memory` if an allocation fails.
 #[tactic(auto, using(crate::proofs::FishReadings::fish_reads))]
 pub fn write_fish<W: Sink>(
     alloc: Global,
@@ -35,7 +39,7 @@ pub fn write_fish<W: Sink>(
     write_text(alloc, sink, variable, bin, completer)
 }
 
-// The text of the registration.
+// Writes the text of the registration.
 fn write_text<W: Sink>(
     alloc: Global,
     sink: &mut W,

@@ -1,8 +1,20 @@
-//! Registrations: the texts by which a shell calls a program for its candidates. Each is filled
-//! in by one pass, so that what is filled in is never filled in again.
+//! Registrations: the texts that make a shell ask a program for candidates. Each text is filled in
+//! by one pass, so a value that was filled in is never filled in again.
 //!
-//! There are two for each shell: the original's, which registers one program, and the safe one,
-//! which registers many in its first line, and whose text evaluates nothing that is typed.
+//! There are two registrations for each shell. The original's registers one program. The safe one
+//! registers several programs in its first line, and evaluates nothing that the user types.
+//!
+//! ```rattle
+//! use cc_base::{Collected, Error};
+//! use cc_registrations::write_safe_bash;
+//! use std::alloc::Global;
+//!
+//! fn registration(alloc: Global) -> Result<Vec<u8>, Error> {
+//!     let mut sink = Collected::new(alloc);
+//!     write_safe_bash(alloc, &mut sink, "COMPLETE", "app", &["app"], "/usr/bin/app")?;
+//!     Ok(sink.into_vec())
+//! }
+//! ```
 #![tactic(auto)]
 
 mod bash;

@@ -8,7 +8,7 @@ use cc_base::{Error, Sink, put_all};
 use cc_quote::{Replace, put_escaped};
 use std::io::ErrorKind;
 
-/// Writes the name with `_` for each `-`.
+/// Writes `name` with `_` for each `-`.
 pub(crate) fn put_underscored<W: Sink>(sink: &mut W, name: &str) -> Result<(), ErrorKind>
     ensures { Writes W.taken W.failed (as_write result) sink.old sink.new (underscored name.now) }
 {
@@ -19,7 +19,7 @@ pub(crate) fn put_underscored<W: Sink>(sink: &mut W, name: &str) -> Result<(), E
     put_escaped(sink, &escape, name)
 }
 
-/// Writes the text as an identifier: with `_` for each byte that is not an ASCII letter, a digit or
+/// Writes `text` as an identifier, with `_` for each byte that is not an ASCII letter, a digit or
 /// `_`.
 pub(crate) fn put_identifier<W: Sink>(sink: &mut W, text: &str) -> Result<(), Error>
     ensures { Writes W.taken W.failed result sink.old sink.new (identifier text.now) }
@@ -30,7 +30,7 @@ pub(crate) fn put_identifier<W: Sink>(sink: &mut W, text: &str) -> Result<(), Er
     Ok(())
 }
 
-// The byte, or `_` for one that no identifier has.
+// Returns the byte, or `_` if it may not occur in an identifier.
 #[tactic(auto, unfolding(crate::specs::Names::identifier_byte, crate::specs::Names::is_identifier_byte))]
 fn identifier_byte(byte: u8) -> u8
     ensures { result ≡ identifier_byte byte }

@@ -62,8 +62,12 @@ const REGISTRATION_ENDS: &str = " = $prev;
         
 ";
 
-/// Writes the registration for PowerShell: of the variable that requests completions, the binary
-/// and the completer that is run. Fails with `Write` where the sink fails, and with `Memory`.
+/// Writes the registration for PowerShell. `variable` requests completions, `bin` is the program to
+/// register, and `completer` is the program to run.
+///
+/// # Errors
+///
+/// `Write` if the sink fails, `Memory` if an allocation fails.
 #[tactic(auto, using(crate::proofs::PowershellReadings::powershell_reads))]
 pub fn write_powershell<W: Sink>(
     alloc: Global,
@@ -79,7 +83,7 @@ pub fn write_powershell<W: Sink>(
     write_text(alloc, sink, variable, bin, completer)
 }
 
-// The text of the registration.
+// Writes the text of the registration.
 #[tactic(auto, unfolding(crate::specs::PowershellRegistration::powershell_registration))]
 fn write_text<W: Sink>(
     alloc: Global,
@@ -97,7 +101,7 @@ fn write_text<W: Sink>(
     Ok(write_tail(sink, variable)?)
 }
 
-// The text up to the first occurrence of the variable.
+// Writes the text before the first occurrence of the variable.
 fn write_head<W: Sink>(alloc: Global, sink: &mut W, bin: &str) -> Result<(), Error>
     ensures { Writes W.taken W.failed result sink.old sink.new (registration_head bin.now) }
 {
@@ -107,7 +111,7 @@ fn write_head<W: Sink>(alloc: Global, sink: &mut W, bin: &str) -> Result<(), Err
     Ok(put_piece(sink, ENVIRONMENT)?)
 }
 
-// The text from there up to the completer.
+// Writes the text after that, before the completer.
 #[tactic(auto, unfolding(crate::specs::PowershellRegistration::call, crate::specs::PowershellRegistration::fixed_texts))]
 fn write_call<W: Sink>(sink: &mut W, variable: &str) -> Result<(), ErrorKind>
     ensures { Writes W.taken W.failed (as_write result) sink.old sink.new (call variable.now) }
@@ -118,7 +122,7 @@ fn write_call<W: Sink>(sink: &mut W, variable: &str) -> Result<(), ErrorKind>
     )
 }
 
-// The text after the completer.
+// Writes the text after the completer.
 #[tactic(auto, unfolding(crate::specs::PowershellRegistration::registration_tail, crate::specs::PowershellRegistration::fixed_texts))]
 fn write_tail<W: Sink>(sink: &mut W, variable: &str) -> Result<(), ErrorKind>
     ensures { Writes W.taken W.failed (as_write result) sink.old sink.new

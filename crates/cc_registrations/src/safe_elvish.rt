@@ -39,9 +39,9 @@ const CALL_ENDS: &str = " -- $@words
 }
 ";
 
-/// Writes the safe registration for Elvish, by which the shell asks the completer for candidates of
-/// the programs. The variable is written as an identifier: with `_` for each byte that is not an
-/// ASCII letter, a digit or `_`. The name does not occur in it.
+/// Writes the safe registration for Elvish, with which the shell asks `completer` for candidates of
+/// the programs `bins`. `variable` requests completions. It is written as an identifier, with `_`
+/// for each byte that is not an ASCII letter, a digit or `_`. The text does not use `name`.
 ///
 /// # Errors
 ///
@@ -62,7 +62,7 @@ pub fn write_safe_elvish<W: Sink>(
     write_text(alloc, sink, variable, name, bins, completer)
 }
 
-// The text of the registration.
+// Writes the text of the registration.
 fn write_text<W: Sink>(
     alloc: Global,
     sink: &mut W,
@@ -79,7 +79,7 @@ fn write_text<W: Sink>(
     Ok(put_piece(sink, CALL_ENDS)?)
 }
 
-// The text up to the completer.
+// Writes the text before the completer.
 fn write_front<W: Sink>(sink: &mut W, variable: &str, bins: &[&str]) -> Result<(), Error>
     ensures { Writes W.taken W.failed result sink.old sink.new
         (registration_front variable.now (map (λ bin. bin.now) bins.now)) }

@@ -48,9 +48,10 @@ const CALL_ENDS: &str = " -- $words | string collect
 end
 ";
 
-/// Writes the safe registration for fish, by which the shell asks the completer for candidates of
-/// the programs. The variable and the name are written as identifiers: with `_` for each byte that
-/// is not an ASCII letter, a digit or `_`.
+/// Writes the safe registration for fish, with which the shell asks `completer` for candidates of
+/// the programs `bins`. `variable` requests completions, and `name` is part of the function's name.
+/// Both are written as identifiers, with `_` for each byte that is not an ASCII letter, a digit or
+/// `_`.
 ///
 /// # Errors
 ///
@@ -71,7 +72,7 @@ pub fn write_safe_fish<W: Sink>(
     write_text(alloc, sink, variable, name, bins, completer)
 }
 
-// The text of the registration.
+// Writes the text of the registration.
 fn write_text<W: Sink>(
     alloc: Global,
     sink: &mut W,
@@ -89,7 +90,7 @@ fn write_text<W: Sink>(
     Ok(put_piece(sink, CALL_ENDS)?)
 }
 
-// The first line, which names the programs.
+// Writes the first line, which names the programs.
 fn write_names_line<W: Sink>(
     alloc: Global,
     sink: &mut W,
@@ -105,7 +106,7 @@ fn write_names_line<W: Sink>(
     put_fish_names(alloc, sink, bins)
 }
 
-// The function up to the completer.
+// Writes the function up to the completer.
 fn write_front<W: Sink>(sink: &mut W, variable: &str, name: &str) -> Result<(), Error>
     ensures { Writes W.taken W.failed result sink.old sink.new
         (function_front variable.now name.now) }

@@ -70,9 +70,10 @@ const SCRIPT_ENDS: &str = ", $env:_COMPLGEN_VALUES = $before }
 }
 ";
 
-/// Writes the safe registration for PowerShell, by which the shell asks the completer for candidates of
-/// the programs. The variable is written as an identifier: with `_` for each byte that is not an
-/// ASCII letter, a digit or `_`. The name does not occur in it.
+/// Writes the safe registration for PowerShell, with which the shell asks `completer` for
+/// candidates of the programs `bins`. `variable` requests completions. It is written as an
+/// identifier, with `_` for each byte that is not an ASCII letter, a digit or `_`. The text does
+/// not use `name`.
 ///
 /// # Errors
 ///
@@ -93,7 +94,7 @@ pub fn write_safe_powershell<W: Sink>(
     write_text(alloc, sink, variable, name, bins, completer)
 }
 
-// The text of the registration.
+// Writes the text of the registration.
 #[tactic(auto, unfolding(crate::specs::SafePowershell::safe_powershell))]
 fn write_text<W: Sink>(
     alloc: Global,
@@ -112,7 +113,7 @@ fn write_text<W: Sink>(
     Ok(write_tail(sink, variable)?)
 }
 
-// The text up to the first occurrence of the variable.
+// Writes the text before the first occurrence of the variable.
 fn write_head<W: Sink>(sink: &mut W, bins: &[&str]) -> Result<(), Error>
     ensures { Writes W.taken W.failed result sink.old sink.new
         (registration_head (map (λ bin. bin.now) bins.now)) }
@@ -122,7 +123,7 @@ fn write_head<W: Sink>(sink: &mut W, bins: &[&str]) -> Result<(), Error>
     Ok(put_piece(sink, SCRIPT_HEAD)?)
 }
 
-// The text from there up to the completer.
+// Writes the text after that, before the completer.
 fn write_call<W: Sink>(sink: &mut W, variable: &str) -> Result<(), Error>
     ensures { Writes W.taken W.failed result sink.old sink.new (call variable.now) }
 {
@@ -132,7 +133,7 @@ fn write_call<W: Sink>(sink: &mut W, variable: &str) -> Result<(), Error>
     Ok(put_piece(sink, CALL_BEGINS)?)
 }
 
-// The text after the completer.
+// Writes the text after the completer.
 fn write_tail<W: Sink>(sink: &mut W, variable: &str) -> Result<(), Error>
     ensures { Writes W.taken W.failed result sink.old sink.new
         (registration_tail variable.now) }

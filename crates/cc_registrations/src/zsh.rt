@@ -60,9 +60,12 @@ const NAME_ENDS: &str = " ";
 const REGISTRATION_ENDS: &str = "
 ";
 
-/// Writes the registration for zsh: of the variable that requests completions, the name,
-/// the binary and the completer that is run. Fails with `Write` where the sink fails, and with
-/// `Memory`.
+/// Writes the registration for zsh. `variable` requests completions, `name` is part of the
+/// function's name, `bin` is the program to register, and `completer` is the program to run.
+///
+/// # Errors
+///
+/// `Write` if the sink fails, `Memory` if an allocation fails.
 #[tactic(auto, using(crate::proofs::ZshReadings::zsh_reads), unfolding(crate::specs::ZshRegistration::zsh_registration))]
 pub fn write_zsh<W: Sink>(
     alloc: Global,
@@ -81,7 +84,7 @@ pub fn write_zsh<W: Sink>(
     write_tail(alloc, sink, name, bin)
 }
 
-// The text up to the completer.
+// Writes the text before the completer.
 fn write_front<W: Sink>(
     alloc: Global,
     sink: &mut W,
@@ -99,7 +102,7 @@ fn write_front<W: Sink>(
     Ok(put_piece(sink, CALL_BEGINS)?)
 }
 
-// The text up to the name.
+// Writes the text before the name.
 fn write_head<W: Sink>(alloc: Global, sink: &mut W, bin: &str) -> Result<(), Error>
     ensures { Writes W.taken W.failed result sink.old sink.new (registration_head bin.now) }
 {
@@ -108,7 +111,7 @@ fn write_head<W: Sink>(alloc: Global, sink: &mut W, bin: &str) -> Result<(), Err
     Ok(put_piece(sink, FUNCTION_BEGINS)?)
 }
 
-// The text after the completer.
+// Writes the text after the completer.
 fn write_tail<W: Sink>(alloc: Global, sink: &mut W, name: &str, bin: &str) -> Result<(), Error>
     ensures { Writes W.taken W.failed result sink.old sink.new
         (registration_tail name.now bin.now) }

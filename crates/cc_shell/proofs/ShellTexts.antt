@@ -1,4 +1,4 @@
--- That a text names at most one shell, and that no other text names one.
+-- A text is the name of at most one shell, and no other text is read.
 use Rattle.std.proofs.Common.{◌≡◌, ◌∙◌, ap, cond, false, refl, sym, true, ℕ, Bool, List, None}
 use Rattle.std.proofs.Common.{Option, Some, [], ◌∷◌, IfOk}
 use Rattle.std.proofs.lemmas.Slice.Eq.{bytes_eq-Decides}
@@ -9,16 +9,16 @@ use Rattle.cc_shell.specs.declared.shell.InvalidShell.{InvalidShell}
 use Rattle.cc_shell.specs.declared.shell.Shell.{Shell}
 use Rattle.cc_shell.specs.declared.shell.Shell.TheVariants.{Bash}
 
--- the first shell of a text
+-- the first shell with a given name
 abbrev pub named : List ℕ → Option Shell
 named text = find (λ shell. bytes_eq (shell_text shell) text) all_shells
 
--- the text of a shell is that of no shell before it
+-- no shell before a shell has the same name
 named_by_text : (shell : Shell) → named (shell_text shell) ≡ Some shell
 named_by_text Bash = refl
 named_by_text _ = refl
 
--- ---- what is found passes the test
+-- ---- the shell that is found passes the test
 
 passes_first : {T : Type 0} (test : T → Bool) (x : T) (later : Option T) (told : Bool)
     → test x ≡ told → IfSome later (λ y. test y ≡ true)
@@ -40,7 +40,7 @@ only_text : (text : List ℕ) (error : InvalidShell) (found : Option Shell)
 only_text text error None h = tt
 only_text text error (Some shell) h = sym ((bytes_eq-Decides (shell_text shell) text).0 h)
 
--- the first shell of a text is what the text is read as
+-- a text is read as the first shell with that name
 pub reads_named : (text : List ℕ) (error : InvalidShell)
     → ReadsShell text (ok_or (named text) error)
 reads_named text error = record {

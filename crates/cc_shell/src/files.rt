@@ -1,4 +1,4 @@
-//! Scripts written to files.
+//! Scripts that are written to files.
 
 ghost use Rattle.std.specs.Prelude.{◌≡◌, Some, IsTrue, IfOk, OnOk};
 ghost use Rattle.std.specs.Path.{path_join};
@@ -18,19 +18,23 @@ use std::io::{self, BufWriter, Write};
 use std::path::Path;
 use std::rt::Files;
 
-/// Sets the bin name, builds the command and writes the generator's script, as `generate` does, to
-/// the file that the generator names for the bin name, in a folder. Returns the path of the file.
+/// Sets the bin name, builds `command` and writes the script of `generator` to a file in the
+/// directory `out_dir`, as [`generate`] does. The generator names the file after the bin name.
+/// Returns the path of the file.
 ///
-/// The file is made, or emptied if it is there, when the first part of the script leaves the
-/// buffer. So none is made where two commands share a label, and where memory runs out before.
+/// The file is created, or truncated if it exists, when the first part of the script leaves the
+/// buffer. So no file is created if two commands share a label, or if an allocation fails before
+/// that.
 ///
-/// The clause `script_reads` is of the script's text alone, as `plain` of `generate` is: on `Ok` no
-/// two commands share a label, and the text of a plain command reads back. No clause says what the
-/// file holds, nor which kind the system fails with.
+/// The clause `script_reads` is only about the script's text, as `plain` of [`generate`] is. On
+/// `Ok` no two commands share a label, and the script of a plain command reads back. No clause says
+/// what the file contains, or with which kind the system fails.
 ///
-/// Fails as `generate` does; with `Write` and the system's kind where the file can't be made, as in
-/// a folder that isn't there, or can't be written. A later failure leaves the file as far as it was
-/// written.
+/// # Errors
+///
+/// The errors of [`generate`], and `Write` with the system's kind if the file cannot be created or
+/// written, for example because the directory does not exist. After a later failure, the file
+/// contains what was written before.
 pub fn generate_to<R: Files, G: Generator + Drop>(
     files: &R,
     alloc: Global,
@@ -77,7 +81,7 @@ fn write_file<R: Files, G: Generator + Drop>(
     sink.flush()
 }
 
-// A file that is made, or emptied if it is there, when it is first written or flushed.
+// A file that is created, or truncated if it exists, when it is first written or flushed.
 #[derive(Drop)]
 struct LateFile<'f, R: Files> {
     files: &'f R,

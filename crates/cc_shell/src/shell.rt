@@ -22,8 +22,8 @@ use std::fmt;
 use std::path::Path;
 use std::str::FromStr;
 
-/// A shell for which scripts are written. As a generator it does what the generator of that shell
-/// does.
+/// A shell for which scripts are written. As a generator it behaves like the generator of that
+/// shell.
 #[derive(Clone, Copy, PartialEq, Eq, Hash, Debug)]
 pub enum Shell {
     /// Bash.
@@ -40,7 +40,7 @@ pub enum Shell {
     Nushell,
 }
 
-/// A text names no shell.
+/// The error for a text that is not the name of a shell.
 #[derive(Clone, Copy, PartialEq, Eq, Debug)]
 pub struct InvalidShell;
 
@@ -54,8 +54,8 @@ impl fmt::Display for InvalidShell {
 
 impl std::error::Error for InvalidShell {}
 
-/// One line for each shell: its variant, which is named as its generator, its text, and the names
-/// of its programs. `$part!` takes the lines, after what the caller wants of them.
+/// Lists the shells, one per line: the variant, which has the name of its generator, the shell's
+/// name, and the names of its programs. `$part!` receives the lines after the caller's own tokens.
 #[macro_export]
 macro_rules! each_shell {
     ($part:ident! $($asked:tt)*) => {
@@ -71,14 +71,14 @@ macro_rules! each_shell {
     };
 }
 
-// The shells.
+// Lists all shells.
 macro_rules! all {
     ([] $($variant:ident $text:literal $programs:tt,)*) => {
         &[$(Shell::$variant),*]
     };
 }
 
-// The text of a shell.
+// Returns the name of a shell.
 macro_rules! text {
     ([$shell:tt] $($variant:ident $text:literal $programs:tt,)*) => {
         match $shell {
@@ -87,7 +87,7 @@ macro_rules! text {
     };
 }
 
-// Whether a shell has a program of this name.
+// Returns whether a shell has a program with the given name.
 macro_rules! program {
     ([$shell:tt, $name:tt] $($variant:ident $text:literal ($($program:literal)||+),)*) => {
         match $shell {
@@ -96,7 +96,7 @@ macro_rules! program {
     };
 }
 
-// A call of the generator of a shell.
+// Calls the generator of a shell.
 macro_rules! generator {
     ([$shell:tt, $call:ident $arguments:tt] $($variant:ident $text:literal $programs:tt,)*) => {
         match $shell {
@@ -108,17 +108,19 @@ macro_rules! generator {
 const ALL: &[Shell] = each_shell!(all!);
 
 impl Shell {
-    /// All shells, in the order of the type.
+    /// Returns all shells, in the order of the variants.
     pub fn value_variants() -> &'static [Shell]
         ensures { result.now ≡ all_shells }
     {
         ALL
     }
 
-    /// The shell of this text, in this very case.
+    /// Parses the name of a shell. Case-sensitive.
     ///
-    /// Fails with `InvalidVariant` and the message `invalid variant: TEXT` where no shell has the
-    /// text, and with `Memory` where memory runs out for the message.
+    /// # Errors
+    ///
+    /// - `InvalidVariant` with the message `invalid variant: TEXT` if no shell has the name `text`.
+    /// - `Memory` if the message cannot be allocated.
     pub fn parse(alloc: Global, text: &str) -> Result<Shell, Error>
         ensures ok { (shell : Shell) → text.now ≡ shell_text shell → result ≡ Ok shell }
         ensures only { IfOk result (λ shell. text.now ≡ shell_text shell) }
@@ -131,25 +133,30 @@ impl Shell {
         }
     }
 
-    /// The shell whose program a path leads to, by the name of its file without extension:
-    /// `powershell`, `pwsh` and `powershell_ise` are PowerShell, `nu` is Nushell, and each other
-    /// shell has the one program of its name. `None` for any other name.
+    /// Returns the shell to whose program `path` leads, according to the name of the file without
+    /// its extension. `powershell`, `pwsh` and `powershell_ise` are PowerShell, and `nu` is
+    /// Nushell. The program of each other shell has the shell's name. Returns `None` for any other
+    /// name.
     pub fn from_shell_path(path: &str) -> Option<Shell>
         ensures { result ≡ shell_of_path path.now }
     {
         from_program(Path::new(path).file_stem()?)
     }
 
-    /// The shell whose program the value of the variable `SHELL` leads to, as `from_shell_path`
-    /// says; `None` where the variable is not set.
+    /// Returns the shell to whose program the variable `SHELL` leads, given its `value`, as
+    /// [`Shell::from_shell_path`] does. Returns `None` if the variable is not set.
     pub fn from_env(value: Option<&str>) -> Option<Shell>
         ensures { result ≡ option_and_then shell_of_path (option_copied value.entry) }
     {
         Shell::from_shell_path(value?)
     }
 
-    /// The shell as a possible value of an argument, which has its text as name; never `None`.
-    /// Fails with `Memory` alone.
+    /// Returns the shell as a possible value of an argument. The value's name is the shell's name.
+    /// The result is never `None`.
+    ///
+    /// # Errors
+    ///
+    /// `Memory` if an allocation fails.
     pub fn to_possible_value(&self, alloc: Global) -> Result<Option<PossibleValue>, Error>
         ensures ok { IfOk result
             (λ value. value ≡ Some (new_possible_value (shell_text self.now))) }
@@ -159,14 +166,14 @@ impl Shell {
         Ok(Some(PossibleValue::new(name)))
     }
 
-    // The text by which the shell is named.
+    // Returns the name of the shell.
     fn name(&self) -> &'static str
         ensures { result.now ≡ shell_text self.now }
     {
         each_shell!(text! self)
     }
 
-    // Whether a program of this name is the shell's.
+    // Returns whether the shell has a program with the given name.
     fn runs_as(&self, program: &str) -> bool
         ensures { result ≡ list_any (bytes_eq program.now) (programs self.now) }
     {
@@ -174,7 +181,7 @@ impl Shell {
     }
 }
 
-// The first shell of this text.
+// Returns the first shell with the given name.
 fn with_text<'s>(shells: &'s [Shell], text: &str) -> Option<&'s Shell>
     ensures { option_copied result
         ≡ find (λ shell. bytes_eq (shell_text shell) text.now) shells.now }
@@ -182,7 +189,7 @@ fn with_text<'s>(shells: &'s [Shell], text: &str) -> Option<&'s Shell>
     shells.iter().find(|shell| shell.name() == text)
 }
 
-// The first shell that runs as this program.
+// Returns the first shell that has a program with the given name.
 fn with_program<'s>(shells: &'s [Shell], name: &str) -> Option<&'s Shell>
     ensures { option_copied result
         ≡ find (λ shell. list_any (bytes_eq name.now) (programs shell)) shells.now }
@@ -190,14 +197,14 @@ fn with_program<'s>(shells: &'s [Shell], name: &str) -> Option<&'s Shell>
     shells.iter().find(|shell| shell.runs_as(name))
 }
 
-// The shell that runs as this program.
+// Returns the shell that has a program with the given name.
 fn from_program(name: &str) -> Option<Shell>
     ensures { result ≡ shell_of_program name.now }
 {
     with_program(ALL, name).copied()
 }
 
-// The message that no shell has this text.
+// Returns the message that no shell has the given name.
 fn message(alloc: Global, text: &str) -> Result<Text, AllocError>
     ensures { IfOk result (λ message. message ≡ invalid_variant text.now) }
 {
@@ -210,7 +217,11 @@ impl FromStr for Shell {
 
     ghost from_str_gives = { ReadsShell };
 
-    /// The shell of this text, in this very case. Fails with `InvalidShell` where no shell has it.
+    /// Parses the name of a shell. Case-sensitive.
+    ///
+    /// # Errors
+    ///
+    /// `InvalidShell` if no shell has the name `text`.
     fn from_str(text: &str) -> Result<Shell, InvalidShell> {
         with_text(ALL, text).copied().ok_or(InvalidShell)
     }

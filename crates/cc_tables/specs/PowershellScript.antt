@@ -34,7 +34,7 @@ abbrev pub result_kind : Kind → ResultKind
 result_kind Subcommand = parameter_value
 result_kind _ = parameter_name
 
--- the help text or the about text, or the fallback if it is missing or empty
+-- the description, or the fallback if it is missing or empty
 abbrev pub shown_text : Option (List ℕ) → List ℕ → List ℕ
 shown_text (Some (byte ∷ bytes)) fallback = byte ∷ bytes
 shown_text _ fallback = fallback

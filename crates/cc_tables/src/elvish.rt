@@ -111,7 +111,7 @@ impl Rows for Elvish {
     }
 }
 
-// Returns the help text or the about text, or the fallback if there is neither.
+// Returns the description of an offer, or the fallback if there is none.
 fn shown_text<'a>(offer: &'a Offer<'_>) -> &'a str
     ensures { result.now ≡ (offer_row offer.now).text }
 {

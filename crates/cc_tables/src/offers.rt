@@ -32,9 +32,9 @@ pub struct Offer<'a> {
     pub kind: Kind,
     /// The name, without its dashes.
     pub name: TextRef<'a>,
-    /// The help text of the argument, or the about text of the child.
+    /// The help text of the argument, or the description of the child.
     pub description: Option<TextRef<'a>>,
-    /// The description if there is no help text or about text.
+    /// The text to show if there is no description.
     pub fallback: TextRef<'a>,
 }
 

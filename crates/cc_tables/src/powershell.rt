@@ -160,7 +160,7 @@ fn write_words<W: Sink>(sink: &mut W, offer: &Offer<'_>) -> Result<(), ErrorKind
     put_piece(sink, details_begin(offer.kind, name))
 }
 
-// Returns the help text or the about text, or the fallback if it is missing or empty.
+// Returns the description of an offer, or the fallback if it is missing or empty.
 fn shown_text<'a>(offer: &'a Offer<'_>) -> &'a str
     ensures { result.now ≡ (offer_row offer.now).text }
 {

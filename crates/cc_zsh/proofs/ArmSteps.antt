@@ -1,4 +1,4 @@
--- The arms of a script, where each node is entered and left.
+-- The arms of a script as each node is entered and left.
 use Rattle.std.proofs.Common.{◌≡◌, ℕ, List, [], ◌∷◌, ◌++◌, map, refl, ap, ◌∙◌, append_assoc, append-nil}
 use Rattle.std.specs.List.{flat_map}
 use Rattle.std.proofs.lemmas.List.Concat.{flat_map-append}
@@ -11,7 +11,7 @@ use Rattle.cc_zsh.specs.Functions.{entries_of, has_entries}
 use Rattle.cc_zsh.specs.Nested.{arm_begins, arm_ends, arm_text, arms_text, block_text, nested_ends, nested_begins, nested_line}
 use Rattle.cc_zsh.specs.Steps.{enter_text, last_name, leave_text, nested_closes, nested_opens, step_text}
 
--- a node has names to describe where it has children
+-- a node has names to describe if and only if it has children
 pub has_entries_of : (children : Forest) → has_entries (entries_of children) ≡ has_nodes children
 has_entries_of none = refl
 has_entries_of (more node below rest) = refl
@@ -20,7 +20,7 @@ regroup : (front begins arms ends last : List ℕ) →
     (front ++ begins) ++ (arms ++ ((ends ++ last) ++ [])) ≡ (front ++ ((begins ++ arms) ++ ends)) ++ last
 regroup front begins arms ends last = simp (append_assoc, append-nil)
 
--- a node that is entered, and left after the arms of its children
+-- a node is entered, and left after the arms of its children
 arm : (name : List ℕ) (above node : Node) (below : Forest) (arms : List ℕ) → arms ≡ arms_text node below →
     let tree : Tree = record { node = node; children = below } in
     enter_text (keyed name above tree) ++ (arms ++ (leave_text tree ++ []))
@@ -37,13 +37,13 @@ arm name above node (more first under others) arms is =
     ∙ regroup (arm_begins name (block_text above tree)) (line_feed ∷ nested_begins node)
     (arms_text node below) nested_ends arm_ends
 
--- what is written of one node below a key
+-- the steps of one node below a key
 abbrev steps_of : Node → Node → Forest → List ℕ → List (Step (List ℕ))
 steps_of above node below child =
     let tree : Tree = record { node = node; children = below } in
     enter (keyed child above tree) ∷ (steps_below last_name child node below ++ leave (keyed child above tree) ∷ [])
 
--- under each of its names
+-- the steps of a node under each of its names
 names : (key : List ℕ) (above node : Node) (below : Forest) →
     ((child : List ℕ) → flat_map step_text (steps_below last_name child node below) ≡ arms_text node below) →
     (texts : List (List ℕ)) →
@@ -62,7 +62,7 @@ names key above node below each (name ∷ texts) =
     ap (λ t. t ++ flat_map step_text later) (arm name above node below (flat_map step_text deeper) (each name)) ∙
     ap (λ t. arm_of name ++ t) (names key above node below each texts)
 
--- all steps below a node are the arms of its children
+-- the steps below a node give the arms of its children
 pub steps_texts : (key : List ℕ) (above : Node) (children : Forest) →
     flat_map step_text (steps_below last_name key above children) ≡ arms_text above children
 unfolding steps_below arms_text

@@ -1,4 +1,4 @@
--- The arms of the nodes below the root are read back.
+-- The reading of the arms of the nodes below the root.
 use Rattle.std.proofs.Common.{◌≡◌, ℕ, suc, true, false, cond, List, [], ◌∷◌, ◌++◌, map, flat_map, fold, length, Some, None, codes, refl, sym, ◌∙◌, ap, append_assoc, append-nil}
 use Rattle.std.specs.List.{AllByRecursion}
 use Rattle.std.proofs.lemmas.List.{map-append}
@@ -120,21 +120,21 @@ line_feed_first outer blocks path rest = refl
 
 -- ---- all arms
 
--- every node of the forest can be read, with the node above it
+-- every node of the forest is readable, given the node above it
 abbrev pub AreReadable : Node → Forest → Type 0
 AreReadable above none = Unit {0}
 AreReadable above (more node below rest) =
     IsReadable above (record { node = node; children = below })
     × (AreReadable node below × AreReadable above rest)
 
--- the arms of a forest are read to the blocks of its visits
+-- the arms of a forest read back to the blocks of its visits
 abbrev Reads : Node → Forest → Type 0
 Reads above forest = (outer : List Path) (blocks : List Block) (path : Path) (rest : List ℕ) →
     reading (between_arms outer blocks path) between (arms_text above forest ++ rest)
     ≡ reading (between_arms outer (blocks ++ map block_at (paths_below longer_path path above forest)) path)
     between rest
 
--- the text that is in an arm after its block
+-- the text in an arm after its block
 nested_read : (node : Node) (below : Forest) → IsOther node.name → IsOther (context_text node) →
     Reads node below → (up : Path) (outer : List Path) (blocks : List Block) (path : Path)
     (rest : List ℕ) →
@@ -241,7 +241,7 @@ arms_read above (more node below rest) (h, (hs, ks)) outer blocks path after =
     (append_assoc blocks (map block_at here) (map block_at (paths_below longer_path path above rest))
     ∙ ap (λ bs. blocks ++ bs) (sym (map-append block_at here (paths_below longer_path path above rest))))
 
--- what is at the root after its block, up to a line that begins after all
+-- the text of the root after its block, up to a line that begins after everything
 pub root_nested_read : (node : Node) (children : Forest) → IsOther node.name →
     IsOther (context_text node) → AreReadable node children → (blocks : List Block) (path : Path)
     (rest : List ℕ) → IsLine rest → has_nodes children ≡ true →

@@ -1,4 +1,4 @@
--- The block of a node is read back.
+-- The reading of the block of a node.
 use Rattle.std.proofs.Common.{◌≡◌, ◌==◌, ℕ, Bool, true, false, cond, List, [], ◌∷◌, ◌++◌, Option, Some, None, codes, refl, ◌∙◌, ap, inl, inr, ◌⊎◌, append_assoc, append-nil}
 use Rattle.std.specs.List.{AllByRecursion}
 use Rattle.std.specs.Option.{option_to_list}
@@ -31,7 +31,7 @@ use Rattle.cc_zsh.proofs.PositionalsRead.{positionals_add}
 
 -- ---- full names
 
--- a name in full is of the bytes of names and of spaces
+-- a full name consists of bytes of names and of spaces
 abbrev pub AreFullBytes : List ℕ → Type 0
 AreFullBytes text = AllByRecursion (λ byte. (is_name_byte byte ≡ true) ⊎ (byte ≡ 32)) text
 
@@ -66,7 +66,7 @@ label_bytes name h =
 pub context_bytes : (name : List ℕ) → AreFullBytes name → AreNameBytes (replace_byte 32 (codes "-") name)
 context_bytes name h = replace_byte_bytes (codes "-") name dash_bytes h
 
--- ---- words that tell no option
+-- ---- words that describe no option
 
 abbrev pub with_function : Block → Option (List ℕ) → Block
 with_function block function = record block { function = function }
@@ -148,7 +148,7 @@ abbrev pub children_label : Node → Forest → Option (List ℕ)
 children_label node children =
     cond (has_nodes children) (Some (underscore ∷ function_label (full_name node))) None
 
--- what is asked of a node with the node above it
+-- the requirements on a node, given the node above it
 pub record IsReadable (above : Node) (tree : Tree) : Type 0 where
   pub above_plain : AllByRecursion IsPlainArgument above.arguments
   pub plain : IsPlainNode tree.node
@@ -165,7 +165,7 @@ regroup_block : (a o f p b e rest : List ℕ) →
     (((((a ++ o) ++ f) ++ p) ++ b) ++ e) ++ rest ≡ a ++ ((o ++ f) ++ (p ++ (b ++ (e ++ rest))))
 regroup_block a o f p b e rest = simp append_assoc
 
--- what follows the begin of a block
+-- the text after the beginning of a block
 abbrev body : Node → Tree → List ℕ → List ℕ
 body above tree rest =
     (options_text above tree.node ++ flags_text above tree.node)

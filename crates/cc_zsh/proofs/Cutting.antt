@@ -1,4 +1,4 @@
--- Quoted words of a zsh script are cut into tokens, and texts that are between `'`.
+-- The cutting of quoted words of a zsh script into tokens, and texts between two `'`.
 use Rattle.std.proofs.Common.{◌≡◌, ◌≢◌, ◌==◌, ℕ, Bool, true, false, cond, List, [], ◌∷◌, ◌++◌, map, None, codes, refl, sym, ◌∙◌, ap, ap₂, subst, arith, append_assoc, append-nil}
 use Rattle.std.specs.List.{AllByRecursion}
 use Rattle.std.proofs.lemmas.Bool.Decides.{Decides-eqb, nat_tests}
@@ -32,7 +32,7 @@ no_quote_sign : (byte : ℕ) → byte == ascii.single_quote ≡ false → sign b
 unfolding sign
 no_quote_sign byte h = grind (arith, nat_tests)
 
--- a byte that is no `'` stays between them
+-- a byte other than `'` stays between the quotes
 kept_single : (byte : ℕ) (rest text : List ℕ) (pieces : Token) → byte == ascii.single_quote ≡ false →
     tokens_from (in_single pieces text) (byte ∷ rest)
     ≡ tokens_from (in_single pieces (text ++ byte ∷ [])) rest
@@ -45,7 +45,7 @@ kept_single byte rest text pieces h = by_sign (sign byte) (no_quote_sign byte h)
     by_sign single_quote differs e = absurd (differs refl)
     by_sign s differs e = ap (λ x. cut (in_single pieces (text ++ x ∷ [])) (map sign rest)) e
 
--- an escaped text up to the `'` that closes it at the end of a line that goes on
+-- an escaped text up to the `'` that closes it, at the end of a line that continues
 pub single_cut : (word rest : List ℕ) (pieces : Token) (text : List ℕ) →
     tokens_from (in_single pieces text) (posix_escaped word ++ (codes "' \\\n" ++ rest))
     ≡ cut_word pieces text word ∷ tokens_from between rest
@@ -73,9 +73,9 @@ single_cut (byte ∷ word) rest pieces text =
     by_test true e escaped kept = escaped
     by_test false e escaped kept = kept_single byte after text pieces e ∙ kept
 
--- ---- what the token tells
+-- ---- the content of the token
 
--- the token begins with what is between `'`
+-- the token begins with a text between two `'`
 pub data IsQuoted : Token → Type 0 where
   quoted_word : (text : List ℕ) (rest : Token) → IsQuoted (single text ∷ rest)
 
@@ -106,7 +106,7 @@ is_quoted (byte ∷ word) text = by_test (byte == ascii.single_quote)
 pub token_quoted : (word : List ℕ) → IsQuoted (quoted_token word)
 token_quoted word = is_quoted word []
 
--- it is no bare word, and names and begins no function
+-- the token is not a bare word, and neither names nor begins a function
 pub not_word : (sought : List ℕ) (token : Token) → IsQuoted token → is_word sought token ≡ false
 unfolding is_word
 not_word sought token (quoted_word text rest) = refl
@@ -116,7 +116,7 @@ unfolding named_function
 names_none token (quoted_word text []) = refl
 names_none token (quoted_word text (piece ∷ rest)) = refl
 
--- it spells the text
+-- the token spells the text
 spelled : (word text : List ℕ) (pieces : Token) →
     word_of (cut_word pieces text word) ≡ word_of pieces ++ (text ++ word)
 unfolding word_of
@@ -156,7 +156,7 @@ word_of-quoted word = spelled word [] []
 abbrev pub NoQuote : List ℕ → Type 0
 NoQuote text = AllByRecursion (λ byte. byte == ascii.single_quote ≡ false) text
 
--- a text without a `'` up to what follows it
+-- a text without `'`, up to the text after it
 pub single_run : (run rest text : List ℕ) (pieces : Token) → NoQuote run →
     tokens_from (in_single pieces text) (run ++ rest)
     ≡ tokens_from (in_single pieces (text ++ run)) rest

@@ -1,4 +1,4 @@
--- What stands for the values of an argument holds no `'` but escaped ones.
+-- The text for the values of an argument holds no `'` except escaped ones.
 use Rattle.std.proofs.Common.{◌≡◌, ◌==◌, ℕ, zero, suc, Bool, true, false, cond, not, IsTrue, List, [], ◌∷◌, ◌++◌, map, Option, Some, None, unwrap_or, codes, refl}
 use Rattle.std.specs.List.{AllByRecursion, list_any}
 use Rattle.std.proofs.lemmas.Bool.{not-true}
@@ -21,7 +21,7 @@ use Rattle.cc_zsh.specs.declared.values.Form.TheVariants.{Names, Helps}
 use Rattle.cc_zsh.specs.Values.{shown_values, is_described, item_help, item_text, item_separator, items_text, list_text, hint_text, listed_or_hint, value_text, first_name, one_value, times, least_values, range, values_text}
 use Rattle.cc_zsh.proofs.Cutting.{NoQuote, IsEscaped, escaped_append, escaped_same, escaped_of}
 
--- by the tests of plainness
+-- a text without a quote, by the tests for plain trees
 pub no_quote : (text : List ℕ) → HasNoQuote text → NoQuote text
 no_quote text h = AllByRecursion-weaker (λ byte. IsTrue (not (byte == single_quote))) (λ byte. byte == single_quote ≡ false)
     (λ byte k. not-true (byte == single_quote) k) text (each_passes (λ byte. not (byte == single_quote)) text h)
@@ -87,7 +87,7 @@ escaped_list values = by_test (list_any is_described values)
         (escaped_items Names values))
         (escaped_same (codes ")") (refl, tt))
 
--- a text in which no byte is a quote by the test
+-- a text without a quote, according to the test
 computed : (text : List ℕ) → HasNoQuote text → IsEscaped text
 computed text h = escaped_same text (no_quote text h)
 

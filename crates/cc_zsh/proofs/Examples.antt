@@ -1,4 +1,4 @@
--- Worked values of the definitions.
+-- Examples of the definitions.
 use Rattle.std.proofs.Common.{◌≡◌, ℕ, List, [], ◌∷◌, ◌++◌, Bool, true, false, Some, None, codes, refl}
 use Rattle.std.specs.Char.{encode_utf8}
 use Rattle.std.specs.Fmt.{digits}
@@ -28,7 +28,7 @@ use Rattle.cc_zsh.specs.Script.{compdef_begins, autoloads, body_begins, begin_te
 abbrev flag : List ℕ → Arg
 flag name = record (new_arg name) { long = Some name; action = Some SetTrue }
 
--- what zsh takes for syntax is after a backslash
+-- characters that zsh takes as syntax follow a backslash
 odd : List ℕ
 odd = codes "\\ [foo]() `bar https://$PATH"
 
@@ -37,7 +37,7 @@ escaped : (zsh_escaped_value odd ≡ codes "\\\\\\ \\[foo\\]\\(\\)\\ \\`bar\\ ht
 unfolding odd zsh_escaped_help zsh_escaped_value
 escaped = (refl, refl)
 
--- a flag that counts, in conflict with one that has no long
+-- a flag that counts, and that conflicts with one without a long
 abbrev counted : Node
 counted =
     let verbose : Arg = record (new_arg (codes "verbose")) {
@@ -52,14 +52,14 @@ counted =
     } in
     with_argument (with_argument (new_node (codes "app")) verbose) quiet
 
--- a conflict with a positional has no name, and there are brackets all the same
+-- a conflicting positional has no name, but the brackets are there
 abbrev unnamed : Node
 unnamed =
     with_argument (with_argument (new_node (codes "app"))
     (record (flag (codes "yes")) { conflicts = codes "file" ∷ codes "none" ∷ [] }))
     (new_arg (codes "file"))
 
--- the conflicts of a global argument are those that the node above finds
+-- the conflicts of a global argument are looked up in the node above
 abbrev json : Arg
 json = record (flag (codes "json")) { global = true; conflicts = codes "yaml" ∷ [] }
 
@@ -71,12 +71,13 @@ with_global =
     built_under (Some (codes "app"))
     (with_child (record (new_tree []) { node = app_node }) (new_tree (codes "run")))
 
--- the flags of each node of a forest that has this one above it
+-- the flags of each node of a forest, given the node above it
 abbrev flags_below : Node → Forest → List (List ℕ)
 flags_below above none = []
 flags_below above (more node below rest) = flags_text above node ∷ flags_below above rest
 
--- a value that may be left out, a positional that must be there, one that takes the rest
+-- a value that may be left out, a positional that is required, and one that takes the remaining
+-- words
 abbrev lines : Tree
 lines =
     let n : Arg = record (new_arg (codes "n")) {

@@ -1,4 +1,4 @@
--- What sorting commands by their full names gives.
+-- The commands after sorting by their full names.
 use Rattle.std.proofs.Common.{◌≡◌, List, map, ◌∙◌, ap}
 use Rattle.std.specs.Cmp.{IsStrictWeakOrder}
 use Rattle.std.specs.Cmp.Lexicographic.{nat_list_cmp_total}
@@ -15,7 +15,7 @@ pub names_order : IsStrictWeakOrder (λ (x y : Named).
     function_below (function_named x) (function_named y))
 names_order = ranks_by nat_list_cmp_total (λ x. x.name.now)
 
--- what a stable sort of commands gives
+-- a stable sort returns the commands in order
 pub functions_in_order : (xs ys : List Named) →
     IsSortedBy (λ x y. function_below (function_named x) (function_named y)) ys →
     IsStableBy (λ x y. function_below (function_named x) (function_named y)) xs ys →

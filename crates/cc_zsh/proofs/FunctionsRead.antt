@@ -1,4 +1,4 @@
--- The functions of a script are read back.
+-- The reading of the functions of a script.
 use Rattle.std.proofs.Common.{◌≡◌, ℕ, true, false, cond, List, [], ◌∷◌, ◌++◌, map, flat_map, Option, Some, None, option_map, codes, refl, sym, ◌∙◌, ap, append_assoc, append-nil}
 use Rattle.std.specs.List.{AllByRecursion}
 use Rattle.std.proofs.lemmas.List.{map-append}
@@ -149,7 +149,7 @@ module _ (blocks : List Block) (ds : List Description) (label : List ℕ) where
 
 -- ---- one function
 
--- what is asked of a function
+-- the requirements on a function
 pub record IsFunction (function : Function) : Type 0 where
   pub label : AreNameBytes (function_label function.name)
   pub name : NoQuote function.name
@@ -171,7 +171,7 @@ passed blocks ds run e = ap (λ o. by_name blocks ds (elim o as (λ x. Option (L
   | None ↦ None
 ])) e
 
--- one that ends in `()` begins a function
+-- a bare token that ends in `()` begins a function
 begins : (blocks : List Block) (ds : List Description) (label : List ℕ) →
     next (between_functions blocks ds) (bare ((label ++ codes "(") ++ codes ")") ∷ [])
     ≡ at_list blocks ds label

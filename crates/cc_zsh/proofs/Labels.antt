@@ -1,4 +1,4 @@
--- No two functions of a plain tree have one label.
+-- Different functions of a plain tree have different labels.
 use Rattle.std.proofs.Common.{◌≡◌, ◌≢◌, ◌==◌, ◌&&◌, ◌||◌, ℕ, Bool, true, false, cond, IsTrue, List, [], ◌∷◌, ◌++◌, codes, refl, sym, ◌∙◌, ap, subst, inl, inr, append_assoc, append-nil, drop}
 use Rattle.std.specs.Char.{is_ascii_alphanumeric}
 use Rattle.std.specs.List.{AllByRecursion}
@@ -41,7 +41,7 @@ plain_next follows byte name h =
     (and_parts (is_ascii_alphanumeric byte || (follows && (byte == dash || byte == underscore)))
     (plain_after (is_ascii_alphanumeric byte) name) (plain_step follows byte name h)).1
 
--- after an underscore no name ends, and no other underscore follows
+-- after an underscore no name ends, and no second underscore follows
 not_ended : (name : List ℕ) (tail text : List ℕ) → IsTrue (plain_after false name) → IsTail tail →
     name ++ tail ≢ underscore ∷ text
 not_ended [] tail text h of e = let ends : false ≡ true = sym (plain_after_end false) ∙ h in cc
@@ -53,7 +53,7 @@ not_ended (byte ∷ name) tail text h of e =
     && plain_after (is_ascii_alphanumeric b) name)) is (plain_step false byte name h) in
     let wrong : false ≡ true = step in cc
 
--- a longer name does not go on where another ends
+-- a longer name does not continue where another one ends
 longer : (follows : Bool) (byte : ℕ) (name tail other : List ℕ) →
     IsTrue (plain_after follows (byte ∷ name)) → IsTail tail → IsTail other →
     (byte ∷ name) ++ tail ≢ other
@@ -79,7 +79,7 @@ same_name follows (byte ∷ name) tail (first ∷ other) rest h k of by e =
     ap (λ b. b ∷ name) is ∙ ap (λ t. first ∷ t)
     (same_name (is_ascii_alphanumeric byte) name tail other rest (plain_next follows byte name h) k' of by e')
 
--- ---- names in full as labels
+-- ---- full names as labels
 
 abbrev stem : List ℕ → List ℕ
 stem name = replace_byte 32 (codes "__subcmd__") name
@@ -99,13 +99,13 @@ stem-joined parent name h =
     ∙ ap (λ t. (stem parent ++ codes "__subcmd__") ++ t) (stem-name name h)
     ∙ append_assoc (stem parent) (codes "__subcmd__") name
 
--- the label of the function begins with that of a node's child of this name
+-- the label of the function begins with the label of a node's child with the given name
 record Starts (parent name : List ℕ) (function : Function) : Type 0 where
   pub tail : List ℕ
   pub is_tail : IsTail tail
   pub is : stem function.name ≡ stem parent ++ (codes "__subcmd__" ++ (name ++ tail))
 
--- the function is that of one of the siblings, or of a node below one
+-- the function belongs to one of the siblings, or to a node below one
 record StartsAmong (parent : List ℕ) (forest : Forest) (function : Function) : Type 0 where
   pub child : Tree
   pub sibling : IsSibling forest child
@@ -170,7 +170,7 @@ starts_among parent (more node below rest) named h =
           (among_later parent node below rest (functions_below rest) (starts_among parent rest named.1.1 parts.later)),
     )
 
--- what begins with two names is of both
+-- two names that begin the same label are equal
 same_start : (parent name other : List ℕ) (f g : Function) → IsPlainName name → IsPlainName other →
     Starts parent name f → Starts parent other g → stem f.name ≡ stem g.name → name ≡ other
 same_start parent name other f g h k s t e =
@@ -180,7 +180,7 @@ same_start parent name other f g h k s t e =
     (append_cancel_left (stem parent) (codes "__subcmd__" ++ (name ++ s.tail))
     (codes "__subcmd__" ++ (other ++ t.tail)) (sym s.is ∙ e ∙ t.is)))
 
--- a node's own label is shorter than those below it
+-- a node's own label is shorter than the labels below it
 own_differs : (full name : List ℕ) (f : Function) → Starts full name f → stem full ≢ stem f.name
 own_differs full name f s e =
     let rest : [] ≡ codes "__subcmd__" ++ (name ++ s.tail) =
@@ -217,7 +217,7 @@ stems_differ parent (more node below rest) named h differ =
           (AllByRecursion-IsIn (StartsAmong parent rest) (functions_below rest) g later q)),
     )
 
--- the root's own label differs from all below it
+-- the root's own label differs from all labels below it
 pub all_stems_differ : (root : Node) (children : Forest) → IsNamed (full_name root) children →
     IsTrue (is_plain_forest children) → IsTrue (siblings_differ children) →
     AllDifferBy (λ function. stem function.name) (function_of root children ∷ functions_below children)
@@ -228,6 +228,6 @@ all_stems_differ root children named h differ = (
   stems_differ (full_name root) children named h differ,
 )
 
--- one label, one stem
+-- equal labels have equal stems
 pub label_stem : (name other : List ℕ) → function_label name ≡ function_label other → stem name ≡ stem other
 label_stem name other e = append_cancel_right (stem name) (stem other) (codes "_commands") e

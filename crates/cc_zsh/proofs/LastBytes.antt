@@ -1,4 +1,4 @@
--- What is before the last byte of a text.
+-- The text before the last byte.
 use Rattle.std.proofs.Common.{◌≡◌, ◌==◌, ℕ, true, false, cond, List, [], ◌∷◌, ◌++◌, Some, None, option_map, ap}
 use Rattle.cc_zsh.specs.Reader.{text_before}
 

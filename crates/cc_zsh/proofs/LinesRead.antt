@@ -12,7 +12,7 @@ use Rattle.cc_zsh.specs.Reader.{Block, Parts, Path, State, ZshOption, first_name
 use Rattle.cc_zsh.specs.Reader.State.{at_ret, in_block}
 use Rattle.cc_zsh.proofs.Cutting.{Escapes, quoted_token, single_cut, token_quoted, not_word, names_none, word_of-quoted}
 
--- what the reader gives from a state on, where the script is cut from a state of quotes on
+-- what the reader reads from a state on, if the script is cut from a quote state on
 abbrev pub reading : State → CutState → List ℕ → Option Parts
 reading state quote script = read state (tokens_from quote script)
 
@@ -20,7 +20,7 @@ reading state quote script = read state (tokens_from quote script)
 abbrev pub with_options : Block → List ZshOption → Block
 with_options block options = record block { options = block.options ++ options }
 
--- in a block the text adds these options, whatever follows it
+-- in a block the text adds the given options, whatever follows it
 abbrev pub Adds : List ℕ → List ZshOption → Type 0
 Adds text options = (outer : List Path) (blocks : List Block) (block : Block) (rest : List ℕ) →
     reading (in_block outer blocks block) between (text ++ rest)

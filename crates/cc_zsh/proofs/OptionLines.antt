@@ -1,4 +1,4 @@
--- The lines of a node's options and flags add exactly these.
+-- The lines of a node's options and flags add exactly these options.
 use Rattle.std.proofs.Common.{◌≡◌, ℕ, Bool, true, false, cond, List, [], ◌∷◌, ◌++◌, flat_map, unwrap_or, codes, refl, sym, ◌∙◌, ap, subst, append_assoc}
 use Rattle.std.specs.List.{AllByRecursion}
 use Rattle.std.specs.Option.{option_to_list}
@@ -41,7 +41,7 @@ bracket_where : (bracket : Bracket) (b : Bool) →
 bracket_where bracket true = refl
 bracket_where bracket false = refl
 
--- what is between the quotes of an option's line
+-- the text between the quotes of an option's line
 word_escapes : (has_front : Bool) (words : List (List ℕ)) (repeated : Bool) (name : List ℕ)
     (bracket : Bracket) (help values : List ℕ) (v : IsEscaped values) → IsFront has_front words →
     IsDashed name →

@@ -1,4 +1,4 @@
--- The word of an option is read back to it, and the words that tell none.
+-- The word of an option reads back to the option. Other words describe no option.
 use Rattle.std.proofs.Common.{◌≡◌, ◌==◌, ℕ, Bool, true, false, cond, ◌&&◌, ◌||◌, IsTrue, List, [], ◌∷◌, ◌++◌, Some, None, codes, refl, sym, ◌∙◌, ap, subst, inl, inr, arith, append_assoc, append-nil}
 use Rattle.std.specs.Char.{is_ascii_alphanumeric}
 use Rattle.std.specs.List.{AllByRecursion, list_all}
@@ -17,17 +17,17 @@ use Rattle.cc_zsh.specs.Reader.OptionState.{before_option, in_conflicts, after_c
 abbrev pub AreNameBytes : List ℕ → Type 0
 AreNameBytes text = AllByRecursion (λ byte. is_name_byte byte ≡ true) text
 
--- a dash and such bytes
+-- a dash and bytes of names
 abbrev pub StartsDashed : List ℕ → Type 0
 StartsDashed [] = ⊥
 StartsDashed (byte ∷ text) = (byte ≡ 45) × AreNameBytes text
 
--- such a text, of one or two dashes and a plain name
+-- such a text, which is one or two dashes and a plain name
 pub record IsDashed (text : List ℕ) : Type 0 where
   pub starts : StartsDashed text
   pub typed : IsTrue (is_typed_name text)
 
--- a byte of names differs from one that is in no name
+-- a byte of names differs from a byte that occurs in no name
 pub name_byte-differs : (other byte : ℕ) →
     (is_ascii_alphanumeric other || other == ascii.dash || other == ascii.underscore) ≡ false → is_name_byte byte ≡ true →
     byte == other ≡ false
@@ -62,9 +62,9 @@ name_read (byte ∷ text) rest name names repeated (h, hs) =
     ∙ name_read text rest (name ++ byte ∷ []) names repeated hs
     ∙ ap (λ n. state_after (in_name names repeated n) rest) (append_assoc name (byte ∷ []) text)
 
--- ---- brackets and help
+-- ---- brackets and help texts
 
--- what is between a name and its help
+-- the text between a name and its help text
 abbrev pub bracket_text : Bracket → List ℕ
 bracket_text alone = []
 bracket_text after_plus = codes "+"
@@ -77,7 +77,7 @@ unfolding state_after next_state is_name_byte after_name
 bracket_read alone rest name names repeated = refl
 bracket_read bracket rest name names repeated = refl
 
--- after the help nothing changes
+-- after the help text nothing changes
 pub after_stays : (option : ZshOption) (rest : List ℕ) →
     state_after (after_help option) rest ≡ after_help option
 unfolding state_after next_state
@@ -122,7 +122,7 @@ help_read (byte ∷ help) rest option =
     ∙ help_read help rest (with_help option byte)
     ∙ ap (λ h. after_help (record option { help = h })) (append_assoc option.help (byte ∷ []) help)
 
--- ---- names in conflict
+-- ---- conflicting names
 
 conflict_read : (text rest name : List ℕ) (names : List (List ℕ)) → AreNameBytes text →
     state_after (in_conflicts names name) (text ++ rest)
@@ -177,7 +177,7 @@ conflicts_read (word ∷ words) rest (h, hs) =
 
 -- ---- whole words
 
--- what is before the name
+-- the text before the name
 abbrev pub front_of : Bool → List (List ℕ) → List ℕ
 front_of false words = []
 front_of true words = codes "(" ++ (joined (codes " ") words ++ codes ")")
@@ -185,12 +185,12 @@ front_of true words = codes "(" ++ (joined (codes " ") words ++ codes ")")
 abbrev pub star_of : Bool → List ℕ
 star_of repeated = cond repeated (codes "*") []
 
--- what is after the name
+-- the text after the name
 abbrev pub after_name_text : Bracket → List ℕ → List ℕ → List ℕ
 after_name_text bracket help values =
     bracket_text bracket ++ (codes "[" ++ (help ++ (codes "]" ++ values)))
 
--- the word of an option whose help is written so
+-- the word of an option, given its written help text
 abbrev pub option_word : Bool → List (List ℕ) → Bool → List ℕ → Bracket → List ℕ → List ℕ → List ℕ
 option_word has_front words repeated name bracket help values =
     front_of has_front words ++ (star_of repeated ++ (name ++ after_name_text bracket help values))
@@ -217,7 +217,7 @@ rest_read words repeated name bracket help values h =
     repeated
     ∙ help_read help values (new_option words repeated (ascii.dash ∷ name) bracket)
 
--- from the star on, where a star and a dash lead on as after these names in conflict
+-- from the star on, if a star and a dash lead on as after the given conflicting names
 star_read : (state : OptionState) (words : List (List ℕ)) →
     ((rest : List ℕ) → state_after state (ascii.star ∷ rest) ≡ state_after (after_star words) rest) →
     ((rest : List ℕ) → state_after state (ascii.dash ∷ rest)
@@ -235,7 +235,7 @@ star_read state words star dash false (byte ∷ name) bracket help values (e, h)
     rw e (dash (name ++ after_name_text bracket (marked is_help_marked help) values)
     ∙ rest_read words false name bracket help values h)
 
--- without a front there are no names in conflict
+-- without a front there are no conflicting names
 abbrev pub IsFront : Bool → List (List ℕ) → Type 0
 IsFront true words = AllByRecursion IsDashed words
 IsFront false words = words ≡ []
@@ -246,7 +246,7 @@ all_typed [] h = refl
 all_typed (word ∷ words) (h, hs) =
     ap (λ b. b && list_all is_typed_name words) h.typed ∙ all_typed words hs
 
--- names that are typed so are no reason to pass an option over
+-- an option with such names is not passed over
 typed_kept : (words : List (List ℕ)) (repeated : Bool) (name : List ℕ) (bracket : Bracket)
     (help : List ℕ) → AllByRecursion IsDashed words → IsDashed name →
     read_option (after_help (option_with words repeated name bracket help))
@@ -257,7 +257,7 @@ typed_kept words repeated name bracket help are h =
     ap (λ b. cond (b && list_all is_typed_name words) (Some option) None) h.typed
     ∙ ap (λ b. cond b (Some option) None) (all_typed words are)
 
--- an option's word tells the option
+-- an option's word describes the option
 pub option_read : (has_front : Bool) (words : List (List ℕ)) (repeated : Bool) (name : List ℕ)
     (bracket : Bracket) (help values : List ℕ) → IsFront has_front words → IsDashed name →
     option_of
@@ -279,7 +279,7 @@ option_read true words repeated name bracket help values are h =
     help values h.starts)
     ∙ typed_kept words repeated name bracket help are h
 
--- ---- words that tell none
+-- ---- words that describe no option
 
 pub none_stays : (rest : List ℕ) → state_after no_option rest ≡ no_option
 unfolding state_after next_state
@@ -307,7 +307,7 @@ by_cond false h k = k
 not_open : (byte : ℕ) → is_value_marked byte ≡ false → byte == ascii.open_bracket ≡ false
 not_open byte h = grind (arith, nat_tests)
 
--- a byte that is no bracket does not lead on to the help
+-- a byte other than a bracket does not lead on to the help text
 kept_before : (state : OptionState) (byte : ℕ) → BeforeBracket state → byte == ascii.open_bracket ≡ false →
     BeforeBracket (next_state state byte)
 unfolding next_state after_name
@@ -325,7 +325,7 @@ kept_before state byte (bracket_state names repeated name bracket) e =
     (sym e) none_state
 kept_before state byte none_state e = none_state
 
--- after a backslash nothing is an option
+-- no option follows a backslash
 backslash_none : (state : OptionState) → BeforeBracket state → next_state state ascii.backslash ≡ no_option
 unfolding next_state after_name is_name_byte
 backslash_none state (star_state names) = refl
@@ -348,7 +348,7 @@ value_before (byte ∷ text) state h = by_test (is_value_marked byte) refl
         (subst BeforeBracket (sym (none_stays (byte ∷ marked is_value_marked text))) none_state)
     by_test false e again = again e
 
--- and a colon ends it
+-- a colon ends it
 colon_ends : (state : OptionState) (rest : List ℕ) → BeforeBracket state →
     state_after state (ascii.colon ∷ rest) ≡ no_option
 unfolding state_after next_state after_name is_name_byte

@@ -1,4 +1,4 @@
--- What the reader asks of plain names.
+-- What the reader requires of plain names.
 use Rattle.std.proofs.Common.{◌≡◌, ◌≢◌, ◌==◌, ◌||◌, ℕ, ◌<◌, Bool, true, false, cond, IsTrue, List, [], ◌∷◌, ◌++◌, flat_map, map, Option, Some, None, codes, refl, sym, ap, ◌∙◌, subst, arith}
 use Rattle.std.specs.Char.{is_ascii_alphanumeric}
 use Rattle.std.specs.List.{AllByRecursion}
@@ -39,7 +39,7 @@ name_byte_is : (byte : ℕ) → name_byte byte ≢ foreign → is_name_byte byte
 unfolding is_name_byte
 name_byte_is byte h = let k = letter_or_joiner byte h in grind (arith, nat_tests)
 
--- a plain name is of such bytes
+-- a plain name consists of such bytes
 pub plain_name_bytes : (name : List ℕ) → IsPlainName name → AreNameBytes name
 plain_name_bytes name h = AllByRecursion-weaker (λ byte. name_byte byte ≢ foreign)
     (λ byte. is_name_byte byte ≡ true) name_byte_is name (plain_bytes name h)
@@ -86,7 +86,7 @@ long_dashed : (long : List ℕ) → IsPlainName long → IsDashed (long_word lon
 long_dashed long h =
     record { starts = dash_bytes long (plain_name_bytes long h); typed = long_typed long h }
 
--- a name that is typed with its dashes
+-- a name with its dashes
 abbrev pub IsDashedName : ShownName → Type 0
 IsDashedName name = IsDashed (name_word name)
 
@@ -104,7 +104,7 @@ names_dashed argument h =
     (shown_longs argument) (shown_plain is_plain_name argument.long
     argument.visible_aliases h.long h.longs)))
 
--- ---- names in conflict
+-- ---- conflicting names
 
 own_dashed : (argument : Arg) → IsPlainArgument argument →
     AllByRecursion IsDashed (own_words argument)
@@ -168,7 +168,7 @@ pub conflicting_dashed : (above node : Node) (argument : Arg) →
 conflicting_dashed above node argument h k =
     words_dashed (conflicts_of above node argument) (conflicting_plain above node argument h k)
 
--- there are brackets where there are arguments in conflict
+-- there are brackets if and only if there are conflicting arguments
 pub conflicts_front : (arguments : List Arg) →
     conflicts_text arguments ≡ front_of (has_arguments arguments) (conflict_words arguments)
 unfolding conflicts_text

@@ -45,7 +45,7 @@ help_escaped (Some help) =
     (escaped_same (codes " -- ") (refl, (refl, (refl, (refl, tt)))))
     (escaped_of (positional_escaped help) (marked is_bracket_or_colon help) (positional_composed help))
 
--- what follows the count and its colon
+-- the text after the count and its colon
 rest_escaped : (argument : Arg) → IsPlainArgument argument →
     IsEscaped (argument.id ++ (positional_help argument.help ++ (codes ":" ++ value_text argument)))
 rest_escaped argument is =
@@ -56,7 +56,7 @@ rest_escaped argument is =
     (escaped_append (codes ":") (value_text argument) (escaped_same (codes ":") (refl, tt))
     (escaped_value_text argument)))
 
--- a count with what follows, as a word that tells no option
+-- a count and the text after it, as a word that describes no option
 pub record IsNone (text : List ℕ) : Type 0 where
   pub word : List ℕ
   pub escapes : Escapes text word
@@ -65,7 +65,7 @@ pub record IsNone (text : List ℕ) : Type 0 where
 colon_escapes : Escapes (codes ":") (codes ":")
 colon_escapes = escapes_same (codes ":") (refl, tt)
 
--- where a colon occurs first
+-- the same from the first colon on
 from_colon : (rest : List ℕ) → IsEscaped rest → IsNone (codes ":" ++ rest)
 from_colon rest h = record {
   word = codes ":" ++ h.word;

@@ -1,4 +1,4 @@
--- A script that is read as the definitions say.
+-- An example of how a script is read.
 use Rattle.std.proofs.Common.{◌≡◌, ◌∷◌, ◌++◌, [], List, ℕ, true, false, refl, codes, Some, None}
 use Rattle.cc_base.specs.Found.{after as text_after}
 use Rattle.cc_base.specs.PlainName.{is_joined, is_plain_name, name_byte}
@@ -10,8 +10,8 @@ use Rattle.cc_zsh.specs.Functions.{Entry}
 use Rattle.cc_zsh.specs.Reader.{ZshOption, after_name, all_shown, arm_word, children_of, labelled_entries, parts_at_end, entry_from, entry_of, function_name, is_line, is_name_byte, is_typed_name, named_function, next, next_arm, next_function, next_state, option_of, state_after, read, read_option, shown_of, text_before, with_typed_names, with_word, word_of, zsh_parts, zsh_shown}
 use Rattle.cc_zsh.specs.Reader.Bracket.{alone, after_equals}
 
--- names in conflict, a flag that may be used again, a help with quotes, brackets and backslashes, and
--- children two levels deep
+-- conflicting names, a flag that may be used again, a help text with quotes, brackets and
+-- backslashes, and children two levels deep
 abbrev script : List ℕ
 script =
     codes "#compdef a\n_a() {\n    _arguments \"${_arguments_options[@]}\" : \\\n"
@@ -56,7 +56,7 @@ script_row : zsh_shown script ≡ Some (
 unfolding sign byte_of cut posix_tokens is_word marks marks_from unmarked after_name all_shown arm_word children_of labelled_entries parts_at_end entry_from entry_of function_name is_line is_name_byte named_function next next_arm next_function next_state option_of state_after read read_option shown_of text_after text_before with_typed_names is_typed_name is_plain_name is_joined name_byte with_word word_of zsh_parts zsh_shown
 script_row = refl
 
--- three dashes begin no name
+-- a name does not begin with three dashes
 three_dashes : option_of (codes "---long[help]") ≡ None
 unfolding after_name is_name_byte next_state option_of state_after read_option with_typed_names is_typed_name is_plain_name is_joined name_byte
 three_dashes = refl

@@ -1,4 +1,4 @@
--- The script of a plain tree that is built reads to what the tree shows.
+-- The script of a plain and built tree reads back to what the tree offers.
 use Rattle.std.proofs.Common.{◌≡◌, ◌≢◌, ℕ, Bool, true, false, cond, IsTrue, List, [], ◌∷◌, ◌++◌, map, flat_map, Option, Some, None, option_map, is_some, Result, Ok, Err, codes, bytes_eq, refl, sym, ◌∙◌, ap, subst, inl, inr, drop}
 use Rattle.std.specs.List.{AllByRecursion}
 use Rattle.std.proofs.lemmas.Slice.Eq.{bytes_eq-Decides}
@@ -40,7 +40,7 @@ use Rattle.cc_zsh.proofs.WholeRead.{parts_read}
 abbrev label : Function → List ℕ
 label function = function_label function.name
 
--- where labels differ no name comes again
+-- if labels differ, no name comes again
 again_none : (last : Option (List ℕ)) (name : List ℕ) →
     ((other : List ℕ) → last ≡ Some other → other ≢ name) → is_again last name ≡ false
 again_none None name h = refl
@@ -62,7 +62,7 @@ once_same last (function ∷ functions) differ h =
     (λ other e. let is : function.name ≡ other = cc in
     subst (λ name. AllByRecursion (λ f. function_label name ≢ label f) functions) is differ.0))
 
--- ---- the function that is sought
+-- ---- the function that is looked up
 
 found_first : (sought : List ℕ) (descriptions : List Description) (description : Description) →
     AllDifferBy (λ d. d.label) descriptions → IsIn descriptions description →
@@ -82,9 +82,9 @@ found_first sought (first ∷ rest) description differ (inr at) e =
         ((bytes_eq-Decides first.label sought).0 is ∙ sym e))
     by_test false is = refl
 
--- ---- each visit's function is there
+-- ---- each visit's function is in the script
 
--- the function of a tree is among these
+-- the function of a tree is in the list
 abbrev HasFunction : List Function → Keyed Path → Type 0
 HasFunction functions visit = IsIn functions (function_of visit.tree.node visit.tree.children)
 
@@ -120,7 +120,7 @@ below_have path above (more node below rest) =
     visits : Path → List (Keyed Path)
     visits child = keyed child above (record { node = node; children = below }) ∷ paths_below longer_path child node below
 
--- ---- what is shown
+-- ---- what is offered
 
 one_shown : (descriptions : List Description) (visit : Keyed Path) →
     labelled_entries (underscore ∷ function_label (full_name visit.tree.node)) descriptions
@@ -167,7 +167,7 @@ module _ (root : Tree) (plain : IsTrue (is_plain_tree root)) (built : built_tree
       (AllByRecursion-from_IsIn (λ function. Unit {0}) (root_function ∷ unsorted) (λ f at. tt))
       (all_stems_differ root.node root.children (named_tree root built) below.children below.differ)
 
-  -- the functions in order are all of them, and no label comes twice
+  -- the sorted functions are all functions, and no label appears twice
   apart_all : AllDifferBy label (root_function ∷ in_order function_below unsorted)
   apart_all = (
     AllByRecursion-in_order function_below (λ other. label root_function ≢ label other) unsorted labels_differ.0,
@@ -222,7 +222,7 @@ module _ (root : Tree) (plain : IsTrue (is_plain_tree root)) (built : built_tree
     | None ↦ None
   ]) script_parts ∙ nodes_shown
 
--- the script of a plain tree that is built is read back
+-- the script of a plain and built tree reads back
 pub reads_back : (root : Tree) → IsTrue (is_plain_tree root) → built_tree root ≡ root → ZshReads root
 reads_back root plain built = record {
   shown = all_read root plain built;
@@ -230,13 +230,13 @@ reads_back root plain built = record {
   covers = paths_cover root plain;
 }
 
--- the same of a tree that is ready, where a tree that is marked as built stays as it is
+-- the same for a tree that is ready, if a tree that is marked as built stays as it is
 ready_reads_back : (root : Tree) → StaysIfMarked root → IsReady root → IsTrue (is_plain_tree root) →
     ZshReads root
 ready_reads_back root stays ready plain =
     reads_back root plain (stays (and_parts root.node.built (is_some root.node.bin_name) ready).0)
 
--- what writing the script of such a tree does, as the call of a generator
+-- the effect of a generator's call that writes the script of such a tree
 pub generated : {S : Type 0} (taken : S → List ℕ) (failed : S → Failures) (root at : Tree)
     (result : Result (Unit {0}) Error) (old new : S) → StaysIfMarked root → IsReady root → at ≡ root →
     Writes taken failed result old new (zsh_script at) →

@@ -1,4 +1,4 @@
--- A whole script is read back to the blocks and the functions of its tree.
+-- A whole script reads back to the blocks and the functions of its tree.
 use Rattle.std.proofs.Common.{◌≡◌, ◌==◌, ◌&&◌, ℕ, Bool, true, false, cond, not, List, [], ◌∷◌, ◌++◌, map, flat_map, Some, None, option_map, codes, bytes_eq, refl, sym, ◌∙◌, ap, append_assoc, append-nil, arith}
 use Rattle.std.specs.List.{AllByRecursion, list_all}
 use Rattle.std.proofs.lemmas.Bool.Decides.{nat_tests}
@@ -31,7 +31,7 @@ use Rattle.cc_zsh.proofs.FunctionsRead.{IsFunction, functions_read, passed}
 
 -- ---- before the root's block
 
--- what the name of a program begins with: neither `_` nor what ends a word
+-- the name of a program begins with a byte that is not `_` and does not end a word
 pub record IsBinName (name : List ℕ) : Type 0 where
   pub first : ℕ
   pub rest : List ℕ
@@ -56,7 +56,7 @@ with_bracket (first ∷ text) rest (byte ∷ sought) h = by_test (first == byte)
     by_test true e = e
     by_test false e = refl
 
--- a token that is another word
+-- a token that is a different word
 other_word : (run : List ℕ) → bytes_eq run (codes "_arguments") ≡ false →
     next before_blocks (bare run ∷ []) ≡ before_blocks
 unfolding next is_word
@@ -69,7 +69,7 @@ first_word first rest e = ap (λ b. b && bytes_eq rest (codes "arguments")) e
 named_word : (bin : List ℕ) → bytes_eq ((codes "_" ++ bin) ++ codes "()") (codes "_arguments") ≡ false
 named_word bin = with_bracket bin (codes ")") (codes "arguments") refl
 
--- what follows the name of the function, up to the blocks
+-- the text after the name of the function, up to the blocks
 abbrev after_function_name : List ℕ → List ℕ
 after_function_name rest =
     codes " {\n" ++ (codes "    typeset -A opt_args\n"
@@ -187,7 +187,7 @@ module _ (blocks : List Block) (ds : List Description) (bin : List ℕ) (h : Are
       ∙ ap (read functions) (double_run bin (then_call ++ third) [] (codes "_") (IsKept-IsOther bin other))
       ∙ third_read
 
--- ---- the whole
+-- ---- the whole script
 
 middle_line : (rest : List ℕ) → IsLine (body_ends ++ rest)
 unfolding body_ends
@@ -205,7 +205,7 @@ nested_middle : (blocks : List Block) (rest : List ℕ) →
 unfolding body_ends sign byte_of cut is_word next next_arm next_function function_name text_before read
 nested_middle blocks rest = refl
 
--- what is asked of a tree
+-- the requirements on a tree
 pub record IsReadableTree (root : Tree) : Type 0 where
   pub bin : IsBinName (full_name root.node)
   pub bin_bytes : AreNameBytes (full_name root.node)
@@ -255,7 +255,7 @@ root_read root rest is =
     (name_other (context_text root.node) (context_bytes (full_name root.node) is.node.full))
     is.below (block_with [] root.node root ∷ [])
 
--- the script of such a tree is read to its blocks and functions
+-- the script of such a tree reads back to its blocks and functions
 pub parts_read : (root : Tree) → IsReadableTree root → zsh_parts (zsh_script root)
     ≡ Some (record { blocks = tree_blocks root; descriptions = map description_of (tree_functions root) })
 unfolding zsh_parts posix_tokens script_text functions_text

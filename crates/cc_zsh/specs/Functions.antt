@@ -1,4 +1,4 @@
--- The functions of a script: each describes the children of a node.
+-- The functions of a script, each of which describes the children of a node.
 use Rattle.std.specs.Prelude.{ℕ, List, [], ◌∷◌, ◌++◌, map, Bool, true, false, if◌then◌else◌, Option, Some, None, unwrap_or, codes, bytes_eq}
 use Rattle.std.specs.List.{flat_map}
 use Rattle.std.specs.Ordering.{is_lt, nat_cmp}
@@ -10,9 +10,9 @@ use Rattle.cc_command.specs.Tree.{Forest, none, more, Tree}
 use Rattle.cc_quote.specs.ZshQuote.{zsh_escaped_help}
 use Rattle.cc_zsh.specs.Nested.{function_label}
 
--- ---- which functions there are
+-- ---- the functions of a tree
 
--- a visible name of a child, with the child's about or nothing
+-- a visible name of a child, with the child's description if there is one
 pub record Entry : Type 0 where
   pub word : List ℕ
   pub help : List ℕ
@@ -20,7 +20,7 @@ pub record Entry : Type 0 where
 abbrev pub entry : Node → List ℕ → Entry
 entry node word = record { word = word; help = unwrap_or node.about [] }
 
--- those of some nodes side by side
+-- the entries of siblings
 abbrev pub entries_of : Forest → List Entry
 entries_of none = []
 entries_of (more node below rest) = map (entry node) (visible_names node) ++ entries_of rest
@@ -33,7 +33,8 @@ pub record Function : Type 0 where
 abbrev pub function_of : Node → Forest → Function
 function_of node children = record { name = full_name node; entries = entries_of children }
 
--- those of the nodes of a forest: of a node, of all below it, then of those after it
+-- the functions of the nodes of a forest: of a node, of everything below it, then of the nodes
+-- after it
 abbrev pub functions_below : Forest → List Function
 functions_below none = []
 functions_below (more node below rest) =
@@ -43,19 +44,19 @@ functions_below (more node below rest) =
 abbrev pub function_below : Function → Function → Bool
 function_below one other = is_lt (slice_cmp nat_cmp one.name other.name)
 
--- whether a name is the one before it
+-- whether a name equals the name before it
 abbrev pub is_again : Option (List ℕ) → List ℕ → Bool
 is_again None name = false
 is_again (Some last) name = bytes_eq last name
 
--- of neighbours with one name the first, after one with this name
+-- the first of neighbours with the same name, unless it has the name before them
 abbrev pub once_after : Option (List ℕ) → List Function → List Function
 once_after last [] = []
 once_after last (function ∷ functions) =
     if is_again last function.name then once_after last functions
     else function ∷ once_after (Some function.name) functions
 
--- the functions of the nodes of a forest, in the order of the bytes of their names, each name once
+-- the functions of the nodes of a forest, sorted by the bytes of their names, each name once
 unfoldable pub sorted_functions : Forest → List Function
 sorted_functions children = once_after None (in_order function_below (functions_below children))
 
@@ -63,7 +64,7 @@ sorted_functions children = once_after None (in_order function_below (functions_
 abbrev pub tree_functions : Tree → List Function
 tree_functions tree = function_of tree.node tree.children ∷ sorted_functions tree.children
 
--- ---- their texts
+-- ---- the texts of functions
 
 unfoldable pub unless_defined : List ℕ
 unless_defined = codes "(( $+functions[_"
@@ -80,7 +81,7 @@ describe_begins = codes ")\n    _describe -t commands '"
 unfoldable pub describe_ends : List ℕ
 describe_ends = codes " commands' commands \"$@\"\n}\n"
 
--- a child's name with its description, on a line of its own
+-- a child's name with its description, on its own line
 unfoldable pub entry_text : Entry → List ℕ
 unfolding zsh_escaped_help
 entry_text e =
@@ -89,12 +90,12 @@ entry_text e =
 unfoldable pub entries_end : List ℕ
 entries_end = codes "\n    "
 
--- whether there is a name
+-- whether there is an entry
 abbrev pub has_entries : List Entry → Bool
 has_entries [] = false
 has_entries (_ ∷ _) = true
 
--- all of them, where there are any
+-- all entries, if there are any
 unfoldable pub entries_text : List Entry → List ℕ
 entries_text entries =
     if has_entries entries then flat_map entry_text entries ++ entries_end else []

@@ -1,4 +1,4 @@
--- The blocks of a script: what is offered at a node, and the arms of its children.
+-- The blocks of a script: the options and words offered at a node, and the arms of its children.
 use Rattle.std.specs.Prelude.{ℕ, suc, List, [], ◌∷◌, ◌++◌, if◌then◌else◌, codes, length}
 use Rattle.std.specs.List.{flat_map}
 use Rattle.std.specs.Fmt.{decimal}
@@ -35,20 +35,20 @@ state_begins = codes "\" \\\n\"*::: :->"
 unfoldable pub state_ends : List ℕ
 state_ends = codes "\" \\\n"
 
--- the children: the function that describes them, and the name of the node, at which its arms are
+-- the children: the function that describes them, and the name of the node, which leads to its arms
 unfoldable pub children_text : Node → List ℕ
 children_text node =
     command_begins ++ function_label (full_name node) ++ state_begins ++ node.name
     ++ state_ends
 
--- what stands for the words after the options and positionals: the children, or, where there are
--- none, commands from outside the tree, where the node allows these
+-- the text for the words after the options and positionals: the children, or, if there are none,
+-- commands from outside the tree if the node allows them
 unfoldable pub below_text : Tree → List ℕ
 below_text tree =
     if has_nodes tree.children then children_text tree.node
     else (if tree.node.allow_external_subcommands then external_text else [])
 
--- the block of a tree that has this node above it
+-- the block of a tree, given the node above it
 unfoldable pub block_text : Node → Tree → List ℕ
 block_text above tree =
     block_begins ++ options_text above tree.node ++ flags_text above tree.node
@@ -78,16 +78,16 @@ case_line_in = codes "] in\n            "
 unfoldable pub nested_ends : List ℕ
 nested_ends = codes "        esac\n    ;;\nesac"
 
--- the index of the word that names a child: after the positionals
+-- the index of the word that names a child, which comes after the positionals
 abbrev pub index_text : Node → List ℕ
 index_text node = decimal (suc (length (positionals node)))
 
--- the full name with dashes
+-- the full name, with dashes instead of spaces
 abbrev pub context_text : Node → List ℕ
 context_text node = replace_byte space (codes "-") (full_name node)
 
--- what the arms begin with, where the word that names a child is at this index: the words from
--- it on, the context in which zsh looks up its styles, and the choice by it
+-- the text before the arms, given the index of the word that names a child: the words from it on,
+-- the context in which zsh looks up its styles, and the choice by that word
 unfoldable pub case_text : Node → List ℕ → List ℕ
 case_text node index =
     case_state ++ node.name ++ set_words ++ index ++ set_context ++ context_text node
@@ -96,12 +96,12 @@ case_text node index =
 abbrev pub nested_begins : Node → List ℕ
 nested_begins node = case_text node (index_text node)
 
--- the arms of a node, where it has children
+-- the arms of a node, if it has children
 abbrev pub nested_text : Node → Forest → List ℕ → List ℕ
 nested_text node children arms =
     if has_nodes children then nested_begins node ++ arms ++ nested_ends else []
 
--- the same on a line of its own
+-- the same on its own line
 abbrev pub nested_line : Node → Forest → List ℕ → List ℕ
 nested_line node children arms =
     if has_nodes children then line_feed ∷ (nested_begins node ++ arms ++ nested_ends) else []
@@ -113,11 +113,11 @@ arm_ends = codes "\n;;\n"
 abbrev pub arm_begins : List ℕ → List ℕ → List ℕ
 arm_begins word block = codes "(" ++ word ++ codes ")\n" ++ block
 
--- the arm of a word, with a block and what is nested in it, and a line feed at its end
+-- the arm of a word, with a block, the arms nested in it, and a line feed at its end
 abbrev pub arm_text : List ℕ → List ℕ → List ℕ → List ℕ
 arm_text block nested word = arm_begins word block ++ nested ++ arm_ends
 
--- an arm for each visible name of each child, below this node
+-- an arm for each visible name of each child, below the given node
 unfoldable pub arms_text : Node → Forest → List ℕ
 arms_text above none = []
 arms_text above (more node below rest) =
@@ -125,7 +125,7 @@ arms_text above (more node below rest) =
     (nested_line node below (arms_text node below))) (visible_names node)
     ++ arms_text above rest
 
--- what is offered at the root and at all nodes below it
+-- the blocks of the root and of all nodes below it
 unfoldable pub root_text : Tree → List ℕ
 root_text root =
     block_text root.node root

@@ -21,35 +21,35 @@ repeats Count = true
 repeats Append = true
 repeats _ = false
 
--- whether an argument may be used again; building has filled in the action
+-- whether an argument may be used again; building has set the action
 abbrev pub is_repeated : Arg → Bool
 is_repeated argument = repeats (unwrap_or argument.action Set)
 
--- a star, where the argument may be used again
+-- a star, if the argument may be used again
 abbrev pub repeated_text : Arg → List ℕ
 repeated_text argument = if is_repeated argument then codes "*" else []
 
--- the help, or nothing, in square brackets
+-- the help text, if there is one, in square brackets
 unfoldable pub help_text : Arg → List ℕ
 unfolding zsh_escaped_help
 help_text argument = codes "[" ++ zsh_escaped_help (unwrap_or argument.help []) ++ codes "]"
 
--- what each line ends with
+-- the end of each line
 unfoldable pub line_end : List ℕ
 line_end = codes "' \\\n"
 
--- a name as it is typed
+-- a name as a user types it
 abbrev pub name_word : ShownName → List ℕ
 name_word (Short short) = short_word short
 name_word (Long long) = long_word long
 
--- how the value of an option may follow its name: a short at once, a long after `=`, and either as
--- the next word; nothing follows the name of a flag
+-- how the value of an option may follow its name: after a short at once, after a long behind `=`,
+-- and after either as the next word; no value follows the name of a flag
 abbrev pub value_sign : Arg → ShownName → List ℕ
 value_sign argument (Short _) = if takes_values argument then codes "+" else []
 value_sign argument (Long _) = if takes_values argument then codes "=" else []
 
--- an argument under one of its names, after those in conflict with it
+-- an argument under one of its names, after the arguments that conflict with it
 unfoldable pub argument_line : Node → Node → Arg → ShownName → List ℕ
 argument_line above node argument name =
     codes "'" ++ conflicts_text (conflicts_of above node argument) ++ repeated_text argument
@@ -61,7 +61,7 @@ unfoldable pub argument_text : Node → Node → Arg → List ℕ
 argument_text above node argument =
     flat_map (argument_line above node argument) (shown_names argument)
 
--- the options and the flags of a node that has this node above it
+-- the options and the flags of a node, given the node above it
 unfoldable pub options_text : Node → Node → List ℕ
 options_text above node = flat_map (argument_text above node) (options node)
 

@@ -14,17 +14,17 @@ use Rattle.cc_zsh.specs.Values.{range, value_text}
 abbrev pub takes_several : Arg → Bool
 takes_several argument = nat_lt 1 (range argument).greatest
 
--- whether a positional takes all words that follow, or those up to its terminator; where there are
--- children, none does
+-- whether a positional takes all words that follow, or all up to its terminator; if the node has
+-- children, it does not
 abbrev pub takes_rest : Bool → Arg → Bool
 takes_rest has_children argument = takes_several argument && not has_children
 
--- what stands for the rest of the words, or for those up to a terminator
+-- the text for the remaining words, or for those up to a terminator
 abbrev pub rest_text : Option (List ℕ) → List ℕ
 rest_text None = codes "*:"
 rest_text (Some terminator) = codes "*" ++ zsh_escaped_value terminator ++ codes ":"
 
--- how many words a positional takes: the rest, or one, which need not be there after a colon
+-- how many words a positional takes: the remaining ones, or one, which a colon makes optional
 unfoldable pub count_text : Bool → Arg → List ℕ
 count_text has_children argument =
     if takes_rest has_children argument then rest_text argument.value_terminator
@@ -33,19 +33,19 @@ count_text has_children argument =
 abbrev pub is_bracket_or_colon : ℕ → Bool
 is_bracket_or_colon byte = byte == open_bracket || byte == close_bracket || byte == colon
 
--- `[`, `]` and `:` after a backslash, and a quote as `'\''`
+-- whether a byte is escaped: `[`, `]` and `:` follow a backslash, and `'` becomes `'\''`
 abbrev pub is_positional_escaped : ℕ → Bool
 is_positional_escaped byte = is_bracket_or_colon byte || byte == single_quote
 
 unfoldable pub positional_escaped : List ℕ → List ℕ
 positional_escaped text = escaped_by is_positional_escaped zsh_replacement text
 
--- the help of a positional
+-- the help text of a positional
 abbrev pub positional_help : Option (List ℕ) → List ℕ
 positional_help None = []
 positional_help (Some help) = codes " -- " ++ positional_escaped help
 
--- a positional of a node, where it is told whether the node has children
+-- a positional of a node; the flag says whether the node has children
 unfoldable pub positional_text : Bool → Arg → List ℕ
 positional_text has_children argument =
     codes "'" ++ count_text has_children argument ++ codes ":" ++ argument.id
@@ -56,11 +56,11 @@ abbrev pub takes_all : Bool → Arg → Bool
 takes_all has_children argument =
     takes_rest has_children argument && not (is_some argument.value_terminator)
 
--- whether a positional is left out, where it is told whether one before it takes all words
+-- whether a positional is left out; `taken` says whether a positional before it takes all words
 abbrev pub is_left_out : Bool → Arg → Bool
 is_left_out taken argument = taken && (argument.last || takes_several argument)
 
--- the positionals that are shown, where it is told whether one before them takes all words
+-- the positionals that are shown; `taken` says whether a positional before them takes all words
 abbrev pub shown_positionals : Bool → Bool → List Arg → List Arg
 shown_positionals has_children taken [] = []
 shown_positionals has_children taken (argument ∷ arguments) =

@@ -1,5 +1,5 @@
--- What a zsh script offers, by its tokens: blocks of options, each under its path, and the
--- functions that describe children.
+-- What a zsh script offers, according to its tokens: blocks of options, each under its path, and
+-- the functions that describe children.
 use Rattle.std.specs.Prelude.{ℕ, Bool, true, false, List, [], ◌∷◌, ◌++◌, ◌==◌, ◌||◌, ◌&&◌, if◌then◌else◌, Option, Some, None, option_map, is_some, bytes_eq, codes}
 use Rattle.std.specs.Char.{is_ascii_alphanumeric}
 use Rattle.std.specs.List.{flat_map, list_all}
@@ -26,7 +26,7 @@ piece_text (unclosed opening text) = text
 unfoldable pub word_of : Token → List ℕ
 word_of token = flat_map piece_text token
 
--- what is before the last byte of a text, where it is this one
+-- the text before the last byte, if that is the given byte
 unfoldable pub text_before : ℕ → List ℕ → Option (List ℕ)
 text_before last [] = None
 text_before last (byte ∷ []) = if byte == last then Some [] else None
@@ -35,14 +35,14 @@ text_before last (byte ∷ next ∷ text) =
 
 -- ---- options
 
--- what is between an option's name and its help: `[`, `+[` or `=[`
+-- what is between an option's name and its help text: `[`, `+[` or `=[`
 pub data Bracket : Type 0 where
   alone : Bracket
   after_plus : Bracket
   after_equals : Bracket
 
--- an option or a flag: the names in conflict with it, whether it may be used again, its name, which
--- bracket follows the name, and its help
+-- an option or a flag: the names that conflict with it, whether it may be used again, its name, the
+-- bracket after its name, and its help text
 pub record ZshOption : Type 0 where
   pub conflicts : List (List ℕ)
   pub repeated : Bool
@@ -50,18 +50,19 @@ pub record ZshOption : Type 0 where
   pub bracket : Bracket
   pub help : List ℕ
 
--- an option without a help so far
+-- an option without its help text so far
 abbrev pub new_option : List (List ℕ) → Bool → List ℕ → Bracket → ZshOption
 new_option conflicts repeated name bracket =
     record { conflicts = conflicts; repeated = repeated; name = name; bracket = bracket; help = [] }
 
--- one more byte of its help
+-- an option with one more byte of its help text
 abbrev pub with_help : ZshOption → ℕ → ZshOption
 with_help option byte = record option { help = option.help ++ byte ∷ [] }
 
--- where the reader of a word is, with what it has read: before the option; among the names in
--- conflict, of which one is open; after them; after the star; in the name; at the bracket; in the
--- help, and after a backslash there; after the help; or in a word that is no option
+-- The state of the reader of a word, with what it has read: before the option; among the
+-- conflicting names, of which one is open; after them; after the star; in the name; at the bracket;
+-- in the help text, and after a backslash there; after the help text; or in a word that is not an
+-- option.
 pub data OptionState : Type 0 where
   before_option : OptionState
   in_conflicts : List (List ℕ) → List ℕ → OptionState
@@ -74,12 +75,12 @@ pub data OptionState : Type 0 where
   after_help : ZshOption → OptionState
   no_option : OptionState
 
--- the names, with the one that was open, unless nothing of it was there
+-- the names, including the open one unless it is empty
 abbrev pub with_name : List (List ℕ) → List ℕ → List (List ℕ)
 with_name names [] = names
 with_name names (byte ∷ name) = names ++ (byte ∷ name) ∷ []
 
--- the bytes of a name: letters, digits, `-` and `_`
+-- whether a byte may occur in a name: a letter, a digit, `-` or `_`
 unfoldable pub is_name_byte : ℕ → Bool
 is_name_byte byte =
     is_ascii_alphanumeric byte || byte == dash || byte == underscore
@@ -125,28 +126,28 @@ unfoldable pub state_after : OptionState → List ℕ → OptionState
 state_after state [] = state
 state_after state (byte ∷ word) = state_after (next_state state byte) word
 
--- a text without the dash at its start, if one is there
+-- a text without the dash at its start, if there is one
 abbrev pub without_dash : List ℕ → List ℕ
 without_dash [] = []
 without_dash (byte ∷ text) = if byte == dash then text else byte ∷ text
 
--- a name as it is typed: `-` or `--`, and then a plain name
+-- whether a text is a name as a user types it: `-` or `--`, followed by a plain name
 unfoldable pub is_typed_name : List ℕ → Bool
 is_typed_name [] = false
 is_typed_name (byte ∷ name) = byte == dash && is_plain_name (without_dash name)
 
--- the option, if its name and those in conflict with it are names as they are typed
+-- the option, if its name and the conflicting names are typed like this
 unfoldable pub with_typed_names : ZshOption → Option ZshOption
 with_typed_names option =
     if is_typed_name option.name && list_all is_typed_name option.conflicts then Some option
     else None
 
--- the option that was read up to there
+-- the option that has been read
 unfoldable pub read_option : OptionState → Option ZshOption
 read_option (after_help option) = with_typed_names option
 read_option _ = None
 
--- the option that a word tells, if it tells one
+-- the option that a word describes, if it describes one
 unfoldable pub option_of : List ℕ → Option ZshOption
 option_of word = read_option (state_after before_option word)
 
@@ -156,8 +157,8 @@ option_of word = read_option (state_after before_option word)
 abbrev pub entry_with : List ℕ → List ℕ → Entry
 entry_with word help = record { word = word; help = help }
 
--- from what is before the colon so far on: a word, and its description after the first colon
--- that no backslash escapes
+-- a word and its description, given the text before the colon so far; the description comes after
+-- the first colon that no backslash escapes
 unfoldable pub entry_from : List ℕ → List Mark → Option Entry
 entry_from word [] = None
 entry_from word (unended ∷ rest) = None
@@ -167,7 +168,7 @@ entry_from word (kept byte ∷ rest) = elim (byte == colon) [
   | false ↦ entry_from (word ++ byte ∷ []) rest
 ]
 
--- the word and the description that an item of a list tells
+-- the word and the description in an item of a list
 unfoldable pub entry_of : List ℕ → Option Entry
 entry_of item = entry_from [] (marks item)
 
@@ -177,8 +178,8 @@ entry_of item = entry_from [] (marks item)
 abbrev pub Path : Type 0
 Path = List (List ℕ)
 
--- the words between `_arguments` and `&& ret=0` at a path: the options that they tell, and the
--- function that the first word names which names one
+-- the words between `_arguments` and `&& ret=0` at a path: the options that they describe, and the
+-- first function that a word names
 pub record Block : Type 0 where
   pub path : Path
   pub options : List ZshOption
@@ -189,13 +190,13 @@ pub record Description : Type 0 where
   pub label : List ℕ
   pub entries : List Entry
 
--- what a script tells
+-- the contents of a script
 pub record Parts : Type 0 where
   pub blocks : List Block
   pub descriptions : List Description
 
--- How far the reader is, with what it has read. In a block and around it, the paths that are open
--- outside it, the innermost first.
+-- The state of the reader, with what it has read. In a block and around it, it holds the paths that
+-- are open outside it, the innermost first.
 pub data State : Type 0 where
   before_blocks : State
   in_block : List Path → List Block → Block → State
@@ -217,7 +218,7 @@ pub data State : Type 0 where
 abbrev pub with_path : Path → List ℕ → Path
 with_path path name = path ++ name ∷ []
 
--- a block of which nothing is read yet
+-- a block of which nothing has been read yet
 abbrev pub new_block : Path → Block
 new_block path = record { path = path; options = []; function = None }
 
@@ -229,7 +230,7 @@ arm_word (bare run ∷ []) = elim (text_after (open_parenthesis ∷ []) run) [
 ]
 arm_word _ = None
 
--- whether a token names the word at which the arms are, `$line[..]`
+-- whether a token names the word that chooses an arm, `$line[..]`
 unfoldable pub is_line : Token → Bool
 is_line (bare run ∷ []) = is_some (text_after (codes "$line[") run)
 is_line _ = false
@@ -268,7 +269,7 @@ next_function blocks descriptions token = elim (function_name token) [
   | None ↦ between_functions blocks descriptions
 ]
 
--- the state after a token before which the block of a path has ended, and all that is nested in it
+-- the state after a token that comes after the block of a path and everything nested in it
 unfoldable pub next_arm : List Path → List Block → Token → State
 next_arm [] blocks token = next_function blocks [] token
 next_arm (up ∷ outer) blocks token =
@@ -279,7 +280,7 @@ abbrev pub with_description : List Description → List ℕ → List Entry → L
 with_description descriptions label entries =
     descriptions ++ record { label = label; entries = entries } ∷ []
 
--- the state after a token; what does not belong there is malformed
+-- the state after a token; a token that does not belong there makes the text malformed
 unfoldable pub next : State → Token → State
 next before_blocks token =
     if is_word (codes "_arguments") token then in_block [] [] (new_block []) else before_blocks
@@ -324,13 +325,13 @@ next (in_list blocks descriptions label entries) token =
     ])
 next malformed token = malformed
 
--- what is told where the script ends in a state
+-- the contents, if the script ends in the given state
 unfoldable pub parts_at_end : State → Option Parts
 parts_at_end (between_functions blocks descriptions) =
     Some (record { blocks = blocks; descriptions = descriptions })
 parts_at_end _ = None
 
--- what the tokens tell from a state on
+-- the contents that the tokens give from a state on
 unfoldable pub read : State → List Token → Option Parts
 read state [] = parts_at_end state
 read state (token ∷ tokens) = read (next state token) tokens
@@ -339,32 +340,32 @@ read state (token ∷ tokens) = read (next state token) tokens
 unfoldable pub zsh_parts : List ℕ → Option Parts
 zsh_parts script = read before_blocks (posix_tokens script)
 
--- ---- what is shown at each path
+-- ---- what is offered at each path
 
--- what is shown at a path: options and flags, and the descriptions of the children
+-- what is offered at a path: options and flags, and the descriptions of the children
 pub record Shown : Type 0 where
   pub path : Path
   pub options : List ZshOption
   pub children : List Entry
 
--- the descriptions of the first function of this name
+-- the descriptions of the first function with a given name
 unfoldable pub labelled_entries : List ℕ → List Description → Option (List Entry)
 labelled_entries label [] = None
 labelled_entries label (description ∷ descriptions) =
     if bytes_eq description.label label then Some description.entries
     else labelled_entries label descriptions
 
--- the descriptions of the children where a block names a function; where it names none, none
+-- the descriptions of the children, if a block names a function; empty if it names none
 unfoldable pub children_of : List Description → Option (List ℕ) → Option (List Entry)
 children_of descriptions None = Some []
 children_of descriptions (Some label) = labelled_entries label descriptions
 
--- what is shown at a path that has these options
+-- what is offered at a path with the given options
 abbrev pub shown_with : Path → List ZshOption → List Entry → Shown
 shown_with path options children =
     record { path = path; options = options; children = children }
 
--- what is shown at the path of a block; none where the function that it names is not there
+-- what is offered at the path of a block; `None` if the function that it names is missing
 unfoldable pub shown_of : List Description → Block → Option Shown
 shown_of descriptions block =
     option_map (shown_with block.path block.options) (children_of descriptions block.function)
@@ -373,13 +374,13 @@ abbrev pub with_shown : Option Shown → Option (List Shown) → Option (List Sh
 with_shown (Some shown) (Some more) = Some (shown ∷ more)
 with_shown shown more = None
 
--- the same of all blocks
+-- the same for all blocks
 unfoldable pub all_shown : List Description → List Block → Option (List Shown)
 all_shown descriptions [] = Some []
 all_shown descriptions (block ∷ blocks) =
     with_shown (shown_of descriptions block) (all_shown descriptions blocks)
 
--- what a script shows, path by path
+-- what a script offers, path by path
 unfoldable pub zsh_shown : List ℕ → Option (List Shown)
 zsh_shown script = elim (zsh_parts script) [
   | Some parts ↦ all_shown parts.descriptions parts.blocks

@@ -1,4 +1,4 @@
--- What the zsh script of a tree reads to.
+-- What the zsh script of a tree reads back to.
 use Rattle.std.specs.Prelude.{◌≡◌, [], ◌++◌, map, option_map, None, Some, codes}
 use Rattle.cc_command.specs.Tree.{Tree}
 use Rattle.cc_generator.specs.Generators.{ShellSpec}
@@ -9,17 +9,17 @@ use Rattle.cc_zsh.specs.Reader.{zsh_parts, zsh_shown}
 use Rattle.cc_zsh.specs.Script.{zsh_script}
 use Rattle.cc_zsh.specs.Table.{all_shown_at, description_of}
 
--- The script reads to what the tree shows at each visible path, path by path: its options and
+-- The script reads back to what the tree offers at each visible path, path by path: its options and
 -- flags, and the visible names of its children with their descriptions. Its functions are exactly
--- those of the tree. The visits are exactly the visible paths, each once, with the nodes that they
--- lead to.
+-- those of the tree. The visits are exactly the visible paths, each once, with the nodes to which
+-- they lead.
 pub record ZshReads (root : Tree) : Type 0 where
   pub shown : zsh_shown (zsh_script root) ≡ Some (all_shown_at root)
   pub functions : option_map (λ parts. parts.descriptions) (zsh_parts (zsh_script root))
       ≡ Some (map description_of (tree_functions root))
   pub covers : CoversPaths root (path_visits longer_path [] root)
 
--- what is said of the scripts
+-- the specification of the scripts
 abbrev pub zsh_spec : ShellSpec
 zsh_spec = record {
   script = λ tree. zsh_script tree;

@@ -29,11 +29,11 @@ body_begins =
     ++ codes "    local context curcontext=\"$curcontext\" state line\n"
     ++ codes "    "
 
--- what a script begins with
+-- the beginning of a script
 unfoldable pub begin_text : List ℕ → List ℕ
 begin_text bin_name = compdef_begins ++ bin_name ++ autoloads ++ bin_name ++ body_begins
 
--- between the blocks and the functions
+-- the text between the blocks and the functions
 unfoldable pub body_ends : List ℕ
 body_ends = codes "\n}\n\n"
 
@@ -49,8 +49,8 @@ else_define = codes " \"$@\"\nelse\n    compdef _"
 unfoldable pub if_ends : List ℕ
 if_ends = codes "\nfi\n"
 
--- what a script ends with: the function is called where zsh is loading it to call it, and else made
--- known to zsh
+-- the end of a script: it calls the function if zsh is loading the script to call it, and otherwise
+-- registers the function
 unfoldable pub end_text : List ℕ → List ℕ
 end_text bin_name =
     if_called ++ bin_name ++ then_call ++ bin_name ++ else_define ++ bin_name ++ codes " "
@@ -69,7 +69,7 @@ script_text bin_name root =
 abbrev pub zsh_script : Tree → List ℕ
 zsh_script root = script_text (full_name root.node) root
 
--- what opens each fixed text of a script
+-- unfolds each fixed text of a script
 unfoldable pub fixed_texts : ⊤
 unfolding compdef_begins autoloads body_begins body_ends if_called then_call else_define if_ends line_end block_begins block_ends external_text command_begins state_begins state_ends case_state set_words set_context context_command case_line case_line_in nested_ends arm_ends unless_defined function_begins commands_begin describe_begins describe_ends entries_end
 fixed_texts = tt

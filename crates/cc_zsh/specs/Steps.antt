@@ -1,4 +1,4 @@
--- What is written where a node is entered and where it is left.
+-- The text that is written when a node is entered and when it is left.
 use Rattle.std.specs.Prelude.{ℕ, List, [], ◌∷◌, ◌++◌, if◌then◌else◌}
 use Rattle.cc_command.specs.Tree.{Tree, has_nodes}
 use Rattle.cc_base.specs.Bytes.{line_feed}
@@ -9,21 +9,21 @@ use Rattle.cc_zsh.specs.Nested.{arm_begins, arm_ends, block_text, nested_ends, n
 abbrev pub last_name : List ℕ → List ℕ → List ℕ
 last_name key name = name
 
--- what the arms of a node begin with, on a line of its own, where it has children
+-- the text before the arms of a node, on its own line, if it has children
 unfoldable pub nested_opens : Tree → List ℕ
 nested_opens tree =
     if has_nodes tree.children then line_feed ∷ nested_begins tree.node else []
 
--- what they end with
+-- the text after those arms
 unfoldable pub nested_closes : Tree → List ℕ
 nested_closes tree = if has_nodes tree.children then nested_ends else []
 
--- the word of an arm, the block of its node, and what the arms of its children begin with
+-- the word of an arm, the block of its node, and the text before the arms of its children
 unfoldable pub enter_text : Keyed (List ℕ) → List ℕ
 enter_text visit =
     arm_begins visit.key (block_text visit.above visit.tree) ++ nested_opens visit.tree
 
--- what these arms end with, and what an arm ends with
+-- the text after those arms, and the end of the arm
 unfoldable pub leave_text : Tree → List ℕ
 leave_text tree = nested_closes tree ++ arm_ends
 

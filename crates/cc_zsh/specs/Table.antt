@@ -19,8 +19,8 @@ use Rattle.cc_zsh.specs.Options.{is_repeated, name_word}
 use Rattle.cc_zsh.specs.Reader.{Bracket, Description, Path, Shown, ZshOption}
 use Rattle.cc_zsh.specs.Reader.Bracket.{after_equals, after_plus, alone}
 
--- an argument of a node under one of its names: the names in conflict with it, those of a global
--- argument as the node above finds them; whether it may be used again; and its help, or nothing
+-- an argument of a node under one of its names: the conflicting names, which for a global argument
+-- are looked up in the node above; whether it may be used again; and its help text, if there is one
 abbrev pub option_row : Node → Node → Arg → Bracket → List ℕ → ZshOption
 option_row above node argument bracket name = record {
   conflicts = conflict_words (conflicts_of above node argument);
@@ -30,7 +30,7 @@ option_row above node argument bracket name = record {
   help = line_feeds_as_spaces (unwrap_or argument.help []);
 }
 
--- what is before the bracket of an argument: a sign where it takes values
+-- the text before the bracket of an argument: a sign if it takes values
 abbrev pub bracket_after : Arg → ShownName → Bracket
 bracket_after argument (Short _) = if takes_values argument then after_plus else alone
 bracket_after argument (Long _) = if takes_values argument then after_equals else alone
@@ -41,17 +41,17 @@ argument_rows above node argument =
     map (λ name. option_row above node argument (bracket_after argument name) (name_word name))
     (shown_names argument)
 
--- the options and the flags of a node that has this node above it
+-- the options and the flags of a node, given the node above it
 abbrev pub node_rows : Node → Node → List ZshOption
 node_rows above node =
     flat_map (argument_rows above node) (options node)
     ++ flat_map (argument_rows above node) (flags node)
 
--- a visible name of a child with its description, in which line feeds are spaces
+-- a visible name of a child with its description, in which each line feed is a space
 abbrev pub entry_row : Entry → Entry
 entry_row entry = record { word = entry.word; help = line_feeds_as_spaces entry.help }
 
--- what is shown at a visible path
+-- what is offered at a visible path
 abbrev pub shown_at : Keyed Path → Shown
 shown_at visit = record {
   path = visit.key;
@@ -59,7 +59,7 @@ shown_at visit = record {
   children = map entry_row (entries_of visit.tree.children);
 }
 
--- what is shown at all visible paths, path by path
+-- what is offered at all visible paths, path by path
 abbrev pub all_shown_at : Tree → List Shown
 all_shown_at root = map shown_at (path_visits longer_path [] root)
 

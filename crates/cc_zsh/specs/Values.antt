@@ -1,4 +1,4 @@
--- What an argument's values may be.
+-- The values of an argument.
 use Rattle.std.specs.Prelude.{ℕ, zero, suc, Bool, List, [], ◌∷◌, ◌++◌, if◌then◌else◌, not, ◌&&◌, Option, Some, None, is_some, unwrap_or, codes, filter, map}
 use Rattle.std.specs.List.{list_any}
 use Rattle.cc_base.specs.Joined.{joined}
@@ -12,26 +12,27 @@ use Rattle.cc_quote.specs.ZshQuote.{zsh_escaped_help, zsh_escaped_value}
 use Rattle.cc_zsh.specs.declared.values.Form.{Form}
 use Rattle.cc_zsh.specs.declared.values.Form.TheVariants.{Names, Helps}
 
--- the values of a list that are shown
+-- the listed values that are not hidden
 abbrev pub shown_values : List PossibleValue → List PossibleValue
 shown_values values = filter (λ value. not value.hide) values
 
--- whether a value is shown and has a help
+-- whether a value is not hidden and has a help text
 abbrev pub is_described : PossibleValue → Bool
 is_described value = not value.hide && is_some value.help
 
--- what follows the name of a value: its help, or an empty one
+-- the text after the name of a value: its help text, which may be empty
 unfoldable pub item_help : List ℕ → List ℕ
 unfolding zsh_escaped_help
 item_help help = codes "\\:\"" ++ zsh_escaped_help help ++ codes "\""
 
--- a value in a list of names, and in one of names with helps
+-- a value in a list of names, and in a list of names with help texts
 unfoldable pub item_text : Form → PossibleValue → List ℕ
 unfolding zsh_escaped_value
 item_text Names value = zsh_escaped_value value.name
 item_text Helps value = zsh_escaped_value value.name ++ item_help (unwrap_or value.help [])
 
--- names are on one line, and each name with its help on a line of its own
+-- the separator of items: names are on one line, and each name with its help text is on its own
+-- line
 abbrev pub item_separator : Form → List ℕ
 item_separator Names = codes " "
 item_separator Helps = codes "\n"
@@ -39,13 +40,13 @@ item_separator Helps = codes "\n"
 abbrev pub items_text : Form → List PossibleValue → List ℕ
 items_text form values = joined (item_separator form) (map (item_text form) (shown_values values))
 
--- the values of a list that are shown, with their helps where one of them has a help
+-- the listed values that are not hidden, with their help texts if one of them has a help text
 unfoldable pub list_text : List PossibleValue → List ℕ
 list_text values =
     if list_any is_described values then codes "((" ++ items_text Helps values ++ codes "))"
     else codes "(" ++ items_text Names values ++ codes ")"
 
--- what a hint tells
+-- the text for a hint
 unfoldable pub hint_text : ValueHint → List ℕ
 hint_text Unknown = codes "_default"
 hint_text Other = []
@@ -61,12 +62,12 @@ hint_text Hostname = codes "_hosts"
 hint_text Url = codes "_urls"
 hint_text EmailAddress = codes "_email_addresses"
 
--- the values of the list where there is one, else what the hint tells
+-- the listed values if there are any, else the text for the hint
 abbrev pub listed_or_hint : Option (List PossibleValue) → ValueHint → List ℕ
 listed_or_hint (Some values) hint = list_text values
 listed_or_hint None hint = hint_text hint
 
--- what a value of an argument may be
+-- the text for a value of an argument
 unfoldable pub value_text : Arg → List ℕ
 value_text argument = listed_or_hint (possible_values argument) argument.value_hint
 
@@ -80,21 +81,21 @@ unfoldable pub one_value : Arg → List ℕ
 one_value argument =
     codes ":" ++ first_name argument.value_names ++ codes ":" ++ value_text argument
 
--- a text as often as told
+-- a text, repeated
 abbrev pub times : ℕ → List ℕ → List ℕ
 times zero text = []
 times (suc count) text = text ++ times count text
 
--- a value as often as told; one that may be left out is told once, after a colon
+-- a value, repeated; a value that may be left out is written once, after a colon
 abbrev pub least_values : ℕ → List ℕ → List ℕ
 least_values zero one = codes ":" ++ one
 least_values (suc count) one = times (suc count) one
 
--- how many values an argument takes; building has filled in the range
+-- how many values an argument takes; building has set the range
 abbrev pub range : Arg → ValueRange
 range argument = unwrap_or argument.num_args (exactly 1)
 
--- the values of an argument that takes some: as many as it takes at least
+-- the values of an argument that takes values: as many as it takes at least
 unfoldable pub values_text : Arg → List ℕ
 values_text argument =
     if takes_values argument then least_values (range argument).least (one_value argument) else []

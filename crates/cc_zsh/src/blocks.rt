@@ -1,4 +1,5 @@
-//! The blocks of a script: what is offered at a command, and the arms of its children.
+//! The blocks of a script: the options and words offered at a command, and the arms of its
+//! children.
 
 ghost use Rattle.std.specs.Prelude.{◌≡◌, ◌<◌, length, IfOk};
 ghost use Rattle.std.specs.List.{flat_map};
@@ -24,7 +25,7 @@ use cc_visits::{KeyScheme, PathStep, PathSteps, Visit};
 use std::alloc::{AllocError, Global};
 use std::io::ErrorKind;
 
-// The key of a node is the name by which it is reached below its parent.
+// The key of a node is the name by which its parent reaches it.
 #[derive(Drop)]
 struct LastNames;
 
@@ -94,7 +95,7 @@ fn write_step<W: Sink>(alloc: Global, sink: &mut W, step: &PathStep<'_>) -> Resu
     }
 }
 
-// The arms of the children follow; `write_leave` ends the arm.
+// Begins the arm of a node. The arms of its children follow, and `write_leave` ends the arm.
 #[tactic(auto, unfolding(crate::specs::Steps::enter_text, crate::specs::Steps::nested_opens))]
 fn write_enter<W: Sink>(alloc: Global, sink: &mut W, visit: &Visit<'_>) -> Result<(), Error>
     ensures { Writes W.taken W.failed result sink.old sink.new (enter_text (visit_of visit.now)) }
@@ -169,7 +170,7 @@ fn write_nested_begins<W: Sink>(alloc: Global, sink: &mut W, command: &Command) 
     Ok(write_case(sink, command, index.as_str())?)
 }
 
-// The index of the word is in digits.
+// Writes the text before the arms, given the index of the word in digits.
 fn write_case<'a, W: Sink>(
     sink: &mut W,
     command: &'a Command,
@@ -191,7 +192,7 @@ fn write_case<'a, W: Sink>(
     put_piece(sink, CASE_LINE_IN)
 }
 
-// The index of the word that names a child: after the positionals.
+// Returns the index of the word that names a child, which comes after the positionals.
 fn index(alloc: Global, command: &Command) -> Result<String, AllocError>
     ensures { IfOk result (λ index. string_bytes index ≡ index_text command.now.node) }
 {

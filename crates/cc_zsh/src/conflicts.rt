@@ -1,4 +1,4 @@
-//! The names of the arguments that are in conflict with one.
+//! The names of the arguments that conflict with an argument.
 
 ghost use Rattle.std.specs.Prelude.{◌≡◌, ◌||◌, true, codes, OnOk};
 ghost use Rattle.std.specs.Option.{option_to_list};
@@ -12,7 +12,8 @@ use cc_base::{Sink, Text, put_piece, put_word};
 use cc_command::{Command, first_with_id};
 use std::io::ErrorKind;
 
-/// `above` is the command above this one: there the conflicts of a global argument are looked up.
+/// Writes the names of the arguments that conflict with `argument`. `above` is the command above
+/// `command`, in which the conflicts of a global argument are looked up.
 pub(crate) fn write_conflicts<W: Sink>(
     sink: &mut W,
     above: &Command,
@@ -29,7 +30,7 @@ pub(crate) fn write_conflicts<W: Sink>(
     )
 }
 
-// The arguments among which the conflicts of one are looked up.
+// Returns the arguments among which the conflicts of an argument are looked up.
 fn conflict_scope<'a>(above: &'a Command, command: &'a Command, argument: &Arg) -> &'a [Arg]
     ensures { result.now ≡ conflict_scope above.now.node command.now.node argument.now }
 {
@@ -53,7 +54,7 @@ fn write_found<W: Sink>(sink: &mut W, arguments: &[Arg], ids: &[Text]) -> Result
     put_piece(sink, ")")
 }
 
-// Whether an argument has one of the ids.
+// Returns whether an argument has one of the ids.
 fn has_found(arguments: &[Arg], ids: &[Text]) -> bool
     ensures { result ≡ has_arguments (with_ids arguments.now ids.now) }
 {
@@ -76,7 +77,8 @@ fn write_words<W: Sink>(sink: &mut W, arguments: &[Arg], ids: &[Text]) -> Result
     Ok(())
 }
 
-// `begun` tells whether a name was written before.
+// Writes the names of the first argument with an id. `begun` says whether a name was written
+// before.
 fn write_first<W: Sink>(
     sink: &mut W,
     arguments: &[Arg],

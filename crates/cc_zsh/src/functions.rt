@@ -1,4 +1,4 @@
-//! The functions of a script: each describes the children of a command.
+//! The functions of a script, each of which describes the children of a command.
 
 ghost use Rattle.std.specs.Prelude.{◌≡◌, ◌<◌, None, length, map, IfOk, OnOk};
 ghost use Rattle.std.specs.List.{flat_map};
@@ -33,7 +33,8 @@ pub(crate) struct Named<'a> {
     command: &'a Command,
 }
 
-/// Each full name has one function, since commands that share one would define it twice.
+/// Writes one function for each full name, because commands that share a name would define it
+/// twice.
 #[tactic(auto, unfolding(crate::specs::Script::functions_text))]
 pub(crate) fn write_functions<W: Sink>(
     alloc: Global,
@@ -58,7 +59,7 @@ fn write_sorted<W: Sink>(alloc: Global, sink: &mut W, flat: &Flat<'_>) -> Result
     Ok(write_once(sink, &sorted)?)
 }
 
-// The commands below the root in the order of the bytes of their full names.
+// Returns the commands below the root, sorted by the bytes of their full names.
 fn sorted_commands<'a>(alloc: Global, flat: &Flat<'a>) -> Result<Vec<Named<'a>>, AllocError>
     requires { 0 < length flat.now }
     ensures { IfOk result (λ sorted. map function_named sorted.items
@@ -82,7 +83,7 @@ fn compare_names(one: &Named<'_>, other: &Named<'_>) -> Ordering
     one.name.cmp(other.name)
 }
 
-// The commands below the root: of each child the child itself, then all below it.
+// Returns the commands below the root: for each child the child itself, then everything below it.
 #[tactic(auto, using(crate::proofs::PreorderFunctions::functions_in_preorder))]
 fn commands_below<'a>(alloc: Global, flat: &Flat<'a>) -> Result<Vec<Named<'a>>, AllocError>
     requires { 0 < length flat.now }
@@ -105,7 +106,8 @@ fn with_full_name(command: &Command) -> Named<'_>
     }
 }
 
-// Commands with one full name are neighbours here, so it is enough to look at the last.
+// Writes the function of each full name once. Commands with the same full name are neighbours, so
+// it is enough to compare each with the last one.
 fn write_once<W: Sink>(sink: &mut W, commands: &[Named<'_>]) -> Result<(), ErrorKind>
     ensures { Writes W.taken W.failed (as_write result) sink.old sink.new
         (flat_map function_text (once_after None (map function_named commands.now))) }
@@ -121,7 +123,7 @@ fn write_once<W: Sink>(sink: &mut W, commands: &[Named<'_>]) -> Result<(), Error
     Ok(())
 }
 
-// Whether a name is the one before it.
+// Returns whether a name equals the name before it.
 fn is_again(last: Option<&str>, name: &str) -> bool
     ensures { result ≡ is_again (option_copied last.entry) name.now }
 {
@@ -146,7 +148,7 @@ fn write_function<W: Sink>(sink: &mut W, command: &Named<'_>) -> Result<(), Erro
     put_piece(sink, DESCRIBE_ENDS)
 }
 
-// Where there are none, the brackets of the list stay on one line.
+// Writes the entries of the children. If there are none, the brackets of the list stay on one line.
 #[tactic(auto, unfolding(crate::specs::Functions::entries_text, crate::specs::Script::fixed_texts), using(crate::proofs::ArmSteps::has_entries_of))]
 fn write_entries<W: Sink>(sink: &mut W, command: &Command) -> Result<(), ErrorKind>
     ensures { Writes W.taken W.failed (as_write result) sink.old sink.new

@@ -1,4 +1,4 @@
-//! Names: those of arguments as they are typed, and those of commands without spaces.
+//! Names of arguments as a user types them, and names of commands without spaces.
 
 ghost use Rattle.std.specs.Prelude.{codes};
 ghost use Rattle.cc_base.specs.Bytes.{space};
@@ -12,7 +12,7 @@ use cc_base::{Sink, put_piece, put_pieces};
 use cc_quote::{Replace, put_escaped};
 use std::io::ErrorKind;
 
-/// Writes the name of an argument with the dashes before it.
+/// Writes the name of an argument with its dashes.
 pub(crate) fn write_name<W: Sink>(sink: &mut W, name: &ShownName<'_>) -> Result<(), ErrorKind>
     ensures { Writes W.taken W.failed (as_write result) sink.old sink.new (name_word name.now) }
 {
@@ -26,7 +26,8 @@ pub(crate) fn write_name<W: Sink>(sink: &mut W, name: &ShownName<'_>) -> Result<
     }
 }
 
-/// Writes the function's name without its first `_`, with which the text before it ends.
+/// Writes the name of a function without its first `_`. The text before the name ends with that
+/// `_`.
 pub(crate) fn write_label<W: Sink>(sink: &mut W, name: &str) -> Result<(), ErrorKind>
     ensures { Writes W.taken W.failed (as_write result) sink.old sink.new
         (function_label name.now) }

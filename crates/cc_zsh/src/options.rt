@@ -31,7 +31,7 @@ pub(crate) fn write_arguments<W: Sink>(
     Ok(())
 }
 
-// A line for each name.
+// Writes a line for each shown name of an argument.
 #[tactic(auto, unfolding(crate::specs::Options::argument_text))]
 fn write_argument<W: Sink>(
     sink: &mut W,
@@ -69,7 +69,7 @@ fn write_line<W: Sink>(
     put_piece(sink, LINE_END)
 }
 
-// A star, where the argument may be used again.
+// Returns a star if the argument may be used again.
 fn star(argument: &Arg) -> &'static str
     ensures { result.now ≡ repeated_text argument.now }
 {
@@ -79,7 +79,7 @@ fn star(argument: &Arg) -> &'static str
     }
 }
 
-// How the value of an option may follow its name.
+// Returns the sign that says how the value of an option may follow its name.
 fn value_sign(argument: &Arg, name: &ShownName<'_>) -> &'static str
     ensures { result.now ≡ value_sign argument.now name.now }
 {
@@ -92,7 +92,7 @@ fn value_sign(argument: &Arg, name: &ShownName<'_>) -> &'static str
     }
 }
 
-// There are brackets where there is no help, too.
+// Writes the help text in brackets, which are there even without a help text.
 #[tactic(auto, unfolding(crate::specs::Options::help_text))]
 fn write_help<W: Sink>(sink: &mut W, argument: &Arg) -> Result<(), ErrorKind>
     ensures { Writes W.taken W.failed (as_write result) sink.old sink.new

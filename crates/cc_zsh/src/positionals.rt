@@ -33,7 +33,8 @@ pub(crate) fn write_positionals<W: Sink>(sink: &mut W, command: &Command) -> Res
     Ok(())
 }
 
-// Whether a positional is left out, where it is told whether one before it takes all words.
+// Returns whether a positional is left out. `taken` says whether a positional before it takes all
+// words.
 fn is_left_out(taken: bool, argument: &Arg) -> bool
     ensures { result ≡ is_left_out taken argument.now }
 {
@@ -46,14 +47,14 @@ fn takes_several(argument: &Arg) -> bool
     range(argument).max_values() > 1
 }
 
-// Whether a positional takes all words that follow, or those up to its terminator.
+// Returns whether a positional takes all words that follow, or all up to its terminator.
 fn takes_rest(has_children: bool, argument: &Arg) -> bool
     ensures { result ≡ takes_rest has_children argument.now }
 {
     takes_several(argument) && !has_children
 }
 
-// Whether a positional takes all words that follow, to the end.
+// Returns whether a positional takes all words that follow, to the end.
 fn takes_all(has_children: bool, argument: &Arg) -> bool
     ensures { result ≡ takes_all has_children argument.now }
 {
@@ -117,7 +118,7 @@ fn write_help<W: Sink>(sink: &mut W, help: Option<&str>) -> Result<(), ErrorKind
     put_escaped(sink, &PositionalEscape, help)
 }
 
-// The escape of a positional's help: `[`, `]` and `:` after a backslash, and `'` as `'\''`.
+// The escape of a positional's help text: a backslash before `[`, `]` and `:`, and `'` as `'\''`.
 struct PositionalEscape;
 
 impl ByteEscape for PositionalEscape {

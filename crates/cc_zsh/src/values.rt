@@ -1,4 +1,4 @@
-//! What an argument's values may be.
+//! The values of an argument.
 
 ghost use Rattle.std.specs.Prelude.{◌≡◌, ◌++◌, true, OnOk};
 ghost use Rattle.std.specs.List.{list_any};
@@ -11,22 +11,22 @@ use cc_base::{Sink, Text, put_around, put_piece, put_separator};
 use cc_quote::{ZshHelpEscape, ZshValueEscape, put_escaped};
 use std::io::ErrorKind;
 
-// What a list tells of its values.
+// The form of a list of values.
 #[derive(Clone, Copy)]
 enum Form {
     Names,
-    // the names with the helps
+    // the names with the help texts
     Helps,
 }
 
-/// How many values an argument takes.
+/// Returns how many values an argument takes.
 pub(crate) fn range(argument: &Arg) -> ValueRange
     ensures { result ≡ range argument.now }
 {
     argument.get_num_args().unwrap_or(ValueRange::new(1, 1))
 }
 
-/// Nothing, where the argument takes no values.
+/// Writes the values of an argument, or nothing if it takes none.
 #[tactic(auto, unfolding(crate::specs::Values::values_text))]
 pub(crate) fn write_values<W: Sink>(sink: &mut W, argument: &Arg) -> Result<(), ErrorKind>
     ensures { Writes W.taken W.failed (as_write result) sink.old sink.new
@@ -63,7 +63,7 @@ fn write_one<W: Sink>(sink: &mut W, argument: &Arg) -> Result<(), ErrorKind>
     write_value(sink, argument)
 }
 
-// The first value name, or a space.
+// Returns the first value name, or a space.
 fn first_name(names: &[Text]) -> &str
     ensures { result.now ≡ first_name names.now }
 {
@@ -98,7 +98,7 @@ fn write_list<W: Sink>(sink: &mut W, values: &[PossibleValue]) -> Result<(), Err
     put_piece(sink, ")")
 }
 
-// Whether one of the values is shown and has a help.
+// Returns whether a value is not hidden and has a help text.
 fn is_any_described(values: &[PossibleValue]) -> bool
     ensures { result ≡ list_any is_described values.now }
 {
@@ -121,7 +121,7 @@ fn write_items<W: Sink>(sink: &mut W, form: Form, values: &[PossibleValue]) -> R
     Ok(())
 }
 
-// What separates the items comes before one where `begun` says that another does.
+// Writes an item, after a separator if `begun` says that an item was written before.
 #[tactic(auto, unfolding(crate::specs::Values::item_text))]
 fn write_item<W: Sink>(
     sink: &mut W,

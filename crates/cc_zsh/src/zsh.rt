@@ -18,7 +18,7 @@ use cc_generator::Generator;
 use std::alloc::Global;
 use std::io::ErrorKind;
 
-/// Writes zsh scripts. The file of a program `N` is `_N`.
+/// The generator of zsh scripts. The script of a program `N` goes into the file `_N`.
 #[derive(Clone, Copy, PartialEq, Eq, Debug)]
 pub struct Zsh;
 

@@ -1,5 +1,5 @@
--- The definitions that the contracts of this crate's calls cite, and those that they are made of: a
--- proof about these calls names this crate alone.
+-- The definitions that the contracts of this crate's calls cite, and those on which they build. A
+-- proof about these calls needs to name only this crate.
 
 -- sinks and errors
 pub use Rattle.cc_base.specs.Bytes

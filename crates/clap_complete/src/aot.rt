@@ -1,4 +1,4 @@
-//! Completion scripts written ahead of time.
+//! Completion scripts that are written ahead of time.
 
 pub use cc_arg::ValueHint;
 pub use cc_base::{Collected, Counted, Held, Sink, put_all};

@@ -1,4 +1,4 @@
-//! The described command: a tree of commands with their arguments.
+//! The description of a command line: a tree of commands with their arguments.
 
 pub use cc_arg::{
     Arg, ArgAction, LongAndVisibleAliases, PossibleValue, ShortAndVisibleAliases, ValueHint,

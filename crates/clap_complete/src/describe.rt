@@ -1,4 +1,4 @@
-//! Short forms of describing a command line: arguments and commands as most programs have them.
+//! Short functions that describe a command line, for the arguments and commands of most programs.
 
 pub use cc_program::{
     ArgDescription, arg, command, flag, group, option, positional, possible_values, with_alias,

@@ -1,4 +1,4 @@
-//! A program that completes its own command line when its shell asks for it by the environment.
+//! Completion by the program itself, when its shell asks for candidates through the environment.
 
 pub use cc_env::{
     Bash, Builtin, CompleteEnv, Elvish, EnvCompleter, Fish, Powershell, SafeShell, ShellNames,

@@ -1,10 +1,10 @@
-//! Shell completions from a tree of commands: completion scripts that shells load, and the parts
-//! that they are made of.
+//! Shell completions from a tree of commands: completion scripts, completion by the running
+//! program, and a parser of the same tree.
 //!
 //! A program describes its command line as a [`command`] tree and writes the script of a shell with
 //! [`generate`]:
 //!
-//! ```rust
+//! ```rattle
 //! use clap_complete::aot::{Collected, Elvish};
 //! use clap_complete::command::{Arg, Command};
 //! use clap_complete::{Error, generate};

@@ -1,5 +1,5 @@
-//! The parser of a command tree, a command of the crate `clap`: one description both completes a
-//! command line and parses it.
+//! The parser of a command tree, which is a command of the crate `clap`. So one description serves
+//! both to complete a command line and to parse it.
 
 pub use cc_agreement::candidates_and_parser;
 pub use cc_parser::{fits_parser, parser};

@@ -1,4 +1,4 @@
-//! Scripts of a chain of two hundred commands, which nests deeper than a tree file.
+//! Tests of scripts for a chain of two hundred commands, which nests deeper than a tree file.
 
 use crate::checks::same;
 use crate::scripts::written::script_of;
@@ -11,7 +11,8 @@ use std::alloc::{AllocError, Global};
 use std::fmt::Write;
 use std::process::Abort;
 
-// What holds a command ends with a call of `drop`: to prove a drop that no call is takes seconds.
+// A function that owns a command ends with a call of `drop`, because proving an implicit drop takes
+// seconds.
 fn chain<R: Abort + AllocGlobal>(rt: &R) -> Command {
     trees::chain(rt.alloc()).expect(rt, "no chain")
 }
@@ -32,7 +33,7 @@ fn elvish_has_two_hundred_keys(rt: HostRuntime) {
     assert!(rt; script.as_str().ends_with(wanted.as_str()));
 }
 
-// The table of the last command, to the end of the script.
+// Returns the table of the last command, to the end of the script.
 fn last_table(alloc: Global) -> Result<String, AllocError> {
     let mut text = String::from_str(alloc, "\n        &'app")?;
     for number in 1..200 {

@@ -1,5 +1,5 @@
-//! Descriptions that hold any character, as the shells read them in their scripts. bash's scripts
-//! hold no description, and Nushell's hold helps alone, without quotes.
+//! Tests of descriptions with any character, as the shells read them in their scripts. Scripts for
+//! bash hold no description, and scripts for Nushell hold only help texts, without quotes.
 
 use crate::checks::same;
 use crate::scripts::written::script;
@@ -14,8 +14,8 @@ use std::alloc::{AllocError, Global};
 use std::fmt::Write;
 use std::process::Abort;
 
-// How a shell reads the help of the flag `--x`, the help of the value `v` of the option `--o`,
-// where its script has it, and the about of the child `c`.
+// Reads the help text of the flag `--x`, the help text of the value `v` of the option `--o`, if the
+// script has it, and the description of the child `c`, as a shell reads them.
 trait Described: Generator {
     fn help(alloc: Global, script: &str) -> Result<Option<String>, Error>;
 
@@ -59,7 +59,7 @@ impl Described for Fish {
         Ok(word(fish_word(alloc, after(script, " -l x -d "))?))
     }
 
-    // The value and its help, with a tab between them, are a word of what is read first.
+    // The first reading gives one word for the value and its help text, with a tab between them.
     fn value_help(alloc: Global, script: &str) -> Result<Option<String>, Error> {
         let Some(values) = word(fish_double(alloc, after(script, " -l o -r -f -a "))?) else {
             return Ok(None);
@@ -89,7 +89,7 @@ impl Described for Zsh {
     }
 }
 
-// What a line of zsh's script that begins so describes between two texts.
+// Returns what the line of zsh's script with the given beginning describes between two texts.
 fn between_brackets(
     alloc: Global,
     script: &str,
@@ -107,7 +107,7 @@ fn between_brackets(
     }
 }
 
-// The first line that begins so; nothing where none does.
+// Returns the first line with the given beginning, or an empty text if there is none.
 fn line_that_begins<'t>(text: &'t str, begins: &str) -> &'t str {
     for line in text.lines() {
         if line.starts_with(begins) {
@@ -137,9 +137,9 @@ fn zsh_reads_any_character_of_a_description(rt: HostRuntime) {
     reads_each(&rt, Zsh, true);
 }
 
-// Fails unless the shell reads each ASCII character but NUL, a line feed among them, and a
-// backslash before a line feed; a line feed is read as a space. `values` says whether its script
-// has the helps of possible values.
+// Fails unless the shell reads each ASCII character except NUL, including a line feed, and a
+// backslash before a line feed. A line feed is read as a space. `values` says whether the shell's
+// script has the help texts of possible values.
 fn reads_each<R: Abort + AllocGlobal, S: Described + Copy + Drop>(rt: &R, shell: S, values: bool) {
     for byte in 1..128_u8 {
         reads(rt, shell, values, &[char::from(byte)]);
@@ -147,7 +147,7 @@ fn reads_each<R: Abort + AllocGlobal, S: Described + Copy + Drop>(rt: &R, shell:
     reads(rt, shell, values, &['\\', '\n']);
 }
 
-// Fails unless the shell reads this description wherever it is written.
+// Fails unless the shell reads the description wherever it is written.
 fn reads<R: Abort + AllocGlobal, S: Described + Copy + Drop>(
     rt: &R,
     shell: S,
@@ -174,7 +174,7 @@ fn nushell_reads_any_character_of_a_help(rt: HostRuntime) {
     nushell_reads(&rt, &[' ', '#', ' ', '\n', ' ', ' ', ']']);
 }
 
-// Fails unless this help of the flag `--x` is read in Nushell's script.
+// Fails unless the help text of the flag `--x` is read in Nushell's script.
 fn nushell_reads<R: Abort + AllocGlobal>(rt: &R, text: &[char]) {
     let tree = tree_file(rt.alloc(), text).expect(rt, "no tree");
     let script = script(rt, Nushell, tree.as_str()).expect(rt, "no script");
@@ -182,8 +182,8 @@ fn nushell_reads<R: Abort + AllocGlobal>(rt: &R, text: &[char]) {
     is_read(rt, comment_of(rt.alloc(), script.as_str()), wanted.as_str());
 }
 
-// What is after the first ` # ` of the line of the flag `--x`, up to the line that closes its
-// block.
+// Returns the text after the first ` # ` in the line of the flag `--x`, up to the line that closes
+// its block.
 fn comment_of(alloc: Global, script: &str) -> Result<Option<String>, Error> {
     let Some((line, _)) = after(script, "\n    --x").split_once("\n  ]\n") else {
         return Ok(None);
@@ -194,13 +194,14 @@ fn comment_of(alloc: Global, script: &str) -> Result<Option<String>, Error> {
     }
 }
 
-// Fails unless this was read.
+// Fails unless the text `wanted` was read.
 fn is_read(rt: &impl Abort, read: Result<Option<String>, Error>, wanted: &str) {
     let read = read.expect(rt, "out of memory").expect(rt, "nothing read");
     same(rt, read.as_str(), wanted);
 }
 
-// The tree file of `app` with a flag, an option and a child that are described so.
+// Returns the tree file of `app` with a flag, an option and a child, each with the given
+// description.
 fn tree_file(alloc: Global, text: &[char]) -> Result<String, AllocError> {
     let mut help = String::new(alloc);
     for character in text {
@@ -215,7 +216,7 @@ fn tree_file(alloc: Global, text: &[char]) -> Result<String, AllocError> {
     )
 }
 
-// The text with a space for each line feed.
+// Returns the text with a space for each line feed.
 fn with_spaces(alloc: Global, text: &[char]) -> Result<String, AllocError> {
     let mut spaced = String::new(alloc);
     for character in text {

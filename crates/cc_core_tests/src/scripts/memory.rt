@@ -1,4 +1,4 @@
-//! What a generator writes where memory runs out.
+//! Tests of what a generator writes if an allocation fails.
 
 use cc_base::{Collected, Error};
 use cc_command::Command;
@@ -6,7 +6,7 @@ use cc_generator::Generator;
 use cc_tables::Elvish;
 use std::process::Abort;
 
-// A command that is built, and for which nothing was allocated: it has no name, no arguments and no
+// Returns a built command for which nothing was allocated: it has no name, no arguments and no
 // children.
 fn nameless<R: Abort + AllocGlobal>(rt: &R) -> Command {
     let alloc = rt.alloc();
@@ -17,7 +17,7 @@ fn nameless<R: Abort + AllocGlobal>(rt: &R) -> Command {
     command
 }
 
-// Fails unless a script was written, or nothing where an allocation failed.
+// Fails unless a script was written, or nothing if an allocation failed.
 fn is_whole_or_empty<R: Abort + AllocGlobal>(rt: &R, command: &Command) {
     let mut sink = Collected::new(rt.alloc());
     if !command.is_ready() {
@@ -32,8 +32,8 @@ fn is_whole_or_empty<R: Abort + AllocGlobal>(rt: &R, command: &Command) {
     }
 }
 
-// As a rule there is memory enough. With `rt try --test --fail-alloc 1` the first allocation of
-// `generate` fails, in making the list of nodes.
+// Usually there is enough memory. With `rt try --test --fail-alloc 1` the first allocation of
+// `generate` fails, for the list of nodes.
 #[test]
 fn writes_nothing_where_the_first_allocation_fails(rt: HostRuntime) {
     let command = nameless(&rt);

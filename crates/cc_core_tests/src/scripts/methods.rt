@@ -1,4 +1,4 @@
-//! The methods of a generator, which ask for a command that is ready.
+//! Tests of the methods of a generator, which require a command that is ready.
 
 use crate::checks::{is, is_twice};
 use crate::scripts::written::{script_for, twice};

@@ -1,4 +1,4 @@
-//! How words lead through the table of a bash script.
+//! Tests of how words lead through the table of a bash script.
 
 use crate::checks::{is, same};
 use crate::scripts::written::{script, script_for};
@@ -7,7 +7,7 @@ use cc_fixtures::trees;
 use std::alloc::{AllocError, Global};
 use std::process::Abort;
 
-// The part of a script that leads the words of the line from label to label.
+// Returns the part of a script that leads from label to label along the words of the line.
 fn table(script: &str) -> &str {
     match script.split_once("esac") {
         Some((table, _)) => table,
@@ -15,7 +15,8 @@ fn table(script: &str) -> &str {
     }
 }
 
-// What is set by the first case of a table for this label and word, and else the label itself.
+// Returns the label that the first case of a table for a label and a word sets, or the label itself
+// if there is none.
 fn label_after<'a>(
     alloc: Global,
     table: &'a str,
@@ -32,7 +33,7 @@ fn label_after<'a>(
     }
 }
 
-// The root's label, then the label after each of the words `--flag`, `test` and `--`.
+// Returns the root's label, then the label after each of the words `--flag`, `test` and `--`.
 fn labels(alloc: Global, table: &str) -> Result<String, AllocError> {
     let root = "my__app";
     let first = label_after(alloc, table, root, "--flag")?;
@@ -50,8 +51,8 @@ fn words_lead_through_the_table(rt: HostRuntime) {
     is(&rt, labels(rt.alloc(), table(script.as_str())), LABELS);
 }
 
-// `app` with a child `test` that is called `tst` too, which no shell shows, and a hidden child
-// `debug` with an option `--deep` and a hidden flag `-q`.
+// `app` with a child `test` and a hidden child `debug`. `test` has the hidden alias `tst`, which no
+// shell shows. `debug` has an option `--deep` and a hidden flag `-q`.
 const HIDDEN: &str = r#"{"name": "app", "subcommands": [{"name": "test", "aliases": ["tst"]},
     {"name": "debug", "hide": true, "args": [
         {"id": "deep", "long": "deep", "action": "Set"},

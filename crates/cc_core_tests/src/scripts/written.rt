@@ -7,7 +7,7 @@ use cc_generator::{Generator, generate};
 use std::alloc::AllocError;
 use std::process::Abort;
 
-/// The script of the command of a tree file for the program `app`.
+/// Returns the script of the command of a tree file, for the program `app`.
 pub(crate) fn script<R: Abort + AllocGlobal, G: Generator + Drop>(
     rt: &R,
     generator: G,
@@ -16,7 +16,7 @@ pub(crate) fn script<R: Abort + AllocGlobal, G: Generator + Drop>(
     script_for(rt, generator, text, "app")
 }
 
-/// The script of the command of a tree file for a program of this name.
+/// Returns the script of the command of a tree file, for a program with the given name.
 pub(crate) fn script_for<R: Abort + AllocGlobal, G: Generator + Drop>(
     rt: &R,
     generator: G,
@@ -26,7 +26,7 @@ pub(crate) fn script_for<R: Abort + AllocGlobal, G: Generator + Drop>(
     script_of(rt, generator, tree(rt, rt.alloc(), text), name)
 }
 
-/// The script of a command for a program of this name.
+/// Returns the script of `command`, for a program with the given name.
 pub(crate) fn script_of<R: Abort + AllocGlobal, G: Generator + Drop>(
     rt: &R,
     generator: G,
@@ -42,8 +42,8 @@ pub(crate) fn script_of<R: Abort + AllocGlobal, G: Generator + Drop>(
     String::from_utf8_lossy(rt.alloc(), sink.as_slice())
 }
 
-/// What both methods of a generator write of the command of a tree file, built for a program of
-/// this name.
+/// Returns what both methods of a generator write for the command of a tree file, built for a
+/// program with the given name.
 pub(crate) fn twice<R: Abort + AllocGlobal, G: Generator>(
     rt: &R,
     generator: &G,
@@ -58,7 +58,7 @@ pub(crate) fn twice<R: Abort + AllocGlobal, G: Generator>(
     written
 }
 
-// What both methods of a generator write of a command that is ready.
+// Returns what both methods of a generator write for a command that is ready.
 fn by_methods<R: Abort + AllocGlobal, G: Generator>(
     rt: &R,
     generator: &G,
